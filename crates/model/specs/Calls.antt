@@ -1,0 +1,160 @@
+-- The four calls: what each returns and leaves in its buffer, refusals included (01, "Path", "Blocks" and "What comes back when a call
+-- declines"). An answer has 01's numbers; `refusal` is 0 where the call is not declined, and every other field is 0 (the invariant empty)
+-- where it is.
+--
+--   overwrite xs old                       xs at the front of a buffer that held old, the rest of it untouched
+--   Decision, decideAnswer, decideBuffer   decide: the grounds in order, the answer, the path buffer at exit
+--   Shortest, shortestAnswer, shortestBuffer
+--   TableRead, readAnswer, readBuffer      read: the buffer is the store
+--   Written, writeAnswer, writeBuffer      write: the buffer is the output
+--
+-- A buffer's length is the length of the list that it holds.
+use Prim.Native.Nat.{ℕ, zero, suc, _+_, _*_, _/_, _%_}
+use mathlib.Core.Bool.{Bool, cond, not, _&&_, _||_}
+use mathlib.Core.List.{List, [], _∷_, _++_}
+use lib.Dec.{eqb, leb, ltb}
+use lib.ListN.{length, drop}
+use Rattle.model.specs.Sets.{top, Set, empty, size, any}
+use Rattle.model.specs.Tables.{Table}
+use Rattle.model.specs.Rounds.{Outcome, safe, unsafe, undecided, run}
+use Rattle.model.specs.Paths.{shortest, hasPath, smallestPath}
+use Rattle.model.specs.Stores.{maxGroups, storeWords, tableOf, layout, refuse, beyond, nonZero, badStates, accept}
+use Rattle.model.specs.Files.{pairAt, contentLength, blocksFor, fileLength, checkOf, fileOf, part, contentsOf, setNumber, tableIn}
+
+unfoldable pub overwrite : List ℕ → List ℕ → List ℕ
+overwrite xs old = xs ++ drop (length xs) old
+
+-- ---- decide
+
+pub record Decision : Type 0 where
+  pub refusal : ℕ
+  pub verdict : ℕ -- 0 safe, 1 unsafe, 2 undecided
+  pub count : ℕ -- of refinements
+  pub invariant : Set -- empty unless safe
+  pub size : ℕ -- of the invariant
+  pub steps : ℕ -- d, 0 unless unsafe
+
+unfoldable pub decideGrounds : List ℕ → ℕ → ℕ → ℕ → ℕ → List (Bool × ℕ)
+decideGrounds store n g allowance room = accept store n g ++ ((ltb top allowance, 20) ∷ (ltb room top, 21) ∷ [])
+
+unfoldable pub decisionOf : Table → Outcome → Decision
+decisionOf t (safe i R) = record { refusal = 0; verdict = 0; count = i; invariant = R; size = size R; steps = 0 }
+decisionOf t (unsafe i) = record { refusal = 0; verdict = 1; count = i; invariant = empty; size = 0; steps = shortest t }
+decisionOf t (undecided i) = record { refusal = 0; verdict = 2; count = i; invariant = empty; size = 0; steps = 0 }
+
+unfoldable pub declined : ℕ → Decision
+declined k = record { refusal = k; verdict = 0; count = 0; invariant = empty; size = 0; steps = 0 }
+
+unfoldable pub decideAnswer : List ℕ → ℕ → ℕ → ℕ → ℕ → Decision
+decideAnswer store n g allowance room =
+    let t = tableOf store n g in
+    let k = refuse (decideGrounds store n g allowance room) in
+    let decided = decisionOf t (run t allowance) in
+    cond (eqb k 0) decided (declined k)
+
+unfoldable pub decideBuffer : List ℕ → ℕ → ℕ → ℕ → List ℕ → List ℕ
+decideBuffer store n g allowance path =
+    let found = overwrite (smallestPath (tableOf store n g)) path in
+    cond (eqb ((decideAnswer store n g allowance (length path)) .verdict) 1) found path
+
+-- ---- shortest path
+
+pub record Shortest : Type 0 where
+  pub refusal : ℕ
+  pub found : ℕ -- 1 if there is a path, 0 if not
+  pub steps : ℕ -- d, 0 if there is none
+
+unfoldable pub shortestGrounds : List ℕ → ℕ → ℕ → ℕ → List (Bool × ℕ)
+shortestGrounds store n g room = accept store n g ++ ((ltb room top, 21) ∷ [])
+
+unfoldable pub shortestAnswer : List ℕ → ℕ → ℕ → ℕ → Shortest
+shortestAnswer store n g room =
+    let t = tableOf store n g in
+    let k = refuse (shortestGrounds store n g room) in
+    let path : Shortest = record { refusal = 0; found = 1; steps = shortest t } in
+    let none : Shortest = record { refusal = 0; found = 0; steps = 0 } in
+    cond (eqb k 0) (cond (hasPath t) path none) (record { refusal = k; found = 0; steps = 0 })
+
+unfoldable pub shortestBuffer : List ℕ → ℕ → ℕ → List ℕ → List ℕ
+shortestBuffer store n g path =
+    let found = overwrite (smallestPath (tableOf store n g)) path in
+    cond (eqb ((shortestAnswer store n g (length path)) .found) 1) found path
+
+-- ---- read
+
+pub record TableRead : Type 0 where
+  pub refusal : ℕ
+  pub n : ℕ
+  pub g : ℕ
+
+-- The first fault other than 0 among f 0, .., f (m − 1).
+unfoldable pub firstFault : ℕ → (ℕ → ℕ) → ℕ
+firstFault zero f = 0
+firstFault (suc m) f = let e = firstFault m f in cond (eqb e 0) (f m) e
+
+-- Block k holds number k and its own check.
+unfoldable pub blockFault : List ℕ → ℕ → ℕ
+blockFault block k =
+    refuse
+    ((not (eqb (pairAt block 0) k), 12)
+    ∷ (not (eqb (pairAt block 510) (checkOf block)), 13)
+    ∷ [])
+
+-- The largest file: n and g at their greatest.
+abbrev pub maxFile : ℕ
+maxFile = fileLength top maxGroups
+
+unfoldable pub readRefusal : List ℕ → ℕ → ℕ
+readRefusal input room =
+    let blocks = length input / 512 in
+    let bytes = contentsOf input in
+    let n = pairAt bytes 0 in
+    let g = pairAt bytes 2 in
+    let size = contentLength n g in
+    let early =
+      refuse
+      ((ltb room storeWords, 10)
+      ∷ (eqb (length input) 0 || not (eqb (length input % 512) 0) || ltb maxFile (length input), 11)
+      ∷ []) in
+    let faulty = firstFault blocks (λ k. blockFault (part input k) k) in
+    let late =
+      refuse
+      ((badStates n, 14)
+      ∷ (ltb maxGroups g, 15)
+      ∷ (not (eqb blocks (blocksFor size)), 16)
+      ∷ (any (2 + g + n) (λ k. beyond n (setNumber bytes n k)), 17)
+      ∷ (nonZero bytes size (508 * blocks), 18)
+      ∷ []) in
+    cond (eqb early 0) (cond (eqb faulty 0) late faulty) early
+
+unfoldable pub readAnswer : List ℕ → ℕ → TableRead
+readAnswer input room =
+    let bytes = contentsOf input in
+    let k = readRefusal input room in
+    let table : TableRead = record { refusal = 0; n = pairAt bytes 0; g = pairAt bytes 2 } in
+    cond (eqb k 0) table (record { refusal = k; n = 0; g = 0 })
+
+unfoldable pub readBuffer : List ℕ → List ℕ → List ℕ
+readBuffer input store =
+    let bytes = contentsOf input in
+    let filled = overwrite (layout (tableIn bytes (pairAt bytes 0) (pairAt bytes 2))) store in
+    cond (eqb (readRefusal input (length store)) 0) filled store
+
+-- ---- write
+
+pub record Written : Type 0 where
+  pub refusal : ℕ
+  pub length : ℕ
+
+unfoldable pub writeGrounds : List ℕ → ℕ → ℕ → ℕ → List (Bool × ℕ)
+writeGrounds store n g room = accept store n g ++ ((ltb room (fileLength n g), 19) ∷ [])
+
+unfoldable pub writeAnswer : List ℕ → ℕ → ℕ → ℕ → Written
+writeAnswer store n g room =
+    let k = refuse (writeGrounds store n g room) in
+    cond (eqb k 0) (record { refusal = 0; length = fileLength n g }) (record { refusal = k; length = 0 })
+
+unfoldable pub writeBuffer : List ℕ → ℕ → ℕ → List ℕ → List ℕ
+writeBuffer store n g output =
+    let written = overwrite (fileOf (tableOf store n g)) output in
+    cond (eqb ((writeAnswer store n g (length output)) .refusal) 0) written output

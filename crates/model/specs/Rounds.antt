@@ -1,0 +1,88 @@
+-- The rounds (01, "Rounds": fixpoint-guided abstraction refinement after Cousot, Ganty and Raskin), and backward elimination.
+--
+--   iterate f x k       f applied k times to x
+--   forward t L Z       R of a round: the least X with X = cover(Z meet (Init union post X)), the abstract reachable states inside Z
+--   backward t L R      S of a round: the greatest X with X = cover(R meet hold X), the states of R that may stay in R for ever
+--   Round               the list, Z, R and S of one round
+--   rounds t left i r   the outcome from round i on, with `left` refinements left of the allowance
+--   run t allowance     the outcome of a check
+--   eliminated t j      W after j rounds of backward elimination
+--   backwardNumber t    the least j for which W is the same after j and after j + 1 rounds
+use Prim.Native.Nat.{ℕ, zero, suc}
+use mathlib.Core.Bool.{Bool, cond, not}
+use mathlib.Core.List.{List, _∷_}
+use Rattle.model.specs.Sets.{Set, empty, union, meet, subset, same, first, firstStates}
+use Rattle.model.specs.Tables.{Table, post, hold, cover, allowed}
+
+unfoldable pub iterate : (Set → Set) → Set → ℕ → Set
+iterate f x zero = x
+iterate f x (suc k) = f (iterate f x k)
+
+-- ---- a round
+
+unfoldable pub forwardStep : Table → List Set → Set → Set → Set
+forwardStep t L Z X = cover (t .n) L (meet Z (union (t .initial) (post (t .n) (t .row) X)))
+
+-- n steps from below reach the least solution (a theorem).
+unfoldable pub forward : Table → List Set → Set → Set
+forward t L Z = iterate (forwardStep t L Z) empty (t .n)
+
+unfoldable pub backwardStep : Table → List Set → Set → Set → Set
+backwardStep t L R X = cover (t .n) L (meet R (hold (t .n) (t .row) X))
+
+-- n steps from above reach the greatest solution (a theorem).
+unfoldable pub backward : Table → List Set → Set → Set
+backward t L R = iterate (backwardStep t L R) (firstStates (t .n)) (t .n)
+
+pub record Round : Type 0 where
+  pub list : List Set
+  pub Z : Set
+  pub R : Set
+  pub S : Set
+
+unfoldable pub roundOf : Table → List Set → Set → Round
+roundOf t L Z = let r = forward t L Z in record { list = L; Z = Z; R = r; S = backward t L r }
+
+unfoldable pub firstRound : Table → Round
+firstRound t = let z = allowed (t .n) (t .forbidden) in roundOf t (z ∷ t .groups) z
+
+-- Step 6: the next Z is S meet hold(S), and it is added to the list.
+unfoldable pub nextRound : Table → Round → Round
+nextRound t r = let z = meet (r .S) (hold (t .n) (t .row) (r .S)) in roundOf t (z ∷ r .list) z
+
+-- Step 2's test.
+unfoldable pub isSafe : Table → Round → Bool
+isSafe t r = subset (union (t .initial) (post (t .n) (t .row) (r .R))) (r .Z)
+
+-- Step 4's test.
+unfoldable pub isUnsafe : Table → Round → Bool
+isUnsafe t r = not (subset (t .initial) (r .S))
+
+-- ---- the rounds
+
+pub data Outcome : Type 0 where
+  safe : ℕ → Set → Outcome -- the count and the invariant
+  unsafe : ℕ → Outcome -- the count
+  undecided : ℕ → Outcome -- the count
+
+-- Steps 2 and 4 of round i, and what the later steps give.
+unfoldable pub settle : Table → Round → ℕ → Outcome → Outcome
+settle t r i later = cond (isSafe t r) (safe i (r .R)) (cond (isUnsafe t r) (unsafe i) later)
+
+unfoldable pub rounds : Table → ℕ → ℕ → Round → Outcome
+rounds t zero i r = settle t r i (undecided i)
+rounds t (suc left) i r = let later = rounds t left (suc i) (nextRound t r) in settle t r i later
+
+unfoldable pub run : Table → ℕ → Outcome
+run t allowance = rounds t allowance 0 (firstRound t)
+
+-- ---- backward elimination
+
+unfoldable pub eliminationStep : Table → Set → Set
+eliminationStep t W = meet W (hold (t .n) (t .row) W)
+
+unfoldable pub eliminated : Table → ℕ → Set
+eliminated t j = iterate (eliminationStep t) (allowed (t .n) (t .forbidden)) j
+
+unfoldable pub backwardNumber : Table → ℕ
+backwardNumber t = first (t .n) (λ j. same (eliminated t j) (eliminated t (suc j)))

@@ -1,0 +1,114 @@
+-- Sets of states (01, "States and sets").
+--
+--   WORDS            words in a set
+--   top              states a set can hold, 64 for each word
+--   Set              a set: the list of its words
+--   member X s       state s is in X: the bit of value 2^(s mod 64) in word s/64
+--   setOf p          the set of the states that pass p (the comprehension; each operation below is one)
+--   empty, single s, union, meet, difference       {}, {s}, X ∪ Y, X ∩ Y, X \ Y
+--   subset X Y, same X Y, meets X Y                 inclusion; inclusion both ways; a state in common
+--   states n p       the states below n that pass p; firstStates n: all n states
+--   members X        the states of X, rising; size X: how many (the ones in its words)
+--   smallest X       its least state, or top if it has none
+--   image n f X      the union of f x over the states x of X below n
+--
+-- Tests over the numbers below a bound: any, all, first (the least that passes, else the bound), picked (those that pass, rising).
+use Prim.Native.Nat.{ℕ, zero, suc, _+_, _*_, _/_, _%_, _^_}
+use mathlib.Core.Bool.{Bool, true, false, cond, not, _&&_, _||_}
+use mathlib.Core.List.{List, [], _∷_, _++_}
+use lib.Dec.{eqb, ltb}
+use lib.ListN.{length, getD}
+
+-- The one place that says how wide a set is.
+abbrev pub WORDS : ℕ
+WORDS = 4
+
+abbrev pub top : ℕ
+top = 64 * WORDS
+
+abbrev pub Set : Type 0
+Set = List ℕ
+
+-- ---- tests over the numbers below a bound
+
+unfoldable pub any : ℕ → (ℕ → Bool) → Bool
+any zero p = false
+any (suc n) p = any n p || p n
+
+unfoldable pub all : ℕ → (ℕ → Bool) → Bool
+all zero p = true
+all (suc n) p = all n p && p n
+
+unfoldable pub first : ℕ → (ℕ → Bool) → ℕ
+first zero p = zero
+first (suc n) p = cond (any n p) (first n p) (cond (p n) n (suc n))
+
+unfoldable pub picked : ℕ → (ℕ → Bool) → List ℕ
+picked zero p = []
+picked (suc n) p = picked n p ++ cond (p n) (n ∷ []) []
+
+-- The list f 0, f 1, .., f (n − 1).
+unfoldable pub tab : {A : Type 0} → ℕ → (ℕ → A) → List A
+tab zero f = []
+tab (suc n) f = tab n f ++ (f n ∷ [])
+
+-- ---- membership and comprehension
+
+unfoldable pub bit : ℕ → ℕ → Bool
+bit x i = eqb (x / 2 ^ i % 2) 1
+
+unfoldable pub member : Set → ℕ → Bool
+member X s = ltb s top && bit (getD X (s / 64) 0) (s % 64)
+
+-- The number whose bit i is p (from + i), for i below count.
+unfoldable pub number : (ℕ → Bool) → ℕ → ℕ → ℕ
+number p from zero = 0
+number p from (suc count) = cond (p from) 1 0 + 2 * number p (suc from) count
+
+unfoldable pub setOf : (ℕ → Bool) → Set
+setOf p = tab WORDS (λ w. number p (64 * w) 64)
+
+-- ---- operations
+
+unfoldable pub empty : Set
+empty = setOf (λ s. false)
+
+unfoldable pub single : ℕ → Set
+single x = setOf (λ s. eqb s x)
+
+unfoldable pub union : Set → Set → Set
+union X Y = setOf (λ s. member X s || member Y s)
+
+unfoldable pub meet : Set → Set → Set
+meet X Y = setOf (λ s. member X s && member Y s)
+
+unfoldable pub difference : Set → Set → Set
+difference X Y = setOf (λ s. member X s && not (member Y s))
+
+unfoldable pub subset : Set → Set → Bool
+subset X Y = all top (λ s. not (member X s) || member Y s)
+
+unfoldable pub same : Set → Set → Bool
+same X Y = subset X Y && subset Y X
+
+unfoldable pub meets : Set → Set → Bool
+meets X Y = any top (λ s. member X s && member Y s)
+
+unfoldable pub states : ℕ → (ℕ → Bool) → Set
+states n p = setOf (λ s. ltb s n && p s)
+
+unfoldable pub firstStates : ℕ → Set
+firstStates n = states n (λ s. true)
+
+unfoldable pub members : Set → List ℕ
+members X = picked top (member X)
+
+unfoldable pub size : Set → ℕ
+size X = length (members X)
+
+unfoldable pub smallest : Set → ℕ
+smallest X = first top (member X)
+
+unfoldable pub image : ℕ → (ℕ → Set) → Set → Set
+image zero f X = empty
+image (suc n) f X = let rest = image n f X in cond (member X n) (union rest (f n)) rest
