@@ -2,6 +2,7 @@
 -- declines"). An answer has 01's numbers; `refusal` is 0 where the call is not declined, and every other field is 0 (the invariant empty)
 -- where it is.
 --
+--   release                                the allowance of a release check
 --   overwrite xs old                       xs at the front of a buffer that held old, the rest of it untouched
 --   Decision, decideAnswer, decideBuffer   decide: the grounds in order, the answer, the path buffer at exit
 --   Shortest, shortestAnswer, shortestBuffer
@@ -26,16 +27,20 @@ overwrite xs old = xs ++ drop (length xs) old
 
 -- ---- decide
 
+-- The greatest allowance, which is that of a release check: as many refinements as there can be states.
+abbrev pub release : ℕ
+release = top
+
 pub record Decision : Type 0 where
   pub refusal : ℕ
-  pub verdict : ℕ -- 0 safe, 1 unsafe, 2 undecided
-  pub count : ℕ -- of refinements
-  pub invariant : Set -- empty unless safe
-  pub size : ℕ -- of the invariant
-  pub steps : ℕ -- d, 0 unless unsafe
+  pub verdict : ℕ  -- 0 safe, 1 unsafe, 2 undecided
+  pub count : ℕ  -- of refinements
+  pub invariant : Set  -- empty unless safe
+  pub size : ℕ  -- of the invariant
+  pub steps : ℕ  -- d, 0 unless unsafe
 
 unfoldable pub decideGrounds : List ℕ → ℕ → ℕ → ℕ → ℕ → List (Bool × ℕ)
-decideGrounds store n g allowance room = accept store n g ++ ((ltb top allowance, 20) ∷ (ltb room top, 21) ∷ [])
+decideGrounds store n g allowance room = accept store n g ++ ((ltb release allowance, 20) ∷ (ltb room top, 21) ∷ [])
 
 unfoldable pub decisionOf : Table → Outcome → Decision
 decisionOf t (safe i R) = record { refusal = 0; verdict = 0; count = i; invariant = R; size = size R; steps = 0 }
@@ -61,8 +66,8 @@ decideBuffer store n g allowance path =
 
 pub record Shortest : Type 0 where
   pub refusal : ℕ
-  pub found : ℕ -- 1 if there is a path, 0 if not
-  pub steps : ℕ -- d, 0 if there is none
+  pub found : ℕ  -- 1 if there is a path, 0 if not
+  pub steps : ℕ  -- d, 0 if there is none
 
 unfoldable pub shortestGrounds : List ℕ → ℕ → ℕ → ℕ → List (Bool × ℕ)
 shortestGrounds store n g room = accept store n g ++ ((ltb room top, 21) ∷ [])
@@ -112,19 +117,19 @@ readRefusal input room =
     let g = pairAt bytes 2 in
     let size = contentLength n g in
     let early =
-      refuse
-      ((ltb room storeWords, 10)
-      ∷ (eqb (length input) 0 || not (eqb (length input % 512) 0) || ltb maxFile (length input), 11)
-      ∷ []) in
+    refuse
+    ((ltb room storeWords, 10)
+    ∷ (eqb (length input) 0 || not (eqb (length input % 512) 0) || ltb maxFile (length input), 11)
+    ∷ []) in
     let faulty = firstFault blocks (λ k. blockFault (part input k) k) in
     let late =
-      refuse
-      ((badStates n, 14)
-      ∷ (ltb maxGroups g, 15)
-      ∷ (not (eqb blocks (blocksFor size)), 16)
-      ∷ (any (2 + g + n) (λ k. beyond n (setNumber bytes n k)), 17)
-      ∷ (nonZero bytes size (508 * blocks), 18)
-      ∷ []) in
+    refuse
+    ((badStates n, 14)
+    ∷ (ltb maxGroups g, 15)
+    ∷ (not (eqb blocks (blocksFor size)), 16)
+    ∷ (any (2 + g + n) (λ k. beyond n (setNumber bytes n k)), 17)
+    ∷ (nonZero bytes size (508 * blocks), 18)
+    ∷ []) in
     cond (eqb early 0) (cond (eqb faulty 0) late faulty) early
 
 unfoldable pub readAnswer : List ℕ → ℕ → TableRead

@@ -92,5 +92,5 @@ tableIn bytes n g =
       initial = setNumber bytes n 0;
       forbidden = setNumber bytes n 1;
       groups = tab g (λ j. setNumber bytes n (2 + j));
-      row = λ s. setNumber bytes n (2 + g + s)
+      row = λ s. setNumber bytes n (2 + g + s);
     }

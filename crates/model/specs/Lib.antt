@@ -5,3 +5,4 @@ pub mod Paths
 pub mod Stores
 pub mod Files
 pub mod Calls
+pub mod Promises

@@ -61,9 +61,9 @@ isUnsafe t r = not (subset (t .initial) (r .S))
 -- ---- the rounds
 
 pub data Outcome : Type 0 where
-  safe : ℕ → Set → Outcome -- the count and the invariant
-  unsafe : ℕ → Outcome -- the count
-  undecided : ℕ → Outcome -- the count
+  safe : ℕ → Set → Outcome  -- the count and the invariant
+  unsafe : ℕ → Outcome  -- the count
+  undecided : ℕ → Outcome  -- the count
 
 -- Steps 2 and 4 of round i, and what the later steps give.
 unfoldable pub settle : Table → Round → ℕ → Outcome → Outcome

@@ -41,7 +41,7 @@ all (suc n) p = all n p && p n
 
 unfoldable pub first : ℕ → (ℕ → Bool) → ℕ
 first zero p = zero
-first (suc n) p = cond (any n p) (first n p) (cond (p n) n (suc n))
+first (suc n) p = cond (p zero) zero (suc (first n (λ k. p (suc k))))
 
 unfoldable pub picked : ℕ → (ℕ → Bool) → List ℕ
 picked zero p = []

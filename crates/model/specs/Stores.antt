@@ -44,7 +44,7 @@ tableOf store n g =
       initial = setAt store 0;
       forbidden = setAt store forbiddenAt;
       groups = tab g (λ j. setAt store (groupAt j));
-      row = λ s. setAt store (rowAt s)
+      row = λ s. setAt store (rowAt s);
     }
 
 -- The lists f 0, f 1, .., f (n − 1), joined.

@@ -17,7 +17,7 @@ table n initial forbidden groups rows =
       initial = small initial;
       forbidden = small forbidden;
       groups = groups;
-      row = λ s. small (getD rows s 0)
+      row = λ s. small (getD rows s 0);
     }
 
 -- 0→1, 1→0, 2→2

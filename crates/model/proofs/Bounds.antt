@@ -1,0 +1,178 @@
+-- Laws of tests below a bound, and of lists made by `tab`.
+--
+--   and-true, and-intro, or-true, or-intro     Boolean connectives as facts
+--   any-find, any-intro, any-none              some number below the bound passes; none does
+--   all-at, all-intro, all-not                 each passes; one that does not
+--   first-le, first-passes, first-least        `first` is the least that passes, else the bound; first-is, first-none: so it is that one
+--   length-tab, getD-tab, tab-cong             a list by its elements
+use Prim.Native.Nat.{ℕ, zero, suc, _+_, _≤_, _<_, zero-le, suc-le-suc}
+use native.Mathlib.Nat.{le-of-suc-le-suc, not-suc-le-zero, eq-or-lt-of-le}
+use native.Mathlib.Decide.{decLt}
+use native.Mathlib.Numerals.{add-one}
+use native.Mathlib.Omega.{arith}
+use mathlib.Core.Path.{_≡_, refl, sym, ap, ap₂, _∙_, subst}
+use mathlib.Core.Logic.{_⊎_, inl, inr, ⊎-elim}
+use mathlib.Core.Bool.{Bool, true, false, not, _&&_, _||_, cond, true≢false, false≢true}
+use mathlib.Core.List.{List, [], _∷_, _++_}
+use lib.ListN.{length, getD, length-append, List·getD-append}
+use lib.Seq.{getD-at}
+use Rattle.model.specs.Sets.{any, all, first, picked, tab}
+
+-- ---- Booleans
+
+pub and-true : (a b : Bool) → (a && b) ≡ true → (a ≡ true) × (b ≡ true)
+and-true true b e = (refl, e)
+and-true false b e = absurd (false≢true e)
+
+pub and-intro : (a b : Bool) → a ≡ true → b ≡ true → (a && b) ≡ true
+and-intro true b p q = q
+and-intro false b p q = p
+
+pub or-true : (a b : Bool) → (a || b) ≡ true → (a ≡ true) ⊎ (b ≡ true)
+or-true true b e = inl refl
+or-true false b e = inr e
+
+pub or-intro : (a b : Bool) → (a ≡ true) ⊎ (b ≡ true) → (a || b) ≡ true
+or-intro true b h = refl
+or-intro false b h = ⊎-elim (λ p. absurd (false≢true p)) (λ q. q) h
+
+pub not-true : (a : Bool) → not a ≡ true → a ≡ false
+not-true true e = absurd (false≢true e)
+not-true false e = refl
+
+pub is-false : (a : Bool) → (a ≡ true → ⊥) → a ≡ false
+is-false true f = absurd (f refl)
+is-false false f = refl
+
+pub clash : {a : Bool} → a ≡ true → a ≡ false → ⊥
+clash p q = true≢false (sym p ∙ q)
+
+-- a test passes or fails
+pub decided : (a : Bool) → (a ≡ true) ⊎ (a ≡ false)
+decided true = inl refl
+decided false = inr refl
+
+-- two tests that pass together are the same test
+pub same-test : (a b : Bool) → (a ≡ true → b ≡ true) → (b ≡ true → a ≡ true) → a ≡ b
+same-test true b f g = sym (f refl)
+same-test false true f g = absurd (false≢true (g refl))
+same-test false false f g = refl
+
+-- a choice has what both of its branches have
+pub by-cond {ℓ κ} : {A : Type ℓ} (P : A → Type κ) (b : Bool) (x y : A) → (b ≡ true → P x) → (b ≡ false → P y) → P (cond b x y)
+by-cond P true x y f g = f refl
+by-cond P false x y f g = g refl
+
+-- ---- below a bound
+
+pub lt-or-ge : (a b : ℕ) → (a < b) ⊎ (b ≤ a)
+lt-or-ge a b = go (decLt a b)
+  where
+    go : Dec (a < b) → (a < b) ⊎ (b ≤ a)
+    go (yes h) = inl h
+    go (no f) = inr (omega arith)
+
+-- what is below suc n is below n, or is n
+pub below-suc : {k n : ℕ} → k < suc n → (k ≡ n) ⊎ (k < n)
+below-suc h = eq-or-lt-of-le (le-of-suc-le-suc h)
+
+module _ (p : ℕ → Bool) where
+  pub any-intro : (n k : ℕ) → k < n → p k ≡ true → any n p ≡ true
+  unfolding any
+  any-intro zero k h e = absurd (not-suc-le-zero h)
+  any-intro (suc n) k h e =
+      or-intro (any n p) (p n)
+      (⊎-elim (λ q. inr (subst (λ (x : ℕ). p x ≡ true) q e)) (λ l. inl (any-intro n k l e)) (below-suc h))
+
+  pub any-find : (n : ℕ) → any n p ≡ true → (k : ℕ) × (k < n) × (p k ≡ true)
+  unfolding any
+  any-find zero e = absurd (false≢true e)
+  any-find (suc n) e = go (or-true (any n p) (p n) e) (any-find n)
+    where
+      go : (any n p ≡ true) ⊎ (p n ≡ true) → (any n p ≡ true → (k : ℕ) × (k < n) × (p k ≡ true)) → (k : ℕ) × (k < suc n) × (p k ≡ true)
+      go (inl h) ih = (ih h .0, omega (arith, ih h .1), ih h .2)
+      go (inr h) ih = (n, omega arith, h)
+
+  pub any-none : (n : ℕ) → any n p ≡ false → (k : ℕ) → k < n → p k ≡ false
+  any-none n e k h = is-false (p k) (λ q. clash (any-intro n k h q) e)
+
+  pub all-at : (n : ℕ) → all n p ≡ true → (k : ℕ) → k < n → p k ≡ true
+  unfolding all
+  all-at zero e k h = absurd (not-suc-le-zero h)
+  all-at (suc n) e k h =
+      let parts = and-true (all n p) (p n) e in
+      ⊎-elim (λ q. subst (λ (x : ℕ). p x ≡ true) (sym q) (parts .1)) (λ l. all-at n (parts .0) k l) (below-suc h)
+
+  pub all-intro : (n : ℕ) → ((k : ℕ) → k < n → p k ≡ true) → all n p ≡ true
+  unfolding all
+  all-intro zero f = refl
+  all-intro (suc n) f = and-intro (all n p) (p n) (all-intro n (λ k h. f k (omega arith))) (f n (omega arith))
+
+  -- where not each passes, one does not
+  pub all-not : (n : ℕ) → all n p ≡ false → (k : ℕ) × (k < n) × (p k ≡ false)
+  unfolding all
+  all-not zero e = absurd (true≢false e)
+  all-not (suc n) e = go (decided (all n p)) (all-not n)
+    where
+      go : (all n p ≡ true) ⊎ (all n p ≡ false) → (all n p ≡ false → (k : ℕ) × (k < n) × (p k ≡ false)) → (k : ℕ) × (k < suc n) × (p k ≡ false)
+      go (inl h) ih = (n, omega arith, subst (λ (a : Bool). (a && p n) ≡ false) h e)
+      go (inr h) ih = (ih h .0, omega (arith, ih h .1), ih h .2)
+
+pub first-le : (p : ℕ → Bool) (n : ℕ) → first n p ≤ n
+unfolding first
+first-le p zero = zero-le
+first-le p (suc n) = by-cond (λ r. r ≤ suc n) (p zero) _ _ (λ e. zero-le) (λ e. suc-le-suc (first-le (λ k. p (suc k)) n))
+
+pub first-passes : (p : ℕ → Bool) (n : ℕ) → first n p < n → p (first n p) ≡ true
+unfolding first
+first-passes p zero = λ h. absurd (not-suc-le-zero h)
+first-passes p (suc n) =
+    by-cond (λ r. r < suc n → p r ≡ true) (p zero) _ _ (λ e h. e)
+    (λ e h. first-passes (λ k. p (suc k)) n (le-of-suc-le-suc h))
+
+pub first-least : (p : ℕ → Bool) (n k : ℕ) → k < first n p → p k ≡ false
+unfolding first
+first-least p zero k = λ h. absurd (not-suc-le-zero h)
+first-least p (suc n) zero =
+    by-cond (λ r. zero < r → p zero ≡ false) (p zero) _ _ (λ e h. absurd (not-suc-le-zero h)) (λ e h. e)
+first-least p (suc n) (suc k) =
+    by-cond (λ r. suc k < r → p (suc k) ≡ false) (p zero) _ _ (λ e h. absurd (not-suc-le-zero h))
+    (λ e h. first-least (λ j. p (suc j)) n k (le-of-suc-le-suc h))
+
+-- the least that passes, from the three facts that make it so
+pub first-is : (p : ℕ → Bool) (n k : ℕ) → k < n → p k ≡ true → ((j : ℕ) → j < k → p j ≡ false) → first n p ≡ k
+first-is p n k h e f =
+    ⊎-elim
+    (λ l. absurd (clash (first-passes p n (omega (arith, l, h))) (f (first n p) l)))
+    (λ m. ⊎-elim (λ q. sym q) (λ l. absurd (clash e (first-least p n k l))) m)
+    (order (first n p) k)
+  where
+    order : (a b : ℕ) → (a < b) ⊎ ((b ≡ a) ⊎ (b < a))
+    order a b = ⊎-elim (λ l. inl l) (λ l. inr (eq-or-lt-of-le l)) (lt-or-ge a b)
+
+-- none passes
+pub first-none : (p : ℕ → Bool) (n : ℕ) → ((j : ℕ) → j < n → p j ≡ false) → first n p ≡ n
+first-none p n f =
+    ⊎-elim (λ e. e) (λ l. absurd (clash (first-passes p n l) (f (first n p) l))) (eq-or-lt-of-le (first-le p n))
+
+-- ---- lists by their elements
+
+module _ {A : Type 0} (f : ℕ → A) where
+  pub length-tab : (n : ℕ) → length (tab n f) ≡ n
+  unfolding tab
+  length-tab zero = refl
+  length-tab (suc n) = length-append (tab n f) (f n ∷ []) ∙ ap (λ m. m + 1) (length-tab n) ∙ add-one n
+
+  pub getD-tab : (n i : ℕ) (d : A) → i < n → getD (tab n f) i d ≡ f i
+  unfolding tab
+  getD-tab zero i d h = absurd (not-suc-le-zero h)
+  getD-tab (suc n) i d h =
+      ⊎-elim
+      (λ e. subst (λ (j : ℕ). getD (tab n f ++ (f n ∷ [])) j d ≡ f j) (sym e) (getD-at (tab n f) (f n) [] d n (length-tab n)))
+      (λ l. List·getD-append (tab n f) (f n ∷ []) d i (subst (λ (m : ℕ). i < m) (sym (length-tab n)) l) ∙ getD-tab n i d l)
+      (below-suc h)
+
+pub tab-cong : {A : Type 0} (f g : ℕ → A) (n : ℕ) → ((i : ℕ) → i < n → f i ≡ g i) → tab n f ≡ tab n g
+unfolding tab
+tab-cong f g zero e = refl
+tab-cong f g (suc n) e = ap₂ (λ xs x. xs ++ (x ∷ [])) (tab-cong f g n (λ i h. e i (omega arith))) (e n (omega arith))
