@@ -2,3 +2,5 @@ pub mod Bounds
 pub mod SetLaws
 pub mod WellFormed
 pub mod Acceptance
+pub mod CoverLaws
+pub mod ImageLaws
