@@ -1,15 +1,15 @@
 -- Chains of sets that only grow or only shrink, the solutions of X = f X that they reach, and backward elimination.
 --
---   le-induction                     induction from a number up
+--   le-induction, first-found        induction from a number up; what `first` finds passes, where the bound does
 --   ⊆-of-eq, same-eq, eq-same        equality, inclusion, and the test `same`
 --   states-within                    the states below n that pass are among the first n states
 --   chain-still                      a measure that rises until the chain is still, and is at most n: how soon it is still
 --   iterate-suc, iterate-has         one step more; induction: what x has and f keeps
 --   iterate-still                    a step that stands still stays still
 --   growing-done, shrinking-done     an iteration that only grows, or only shrinks, among n states is still after n steps
---   from-below, from-above           n steps from the empty set reach the least solution, n from all n states the greatest;
---   least-pre, greatest-post         inside each set that f shrinks (prefixpoint), around each that f grows (postfixpoint)
---   eliminated-shrinks, eliminated-mono     W only shrinks
+--   least-pre, greatest-post         n steps from the empty set stay inside each prefixpoint, n from all n states around each postfixpoint
+--   from-below, from-above           they reach the least and the greatest solution
+--   eliminated-shrinks, eliminated-mono     W only shrinks; eliminated-proper, eliminated-within: it is a set of states of the table
 --   backward-is, eliminated-still           the backward number is what 01 says, and W stays the same from there
 use Prim.Native.Nat.{ℕ, zero, suc, _+_, _-_, _≤_, _<_}
 use native.Mathlib.Nat.{eq-or-lt-of-le}
