@@ -1,5 +1,7 @@
 pub mod Bounds
 pub mod SetLaws
+pub mod Counting
+pub mod Fixpoints
 pub mod WellFormed
 pub mod Acceptance
 pub mod CoverLaws
