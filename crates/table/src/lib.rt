@@ -2,12 +2,14 @@
 //
 //   set_at, group_at, row_at     a set of the store
 //   successors                   post: all successors of the states of a set
+//   Rows, row_of, union_of       a row of words for each state, the set in one row, the union of the rows of a set's states
 //   refusal                      the first of the grounds 10, 14, 15 and 17 that holds, or 0
 //
 // Functions below the calls ask for a store that is long enough; `refusal` asks for nothing.
 ghost use mathlib.Core.Path.{_≡_};
 ghost use Prim.Native.Nat.{_+_, _≤_, _<_};
-ghost use lib.ListN.{length};
+ghost use lib.ListN.{length, getD};
+ghost use mathlib.Core.List.{[]};
 ghost use Rattle.model.specs.Sets.{top, any, image};
 ghost use Rattle.model.specs.Stores.{storeWords, maxGroups, groupAt, rowAt, setAt, beyond, nonZero, stray, refuse, accept};
 
@@ -57,6 +59,31 @@ pub fn successors(store: &[u64], x: StateSet) -> StateSet
     while !rest.is_empty() {
         let s = rest.smallest();
         found = found.union(row_at(store, s));
+        rest = rest.without(s);
+    }
+    found
+}
+
+// One row of words for each state.
+pub type Rows = [[u64; WORDS]; MAX_STATES];
+
+pub fn row_of(rows: &Rows, s: usize) -> StateSet
+    requires { ⌜ s < top ⌝ }
+    ensures { λ r. ⌜ r .words ≡ getD (now (rows .entry)) s [] ⌝ }
+{
+    let words = rows[s];
+    StateSet { words }
+}
+
+// The union of the rows of the states of x.
+pub fn union_of(rows: &Rows, x: StateSet) -> StateSet
+    ensures { λ r. ⌜ r .words ≡ image top (λ s. getD (now (rows .entry)) s []) (x .words) ⌝ }
+{
+    let mut found = StateSet::empty();
+    let mut rest = x;
+    while !rest.is_empty() {
+        let s = rest.smallest();
+        found = found.union(row_of(rows, s));
         rest = rest.without(s);
     }
     found

@@ -1,0 +1,141 @@
+// The rounds (01, "Rounds") and the call `decide`.
+//
+//   no_groups, with_groups, narrow      the cover: a row of words for each state, set up from the groups and narrowed by each new Z
+//   forward_step, forward               R, by its step until nothing changes
+//   kept, backward_step, backward       S, by its step until nothing changes
+//   run                                 the rounds
+//   decide                              the call
+ghost use mathlib.Core.Path.{_≡_};
+ghost use mathlib.Core.List.{[]};
+ghost use Prim.Native.Nat.{_≤_};
+ghost use lib.ListN.{length};
+ghost use Rattle.model.specs.Sets.{top, empty, firstStates};
+ghost use Rattle.model.specs.Rounds.{iterate};
+ghost use Rattle.model.specs.Rounds.{run as run·model};
+ghost use Rattle.model.specs.Stores.{storeWords, maxGroups, tableOf};
+ghost use Rattle.model.specs.Calls.{decideAnswer, decideBuffer};
+ghost use Rattle.rounds.specs.Steps.{covers, narrowed, forwardBy, keptBy, backwardBy};
+ghost use Rattle.rounds.specs.Answers.{outcomeOf, answerOf};
+
+use state_set::{StateSet, WORDS};
+use table::{FORBIDDEN_AT, MAX_STATES, Rows, group_at, row_at, row_of, set_at, successors, union_of};
+
+// ---- the cover
+
+// The cover of each state for the empty list: all n states.
+fn no_groups(n: usize) -> Rows
+    ensures { λ r. ⌜ r ≡ covers n [] ⌝ }
+{
+    let words = StateSet::first_states(n).words;
+    [words; MAX_STATES]
+}
+
+// z is added to the list: the cover of each of its states becomes its meet with z.
+fn narrow(rows: &mut Rows, z: StateSet)
+    ensures { λ _. ⌜ now (rows .exit) ≡ narrowed (now (rows .entry)) (z .words) ⌝ }
+{
+    let mut rest = z;
+    while !rest.is_empty() {
+        let s = rest.smallest();
+        let met = row_of(rows, s).meet(z);
+        let words = met.words;
+        rows[s] = words;
+        rest = rest.without(s);
+    }
+}
+
+// The cover for the table's groups, which are added from the last to the first.
+fn with_groups(store: &[u64], n: usize, g: usize) -> Rows
+    requires { ⌜ (g ≤ maxGroups) × (storeWords ≤ length (now store)) ⌝ }
+    ensures { λ r. ⌜ r ≡ covers n ((tableOf (now (store .entry)) n g) .groups) ⌝ }
+{
+    let mut rows = no_groups(n);
+    let mut j = g;
+    while 0 < j {
+        j -= 1;
+        narrow(&mut rows, group_at(store, j));
+    }
+    rows
+}
+
+// ---- R
+
+// cover(z meet (initial union post(x)))
+fn forward_step(store: &[u64], rows: &Rows, initial: StateSet, z: StateSet, x: StateSet) -> StateSet
+    requires { ⌜ storeWords ≤ length (now store) ⌝ }
+    ensures { λ r. ⌜ r .words ≡ forwardBy (now (store .entry)) (now (rows .entry)) (initial .words) (z .words) (x .words) ⌝ }
+{
+    union_of(rows, z.meet(initial.union(successors(store, x))))
+}
+
+fn forward(store: &[u64], n: usize, rows: &Rows, initial: StateSet, z: StateSet) -> StateSet
+    requires { ⌜ storeWords ≤ length (now store) ⌝ }
+    ensures { λ r. ⌜ r .words ≡ iterate (forwardBy (now (store .entry)) (now (rows .entry)) (initial .words) (z .words)) empty n ⌝ }
+{
+    let mut x = StateSet::empty();
+    for _ in 0..n {
+        let y = forward_step(store, rows, initial, z, x);
+        if y.equals(x) {
+            return x;
+        }
+        x = y;
+    }
+    x
+}
+
+// ---- S
+
+// The states of x whose every successor is in y.
+fn kept(store: &[u64], x: StateSet, y: StateSet) -> StateSet
+    requires { ⌜ storeWords ≤ length (now store) ⌝ }
+    ensures { λ r. ⌜ r .words ≡ keptBy (now (store .entry)) (x .words) (y .words) ⌝ }
+{
+    let mut kept = StateSet::empty();
+    let mut rest = x;
+    while !rest.is_empty() {
+        let s = rest.smallest();
+        if row_at(store, s).is_subset(y) {
+            kept = kept.with(s);
+        }
+        rest = rest.without(s);
+    }
+    kept
+}
+
+// cover(r meet hold(x))
+fn backward_step(store: &[u64], rows: &Rows, r: StateSet, x: StateSet) -> StateSet
+    requires { ⌜ storeWords ≤ length (now store) ⌝ }
+    ensures { λ s. ⌜ s .words ≡ backwardBy (now (store .entry)) (now (rows .entry)) (r .words) (x .words) ⌝ }
+{
+    union_of(rows, kept(store, r, x))
+}
+
+fn backward(store: &[u64], n: usize, rows: &Rows, r: StateSet) -> StateSet
+    requires { ⌜ storeWords ≤ length (now store) ⌝ }
+    ensures { λ s. ⌜ s .words ≡ iterate (backwardBy (now (store .entry)) (now (rows .entry)) (r .words)) (firstStates n) n ⌝ }
+{
+    let mut x = StateSet::first_states(n);
+    for _ in 0..n {
+        let y = backward_step(store, rows, r, x);
+        if y.equals(x) {
+            return x;
+        }
+        x = y;
+    }
+    x
+}
+
+// ---- the rounds
+
+// How the rounds end, with the count of refinements.
+pub enum Ending {
+    Safe(usize),
+    Unsafe(usize),
+    Undecided(usize),
+}
+
+// The ending, with R beside it where that is safe and the empty set where it is not.
+pub struct Outcome {
+    pub ending: Ending,
+    pub invariant: StateSet,
+}
