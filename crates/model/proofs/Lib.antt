@@ -1,2 +1,4 @@
 pub mod Bounds
 pub mod SetLaws
+pub mod WellFormed
+pub mod PathLaws
