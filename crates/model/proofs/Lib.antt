@@ -1,4 +1,5 @@
 pub mod Bounds
 pub mod SetLaws
+pub mod Counting
 pub mod WellFormed
 pub mod PathLaws

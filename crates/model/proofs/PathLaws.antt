@@ -15,6 +15,7 @@ use Rattle.model.specs.Paths.{leads, isPath, near, far, distance, shorte
 use Rattle.model.specs.Promises.{NotAfter, IsSmallest}
 use Rattle.model.proofs.Bounds.{and-true, and-intro, is-false, clash, decided, by-cond, first-le, first-passes, first-least, first-is, first-none, lt-or-ge}
 use Rattle.model.proofs.SetLaws.{In, in-top, in-or-out, in-union, union-in, in-meet, meet-in, in-states, states-in, _⊆_, in-meets, meets-in, smallest-le, smallest-in}
+use Rattle.model.proofs.Counting.{size-lt, size-bound, size-pos}
 use Rattle.model.proofs.WellFormed.{WellFormed}
 
 -- ---- states of the table
@@ -26,6 +27,14 @@ in-firstStates n h l = in-states n (λ u. true) h l refl
 pub firstStates-in : (n : ℕ) {s : ℕ} → In (firstStates n) s → s < n
 unfolding firstStates
 firstStates-in n h = states-in n (λ u. true) h .0
+
+-- ---- the first state of a path
+
+and-in : (X : Set) (x : ℕ) (b : Bool) → (member X x && b) ≡ true → In X x × (b ≡ true)
+and-in X x b e = let both = and-true (member X x) b e in (record { is = both .0 }, both .1)
+
+in-and : {X : Set} {x : ℕ} {b : Bool} → In X x → b ≡ true → (member X x && b) ≡ true
+in-and {X} {x} {b} h e = and-intro (member X x) b (h .is) e
 
 -- ---- near
 
@@ -65,7 +74,7 @@ module _ (t : Table) where
       (λ c. let w = near-leads k c in (w .0, w .1, omega arith))
       (λ m.
       let w = near-leads k {s = m .0} (m .3) in
-      (m .0 ∷ w .0, and-intro (member (t .row s) (m .0)) (leads t (m .0) (w .0)) (m .2 .is) (w .1), suc-le-suc (w .2)))
+      (m .0 ∷ w .0, in-and (m .2) (w .1), suc-le-suc (w .2)))
       (near-in k h)
 
 -- ---- how near exactly
@@ -106,8 +115,11 @@ module _ (t : Table) where
       (near-in t d (a .within))
 
   pub at-size : (k : ℕ) {s : ℕ} → At t s k → k < size (near t k)
-  at-size zero a = ?
-  at-size (suc k) a = ?
+  at-size zero a = size-pos (a .within)
+  at-size (suc k) {s} a =
+      let w = meets-in (at-row a .1 .within) in
+      let fewer : size (near t k) < size (near t (suc k)) = size-lt (near-suc t k) (a .within) (a .beyond k (omega arith)) in
+      omega (arith, at-size k (nearest-at k (at-row a .1) (w .1) (w .2)))
 
   pub shortest-le : (k : ℕ) {s : ℕ} → In (t .initial) s → In (near t k) s → shortest t ≤ k
   unfolding shortest
@@ -142,13 +154,13 @@ module _ (t : Table) where
       (both .0, nearest-at d n (both .0) (both .1))
 
   pub walk-leads : (d : ℕ) {X : Set} → Nearest t X d → (x : ℕ) × (xs : List ℕ) × (walk t d X ≡ x ∷ xs) × In X x × (leads t x xs ≡ true)
-  unfolding walk leads
+  unfolding walk leads near
   walk-leads zero {X} n = let p = walk-picks zero n in (smallest (meet X (near t zero)), [], refl, p .0, p .1 .within .is)
   walk-leads (suc d) {X} n =
       let p = walk-picks (suc d) n in
       let x = smallest (meet X (near t (suc d))) in
       let w = walk-leads d (at-row (p .1) .1) in
-      (x, walk t d (t .row x), refl, p .0, rw (w .2) (and-intro (member (t .row x) (w .0)) (leads t (w .0) (w .1)) (w .3 .is) (w .4)))
+      (x, walk t d (t .row x), refl, p .0, rw (w .2) (in-and (w .3) (w .4)))
 
 
 -- ---- well-formed tables
@@ -163,6 +175,93 @@ module _ {t : Table} (ok : WellFormed t) where
   unfolding near leads
   leads-near [] h e = record { is = e }
   leads-near (x ∷ xs) {s} h e =
-      let both = and-true (member (t .row s) x) (leads t x xs) e in
-      let r : In (t .row s) x = record { is = both .0 } in
-      in-near t (length xs) h r (leads-near xs (ok .rows s (firstStates-in (t .n) h) x r) (both .1))
+      let p = and-in (t .row s) x _ e in
+      in-near t (length xs) h (p .0) (leads-near xs (ok .rows s (firstStates-in (t .n) h) x (p .0)) (p .1))
+
+  -- a state k steps from a forbidden one is one of more than k
+  pub at-lt : (k : ℕ) {s : ℕ} → At t s k → k < t .n
+  at-lt k a = omega (arith, at-size t k a, size-bound (near-states k))
+
+  path-near : (x : ℕ) (xs : List ℕ) → isPath t (x ∷ xs) ≡ true → In (t .initial) x × In (near t (length xs)) x
+  unfolding isPath
+  path-near x xs e = let p = and-in (t .initial) x _ e in (p .0, leads-near xs (ok .initial x (p .0)) (p .1))
+
+  pub has-path : (xs : List ℕ) → isPath t xs ≡ true → hasPath t ≡ true
+  unfolding isPath hasPath
+  has-path [] e = absurd (false≢true e)
+  has-path (x ∷ xs) e =
+      let p = path-near x xs e in
+      let a = near-at t (length xs) (p .1) in
+      lt-ltb (shortest t) (t .n) (omega (arith, shortest-le t (a .0) (p .0) (a .2 .within), at-lt (a .0) (a .2)))
+
+  pub path-of : hasPath t ≡ true → isPath t (smallestPath t) ≡ true
+  unfolding isPath smallestPath
+  path-of e = let w = walk-leads t (shortest t) (shortest-nearest t e) in rw (w .2) (in-and (w .3) (w .4))
+
+  -- no path is shorter
+  no-shorter : (ys : List ℕ) → isPath t ys ≡ true → length (smallestPath t) ≤ length ys
+  unfolding isPath
+  no-shorter [] e = absurd (false≢true e)
+  no-shorter (y ∷ ys) e = let p = path-near y ys e in omega (arith, length-smallest t, shortest-le t (length ys) (p .0) (p .1))
+
+  -- no path from X of the same length is smaller
+  walk-smallest : (ys : List ℕ) {X : Set} {y : ℕ} → X ⊆ firstStates (t .n) → In X y → leads t y ys ≡ true
+      → NotAfter (walk t (length ys) X) (y ∷ ys)
+  unfolding walk leads
+  walk-smallest [] {X} {y} f h e =
+      ⊎-elim (λ q. inr (q, tt)) inl (eq-or-lt-of-le (smallest-le (in-meet h (leads-near [] (f y h) e))))
+  walk-smallest (z ∷ zs) {X} {y} f h e =
+      let p = and-in (t .row y) z _ e in
+      ⊎-elim (λ q. inr (q, rw q (walk-smallest zs (ok .rows y (firstStates-in (t .n) (f y h))) (p .0) (p .1)))) inl
+      (eq-or-lt-of-le (smallest-le (in-meet h (leads-near (z ∷ zs) (f y h) e))))
+
+  no-smaller : (ys : List ℕ) → isPath t ys ≡ true → length ys ≡ length (smallestPath t) → NotAfter (smallestPath t) ys
+  unfolding isPath smallestPath
+  no-smaller [] e l = absurd (false≢true e)
+  no-smaller (y ∷ ys) e l =
+      let p = and-in (t .initial) y _ e in
+      let q : shortest t ≡ length ys = omega (arith, length-smallest t) in
+      rw q (walk-smallest ys (ok .initial) (p .0) (p .1))
+
+  pub smallest-is : hasPath t ≡ true → IsSmallest t (smallestPath t)
+  smallest-is e = record { path = path-of e; shortest = no-shorter; smallest = no-smaller }
+
+  leads-below : (xs : List ℕ) {x : ℕ} → In (firstStates (t .n)) x → leads t x xs ≡ true → (i : ℕ) → i < suc (length xs)
+      → getD (x ∷ xs) i 0 < t .n
+  unfolding leads
+  leads-below xs h e zero l = firstStates-in (t .n) h
+  leads-below [] h e (suc i) l = absurd (not-suc-le-zero (le-of-suc-le-suc l))
+  leads-below (y ∷ ys) {x} h e (suc i) l =
+      let p = and-in (t .row x) y _ e in
+      leads-below ys (ok .rows x (firstStates-in (t .n) h) y (p .0)) (p .1) i (le-of-suc-le-suc l)
+
+  -- a path is of states of the table
+  pub path-below : (xs : List ℕ) → isPath t xs ≡ true → (i : ℕ) → i < length xs → getD xs i 0 < t .n
+  unfolding isPath
+  path-below [] e i l = absurd (not-suc-le-zero l)
+  path-below (x ∷ xs) e i l = let p = and-in (t .initial) x _ e in leads-below xs (ok .initial x (p .0)) (p .1) i l
+
+  pub smallest-below : hasPath t ≡ true → (i : ℕ) → i < length (smallestPath t) → getD (smallestPath t) i 0 < t .n
+  smallest-below e = path-below (smallestPath t) (path-of e)
+
+-- ---- distance
+
+module _ (t : Table) where
+  distance-cases : (s : ℕ)
+      → ((k : ℕ) × (k < t .n) × At t s k × (distance t s ≡ k)) ⊎ (((k : ℕ) → k < t .n → In (near t k) s → ⊥) × (distance t s ≡ far))
+  unfolding distance
+  distance-cases s =
+      let p : ℕ → Bool = λ k. member (near t k) s in
+      let d = first (t .n) p in
+      by-cond
+      (λ (r : ℕ). ((k : ℕ) × (k < t .n) × At t s k × (r ≡ k)) ⊎ (((k : ℕ) → k < t .n → In (near t k) s → ⊥) × (r ≡ far)))
+      (ltb d (t .n)) d far
+      (λ e.
+      inl
+      (d, ltb-true d (t .n) e,
+      record {
+        within = record { is = first-passes p (t .n) (ltb-true d (t .n) e) };
+        beyond = λ j l h. clash (h .is) (first-least p (t .n) j l);
+      },
+      refl))
+      (λ e. inr ((λ k l h. clash (h .is) (first-least p (t .n) k (omega (arith, ltb-false d (t .n) e)))), refl))
