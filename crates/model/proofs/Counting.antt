@@ -1,6 +1,6 @@
 -- Laws of counting: the length of a list of picked numbers, and the number of states in a set.
 --
---   picked-le, picked-lt           fewer tests pass: no more are picked; one passes that did not: more are picked
+--   picked-le, picked-lt           where what passes p passes q, p picks at most as many as q; fewer, if a number passes q alone
 --   picked-bound                   where only numbers below n pass, at most n are picked
 --   size-le, size-lt               a set inside another has at most its size; strictly inside, fewer
 --   all-or-fewer                   a set inside another is all of it, or has fewer members
@@ -8,13 +8,13 @@
 use Prim.Native.Nat.{ℕ, zero, suc, _+_, _≤_, _<_}
 use native.Mathlib.Nat.{not-suc-le-zero}
 use native.Mathlib.Omega.{arith}
-use mathlib.Core.Path.{_≡_, refl, sym, ap, _∙_, subst}
+use mathlib.Core.Path.{_≡_, refl, sym, ap, _∙_}
 use mathlib.Core.Logic.{_⊎_, inl, inr, ⊎-elim}
 use mathlib.Core.Bool.{Bool, true, false, cond}
-use mathlib.Core.List.{List, [], _∷_, _++_}
+use mathlib.Core.List.{[], _∷_}
 use lib.ListN.{length, length-append}
 use Rattle.model.specs.Sets.{top, Set, picked, member, empty, subset, firstStates, members, size}
-use Rattle.model.proofs.Bounds.{clash, is-false, decided, by-cond, below-suc}
+use Rattle.model.proofs.Bounds.{is-false, decided, below-suc}
 use Rattle.model.proofs.SetLaws.{In, in-top, empty-in, states-in, _⊆_, subset-in, subset-not}
 
 -- ---- picked numbers
@@ -37,7 +37,6 @@ length-picked p n = length-append (picked n p) _ ∙ ap (λ (m : ℕ). length (p
     go true = refl
     go false = refl
 
--- what passes p passes q
 module _ (p q : ℕ → Bool) (f : (k : ℕ) → p k ≡ true → q k ≡ true) where
   pub picked-le : (n : ℕ) → length (picked n p) ≤ length (picked n q)
   unfolding picked
@@ -48,16 +47,13 @@ module _ (p q : ℕ → Bool) (f : (k : ℕ) → p k ≡ true → q k ≡ true) 
   picked-lt zero k h i o = absurd (not-suc-le-zero h)
   picked-lt (suc n) k h i o =
       ⊎-elim
-      (λ e. 
-       omega (arith, picked-le n, subst (λ (j : ℕ). digit (p j) < digit (q j)) e more, length-picked p n, length-picked q n))
+      (λ e. omega (arith, picked-le n, ap digit (sym (ap p e) ∙ o), ap digit (sym (ap q e) ∙ i), length-picked p n, length-picked q n))
       (λ l. omega (arith, picked-lt n k l i o, digit-le (p n) (q n) (f n), length-picked p n, length-picked q n))
       (below-suc h)
-    where
-      more : digit (p k) < digit (q k)
-      more = rw (i, o) (omega arith)
 
 -- of the numbers below m at most m pass, and at most n if all that pass are below n
-pub picked-bound : (p : ℕ → Bool) (n : ℕ) → ((k : ℕ) → p k ≡ true → k < n) → (m : ℕ) → (length (picked m p) ≤ m) × (length (picked m p) ≤ n)
+pub picked-bound : (p : ℕ → Bool) (n : ℕ) → ((k : ℕ) → p k ≡ true → k < n)
+    → (m : ℕ) → (length (picked m p) ≤ m) × (length (picked m p) ≤ n)
 unfolding picked
 picked-bound p n f zero = omega arith
 picked-bound p n f (suc m) =

@@ -1,4 +1,5 @@
--- A table whose sets hold states of the table only, which is what ground 17 leaves.
+-- A table whose initial states, forbidden states and successors are states of the table: what the theorems about paths assume, and what
+-- ground 17 gives.
 use Prim.Native.Nat.{ℕ, _<_}
 use Rattle.model.specs.Sets.{firstStates}
 use Rattle.model.specs.Tables.{Table}
