@@ -39,13 +39,13 @@ use Rattle.model.proofs.WellFormed.{WellFormed}
 
 -- ---- general laws
 
-pub in-firstStates : (n : ℕ) {s : ℕ} → s < top → s < n → In (firstStates n) s
+pub in-firstStates : {n s : ℕ} → s < top → s < n → In (firstStates n) s
 unfolding firstStates
-in-firstStates n h l = in-states n (λ u. true) h l refl
+in-firstStates {n} h l = in-states n (λ u. true) h l refl
 
-pub firstStates-in : (n : ℕ) {s : ℕ} → In (firstStates n) s → s < n
+pub firstStates-in : {n s : ℕ} → In (firstStates n) s → s < n
 unfolding firstStates
-firstStates-in n h = states-in n (λ u. true) h .0
+firstStates-in {n} h = states-in n (λ u. true) h .0
 
 -- a test that begins with a membership, as isPath and leads do
 in-and : {X : Set} {x : ℕ} {b : Bool} → In X x → b ≡ true → (member X x && b) ≡ true
@@ -69,7 +69,7 @@ module _ (t : Table) where
   pub in-near : (k : ℕ) {s x : ℕ} → In (firstStates (t .n)) s → In (t .row s) x → In (near t k) x → In (near t (suc k)) s
   unfolding near
   in-near k h r c =
-      in-union (inr (in-states (t .n) (λ u. meets (t .row u) (near t k)) (in-top h) (firstStates-in (t .n) h) (in-meets r c)))
+      in-union (inr (in-states (t .n) (λ u. meets (t .row u) (near t k)) (in-top h) (firstStates-in h) (in-meets r c)))
 
   pub near-in : (k : ℕ) {s : ℕ} → In (near t (suc k)) s
       → In (near t k) s ⊎ ((x : ℕ) × In (firstStates (t .n)) s × In (t .row s) x × In (near t k) x)
@@ -77,7 +77,7 @@ module _ (t : Table) where
   near-in k {s} h = ⊎-elim inl (λ q. inr (go (states-in (t .n) (λ u. meets (t .row u) (near t k)) q))) (union-in h)
     where
       go : (s < t .n) × (meets (t .row s) (near t k) ≡ true) → (x : ℕ) × In (firstStates (t .n)) s × In (t .row s) x × In (near t k) x
-      go w = let m = meets-in (w .1) in (m .0, in-firstStates (t .n) (in-top h) (w .0), m .1, m .2)
+      go w = let m = meets-in (w .1) in (m .0, in-firstStates (in-top h) (w .0), m .1, m .2)
 
   pub near-leads : (k : ℕ) {s : ℕ} → In (near t k) s → (xs : List ℕ) × (leads t s xs ≡ true) × (length xs ≤ k)
   unfolding near leads
@@ -194,7 +194,7 @@ module _ {t : Table} (ok : WellFormed t) where
 
   -- the successors of a state of the table
   successors : {s : ℕ} → In (firstStates (t .n)) s → t .row s ⊆ firstStates (t .n)
-  successors {s} h = ok .rows s (firstStates-in (t .n) h)
+  successors {s} h = ok .rows s (firstStates-in h)
 
   pub leads-near : (xs : List ℕ) {s : ℕ} → In (firstStates (t .n)) s → leads t s xs ≡ true → In (near t (length xs)) s
   unfolding near leads
@@ -252,7 +252,7 @@ module _ {t : Table} (ok : WellFormed t) where
   leads-below : (xs : List ℕ) {x : ℕ} → In (firstStates (t .n)) x → leads t x xs ≡ true → (i : ℕ) → i < suc (length xs)
       → getD (x ∷ xs) i 0 < t .n
   unfolding leads
-  leads-below xs h e zero l = firstStates-in (t .n) h
+  leads-below xs h e zero l = firstStates-in h
   leads-below [] h e (suc i) l = absurd (not-suc-le-zero (le-of-suc-le-suc l))
   leads-below (y ∷ ys) {x} h e (suc i) l =
       let p = and-in (t .row x) y _ e in
