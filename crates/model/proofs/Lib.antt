@@ -2,3 +2,5 @@ pub mod Bounds
 pub mod SetLaws
 pub mod Counting
 pub mod Fixpoints
+pub mod WellFormed
+pub mod PathLaws
