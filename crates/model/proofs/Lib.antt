@@ -1,2 +1,4 @@
 pub mod Bounds
 pub mod SetLaws
+pub mod Fixpoints
+pub mod CoverLaws
