@@ -1,6 +1,7 @@
 -- Laws of post, hold and covers: each by its members, then what they have in common with every closure (extensive, monotone, closed).
 --
 --   firstStates-in, in-firstStates     the first n states are those below n that a set can hold
+--   in-allowed, allowed-in             the states not forbidden; allowed-within: they are states of the table
 --   image-mono, image-proper           images grow with the set; image-inside: an image is inside what each of its parts is inside
 --   in-post, post-in                   post, by its members; post-mono
 --   in-hold, hold-in                   hold, by its members; hold-within (it holds states of the table only), hold-mono
@@ -13,12 +14,12 @@
 use Prim.Native.Nat.{ℕ, zero, suc, _<_}
 use mathlib.Core.Path.{_≡_, refl, sym, ap, subst}
 use mathlib.Core.Logic.{_⊎_, inl, inr, ⊎-elim}
-use mathlib.Core.Bool.{Bool, true, false, cond}
+use mathlib.Core.Bool.{Bool, true, false, not, cond}
 use mathlib.Core.List.{List, [], _∷_, List·Memᴰ, List·Memᴰ·head, List·Memᴰ·tail, List·Memᴰ·cases-cons, List·Memᴰ·not-nil}
 use Rattle.model.specs.Sets.{top, Set, member, setOf, empty, union, meet, subset, states, firstStates, image}
-use Rattle.model.specs.Tables.{Table, post, hold, coverOf, cover}
+use Rattle.model.specs.Tables.{Table, post, hold, coverOf, cover, allowed}
 use Rattle.model.specs.Rounds.{forwardStep, backwardStep}
-use Rattle.model.proofs.Bounds.{by-cond, clash}
+use Rattle.model.proofs.Bounds.{not-true, by-cond, clash}
 use Rattle.model.proofs.SetLaws.{Proper, setOf-proper, In, in-top, in-union, union-in, in-meet, meet-in, in-states, states-in, _⊆_, subset-in, in-subset, in-image, image-in}
 
 -- ---- the states of the table
@@ -30,6 +31,19 @@ in-firstStates {n} t h = in-states n _ t h refl
 pub firstStates-in : {n s : ℕ} → In (firstStates n) s → s < n
 unfolding firstStates
 firstStates-in {n} h = states-in n _ h .0
+
+module _ (n : ℕ) (F : Set) where
+  pub in-allowed : {s : ℕ} → In (firstStates n) s → member F s ≡ false → In (allowed n F) s
+  unfolding allowed
+  in-allowed h e = in-states n _ (in-top h) (firstStates-in h) (ap not e)
+
+  pub allowed-in : {s : ℕ} → In (allowed n F) s → member F s ≡ false
+  unfolding allowed
+  allowed-in {s} h = not-true (member F s) (states-in n _ h .1)
+
+  pub allowed-within : allowed n F ⊆ firstStates n
+  unfolding allowed
+  allowed-within s h = in-firstStates (in-top h) (states-in n _ h .0)
 
 -- ---- images
 

@@ -2,3 +2,5 @@ pub mod Bounds
 pub mod SetLaws
 pub mod Fixpoints
 pub mod CoverLaws
+pub mod WellFormed
+pub mod RoundLaws
