@@ -1,42 +1,184 @@
--- Stand-in.
-use Prim.Native.Nat.{ℕ, zero, suc, _≤_, _<_}
-use mathlib.Core.Path.{_≡_, refl}
-use Rattle.model.specs.Sets.{Set, empty, firstStates}
-use Rattle.model.specs.Tables.{Table}
-use Rattle.model.specs.Rounds.{iterate, eliminated, backwardNumber}
+-- Chains of sets that only grow or only shrink, the solutions of X = f X that they reach, and backward elimination.
+--
+--   le-induction, first-found        induction from a number up; what `first` finds passes, where the bound does
+--   ⊆-of-eq, same-eq, eq-same        equality, inclusion, and the test `same`
+--   states-within                    the states below n that pass are among the first n states
+--   chain-still                      a measure that rises until the chain is still, and is at most n: how soon it is still
+--   iterate-suc, iterate-has         one step more; induction: what x has and f keeps
+--   iterate-still                    a step that stands still stays still
+--   growing-done, shrinking-done     an iteration that only grows, or only shrinks, among n states is still after n steps
+--   least-pre, greatest-post         n steps from the empty set stay inside each prefixpoint, n from all n states around each postfixpoint
+--   from-below, from-above           they reach the least and the greatest solution
+--   eliminated-shrinks, eliminated-mono     W only shrinks; eliminated-proper, eliminated-within: it is a set of states of the table
+--   backward-is, eliminated-still           the backward number is what 01 says, and W stays the same from there
+use Prim.Native.Nat.{ℕ, zero, suc, _+_, _-_, _≤_, _<_}
+use native.Mathlib.Nat.{eq-or-lt-of-le}
+use native.Mathlib.Omega.{arith}
+use mathlib.Core.Path.{_≡_, refl, sym, ap, _∙_, subst}
+use mathlib.Core.Logic.{_⊎_, inl, inr, ⊎-elim}
+use mathlib.Core.Bool.{Bool, true}
+use Rattle.model.specs.Sets.{Set, first, empty, meet, subset, same, states, firstStates, size}
+use Rattle.model.specs.Tables.{Table, allowed}
+use Rattle.model.specs.Rounds.{iterate, eliminationStep, eliminated, backwardNumber}
 use Rattle.model.specs.Promises.{IsLeast, IsGreatest, BackwardIs}
-use Rattle.model.proofs.SetLaws.{Proper, In, _⊆_}
+use Rattle.model.proofs.Bounds.{and-true, and-intro, clash, lt-or-ge, first-le, first-passes, first-least}
+use Rattle.model.proofs.SetLaws.{Proper, setOf-proper, In, in-top, empty-in, meet-in, in-states, states-in, _⊆_, subset-in, in-subset, same-set}
+use Rattle.model.proofs.Counting.{size-bound, all-or-fewer}
+
+-- ---- numbers and sets
+
+pub le-induction : (P : ℕ → Type 0) (m : ℕ) → P m → ((n : ℕ) → P n → P (suc n)) → (n : ℕ) → m ≤ n → P n
+le-induction P m h g zero l = let e : m ≡ zero = omega arith in subst P e h
+le-induction P m h g (suc n) l =
+    ⊎-elim (λ e. subst P e h) (λ k. g n (le-induction P m h g n (omega arith))) (eq-or-lt-of-le l)
+
+-- where the bound passes too, the first that passes does
+first-found : (p : ℕ → Bool) (n : ℕ) → p n ≡ true → p (first n p) ≡ true
+first-found p n h = ⊎-elim (λ e. ap p e ∙ h) (λ l. first-passes p n l) (eq-or-lt-of-le (first-le p n))
+
+pub ⊆-of-eq : {X Y : Set} → X ≡ Y → X ⊆ Y
+⊆-of-eq e s h = subst (λ (X : Set). In X s) e h
+
+pub same-eq : {X Y : Set} → Proper X → Proper Y → same X Y ≡ true → X ≡ Y
+unfolding same
+same-eq {X} {Y} x y e =
+    let both = and-true (subset X Y) (subset Y X) e in
+    same-set X Y x y (subset-in (both .0)) (subset-in (both .1))
+
+pub eq-same : {X Y : Set} → X ≡ Y → same X Y ≡ true
+unfolding same
+eq-same {X} {Y} e = and-intro (subset X Y) (subset Y X) (in-subset (⊆-of-eq e)) (in-subset (⊆-of-eq (sym e)))
+
+pub states-within : (n : ℕ) (p : ℕ → Bool) → states n p ⊆ firstStates n
+unfolding firstStates
+states-within n p s h = in-states n _ (in-top h) (states-in n p h .0) refl
+
+-- ---- chains
+
+-- A measure m that rises at each step until the chain is still, and is at most n: the chain is still once m 0 and the steps taken come
+-- to n. So after n steps in any case, and after n − 1 where m starts at 1.
+module _ (Still : ℕ → Type 0) (m : ℕ → ℕ) (n : ℕ)
+    (stays : (k : ℕ) → Still k → Still (suc k))
+    (rises : (k : ℕ) → Still k ⊎ (m k < m (suc k)))
+    (bounded : (k : ℕ) → m k ≤ n) where
+  chain-rises : (k : ℕ) → Still k ⊎ (m 0 + k < m (suc k))
+  chain-rises zero = ⊎-elim (λ s. inl s) (λ l. inr (omega arith)) (rises zero)
+  chain-rises (suc k) =
+      ⊎-elim (λ s. inl (stays k s)) (λ l. ⊎-elim (λ s. inl s) (λ r. inr (omega arith)) (rises (suc k))) (chain-rises k)
+
+  pub chain-still : (k : ℕ) → n ≤ m 0 + k → Still k
+  chain-still k h = ⊎-elim (λ s. s) (λ l. absurd (omega (arith, bounded (suc k)))) (chain-rises k)
+
+-- ---- iteration
 
 pub iterate-suc : (f : Set → Set) (x : Set) (k : ℕ) → iterate f x (suc k) ≡ f (iterate f x k)
-iterate-suc f x k = ?
+unfolding iterate
+iterate-suc f x k = refl
+
+pub iterate-has : (P : Set → Type 0) (f : Set → Set) (x : Set) → P x → ((X : Set) → P X → P (f X)) → (k : ℕ) → P (iterate f x k)
+unfolding iterate
+iterate-has P f x h g zero = h
+iterate-has P f x h g (suc k) = g (iterate f x k) (iterate-has P f x h g k)
+
+-- for a loop that stops early
+pub iterate-still : (f : Set → Set) (x : Set) (k m : ℕ) → f (iterate f x k) ≡ iterate f x k → k ≤ m → iterate f x m ≡ iterate f x k
+unfolding iterate
+iterate-still f x k m e = le-induction (λ j. iterate f x j ≡ iterate f x k) k refl (λ j i. ap f i ∙ e) m
+
+module _ (f : Set → Set) (x : Set) (n : ℕ)
+    (proper : (k : ℕ) → Proper (iterate f x k))
+    (within : (k : ℕ) → iterate f x k ⊆ firstStates n) where
+  pub growing-done : ((k : ℕ) → iterate f x k ⊆ f (iterate f x k)) → f (iterate f x n) ≡ iterate f x n
+  unfolding iterate
+  growing-done grows =
+      chain-still (λ k. f (iterate f x k) ≡ iterate f x k) (λ k. size (iterate f x k)) n (λ k e. ap f e)
+      (λ k. ⊎-elim (λ h. inl (same-set _ _ (proper (suc k)) (proper k) h (grows k))) (λ l. inr l) (all-or-fewer (grows k)))
+      (λ k. size-bound (within k)) n (omega arith)
+
+  -- what it has lost rises
+  pub shrinking-done : ((k : ℕ) → f (iterate f x k) ⊆ iterate f x k) → f (iterate f x n) ≡ iterate f x n
+  unfolding iterate
+  shrinking-done shrinks =
+      chain-still (λ k. f (iterate f x k) ≡ iterate f x k) (λ k. n - size (iterate f x k)) n (λ k e. ap f e)
+      (λ k.
+      ⊎-elim (λ h. inl (same-set _ _ (proper (suc k)) (proper k) (shrinks k) h)) (λ l. inr (omega (arith, size-bound (within k))))
+      (all-or-fewer (shrinks k)))
+      (λ k. omega arith) n (omega arith)
+
+-- ---- least and greatest solutions
 
 module _ (f : Set → Set) (n : ℕ)
     (mono : (X Y : Set) → X ⊆ Y → f X ⊆ f Y)
     (proper : (X : Set) → Proper (f X))
     (within : (X : Set) → f X ⊆ firstStates n) where
-  pub from-below : IsLeast f (iterate f empty n)
-  from-below = ?
-
-  pub from-above : IsGreatest f (iterate f (firstStates n) n)
-  from-above = ?
-
   pub least-pre : (Y : Set) → f Y ⊆ Y → iterate f empty n ⊆ Y
-  least-pre = ?
+  least-pre Y p = iterate-has (λ X. X ⊆ Y) f empty (λ s h. absurd (empty-in h)) (λ X i s h. p s (mono X Y i s h)) n
 
   pub greatest-post : (Y : Set) → Y ⊆ f Y → Y ⊆ iterate f (firstStates n) n
-  greatest-post = ?
+  greatest-post Y p = iterate-has (λ X. Y ⊆ X) f (firstStates n) (λ s h. within Y s (p s h)) (λ X i s h. mono Y X i s (p s h)) n
 
-pub iterate-still : (f : Set → Set) (x : Set) (k m : ℕ) → f (iterate f x k) ≡ iterate f x k → k ≤ m → iterate f x m ≡ iterate f x k
-iterate-still = ?
+  pub from-below : IsLeast f (iterate f empty n)
+  unfolding empty
+  from-below =
+      record {
+        solves =
+            sym
+            (growing-done f empty n
+            (iterate-has Proper f empty (setOf-proper _) (λ X h. proper X))
+            (iterate-has (λ X. X ⊆ firstStates n) f empty (λ s h. absurd (empty-in h)) (λ X h. within X))
+            (iterate-has (λ X. X ⊆ f X) f empty (λ s h. absurd (empty-in h)) (λ X h. mono X (f X) h)));
+        least = λ Y e. in-subset (least-pre Y (⊆-of-eq (sym e)));
+      }
 
-pub eliminated-shrinks : (t : Table) (j : ℕ) → eliminated t (suc j) ⊆ eliminated t j
-eliminated-shrinks = ?
+  pub from-above : IsGreatest f (iterate f (firstStates n) n)
+  unfolding firstStates states
+  from-above =
+      record {
+        solves =
+            sym
+            (shrinking-done f (firstStates n) n
+            (iterate-has Proper f (firstStates n) (setOf-proper _) (λ X h. proper X))
+            (iterate-has (λ X. X ⊆ firstStates n) f (firstStates n) (λ s h. h) (λ X h. within X))
+            (iterate-has (λ X. f X ⊆ X) f (firstStates n) (within (firstStates n)) (λ X h. mono (f X) X h)));
+        greatest = λ Y e. in-subset (greatest-post Y (⊆-of-eq e));
+      }
 
-pub eliminated-mono : (t : Table) (i j : ℕ) → i ≤ j → eliminated t j ⊆ eliminated t i
-eliminated-mono = ?
+-- ---- backward elimination
 
-pub backward-is : (t : Table) → BackwardIs t (backwardNumber t)
-backward-is = ?
+-- the test by which the backward number is found
+abbrev unchanged : Table → ℕ → Bool
+unchanged t j = same (eliminated t j) (eliminated t (suc j))
 
-pub eliminated-still : (t : Table) (j : ℕ) → backwardNumber t ≤ j → eliminated t j ≡ eliminated t (backwardNumber t)
-eliminated-still = ?
+module _ (t : Table) where
+  pub eliminated-shrinks : (j : ℕ) → eliminated t (suc j) ⊆ eliminated t j
+  unfolding eliminated iterate eliminationStep
+  eliminated-shrinks j s h = meet-in h .0
+
+  pub eliminated-mono : (i j : ℕ) → i ≤ j → eliminated t j ⊆ eliminated t i
+  eliminated-mono i = le-induction (λ j. eliminated t j ⊆ eliminated t i) i (λ s h. h) (λ j f s h. f s (eliminated-shrinks j s h))
+
+  pub eliminated-proper : (j : ℕ) → Proper (eliminated t j)
+  unfolding eliminated eliminationStep allowed states meet
+  eliminated-proper = iterate-has Proper (eliminationStep t) _ (setOf-proper _) (λ X h. setOf-proper _)
+
+  pub eliminated-within : (j : ℕ) → eliminated t j ⊆ firstStates (t .n)
+  unfolding eliminated eliminationStep allowed
+  eliminated-within =
+      iterate-has (λ X. X ⊆ firstStates (t .n)) (eliminationStep t) _ (states-within (t .n) _) (λ X f s h. f s (meet-in h .0))
+
+  eliminated-done : eliminated t (t .n) ≡ eliminated t (suc (t .n))
+  unfolding eliminated iterate
+  eliminated-done = sym (shrinking-done (eliminationStep t) _ (t .n) eliminated-proper eliminated-within eliminated-shrinks)
+
+  pub backward-is : BackwardIs t (backwardNumber t)
+  unfolding backwardNumber
+  backward-is =
+      record {
+        still = same-eq (eliminated-proper _) (eliminated-proper _) (first-found (unchanged t) (t .n) (eq-same eliminated-done));
+        least = λ j e. ⊎-elim (λ l. absurd (clash (eq-same e) (first-least (unchanged t) (t .n) j l))) (λ h. h) (lt-or-ge j (backwardNumber t));
+        bounded = first-le (unchanged t) (t .n);
+      }
+
+  pub eliminated-still : (j : ℕ) → backwardNumber t ≤ j → eliminated t j ≡ eliminated t (backwardNumber t)
+  unfolding eliminated eliminationStep iterate
+  eliminated-still j = iterate-still (eliminationStep t) _ (backwardNumber t) j (sym (backward-is .still))

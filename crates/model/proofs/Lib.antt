@@ -1,5 +1,6 @@
 pub mod Bounds
 pub mod SetLaws
+pub mod Counting
 pub mod Fixpoints
 pub mod CoverLaws
 pub mod WellFormed
