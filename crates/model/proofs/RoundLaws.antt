@@ -4,7 +4,7 @@ use native.Mathlib.Nat.{not-suc-le-zero}
 use native.Mathlib.Omega.{arith}
 use mathlib.Core.Path.{_≡_, refl, sym, ap, _∙_, subst}
 use mathlib.Core.Logic.{_⊎_, inl, inr, ⊎-elim}
-use mathlib.Core.Bool.{Bool, true, false, not, cond}
+use mathlib.Core.Bool.{Bool, true, false, not, false≢true}
 use mathlib.Core.List.{List, [], _∷_, List·Memᴰ, List·Memᴰ·head}
 use lib.ListN.{length}
 use Rattle.model.specs.Sets.{Set, member, union, meet, subset, firstStates}
@@ -288,3 +288,130 @@ module _ (t : Table) where
     pub run-ends : Ends t allowance (run t allowance)
     unfolding run roundAt
     run-ends = rounds-end allowance zero (omega arith) (λ j l. absurd (not-suc-le-zero l))
+
+    -- after rounds that go on, the run is what the later rounds make of it
+    run-from : (i left : ℕ) → i + left ≡ allowance → Before t i → run t allowance ≡ rounds t left i (roundAt t i)
+    unfolding run rounds roundAt settle
+    run-from zero left e before = let q : allowance ≡ left = omega arith in ap (λ (a : ℕ). rounds t a zero (firstRound t)) q
+    run-from (suc i) left e before =
+        let g = before i (omega arith) in
+        run-from i (suc left) (omega arith) (λ j l. before j (omega arith)) ∙ rw (g .not-safe, g .not-unsafe)
+
+    pub pinned : Pinned t allowance
+    unfolding rounds settle
+    pinned =
+        record {
+          at-safe = λ i h before s. run-from i (allowance - i) (omega arith) before ∙ rounds-safe (allowance - i) i s;
+          at-unsafe = λ i h before s u. run-from i (allowance - i) (omega arith) before ∙ rounds-unsafe (allowance - i) i s u;
+          at-undecided = λ before. run-from allowance zero (omega arith) (λ j l. before j (omega arith)) ∙ rw (before allowance (omega arith) .not-safe, before allowance (omega arith) .not-unsafe);
+        }
+      where
+        rounds-safe : (left i : ℕ) → isSafe t (roundAt t i) ≡ true → rounds t left i (roundAt t i) ≡ safe i ((roundAt t i) .R)
+        rounds-safe zero i s = rw s
+        rounds-safe (suc left) i s = rw s
+
+        rounds-unsafe : (left i : ℕ) → isSafe t (roundAt t i) ≡ false → isUnsafe t (roundAt t i) ≡ true → rounds t left i (roundAt t i) ≡ unsafe i
+        rounds-unsafe zero i s u = rw (s, u)
+        rounds-unsafe (suc left) i s u = rw (s, u)
+
+-- ---- the count
+
+abbrev pub countOf : Outcome → ℕ
+countOf (safe i X) = i
+countOf (unsafe i) = i
+countOf (undecided i) = i
+
+module _ (t : Table) (allowance : ℕ) where
+  pub count-backward : countOf (run t allowance) ≤ backwardNumber t
+  count-backward = go (run t allowance) (run-ends t allowance)
+    where
+      go : (o : Outcome) → Ends t allowance o → countOf o ≤ backwardNumber t
+      go (safe i X) e = before-backward t (e .1)
+      go (unsafe i) e = before-backward t (e .1)
+      go (undecided i) e = omega (arith, before-backward t (e .1))
+
+  pub undecided-count : {i : ℕ} → run t allowance ≡ undecided i → i ≡ allowance
+  undecided-count q = subst (Ends t allowance) q (run-ends t allowance) .0
+
+  -- an allowance of the backward number is enough
+  pub undecided-short : {i : ℕ} → run t allowance ≡ undecided i → allowance < backwardNumber t
+  undecided-short q =
+      let e = subst (Ends t allowance) q (run-ends t allowance) in
+      omega (arith, before-backward t (e .1), e .0)
+
+-- a larger allowance never changes a verdict given
+pub larger-run : (t : Table) (a b : ℕ) → a ≤ b → ((i : ℕ) → run t a ≡ undecided i → ⊥) → run t b ≡ run t a
+larger-run t a b h decided = go (run t a) (run-ends t a) decided
+  where
+    go : (o : Outcome) → Ends t a o → ((i : ℕ) → o ≡ undecided i → ⊥) → run t b ≡ o
+    go (safe i X) e d = pinned t b .at-safe i (omega (arith, e .0)) (e .1) (e .2) ∙ ap (safe i) (sym (e .3))
+    go (unsafe i) e d = pinned t b .at-unsafe i (omega (arith, e .0)) (e .1) (e .2) (e .3)
+    go (undecided i) e d = absurd (d i refl)
+
+-- ---- invariants and paths
+
+module _ (t : Table) where
+  invariant-leads : {X : Set} → IsInvariant t X → (xs : List ℕ) {s : ℕ} → In X s → leads t s xs ≡ true → ⊥
+  unfolding leads
+  invariant-leads inv [] {s} h e = clash e (inv .allowed s (h .is))
+  invariant-leads inv (x ∷ xs) {s} h e =
+      let step = and-true (member (t .row s) x) (leads t x xs) e in
+      invariant-leads inv xs (record { is = inv .closed s x (h .is) (step .0) }) (step .1)
+
+  -- a path, taken apart
+  path-parts : (xs : List ℕ) → isPath t xs ≡ true → (x : ℕ) × (ys : List ℕ) × (xs ≡ x ∷ ys) × In (t .initial) x × (leads t x ys ≡ true)
+  unfolding isPath
+  path-parts [] e = absurd (false≢true e)
+  path-parts (x ∷ ys) e =
+      let both = and-true (member (t .initial) x) (leads t x ys) e in
+      (x, ys, refl, record { is = both .0 }, both .1)
+
+  pub invariant-no-path : {X : Set} → IsInvariant t X → (xs : List ℕ) → isPath t xs ≡ true → ⊥
+  invariant-no-path inv xs e =
+      let p = path-parts xs e in
+      invariant-leads inv (p .1) (record { is = inv .initial (p .0) (p .3 .is) }) (p .4)
+
+  isSafe-invariant : (i : ℕ) → isSafe t (roundAt t i) ≡ true → IsInvariant t ((roundAt t i) .R)
+  isSafe-invariant i e =
+      record {
+        initial = λ s m. r .R-initial s (record { is = m }) (inside s (in-union (inl (record { is = m })))) .is;
+        allowed = λ s m. allowed-in (t .n) (t .forbidden) (eliminated-allowed t i s (Z-eliminated t i s (r .R-in-Z s (record { is = m }))));
+        closed = λ s u m k.
+            r .R-steps s u (record { is = m }) (record { is = k })
+            (inside u (in-union (inr (in-post (t .n) (t .row) (firstStates-in (r .Z-within s (r .R-in-Z s (record { is = m })))) (record { is = m }) (record { is = k }))))) .is;
+      }
+    where
+      r : Facts t (roundAt t i)
+      r = round-facts t i
+
+      inside : union (t .initial) (post (t .n) (t .row) ((roundAt t i) .R)) ⊆ (roundAt t i) .Z
+      inside = isSafe-in t (roundAt t i) e
+
+  -- where round i goes on, the initial states are more than i steps away from the forbidden ones
+  before-long : (i : ℕ) → Before t i → (xs : List ℕ) → isPath t xs ≡ true → i < length xs
+  before-long zero before xs e = let p = path-parts xs e in omega (arith, ap length (p .2))
+  before-long (suc j) before xs e =
+      let p = path-parts xs e in
+      let inside : In (eliminated t j) (p .0) = Z-eliminated t j (p .0) (S-in-Z t j (p .0) (not-isUnsafe-in t (roundAt t j) (before j (omega arith) .not-unsafe) (p .0) (p .3))) in
+      omega (arith, ap length (p .2), eliminated-far t j (p .1) inside (p .4))
+
+  module _ (allowance : ℕ) where
+    pub safe-invariant : {i : ℕ} {X : Set} → run t allowance ≡ safe i X → IsInvariant t X
+    safe-invariant {i} q =
+        let e = subst (Ends t allowance) q (run-ends t allowance) in
+        subst (IsInvariant t) (sym (e .3)) (isSafe-invariant i (e .2))
+
+    pub safe-no-path : {i : ℕ} {X : Set} → run t allowance ≡ safe i X → (xs : List ℕ) → isPath t xs ≡ true → ⊥
+    safe-no-path q = invariant-no-path (safe-invariant q)
+
+    pub unsafe-long : {i : ℕ} → run t allowance ≡ unsafe i → (xs : List ℕ) → isPath t xs ≡ true → i < length xs
+    unsafe-long {i} q = before-long i (subst (Ends t allowance) q (run-ends t allowance) .1)
+
+    pub unsafe-path : WellFormed t → {i : ℕ} → run t allowance ≡ unsafe i → (xs : List ℕ) × (isPath t xs ≡ true)
+    unfolding isPath
+    unsafe-path w {i} q =
+        let b = backwardNumber t in
+        let kept : t .initial ⊆ eliminated t b → ⊥ = λ f. isUnsafe-in t (roundAt t i) (subst (Ends t allowance) q (run-ends t allowance) .3) (initial-S t (eliminated t b) (eliminated-allowed t b) (eliminated-closed t) f i) in
+        let lost = subset-not (t .initial) (eliminated t b) (is-false _ (λ e. kept (subset-in e))) in
+        let rest = eliminated-leads t w b (w .initial (lost .0) (lost .1)) (lost .2) in
+        (lost .0 ∷ rest .0, and-intro _ _ (lost .1 .is) (rest .1))
