@@ -1,0 +1,208 @@
+-- Laws of post, hold and covers: each by its members, then what they have in common with every closure (extensive, monotone, closed).
+--
+--   firstStates-in, in-firstStates     the first n states are those below n that a set can hold
+--   in-allowed, allowed-in             the states not forbidden; allowed-within: they are states of the table
+--   image-mono, image-proper           images grow with the set; image-inside: an image is inside what each of its parts is inside
+--   in-post, post-in                   post, by its members; post-mono
+--   in-hold, hold-in                   hold, by its members; hold-within (it holds states of the table only), hold-mono
+--   in-coverOf, coverOf-in             the cover of a state: a state of the table that is in each listed set that holds the state
+--   coverOf-self, coverOf-trans        a state is in its own cover; the cover of a state in a cover is inside that cover
+--   cover-add-in, cover-add-out        adding Z changes the cover of each state in Z to its meet with Z, and no other
+--   cover-extensive, cover-mono        a set is inside its cover; covers grow with the set
+--   cover-closed, cover-inside         a cover holds the cover of each of its states; a set inside a listed set has its cover there too
+--   forwardStep-*, backwardStep-*      the steps of R and S are monotone, proper and within the first n states
+use Prim.Native.Nat.{ℕ, zero, suc, _<_}
+use mathlib.Core.Path.{_≡_, refl, sym, ap, subst}
+use mathlib.Core.Logic.{_⊎_, inl, inr, ⊎-elim}
+use mathlib.Core.Bool.{Bool, true, false, not, cond}
+use mathlib.Core.List.{List, [], _∷_, List·Memᴰ, List·Memᴰ·head, List·Memᴰ·tail, List·Memᴰ·cases-cons, List·Memᴰ·not-nil}
+use Rattle.model.specs.Sets.{top, Set, member, setOf, empty, union, meet, subset, states, firstStates, image}
+use Rattle.model.specs.Tables.{Table, post, hold, coverOf, cover, allowed}
+use Rattle.model.specs.Rounds.{forwardStep, backwardStep}
+use Rattle.model.proofs.Bounds.{not-true, by-cond, clash}
+use Rattle.model.proofs.SetLaws.{Proper, setOf-proper, In, in-top, in-union, union-in, in-meet, meet-in, in-states, states-in, _⊆_, subset-in, in-subset, in-image, image-in}
+use Rattle.model.proofs.Fixpoints.{states-within}
+
+-- ---- the states of the table
+
+pub in-firstStates : {n s : ℕ} → s < top → s < n → In (firstStates n) s
+unfolding firstStates
+in-firstStates {n} t h = in-states n _ t h refl
+
+pub firstStates-in : {n s : ℕ} → In (firstStates n) s → s < n
+unfolding firstStates
+firstStates-in {n} h = states-in n _ h .0
+
+module _ (n : ℕ) (F : Set) where
+  pub in-allowed : {s : ℕ} → In (firstStates n) s → member F s ≡ false → In (allowed n F) s
+  unfolding allowed
+  in-allowed h e = in-states n _ (in-top h) (firstStates-in h) (ap not e)
+
+  pub allowed-in : {s : ℕ} → In (allowed n F) s → member F s ≡ false
+  unfolding allowed
+  allowed-in {s} h = not-true (member F s) (states-in n _ h .1)
+
+  pub allowed-within : allowed n F ⊆ firstStates n
+  unfolding allowed
+  allowed-within = states-within n _
+
+-- ---- images
+
+module _ (n : ℕ) (f : ℕ → Set) where
+  pub image-mono : (X Y : Set) → X ⊆ Y → image n f X ⊆ image n f Y
+  image-mono X Y i s h =
+      let w = image-in f X n h in
+      in-image f Y n (w .1) (i (w .0) (w .2)) (w .3)
+
+  pub image-inside : (X Y : Set) → ((x : ℕ) → In X x → f x ⊆ Y) → image n f X ⊆ Y
+  image-inside X Y i s h =
+      let w = image-in f X n h in
+      i (w .0) (w .2) s (w .3)
+
+pub image-proper : (n : ℕ) (f : ℕ → Set) (X : Set) → Proper (image n f X)
+unfolding image empty union
+image-proper zero f X = setOf-proper _
+image-proper (suc n) f X = by-cond Proper (member X n) _ _ (λ e. setOf-proper _) (λ e. image-proper n f X)
+
+-- ---- post and hold
+
+module _ (n : ℕ) (row : ℕ → Set) where
+  pub in-post : {X : Set} {x s : ℕ} → x < n → In X x → In (row x) s → In (post n row X) s
+  unfolding post
+  in-post {X} = in-image row X n
+
+  pub post-in : {X : Set} {s : ℕ} → In (post n row X) s → (x : ℕ) × (x < n) × In X x × In (row x) s
+  unfolding post
+  post-in {X} = image-in row X n
+
+  pub post-mono : (X Y : Set) → X ⊆ Y → post n row X ⊆ post n row Y
+  unfolding post
+  post-mono = image-mono n row
+
+  pub in-hold : {X : Set} {s : ℕ} → In (firstStates n) s → row s ⊆ X → In (hold n row X) s
+  unfolding hold
+  in-hold h i = in-states n _ (in-top h) (firstStates-in h) (in-subset i)
+
+  pub hold-in : {X : Set} {s : ℕ} → In (hold n row X) s → row s ⊆ X
+  unfolding hold
+  hold-in h = subset-in (states-in n _ h .1)
+
+  pub hold-within : (X : Set) → hold n row X ⊆ firstStates n
+  unfolding hold
+  hold-within X = states-within n _
+
+  pub hold-mono : (X Y : Set) → X ⊆ Y → hold n row X ⊆ hold n row Y
+  hold-mono X Y i s h = in-hold (hold-within X s h) (λ u k. i u (hold-in h u k))
+
+-- ---- the cover of a state
+
+module _ (n : ℕ) where
+  pub cover-add-in : (Z : Set) (L : List Set) (s : ℕ) → member Z s ≡ true → coverOf n (Z ∷ L) s ≡ meet (coverOf n L s) Z
+  unfolding coverOf
+  cover-add-in Z L s e = ap (λ (b : Bool). cond b (meet (coverOf n L s) Z) (coverOf n L s)) e
+
+  pub cover-add-out : (Z : Set) (L : List Set) (s : ℕ) → member Z s ≡ false → coverOf n (Z ∷ L) s ≡ coverOf n L s
+  unfolding coverOf
+  cover-add-out Z L s e = ap (λ (b : Bool). cond b (meet (coverOf n L s) Z) (coverOf n L s)) e
+
+  -- one more listed set is one more condition
+  in-cover-add : (Z : Set) (L : List Set) {s u : ℕ} → In (coverOf n L s) u → (In Z s → In Z u) → In (coverOf n (Z ∷ L) s) u
+  unfolding coverOf
+  in-cover-add Z L {s} {u} h i = by-cond (λ (X : Set). In X u) (member Z s) _ _ (λ e. in-meet h (i (record { is = e }))) (λ e. h)
+
+  cover-add-parts : (Z : Set) (L : List Set) {s u : ℕ} → In (coverOf n (Z ∷ L) s) u → In (coverOf n L s) u × (In Z s → In Z u)
+  unfolding coverOf
+  cover-add-parts Z L {s} {u} =
+      by-cond (λ (X : Set). In X u → In (coverOf n L s) u × (In Z s → In Z u)) (member Z s) _ _
+      (λ e h. (meet-in h .0, λ k. meet-in h .1)) (λ e h. (h, λ k. absurd (clash (k .is) e)))
+
+  pub in-coverOf : (L : List Set) {s u : ℕ} → In (firstStates n) u → ((Z : Set) → List·Memᴰ Z L → In Z s → In Z u) → In (coverOf n L s) u
+  unfolding coverOf
+  in-coverOf [] h i = h
+  in-coverOf (Z ∷ L) h i = in-cover-add Z L (in-coverOf L h (λ Y m. i Y (List·Memᴰ·tail m))) (i Z (List·Memᴰ·head refl))
+
+  pub coverOf-in : (L : List Set) {s u : ℕ} → In (coverOf n L s) u → (Z : Set) → List·Memᴰ Z L → In Z s → In Z u
+  coverOf-in [] h Y m k = absurd (List·Memᴰ·not-nil m)
+  coverOf-in (Z ∷ L) {s} {u} h Y m k =
+      let parts = cover-add-parts Z L h in
+      ⊎-elim (λ e. subst (λ (X : Set). In X s → In X u) (sym e) (parts .1) k) (λ l. coverOf-in L (parts .0) Y l k) (List·Memᴰ·cases-cons m)
+
+  pub coverOf-within : (L : List Set) (s : ℕ) → coverOf n L s ⊆ firstStates n
+  unfolding coverOf
+  coverOf-within [] s u h = h
+  coverOf-within (Z ∷ L) s u h = coverOf-within L s u (cover-add-parts Z L h .0)
+
+  pub coverOf-self : (L : List Set) {s : ℕ} → In (firstStates n) s → In (coverOf n L s) s
+  coverOf-self L h = in-coverOf L h (λ Z m k. k)
+
+  pub coverOf-trans : (L : List Set) (s : ℕ) {u : ℕ} → In (coverOf n L s) u → coverOf n L u ⊆ coverOf n L s
+  coverOf-trans L s {u} h x k =
+      in-coverOf L (coverOf-within L u x k) (λ Z m i. coverOf-in L k Z m (coverOf-in L h Z m i))
+
+-- ---- the cover of a set
+
+module _ (n : ℕ) (L : List Set) where
+  pub cover-extensive : (X : Set) → X ⊆ firstStates n → X ⊆ cover n L X
+  unfolding cover
+  cover-extensive X i s h = in-image (coverOf n L) X n (firstStates-in (i s h)) h (coverOf-self n L (i s h))
+
+  pub cover-mono : (X Y : Set) → X ⊆ Y → cover n L X ⊆ cover n L Y
+  unfolding cover
+  cover-mono = image-mono n (coverOf n L)
+
+  pub cover-proper : (X : Set) → Proper (cover n L X)
+  unfolding cover
+  cover-proper = image-proper n (coverOf n L)
+
+  pub cover-within : (X : Set) → cover n L X ⊆ firstStates n
+  unfolding cover
+  cover-within X = image-inside n (coverOf n L) X (firstStates n) (λ x h. coverOf-within n L x)
+
+  pub cover-closed : (X : Set) {x : ℕ} → In (cover n L X) x → coverOf n L x ⊆ cover n L X
+  unfolding cover
+  cover-closed X h s k =
+      let w = image-in (coverOf n L) X n h in
+      in-image (coverOf n L) X n (w .1) (w .2) (coverOf-trans n L (w .0) (w .3) s k)
+
+  -- a cover holds the cover of each set inside it
+  pub cover-idem : (X Y : Set) → X ⊆ cover n L Y → cover n L X ⊆ cover n L Y
+  unfolding cover
+  cover-idem X Y i = image-inside n (coverOf n L) X (cover n L Y) (λ x h. cover-closed Y (i x h))
+
+  pub cover-inside : (X Z : Set) → List·Memᴰ Z L → X ⊆ Z → cover n L X ⊆ Z
+  unfolding cover
+  cover-inside X Z m i = image-inside n (coverOf n L) X Z (λ x h s k. coverOf-in n L k Z m (i x h))
+
+-- ---- the steps of R and S
+
+module _ (t : Table) (L : List Set) (Z : Set) where
+  pub forwardStep-mono : (X Y : Set) → X ⊆ Y → forwardStep t L Z X ⊆ forwardStep t L Z Y
+  unfolding forwardStep
+  forwardStep-mono X Y i =
+      cover-mono (t .n) L _ _
+      (λ s h.
+      let parts = meet-in h in
+      in-meet (parts .0)
+      (in-union (⊎-elim (λ k. inl k) (λ k. inr (post-mono (t .n) (t .row) X Y i s k)) (union-in (parts .1)))))
+
+  pub forwardStep-proper : (X : Set) → Proper (forwardStep t L Z X)
+  unfolding forwardStep
+  forwardStep-proper X = cover-proper (t .n) L _
+
+  pub forwardStep-within : (X : Set) → forwardStep t L Z X ⊆ firstStates (t .n)
+  unfolding forwardStep
+  forwardStep-within X = cover-within (t .n) L _
+
+  pub backwardStep-mono : (X Y : Set) → X ⊆ Y → backwardStep t L Z X ⊆ backwardStep t L Z Y
+  unfolding backwardStep
+  backwardStep-mono X Y i =
+      cover-mono (t .n) L _ _
+      (λ s h. in-meet (meet-in h .0) (hold-mono (t .n) (t .row) X Y i s (meet-in h .1)))
+
+  pub backwardStep-proper : (X : Set) → Proper (backwardStep t L Z X)
+  unfolding backwardStep
+  backwardStep-proper X = cover-proper (t .n) L _
+
+  pub backwardStep-within : (X : Set) → backwardStep t L Z X ⊆ firstStates (t .n)
+  unfolding backwardStep
+  backwardStep-within X = cover-within (t .n) L _
