@@ -4,5 +4,7 @@ pub mod Counting
 pub mod Fixpoints
 pub mod WellFormed
 pub mod CoverLaws
+pub mod ImageLaws
 pub mod RoundLaws
 pub mod PathLaws
+pub mod Acceptance
