@@ -21,6 +21,7 @@ use Rattle.model.specs.Tables.{Table, post, hold, coverOf, cover, allowe
 use Rattle.model.specs.Rounds.{forwardStep, backwardStep}
 use Rattle.model.proofs.Bounds.{not-true, by-cond, clash}
 use Rattle.model.proofs.SetLaws.{Proper, setOf-proper, In, in-top, in-union, union-in, in-meet, meet-in, in-states, states-in, _⊆_, subset-in, in-subset, in-image, image-in}
+use Rattle.model.proofs.Fixpoints.{states-within}
 
 -- ---- the states of the table
 
@@ -43,7 +44,7 @@ module _ (n : ℕ) (F : Set) where
 
   pub allowed-within : allowed n F ⊆ firstStates n
   unfolding allowed
-  allowed-within s h = in-firstStates (in-top h) (states-in n _ h .0)
+  allowed-within = states-within n _
 
 -- ---- images
 
@@ -88,7 +89,7 @@ module _ (n : ℕ) (row : ℕ → Set) where
 
   pub hold-within : (X : Set) → hold n row X ⊆ firstStates n
   unfolding hold
-  hold-within X s h = in-firstStates (in-top h) (states-in n _ h .0)
+  hold-within X = states-within n _
 
   pub hold-mono : (X Y : Set) → X ⊆ Y → hold n row X ⊆ hold n row Y
   hold-mono X Y i s h = in-hold (hold-within X s h) (λ u k. i u (hold-in h u k))

@@ -3,6 +3,8 @@ pub mod SetLaws
 pub mod Counting
 pub mod Fixpoints
 pub mod WellFormed
-pub mod Acceptance
 pub mod CoverLaws
 pub mod ImageLaws
+pub mod RoundLaws
+pub mod PathLaws
+pub mod Acceptance
