@@ -70,6 +70,7 @@ module _ (n : ℕ) (f : ℕ → Set) where
           (λ e. in-union (inl (subst (λ (y : ℕ). In (f y) s) (single-in e) (w .3))))
           (λ o. in-union (inr (in-image f (difference X (single x)) n (w .1) (in-difference (w .2) o) (w .3))))
           (in-or-out (single x) (w .0))
+
       together : (s : ℕ) → (y : ℕ) × (y < n) × In (difference X (single x)) y × In (f y) s → In (image n f X) s
       together s w = in-image f X n (w .1) (difference-in (w .2) .0) (w .3)
 

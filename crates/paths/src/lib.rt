@@ -8,9 +8,15 @@ ghost use Rattle.model.specs.Stores.{storeWords, tableOf};
 ghost use Rattle.model.specs.Paths.{distance, walk};
 ghost use Rattle.model.specs.Calls.{shortestAnswer, shortestBuffer};
 ghost use Rattle.paths.specs.Answers.{shortestOf, predecessorRow};
-
-use state_set::{StateSet, WORDS};
-use table::{Rows, FORBIDDEN_AT, MAX_STATES, row_at, row_of, set_at, union_of};
+use state_set::StateSet;
+use state_set::WORDS;
+use table::FORBIDDEN_AT;
+use table::MAX_STATES;
+use table::Rows;
+use table::row_at;
+use table::row_of;
+use table::set_at;
+use table::union_of;
 
 // The distance of a state from which no forbidden state can be reached.
 pub const FAR: u16 = 65535;
@@ -85,7 +91,14 @@ fn smallest_at(distances: &[u16; MAX_STATES], x: StateSet, d: usize) -> usize {
 
 // The smallest of the shortest paths that start in x, at `at` in the buffer: its first state, then the path from that state's successors
 // with one step fewer.
-fn write_path(store: &[u64], distances: &[u16; MAX_STATES], x: StateSet, d: usize, path: &mut [u8], at: usize) {
+fn write_path(
+    store: &[u64],
+    distances: &[u16; MAX_STATES],
+    x: StateSet,
+    d: usize,
+    path: &mut [u8],
+    at: usize,
+) {
     let s = smallest_at(distances, x, d);
     path[at] = (s % 256) as u8;
     if 0 < d {

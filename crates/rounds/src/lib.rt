@@ -16,9 +16,17 @@ ghost use Rattle.model.specs.Stores.{storeWords, maxGroups, tableOf};
 ghost use Rattle.model.specs.Calls.{decideAnswer, decideBuffer};
 ghost use Rattle.rounds.specs.Steps.{covers, narrowed, forwardBy, keptBy, backwardBy};
 ghost use Rattle.rounds.specs.Answers.{outcomeOf, answerOf};
-
-use state_set::{StateSet, WORDS};
-use table::{FORBIDDEN_AT, MAX_STATES, Rows, group_at, row_at, row_of, set_at, successors, union_of};
+use state_set::StateSet;
+use state_set::WORDS;
+use table::FORBIDDEN_AT;
+use table::MAX_STATES;
+use table::Rows;
+use table::group_at;
+use table::row_at;
+use table::row_of;
+use table::set_at;
+use table::successors;
+use table::union_of;
 
 // ---- the cover
 

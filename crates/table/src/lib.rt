@@ -12,14 +12,19 @@ ghost use lib.ListN.{length, getD};
 ghost use mathlib.Core.List.{[]};
 ghost use Rattle.model.specs.Sets.{top, any, image};
 ghost use Rattle.model.specs.Stores.{storeWords, maxGroups, groupAt, rowAt, setAt, beyond, nonZero, stray, refuse, accept};
-
-use state_set::{StateSet, WORDS};
+use state_set::StateSet;
+use state_set::WORDS;
 
 pub const MAX_STATES: usize = 64 * WORDS;
+
 pub const MAX_GROUPS: usize = 64;
+
 pub const FORBIDDEN_AT: usize = WORDS;
+
 pub const GROUPS_AT: usize = 2 * WORDS;
+
 pub const ROWS_AT: usize = (2 + MAX_GROUPS) * WORDS;
+
 pub const STORE_WORDS: usize = (2 + MAX_GROUPS + MAX_STATES) * WORDS;
 
 // The set whose words begin at `at`.
