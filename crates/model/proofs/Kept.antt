@@ -3,28 +3,28 @@
 --   bufferFor               the path buffer that belongs to an answer
 --   outcome-*               a promise for each outcome of the rounds
 --   promises                all of specs/Promises
-use Prim.Native.Nat.{ℕ, zero, suc, _≤_, _<_}
+use Prim.Native.Nat.{ℕ, suc, _≤_}
 use native.Mathlib.Omega.{arith}
 use mathlib.Core.Path.{_≡_, refl, sym, ap, _∙_, subst}
-use mathlib.Core.Logic.{_⊎_, inl, inr}
-use mathlib.Core.Bool.{Bool, true, false, cond}
+use mathlib.Core.Logic.{inl, inr}
+use mathlib.Core.Bool.{true, cond}
 use mathlib.Core.List.{List, [], _∷_}
 use lib.Dec.{eqb, ltb}
 use lib.ListN.{length, take}
 use lib.Seq.{take-at}
 use borrow.Author.Tests.{le-ltb}
-use Rattle.model.specs.Sets.{top, Set}
+use Rattle.model.specs.Sets.{top}
 use Rattle.model.specs.Tables.{Table}
 use Rattle.model.specs.Rounds.{Outcome, safe, unsafe, undecided, run, backwardNumber}
-use Rattle.model.specs.Paths.{isPath, shortest, hasPath, smallestPath}
-use Rattle.model.specs.Stores.{tableOf, refuse, accept}
+use Rattle.model.specs.Paths.{shortest, hasPath, smallestPath}
+use Rattle.model.specs.Stores.{tableOf, refuse}
 use Rattle.model.specs.Calls.{Decision, Shortest, release, overwrite, decisionOf, decideAnswer, decideBuffer, shortestGrounds, shortestAnswer, shortestBuffer}
 use Rattle.model.specs.Promises.{IsSmallest, Demand2, Demand3, SameAnswer, SamePath, Accepted, Promises}
 use Rattle.model.proofs.Fixpoints.{backward-is}
 use Rattle.model.proofs.WellFormed.{WellFormed}
 use Rattle.model.proofs.RoundLaws.{round-is, pinned, countOf, count-backward, undecided-short, larger-run, safe-invariant, safe-no-path, unsafe-long, unsafe-path}
 use Rattle.model.proofs.PathLaws.{has-path, smallest-is, length-smallest}
-use Rattle.model.proofs.Acceptance.{Store, store-accepted, well-formed, Check, check-of}
+use Rattle.model.proofs.Acceptance.{store-accepted, well-formed, Check, check-of}
 
 -- the path at the front of a buffer, read back
 front : (t : Table) (path : List ℕ) → take (suc (shortest t)) (overwrite (smallestPath t) path) ≡ smallestPath t
