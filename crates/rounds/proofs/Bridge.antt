@@ -1,0 +1,86 @@
+-- From the code's steps, over rows and the store's words, to the model's, over lists and tables.
+--
+--   covers-none, covers-add      the rows for the empty list, and after a set is added
+--   covers-read                  a row is the cover of its state
+--   coverBy-is, successorsBy-is, keptBy-is      for sets of the table's states, the model's cover, post, and meet with hold
+--   iterate-cong                 steps that agree on a kind of set that they keep iterate alike
+--   forward-is, backward-is      R and S
+use Prim.Native.Nat.{ℕ, zero, suc, _<_}
+use mathlib.Core.Path.{_≡_, refl, ap, _∙_}
+use mathlib.Core.Bool.{cond}
+use mathlib.Core.List.{List, [], _∷_}
+use lib.ListN.{getD}
+use Rattle.model.specs.Sets.{top, Set, member, empty, union, meet, subset, firstStates}
+use Rattle.model.specs.Tables.{post, hold, coverOf, cover}
+use Rattle.model.specs.Rounds.{iterate, forwardStep, forward, backwardStep, backward}
+use Rattle.model.specs.Stores.{rowAt, setAt, tableOf}
+use Rattle.model.proofs.Bounds.{and-true, and-intro, getD-tab, tab-cong}
+use Rattle.model.proofs.SetLaws.{setOf-proper, In, in-top, in-setOf, setOf-in, in-meet, meet-in, _⊆_, subset-in, in-subset, same-set, empty-in}
+use Rattle.model.proofs.Fixpoints.{iterate-has}
+use Rattle.model.proofs.CoverLaws.{in-hold, hold-in, forwardStep-within, backwardStep-within}
+use Rattle.model.proofs.ImageLaws.{image-top, image-cong}
+use Rattle.rounds.specs.Steps.{covers, narrowed, successorsBy, coverBy, forwardBy, keptBy, backwardBy}
+
+-- ---- the cover
+
+pub covers-read : (n : ℕ) (L : List Set) (s : ℕ) → s < top → getD (covers n L) s [] ≡ coverOf n L s
+unfolding covers
+covers-read n L s h = getD-tab (coverOf n L) top s [] h
+
+pub covers-add : (n : ℕ) (L : List Set) (Z : Set) → narrowed (covers n L) Z ≡ covers n (Z ∷ L)
+unfolding narrowed covers coverOf
+covers-add n L Z =
+    tab-cong _ _ top (λ s h. ap (λ (row : Set). cond (member Z s) (meet row Z) row) (getD-tab (coverOf n L) top s [] h))
+
+-- ---- sets of the table's states
+
+module _ (store : List ℕ) (n g : ℕ) where
+  pub successorsBy-is : (X : Set) → X ⊆ firstStates n → successorsBy store X ≡ post n ((tableOf store n g) .row) X
+  unfolding successorsBy post tableOf
+  successorsBy-is X i = image-top n _ X i
+
+  pub coverBy-is : (L : List Set) (X : Set) → X ⊆ firstStates n → coverBy (covers n L) X ≡ cover n L X
+  unfolding coverBy cover
+  coverBy-is L X i = image-cong top _ (coverOf n L) X (λ s h m. covers-read n L s h) ∙ image-top n (coverOf n L) X i
+
+  pub keptBy-is : (X Y : Set) → X ⊆ firstStates n → keptBy store X Y ≡ meet X (hold n ((tableOf store n g) .row) Y)
+  unfolding keptBy meet tableOf
+  keptBy-is X Y i =
+      same-set _ _ (setOf-proper _) (setOf-proper _)
+      (λ s h.
+      let both = and-true (member X s) (subset (setAt store (rowAt s)) Y) (setOf-in _ h) in
+      let m : In X s = record { is = both .0 } in
+      in-meet m (in-hold n _ (i s m) (subset-in (both .1))))
+      (λ s h.
+      let both = meet-in h in
+      in-setOf _ (in-top h) (and-intro (member X s) (subset (setAt store (rowAt s)) Y) (both .0 .is) (in-subset (hold-in n _ (both .1)))))
+
+-- ---- R and S
+
+pub iterate-cong : (P : Set → Type 0) (f g : Set → Set) (x : Set) → P x → ((X : Set) → P X → f X ≡ g X) → ((X : Set) → P (g X)) → (k : ℕ)
+    → iterate f x k ≡ iterate g x k
+unfolding iterate
+iterate-cong P f g x h e keep zero = refl
+iterate-cong P f g x h e keep (suc k) =
+    ap f (iterate-cong P f g x h e keep k) ∙ e _ (iterate-has P g x h (λ X p. keep X) k)
+
+module _ (store : List ℕ) (n g : ℕ) (L : List Set) where
+  pub forward-is : (Z : Set) → Z ⊆ firstStates n
+      → iterate (forwardBy store (covers n L) ((tableOf store n g) .initial) Z) empty n ≡ forward (tableOf store n g) L Z
+  unfolding forward forwardBy forwardStep tableOf
+  forward-is Z i =
+      iterate-cong (λ X. X ⊆ firstStates n) _ (forwardStep (tableOf store n g) L Z) empty (λ s h. absurd (empty-in h))
+      (λ X j.
+      ap (λ (Y : Set). coverBy (covers n L) (meet Z (union ((tableOf store n g) .initial) Y))) (successorsBy-is store n g X j)
+      ∙ coverBy-is store n g L _ (λ s h. i s (meet-in h .0)))
+      (λ X. forwardStep-within (tableOf store n g) L Z X) n
+
+  pub backward-is : (R : Set) → R ⊆ firstStates n
+      → iterate (backwardBy store (covers n L) R) (firstStates n) n ≡ backward (tableOf store n g) L R
+  unfolding backward backwardBy backwardStep tableOf
+  backward-is R i =
+      iterate-cong (λ X. X ⊆ firstStates n) _ (backwardStep (tableOf store n g) L R) (firstStates n) (λ s h. h)
+      (λ X j.
+      ap (coverBy (covers n L)) (keptBy-is store n g R X i)
+      ∙ coverBy-is store n g L _ (λ s h. i s (meet-in h .0)))
+      (λ X. backwardStep-within (tableOf store n g) L R X) n
