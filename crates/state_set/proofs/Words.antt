@@ -1,0 +1,111 @@
+-- The words of a set, and the loops over them.
+--
+--   number-is             the number with the bits that tests give is the number made of them
+--   Filling p X w xs      xs is X with the first w words of setOf p in place of its own: the invariant of each loop that makes a set
+--   filling-none, filling-at, filling-more, filling-all       before the first turn; the word to come; one turn; after the last
+--   Wordwise f op         f acts on words as op does on their bits: or-wise, and-wise, and-not-wise
+--   wordwise-more         a turn that stores f of two words
+use Prim.Native.Nat.{ℕ, zero, suc, _+_, _-_, _*_, _/_, _%_, _^_, _≤_, _<_}
+use native.Mathlib.Nat.{not-suc-le-zero, le-antisymm}
+use native.Mathlib.Numerals.{add-one}
+use native.Mathlib.Omega.{arith}
+use mathlib.Core.Path.{_≡_, refl, sym, ap, ap₂, _∙_, subst}
+use mathlib.Core.Bool.{Bool, true, false, not, _&&_, _||_}
+use mathlib.Core.List.{List, [], _∷_, _++_, append-nil}
+use lib.Bits.{bitAnd, bitOr, and-lt, or-lt}
+use lib.Pow.{ones-sub-lt}
+use lib.ListN.{length, getD, set, drop, length-set, drop-of-length-le}
+use lib.Seq.{drop-cons, set-at, getD-at, append-snoc}
+use mir.Syntax.{w64}
+use mir.Val.{Fits}
+use Rattle.model.specs.Sets.{WORDS, Set, tab, bit, member, number, setOf}
+use Rattle.model.proofs.Bounds.{length-tab}
+use Rattle.model.proofs.SetLaws.{Proper, bits-eq, bit-number, number-lt, member-at}
+use Rattle.state_set.proofs.Bits.{bit-and, bit-or, bit-not}
+
+-- what `search needs` shows of the words of a parameter
+pub proper : {X : Set} → length X ≡ WORDS → ((w : ℕ) → Fits w64 (getD X w 0)) → Proper X
+proper l f = record { long = l; fits = λ w h. f w .fits }
+
+pub number-is : (p : ℕ → Bool) (from x : ℕ) → x < 2 ^ 64 → ((i : ℕ) → i < 64 → bit x i ≡ p (from + i)) → x ≡ number p from 64
+number-is p from x h e =
+    bits-eq 64 x (number p from 64) h (number-lt p from 64) (λ i l. e i l ∙ sym (bit-number p from 64 i l))
+
+-- ---- loops that make a set
+
+pub record Filling (p : ℕ → Bool) (X : Set) (w : ℕ) (xs : Set) : Type 0 where
+  pub within : w ≤ WORDS
+  pub long : length X ≡ WORDS
+  pub is : xs ≡ tab w (λ v. number p (64 * v) 64) ++ drop w X
+
+module _ (p : ℕ → Bool) (X : Set) where
+  pub filling-none : length X ≡ WORDS → Filling p X 0 X
+  unfolding tab
+  filling-none l = record { within = omega arith; long = l; is = refl }
+
+  module _ (w : ℕ) (xs : Set) (so : Filling p X w xs) where
+    made : List ℕ
+    made = tab w (λ v. number p (64 * v) 64)
+
+    made-long : length made ≡ w
+    unfolding made
+    made-long = length-tab (λ v. number p (64 * v) 64) w
+
+    split : w < WORDS → xs ≡ made ++ (getD X w 0 ∷ drop (suc w) X)
+    unfolding made
+    split h = so .is ∙ ap (λ t. made ++ t) (drop-cons X w 0 (subst (λ (n : ℕ). w < n) (sym (so .long)) h))
+
+    pub filling-at : w < WORDS → getD xs w 0 ≡ getD X w 0
+    filling-at h = ap (λ t. getD t w 0) (split h) ∙ getD-at made (getD X w 0) (drop (suc w) X) 0 w made-long
+
+    pub filling-more : (x : ℕ) → w < WORDS → x ≡ number p (64 * w) 64 → Filling p X (w + 1) (set xs w x)
+    unfolding tab made
+    filling-more x h e =
+        rw add-one
+        (record {
+          within = h;
+          long = so .long;
+          is =
+              ap (λ t. set t w x) (split h) ∙ set-at made (getD X w 0) (drop (suc w) X) x w made-long
+              ∙ ap (λ (n : ℕ). made ++ n ∷ drop (suc w) X) e
+              ∙ sym (append-snoc made (number p (64 * w) 64) (drop (suc w) X));
+        })
+
+    pub filling-all : WORDS ≤ w → xs ≡ setOf p
+    unfolding setOf made
+    filling-all h =
+        let last : w ≡ WORDS = le-antisymm (so .within) h in
+        so .is ∙ ap (λ t. made ++ t) (drop-of-length-le X (subst (λ (n : ℕ). n ≤ w) (sym (so .long)) h)) ∙ append-nil made
+        ∙ ap (λ (n : ℕ). tab n (λ v. number p (64 * v) 64)) last
+
+-- ---- operations word by word
+
+pub record Wordwise (f : ℕ → ℕ → ℕ) (op : Bool → Bool → Bool) : Type 0 where
+  pub fits : (x y : ℕ) → x < 2 ^ 64 → y < 2 ^ 64 → f x y < 2 ^ 64
+  pub bits : (x y i : ℕ) → y < 2 ^ 64 → i < 64 → bit (f x y) i ≡ op (bit x i) (bit y i)
+
+pub or-wise : Wordwise bitOr _||_
+or-wise = record { fits = or-lt 64; bits = λ x y i h l. bit-or x y i }
+
+pub and-wise : Wordwise bitAnd _&&_
+and-wise = record { fits = and-lt 64; bits = λ x y i h l. bit-and x y i }
+
+pub and-not-wise : Wordwise (λ x y. bitAnd x ((2 ^ 64 - 1) - y)) (λ a b. a && not b)
+and-not-wise =
+    record {
+      fits = λ x y h k. and-lt 64 x ((2 ^ 64 - 1) - y) h (ones-sub-lt 64 y);
+      bits = λ x y i h l. bit-and x ((2 ^ 64 - 1) - y) i ∙ ap (λ b. bit x i && b) (bit-not 64 y i h l);
+    }
+
+-- the test of a state by its membership in two sets
+abbrev pub both : (Bool → Bool → Bool) → Set → Set → ℕ → Bool
+both op X Y s = op (member X s) (member Y s)
+
+pub wordwise-more : {f : ℕ → ℕ → ℕ} {op : Bool → Bool → Bool} → Wordwise f op → (X Y : Set) → Proper X → Proper Y → (w : ℕ) (xs : Set)
+    → Filling (both op X Y) X w xs → w < WORDS → Filling (both op X Y) X (w + 1) (set xs w (f (getD xs w 0) (getD Y w 0)))
+wordwise-more {f} {op} wise X Y x y w xs so h =
+    filling-more _ X w xs so _ h
+    (ap (λ (z : ℕ). f z (getD Y w 0)) (filling-at _ X w xs so h)
+    ∙ number-is (both op X Y) (64 * w) (f (getD X w 0) (getD Y w 0))
+      (wise .fits _ _ (x .fits w h) (y .fits w h))
+      (λ i l. wise .bits _ _ i (y .fits w h) l ∙ ap₂ op (sym (member-at X w i h l)) (sym (member-at Y w i h l))))
