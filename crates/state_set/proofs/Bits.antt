@@ -7,7 +7,7 @@
 --   ones-picked          `count_ones` is how many places have a bit
 --   trailing-first       `trailing_zeros` is the first place that has one
 use Prim.Native.Nat.{ℕ, zero, suc, _+_, _-_, _*_, _/_, _%_, _^_, _≤_, _<_}
-use native.Mathlib.Nat.{not-suc-le-zero, le-of-suc-le-suc, pow-suc, pow-succ', div-div-eq-div-mul, div-one, mod-one, mod-lt}
+use native.Mathlib.Nat.{not-suc-le-zero, le-of-suc-le-suc, pow-suc, pow-succ', div-div-eq-div-mul, div-one, zero-div, mod-one, mod-lt, add-zero, add-suc, one-mul}
 use native.Mathlib.Numerals.{one-add}
 use native.Mathlib.Omega.{arith}
 use mathlib.Core.Path.{_≡_, refl, sym, ap, ap₂, _∙_, subst}
@@ -15,8 +15,8 @@ use mathlib.Core.Logic.{_⊎_, inl, inr, ⊎-elim}
 use mathlib.Core.Bool.{Bool, true, false, not, _&&_, _||_, cond}
 use mathlib.Core.List.{List, [], _∷_, _++_}
 use borrow.Author.Tests.{eqb-true, eqb-false, eq-eqb, ne-eqb}
-use lib.Dec.{eqb, ltb}
-use lib.Pow.{pow-pos, mod-pow-add}
+use lib.Dec.{eqb, eqb·zero-suc, eqb·suc-zero, eqb·suc-suc}
+use lib.Pow.{pow-pos, mod-pow-add, shl-exact}
 use lib.ListN.{length, length-append}
 use lib.Bits.{bitAnd, bitOr, and-shr, or-shr, and-mod, or-mod}
 use lib.Count.{ones, ones-cat, under, trailingZeros}
@@ -70,18 +70,42 @@ bit-not (suc k) y (suc i) l h =
     ∙ bit-not k (y / 2) i (omega (arith, pow-suc 2 k)) (le-of-suc-le-suc h)
     ∙ ap not (sym (shift-bit y i))
 
+-- ---- <<
+
+pub one-shl : (k : ℕ) → k < 64 → 1 * 2 ^ k % 2 ^ 64 ≡ 2 ^ k
+one-shl k h = shl-exact 1 k 64 (omega arith) (omega arith) ∙ one-mul (2 ^ k)
+
+bit-zero : (i : ℕ) → bit 0 i ≡ false
+unfolding bit
+bit-zero i = ap (λ (n : ℕ). eqb (n % 2) 1) (zero-div (2 ^ i))
+
+pub bit-power : (k i : ℕ) → bit (2 ^ k) i ≡ eqb i k
+unfolding bit
+bit-power zero zero = refl
+bit-power zero (suc i) = shift-bit 1 i ∙ bit-zero i ∙ sym (eqb·suc-zero i)
+bit-power (suc k) zero =
+    let even : 2 ^ suc k / 1 % 2 ≡ 0 = omega (arith, pow-suc 2 k) in
+    ap (λ (d : ℕ). eqb d 1) even ∙ sym (eqb·zero-suc k)
+bit-power (suc k) (suc i) =
+    let half : 2 ^ suc k / 2 ≡ 2 ^ k = omega (arith, pow-suc 2 k) in
+    shift-bit (2 ^ suc k) i ∙ ap (λ (x : ℕ). bit x i) half ∙ bit-power k i ∙ sym (eqb·suc-suc i k)
+
 -- ---- counts
 
-pub ones-picked : (k x : ℕ) → ones (x % 2 ^ k) ≡ length (picked k (bit x))
+-- the numbers below from + k that pass are those below from, and the ones in a number that has the next k tests for bits
+pub ones-picked : (p : ℕ → Bool) (from x k : ℕ) → ((i : ℕ) → i < k → bit x i ≡ p (from + i))
+    → length (picked (from + k) p) ≡ length (picked from p) + ones (x % 2 ^ k)
 unfolding picked bit ones
-ones-picked zero x = ap ones (mod-one x)
-ones-picked (suc k) x =
-    ap (λ (m : ℕ). ones (x % 2 ^ m)) (sym (one-add k)) ∙ ap ones (mod-pow-add x 1 k)
-    ∙ ones-cat k (x / 2 ^ k % 2) (x % 2 ^ k) (mod-lt x (pow-pos k))
-    ∙ ap₂ (λ (m n : ℕ). m + n)
-      (by-digit (λ d. ones d ≡ length (cond (eqb d 1) (k ∷ []) [])) refl refl (x / 2 ^ k % 2) (omega arith))
-      (ones-picked k x)
-    ∙ omega (arith, length-append (picked k (bit x)) (cond (bit x k) (k ∷ []) []))
+ones-picked p from x zero e = ap (λ (n : ℕ). length (picked n p)) (add-zero from) ∙ sym (ap (λ (n : ℕ). length (picked from p) + ones n) (mod-one x) ∙ add-zero _)
+ones-picked p from x (suc k) e =
+    let cut : ones (x % 2 ^ suc k) ≡ ones (x / 2 ^ k % 2) + ones (x % 2 ^ k) =
+    ap (λ (m : ℕ). ones (x % 2 ^ m)) (sym (one-add k)) ∙ ap ones (mod-pow-add x 1 k) ∙ ones-cat k (x / 2 ^ k % 2) (x % 2 ^ k) (mod-lt x (pow-pos k)) in
+    let last : length (cond (p (from + k)) ((from + k) ∷ []) []) ≡ ones (x / 2 ^ k % 2) =
+    ap (λ b. length (cond b ((from + k) ∷ []) [])) (sym (e k (omega arith)))
+    ∙ by-digit (λ d. length (cond (eqb d 1) ((from + k) ∷ []) []) ≡ ones d) refl refl (x / 2 ^ k % 2) (omega arith) in
+    ap (λ (n : ℕ). length (picked n p)) (add-suc from k)
+    ∙ length-append (picked (from + k) p) (cond (p (from + k)) ((from + k) ∷ []) [])
+    ∙ omega (arith, ones-picked p from x k (λ i h. e i (omega arith)))
 
 first-cong : (p q : ℕ → Bool) (n : ℕ) → ((i : ℕ) → p i ≡ q i) → first n p ≡ first n q
 unfolding first

@@ -5,21 +5,24 @@
 --   filling-none, filling-at, filling-more, filling-all       before the first turn; the word to come; one turn; after the last
 --   Wordwise f op         f acts on words as op does on their bits: or-wise, and-wise, and-not-wise
 --   wordwise-more         a turn that stores f of two words
-use Prim.Native.Nat.{ℕ, zero, suc, _+_, _-_, _*_, _/_, _%_, _^_, _≤_, _<_}
-use native.Mathlib.Nat.{not-suc-le-zero, le-antisymm}
+use Prim.Native.Nat.{ℕ, zero, suc, _+_, _-_, _*_, _/_, _%_, _^_, min, _≤_, _<_}
+use native.Mathlib.Nat.{le-antisymm, pow-suc, zero-min}
 use native.Mathlib.Numerals.{add-one}
 use native.Mathlib.Omega.{arith}
 use mathlib.Core.Path.{_≡_, refl, sym, ap, ap₂, _∙_, subst}
+use mathlib.Core.Logic.{⊎-elim}
 use mathlib.Core.Bool.{Bool, true, false, not, _&&_, _||_}
 use mathlib.Core.List.{List, [], _∷_, _++_, append-nil}
-use lib.Bits.{bitAnd, bitOr, and-lt, or-lt}
-use lib.Pow.{ones-sub-lt}
+use borrow.Author.Tests.{ltb-true, ltb-false, lt-ltb, le-ltb}
+use lib.Bits.{bitAnd, bitOr, and-lt, or-lt, and-mask}
+use lib.Dec.{eqb, ltb}
+use lib.Pow.{pow-pos, ones-sub-lt}
 use lib.ListN.{length, getD, set, drop, length-set, drop-of-length-le}
 use lib.Seq.{drop-cons, set-at, getD-at, append-snoc}
 use mir.Syntax.{w64}
 use mir.Val.{Fits}
-use Rattle.model.specs.Sets.{WORDS, Set, tab, bit, member, number, setOf}
-use Rattle.model.proofs.Bounds.{length-tab}
+use Rattle.model.specs.Sets.{WORDS, top, Set, tab, bit, member, number, setOf}
+use Rattle.model.proofs.Bounds.{decided, length-tab}
 use Rattle.model.proofs.SetLaws.{Proper, bits-eq, bit-number, number-lt, member-at}
 use Rattle.state_set.proofs.Bits.{bit-and, bit-or, bit-not}
 
@@ -27,9 +30,40 @@ use Rattle.state_set.proofs.Bits.{bit-and, bit-or, bit-not}
 pub proper : {X : Set} → length X ≡ WORDS → ((w : ℕ) → Fits w64 (getD X w 0)) → Proper X
 proper l f = record { long = l; fits = λ w h. f w .fits }
 
+-- ---- membership, by the word that s / 64 names
+
+pub member-word : (X : Set) (s : ℕ) → s / 64 < WORDS → eqb (bitAnd (getD X (s / 64) 0 / 2 ^ (s % 64)) 1) 1 ≡ member X s
+unfolding member bit
+member-word X s h = rw (and-mask (getD X (s / 64) 0 / 2 ^ (s % 64)) 1, lt-ltb s top (omega arith))
+
+pub member-past : (X : Set) (s : ℕ) → WORDS ≤ s / 64 → ltb (s / 64) WORDS ≡ member X s
+unfolding member
+member-past X s h = rw (le-ltb (s / 64) WORDS h, le-ltb s top (omega arith))
+
+-- ---- words made of tests
+
 pub number-is : (p : ℕ → Bool) (from x : ℕ) → x < 2 ^ 64 → ((i : ℕ) → i < 64 → bit x i ≡ p (from + i)) → x ≡ number p from 64
 number-is p from x h e =
     bits-eq 64 x (number p from 64) h (number-lt p from 64) (λ i l. e i l ∙ sym (bit-number p from 64 i l))
+
+-- the tests `below n` make ones as far as n
+pub number-below : (n from count : ℕ) → number (λ s. ltb s n && true) from count ≡ 2 ^ min count (n - from) - 1
+unfolding number
+number-below n from zero = rw zero-min
+number-below n from (suc count) =
+    let k = min count (n - suc from) in
+    let rest : number (λ s. ltb s n && true) (suc from) count ≡ 2 ^ k - 1 = number-below n (suc from) count in
+    ⊎-elim
+    (λ e.
+    let h : from < n = ltb-true from n e in
+    let more : min (suc count) (n - from) ≡ suc k = omega arith in
+    rw (e, more) (omega (arith, pow-suc 2 k, pow-pos k)))
+    (λ e.
+    let h : n ≤ from = ltb-false from n e in
+    let none : min (suc count) (n - from) ≡ 0 = omega arith in
+    let no-more : k ≡ 0 = omega arith in
+    rw (e, none) (omega (arith, ap (λ (m : ℕ). 2 ^ m) no-more)))
+    (decided (ltb from n))
 
 -- ---- loops that make a set
 

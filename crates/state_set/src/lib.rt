@@ -7,6 +7,7 @@
 //
 // Each contract is an equality with the model's definition of the same thing.
 ghost use mathlib.Core.Path.{_≡_};
+ghost use Prim.Native.Nat.{min, _-_, _^_};
 ghost use Rattle.model.specs.Sets.{member, empty, single, union, meet, difference, subset, same, meets, firstStates, size, smallest};
 
 // The model's WORDS is the same number.
@@ -16,8 +17,10 @@ pub struct StateSet {
     pub words: [u64; WORDS],
 }
 
-// The word of the states from `from` up that are below n.
-fn word_below(n: usize, from: usize) -> u64 {
+// The word of the states below n, where state `from` is its lowest bit: ones up to n, as far as the word goes.
+fn word_below(n: usize, from: usize) -> u64
+    ensures { λ r. ⌜ r ≡ 2 ^ min 64 (n - from) - 1 ⌝ }
+{
     if n <= from {
         0
     } else if n - from < 64 {

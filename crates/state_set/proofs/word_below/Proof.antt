@@ -1,37 +1,24 @@
+-- `word_below`: in each of its cases the exponent is the lesser of 64 and n - from.
+use Prim.Native.Nat.{ℕ, min, _-_, _^_, _≤_, _<_}
+use native.Mathlib.Omega.{arith}
+use mathlib.Core.Path.{_≡_, sym, ap, _∙_, subst}
 use borrow.Author.Needs.{needs}
+use lib.Pow.{pow-pos}
+use Rattle.state_set.proofs.Bits.{one-shl}
 use Rattle.state_set.proofs.word_below.Statement.{statement}
 use Rattle.state_set.proofs.word_below.Tie as tie
-use Rattle.state_set.proofs.word_below.Reads as reads
-use Rattle.state_set.proofs.word_below.Lts as lts
 
--- src/lib.rt:23:15
-sub-if2 : tie.Need-sub-if2
-sub-if2 c = search needs
-
--- src/lib.rt:24:16
-sub-result : tie.Need-sub-result
-sub-result c = search needs
-
--- src/lib.rt:24:10
-shl-result : tie.Need-shl-result
-shl-result c = search needs
-
--- src/lib.rt:24:9
-sub-result-2 : tie.Need-sub-result-2
-sub-result-2 c = ?
-
--- src/lib.rt:20:1
-returns : tie.Need-returns
-returns c = search needs
-
--- src/lib.rt:20:1
-returns-2 : tie.Need-returns-2
-returns-2 c = search needs
-
--- src/lib.rt:20:1
-returns-3 : tie.Need-returns-3
-returns-3 c = search needs
+ones-at : (a k : ℕ) → a ≡ k → 2 ^ a - 1 ≡ 2 ^ k - 1
+ones-at a k e = ap (λ (n : ℕ). 2 ^ n - 1) e
 
 pub word-below-spec : {M : Type 1} → statement M
 word-below-spec =
-    tie.close (tie.spec sub-if2 sub-result shl-result sub-result-2 returns returns-2 returns-3)
+    tie.close
+    (tie.spec
+    (λ c. search needs)
+    (λ c. search needs)
+    (λ c. search needs)
+    (λ c. subst (λ (x : ℕ). 1 ≤ x) (sym (one-shl _ (c .if2 .taken))) (pow-pos _))
+    (λ c. ones-at 0 _ (omega arith))
+    (λ c. ap (λ (x : ℕ). x - 1) (one-shl _ (c .if2 .taken)) ∙ ones-at _ _ (omega arith))
+    (λ c. ones-at 64 _ (omega arith)))

@@ -1,53 +1,20 @@
+-- `StateSet::equals`: the words passed are the same.
+use Prim.Native.Nat.{ℕ, _-_, _≤_, _<_}
+use mathlib.Core.Path.{_≡_}
+use borrow.Author.Count.{below-none, below-more}
+use borrow.Author.Needs.{needs}
+use lib.ListN.{getD}
+use Rattle.model.specs.Sets.{WORDS}
+use Rattle.state_set.proofs.Words.{proper}
+use Rattle.state_set.proofs.Tests.{same-words, other-word}
 use Rattle.state_set.proofs.StateSet.equals.Statement.{statement}
 use Rattle.state_set.proofs.StateSet.equals.Tie as tie
-use Rattle.state_set.proofs.StateSet.equals.Reads as reads
-use Rattle.state_set.proofs.StateSet.equals.Lts as lts
 
 abbrev Inv-loop : tie.InvT-loop
-Inv-loop self other w₀ w = ?
+Inv-loop self other w₀ w = (w ≤ WORDS) × ((v : ℕ) → v < w → getD (self .words) v 0 ≡ getD (other .words) v 0)
 
 abbrev μ-loop : tie.MeasureT-loop
-μ-loop self other w₀ w = ?
-
--- src/lib.rt:96:9
-loop-holds : tie.Need-loop-holds Inv-loop μ-loop
-loop-holds c = ?
-
--- src/lib.rt:97:16
-mul-if1 : tie.Need-mul-if1 Inv-loop μ-loop
-mul-if1 c = ?
-
--- src/lib.rt:97:16
-element-copy-out-if1 : tie.Need-element-copy-out-if1 Inv-loop μ-loop
-element-copy-out-if1 c = ?
-
--- src/lib.rt:97:33
-mul-if1-2 : tie.Need-mul-if1-2 Inv-loop μ-loop
-mul-if1-2 c = ?
-
--- src/lib.rt:97:33
-element-copy-out-if1-2 : tie.Need-element-copy-out-if1-2 Inv-loop μ-loop
-element-copy-out-if1-2 c = ?
-
--- src/lib.rt:98:17
-returns : tie.Need-returns Inv-loop μ-loop
-returns c = ?
-
--- src/lib.rt:96:13
-add-w : tie.Need-add-w Inv-loop μ-loop
-add-w c = ?
-
--- src/lib.rt:96:9
-loop-less : tie.Need-loop-less Inv-loop μ-loop
-loop-less c = ?
-
--- src/lib.rt:96:9
-loop-again : tie.Need-loop-again Inv-loop μ-loop
-loop-again c = ?
-
--- src/lib.rt:93:5
-returns-2 : tie.Need-returns-2 Inv-loop μ-loop
-returns-2 c = ?
+μ-loop self other w₀ w = WORDS - w
 
 pub equals-spec : {M : Type 1} → statement M
 equals-spec =
@@ -55,13 +22,13 @@ equals-spec =
     (tie.spec
     Inv-loop
     μ-loop
-    loop-holds
-    mul-if1
-    element-copy-out-if1
-    mul-if1-2
-    element-copy-out-if1-2
-    returns
-    add-w
-    loop-less
-    loop-again
-    returns-2)
+    (λ c. (search needs, below-none _))
+    (λ c. search needs)
+    (λ c. search needs)
+    (λ c. search needs)
+    (λ c. search needs)
+    (λ c. other-word _ _ (proper (search needs) (λ w. search needs)) (proper (search needs) (λ w. search needs)) _ (c .if1 .taken))
+    (λ c. search needs)
+    (λ c. search needs)
+    (λ c. (search needs, below-more _ _ (c .before .before .before .before .loop .inv .1) (c .if1 .left)))
+    (λ c. same-words _ _ (search needs) (search needs) _ (search needs) (c .before .loop .inv .1)))

@@ -1,63 +1,33 @@
+-- `StateSet::first_states`: the words passed are those of the first n states.
+use Prim.Native.Nat.{_-_}
+use mathlib.Core.Path.{sym, _∙_}
+use mathlib.Core.Bool.{true, _&&_}
+use borrow.Author.Needs.{needs}
+use lib.Dec.{ltb}
+use Rattle.model.specs.Sets.{WORDS, states, firstStates}
+use Rattle.state_set.proofs.Words.{number-below, Filling, filling-none, filling-more, filling-all}
 use Rattle.state_set.proofs.StateSet.first_states.Statement.{statement}
 use Rattle.state_set.proofs.StateSet.first_states.Tie as tie
-use Rattle.state_set.proofs.StateSet.first_states.Reads as reads
-use Rattle.state_set.proofs.StateSet.first_states.Lts as lts
-use Rattle.state_set.proofs.word_below.Reads as word-below-reads
 
 abbrev Inv-loop : tie.InvT-loop
-Inv-loop n words₀ w₀ words w = ?
+Inv-loop n words₀ w₀ words w = Filling (λ s. ltb s n && true) words₀ w words
 
 abbrev μ-loop : tie.MeasureT-loop
-μ-loop n words₀ w₀ words w = ?
-
--- src/lib.rt:42:9
-loop-holds : tie.Need-loop-holds Inv-loop μ-loop
-loop-holds c = ?
-
--- src/lib.rt:43:38
-mul-word-below : tie.Need-mul-word-below Inv-loop μ-loop
-mul-word-below c = ?
-
--- src/lib.rt:43:24
-word-below-requires : tie.Need-word-below-requires Inv-loop μ-loop
-word-below-requires c κs = ?
-
--- src/lib.rt:43:13
-mul-words : tie.Need-mul-words Inv-loop μ-loop
-mul-words c = ?
-
--- src/lib.rt:43:13
-array-write-words : tie.Need-array-write-words Inv-loop μ-loop
-array-write-words c = ?
-
--- src/lib.rt:42:13
-add-w : tie.Need-add-w Inv-loop μ-loop
-add-w c = ?
-
--- src/lib.rt:42:9
-loop-less : tie.Need-loop-less Inv-loop μ-loop
-loop-less c = ?
-
--- src/lib.rt:42:9
-loop-again : tie.Need-loop-again Inv-loop μ-loop
-loop-again c = ?
-
--- src/lib.rt:38:5
-returns : tie.Need-returns Inv-loop μ-loop
-returns c = ?
+μ-loop n words₀ w₀ words w = WORDS - w
 
 pub first-states-spec : {M : Type 1} → statement M
+unfolding firstStates states
 first-states-spec =
     tie.close
     (tie.spec
     Inv-loop
     μ-loop
-    loop-holds
-    mul-word-below
-    word-below-requires
-    mul-words
-    array-write-words
-    add-w
-    loop-less
-    loop-again
-    returns)
+    (λ c. filling-none _ _ (search needs))
+    (λ c. search needs)
+    (λ c κs. search needs)
+    (λ c. search needs)
+    (λ c. search needs)
+    (λ c. search needs)
+    (λ c. search needs)
+    (λ c. filling-more _ _ _ _ (c .before .before .loop .inv) _ (search needs) (c .word-below .ensures ∙ sym (number-below _ _ 64)))
+    (λ c. filling-all _ _ _ _ (c .before .loop .inv) (search needs)))
