@@ -5,7 +5,7 @@
 --   bit-not              the bits of `!` at k digits
 --   bit-power            the bits of a power of two
 --   ones-picked          `count_ones` is how many places have a bit
---   trailing-first       `trailing_zeros` is the first place that has one
+--   trailing-first       `trailing_zeros` is the first place that has one; first-bit: there is one, unless the number is 0
 use Prim.Native.Nat.{ℕ, zero, suc, _+_, _-_, _*_, _/_, _%_, _^_, _≤_, _<_}
 use native.Mathlib.Nat.{not-suc-le-zero, le-of-suc-le-suc, pow-suc, pow-succ', div-div-eq-div-mul, div-one, zero-div, mod-one, mod-lt, add-zero, add-suc, one-mul}
 use native.Mathlib.Numerals.{one-add}
@@ -21,7 +21,8 @@ use lib.ListN.{length, length-append}
 use lib.Bits.{bitAnd, bitOr, and-shr, or-shr, and-mod, or-mod}
 use lib.Count.{ones, ones-cat, under, trailingZeros}
 use Rattle.model.specs.Sets.{first, picked, bit}
-use Rattle.model.proofs.Bounds.{by-cond, decided, same-test}
+use Rattle.model.proofs.Bounds.{first-least, lt-or-ge}
+use Rattle.model.proofs.SetLaws.{bits-eq}
 
 pub shift-bit : (x i : ℕ) → bit x (suc i) ≡ bit (x / 2) i
 unfolding bit
@@ -75,7 +76,7 @@ bit-not (suc k) y (suc i) l h =
 pub one-shl : (k : ℕ) → k < 64 → 1 * 2 ^ k % 2 ^ 64 ≡ 2 ^ k
 one-shl k h = shl-exact 1 k 64 (omega arith) (omega arith) ∙ one-mul (2 ^ k)
 
-bit-zero : (i : ℕ) → bit 0 i ≡ false
+pub bit-zero : (i : ℕ) → bit 0 i ≡ false
 unfolding bit
 bit-zero i = ap (λ (n : ℕ). eqb (n % 2) 1) (zero-div (2 ^ i))
 
@@ -120,3 +121,10 @@ trailing-first (suc k) x =
     ap (under (x % 2)) (trailing-first k (x / 2) ∙ first-cong (bit (x / 2)) (λ i. bit x (suc i)) k (λ i. sym (shift-bit x i)))
     ∙ by-digit (λ d. under d rest ≡ cond (eqb d 1) 0 (suc rest)) refl refl (x % 2) (omega arith)
     ∙ ap (λ (n : ℕ). cond (eqb (n % 2) 1) 0 (suc rest)) (sym (div-one x))
+
+-- a number that is not 0 has such a place
+pub first-bit : (k x : ℕ) → x < 2 ^ k → (x ≡ 0 → ⊥) → first k (bit x) < k
+first-bit k x h some =
+    ⊎-elim (λ l. l)
+    (λ none. absurd (some (bits-eq k x 0 h (pow-pos k) (λ i l. first-least (bit x) k i (omega arith) ∙ sym (bit-zero i)))))
+    (lt-or-ge (first k (bit x)) k)

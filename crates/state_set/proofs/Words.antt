@@ -10,21 +10,21 @@ use native.Mathlib.Nat.{le-antisymm, pow-suc, zero-min}
 use native.Mathlib.Numerals.{add-one}
 use native.Mathlib.Omega.{arith}
 use mathlib.Core.Path.{_≡_, refl, sym, ap, ap₂, _∙_, subst}
-use mathlib.Core.Logic.{⊎-elim}
+use mathlib.Core.Logic.{inl, ⊎-elim}
 use mathlib.Core.Bool.{Bool, true, false, not, _&&_, _||_}
 use mathlib.Core.List.{List, [], _∷_, _++_, append-nil}
-use borrow.Author.Tests.{ltb-true, ltb-false, lt-ltb, le-ltb}
-use lib.Bits.{bitAnd, bitOr, and-lt, or-lt, and-mask}
+use borrow.Author.Tests.{eqb-true, eqb-false, eq-eqb, ne-eqb, ltb-true, ltb-false, lt-ltb, le-ltb}
+use lib.Bits.{bitAnd, bitOr, and-lt, or-lt, or-zero-r, and-mask}
 use lib.Dec.{eqb, ltb}
-use lib.Pow.{pow-pos, ones-sub-lt}
+use lib.Pow.{pow-pos, pow-lt, ones-sub-lt}
 use lib.ListN.{length, getD, set, drop, length-set, drop-of-length-le}
-use lib.Seq.{drop-cons, set-at, getD-at, append-snoc}
+use lib.Seq.{drop-cons, set-at, getD-at, append-snoc, getD-set-same, getD-set-other, ext-getD}
 use mir.Syntax.{w64}
 use mir.Val.{Fits}
-use Rattle.model.specs.Sets.{WORDS, top, Set, tab, bit, member, number, setOf}
-use Rattle.model.proofs.Bounds.{decided, length-tab}
-use Rattle.model.proofs.SetLaws.{Proper, bits-eq, bit-number, number-lt, member-at}
-use Rattle.state_set.proofs.Bits.{bit-and, bit-or, bit-not}
+use Rattle.model.specs.Sets.{WORDS, top, Set, tab, bit, member, number, setOf, single, union}
+use Rattle.model.proofs.Bounds.{decided, same-test, length-tab, getD-tab}
+use Rattle.model.proofs.SetLaws.{Proper, setOf-proper, bits-eq, bit-number, number-lt, member-at, in-top, in-union, union-in, single-in, same-set}
+use Rattle.state_set.proofs.Bits.{bit-and, bit-or, bit-not, one-shl, bit-zero, bit-power}
 
 -- what `search needs` shows of the words of a parameter
 pub proper : {X : Set} → length X ≡ WORDS → ((w : ℕ) → Fits w64 (getD X w 0)) → Proper X
@@ -135,11 +135,67 @@ and-not-wise =
 abbrev pub both : (Bool → Bool → Bool) → Set → Set → ℕ → Bool
 both op X Y s = op (member X s) (member Y s)
 
-pub wordwise-more : {f : ℕ → ℕ → ℕ} {op : Bool → Bool → Bool} → Wordwise f op → (X Y : Set) → Proper X → Proper Y → (w : ℕ) (xs : Set)
-    → Filling (both op X Y) X w xs → w < WORDS → Filling (both op X Y) X (w + 1) (set xs w (f (getD xs w 0) (getD Y w 0)))
-wordwise-more {f} {op} wise X Y x y w xs so h =
-    filling-more _ X w xs so _ h
-    (ap (λ (z : ℕ). f z (getD Y w 0)) (filling-at _ X w xs so h)
-    ∙ number-is (both op X Y) (64 * w) (f (getD X w 0) (getD Y w 0))
-      (wise .fits _ _ (x .fits w h) (y .fits w h))
-      (λ i l. wise .bits _ _ i (y .fits w h) l ∙ ap₂ op (sym (member-at X w i h l)) (sym (member-at Y w i h l))))
+module _ {f : ℕ → ℕ → ℕ} {op : Bool → Bool → Bool} (wise : Wordwise f op) (X Y : Set) (x : Proper X) (y : Proper Y) (w : ℕ) (h : w < WORDS) where
+  pub wordwise-word : f (getD X w 0) (getD Y w 0) ≡ number (both op X Y) (64 * w) 64
+  wordwise-word =
+      number-is (both op X Y) (64 * w) (f (getD X w 0) (getD Y w 0)) (wise .fits _ _ (x .fits w h) (y .fits w h))
+      (λ i l. wise .bits _ _ i (y .fits w h) l ∙ ap₂ op (sym (member-at X w i h l)) (sym (member-at Y w i h l)))
+
+  pub wordwise-more : (xs : Set) → Filling (both op X Y) X w xs → Filling (both op X Y) X (w + 1) (set xs w (f (getD xs w 0) (getD Y w 0)))
+  wordwise-more xs so =
+      filling-more _ X w xs so _ h (ap (λ (z : ℕ). f z (getD Y w 0)) (filling-at _ X w xs so h) ∙ wordwise-word)
+
+-- ---- one state more
+
+-- the word that s / 64 names has the bit of {s}, and the other words have none
+module _ (s : ℕ) where
+  single-word : (v x : ℕ) → v < WORDS → x < 2 ^ 64 → ((i : ℕ) → i < 64 → bit x i ≡ eqb (64 * v + i) s) → x ≡ getD (single s) v 0
+  unfolding single setOf
+  single-word v x h k e = number-is (λ t. eqb t s) (64 * v) x k e ∙ sym (getD-tab (λ u. number (λ t. eqb t s) (64 * u) 64) WORDS v 0 h)
+
+  single-here : s / 64 < WORDS → 1 * 2 ^ (s % 64) % 2 ^ 64 ≡ getD (single s) (s / 64) 0
+  single-here h =
+      let place : s % 64 < 64 = omega arith in
+      one-shl (s % 64) place
+      ∙ single-word (s / 64) (2 ^ (s % 64)) h (pow-lt place)
+      (λ i l.
+      bit-power (s % 64) i
+      ∙ same-test (eqb i (s % 64)) (eqb (64 * (s / 64) + i) s)
+      (λ e. eq-eqb _ s (omega (arith, eqb-true i (s % 64) e)))
+      (λ e. eq-eqb i _ (omega (arith, eqb-true (64 * (s / 64) + i) s e))))
+
+  single-other : (v : ℕ) → v < WORDS → (v ≡ s / 64 → ⊥) → 0 ≡ getD (single s) v 0
+  single-other v h ne =
+      single-word v 0 h (omega arith) (λ i l. bit-zero i ∙ sym (ne-eqb (64 * v + i) s (λ e. ne (omega (arith, e)))))
+
+module _ (X : Set) (s : ℕ) (x : Proper X) where
+  -- a word of the union with {s}
+  joined : (w : ℕ) → w < WORDS → bitOr (getD X w 0) (getD (single s) w 0) ≡ getD (union X (single s)) w 0
+  unfolding union single setOf
+  joined w h =
+      wordwise-word or-wise X (single s) x (setOf-proper (λ t. eqb t s)) w h
+      ∙ sym (getD-tab (λ v. number (both _||_ X (single s)) (64 * v) 64) WORDS w 0 h)
+
+  pub with-bit : s / 64 < WORDS → set X (s / 64) (bitOr (getD X (s / 64) 0) (1 * 2 ^ (s % 64) % 2 ^ 64)) ≡ union X (single s)
+  unfolding union
+  with-bit h =
+      let w = s / 64 in
+      let y = bitOr (getD X w 0) (1 * 2 ^ (s % 64) % 2 ^ 64) in
+      let long : length (set X w y) ≡ WORDS = length-set X w y ∙ x .long in
+      ext-getD 0 (set X w y) (union X (single s)) (long ∙ sym (setOf-proper _ .long))
+      (λ v k.
+      let below : v < WORDS = omega (arith, long) in
+      ⊎-elim
+      (λ e.
+      subst (λ (u : ℕ). getD (set X w y) u 0 ≡ getD (union X (single s)) u 0) (sym (eqb-true v w e))
+      (getD-set-same X w y 0 (omega (arith, x .long)) ∙ ap (bitOr (getD X w 0)) (single-here s h) ∙ joined w h))
+      (λ e.
+      getD-set-other X w v y 0 (eqb-false v w e)
+      ∙ sym (or-zero-r (getD X v 0)) ∙ ap (bitOr (getD X v 0)) (single-other s v below (eqb-false v w e)) ∙ joined v below)
+      (decided (eqb v w)))
+
+  pub with-past : WORDS ≤ s / 64 → X ≡ union X (single s)
+  unfolding union
+  with-past h =
+      same-set X (union X (single s)) x (setOf-proper _) (λ t k. in-union (inl k))
+      (λ t k. ⊎-elim (λ i. i) (λ i. absurd (omega (arith, single-in i, in-top i))) (union-in k))

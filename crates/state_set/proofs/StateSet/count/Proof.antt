@@ -1,49 +1,17 @@
+-- `StateSet::count`: the number of states in the words passed.
+use Prim.Native.Nat.{_-_}
+use borrow.Author.Needs.{needs}
+use Rattle.model.specs.Sets.{WORDS}
+use Rattle.state_set.proofs.Words.{proper}
+use Rattle.state_set.proofs.Counts.{bits-fit, states-fit, word-ones, Counting, counting-none, counting-more, counting-all}
 use Rattle.state_set.proofs.StateSet.count.Statement.{statement}
 use Rattle.state_set.proofs.StateSet.count.Tie as tie
-use Rattle.state_set.proofs.StateSet.count.Reads as reads
-use Rattle.state_set.proofs.StateSet.count.Lts as lts
 
 abbrev Inv-loop : tie.InvT-loop
-Inv-loop self states₀ w₀ states w = ?
+Inv-loop self states₀ w₀ states w = Counting (self .words) w states
 
 abbrev μ-loop : tie.MeasureT-loop
-μ-loop self states₀ w₀ states w = ?
-
--- src/lib.rt:128:9
-loop-holds : tie.Need-loop-holds Inv-loop μ-loop
-loop-holds c = ?
-
--- src/lib.rt:129:39
-mul-states : tie.Need-mul-states Inv-loop μ-loop
-mul-states c = ?
-
--- src/lib.rt:129:39
-element-copy-out-states : tie.Need-element-copy-out-states Inv-loop μ-loop
-element-copy-out-states c = ?
-
--- src/lib.rt:129:23
-cast-states : tie.Need-cast-states Inv-loop μ-loop
-cast-states c = ?
-
--- src/lib.rt:129:13
-add-states : tie.Need-add-states Inv-loop μ-loop
-add-states c = ?
-
--- src/lib.rt:128:13
-add-w : tie.Need-add-w Inv-loop μ-loop
-add-w c = ?
-
--- src/lib.rt:128:9
-loop-less : tie.Need-loop-less Inv-loop μ-loop
-loop-less c = ?
-
--- src/lib.rt:128:9
-loop-again : tie.Need-loop-again Inv-loop μ-loop
-loop-again c = ?
-
--- src/lib.rt:124:5
-returns : tie.Need-returns Inv-loop μ-loop
-returns c = ?
+μ-loop self states₀ w₀ states w = WORDS - w
 
 pub count-spec : {M : Type 1} → statement M
 count-spec =
@@ -51,12 +19,12 @@ count-spec =
     (tie.spec
     Inv-loop
     μ-loop
-    loop-holds
-    mul-states
-    element-copy-out-states
-    cast-states
-    add-states
-    add-w
-    loop-less
-    loop-again
-    returns)
+    (λ c. counting-none _)
+    (λ c. search needs)
+    (λ c. search needs)
+    (λ c. bits-fit _ (word-ones _ (search needs)))
+    (λ c. states-fit _ _ (search needs) (word-ones _ (search needs)))
+    (λ c. search needs)
+    (λ c. search needs)
+    (λ c. counting-more _ _ _ (proper (search needs) (λ w. search needs)) (c .before .before .loop .inv) (search needs))
+    (λ c. counting-all _ _ _ (c .before .loop .inv) (search needs)))
