@@ -1,13 +1,13 @@
 -- Laws of tests below a bound, and of lists made by `tab`.
 --
 --   and-true, and-intro, or-true, or-intro     Boolean connectives as facts
---   any-find, any-intro, any-none              some number below the bound passes; none does
+--   any-find, any-intro, any-none              some number below the bound passes; none does; any-start, -turn, -end: a loop that looks for one
 --   all-at, all-intro, all-not                 each passes; one that does not
 --   first-le, first-passes, first-least        `first` is the least that passes, else the bound; first-is, first-none: so it is that one;
 --                                              first-found, first-before: what passes at the bound, or anywhere, tells of it
 --   length-tab, getD-tab, tab-cong             a list by its elements
 use Prim.Native.Nat.{ℕ, zero, suc, _+_, _≤_, _<_, zero-le, suc-le-suc}
-use native.Mathlib.Nat.{le-of-suc-le-suc, not-suc-le-zero, eq-or-lt-of-le}
+use native.Mathlib.Nat.{le-of-suc-le-suc, not-suc-le-zero, eq-or-lt-of-le, le-antisymm}
 use native.Mathlib.Decide.{decLt}
 use native.Mathlib.Numerals.{add-one}
 use native.Mathlib.Omega.{arith}
@@ -96,6 +96,21 @@ module _ (p : ℕ → Bool) where
 
   pub any-none : (n : ℕ) → any n p ≡ false → (k : ℕ) → k < n → p k ≡ false
   any-none n e k h = is-false (p k) (λ q. clash (any-intro n k h q) e)
+
+  -- a loop that looks for one that passes: none before the first turn, none after a turn that found none
+  pub any-start : any 0 p ≡ false
+  unfolding any
+  any-start = refl
+
+  pub any-turn : (i : ℕ) → any i p ≡ false → p i ≡ false → any (i + 1) p ≡ false
+  unfolding any
+  any-turn i e f = rw (add-one, e) f
+
+  pub any-end : (i n : ℕ) → i ≤ n → n ≤ i → any i p ≡ false → any n p ≡ false
+  any-end i n l h e = subst (λ (k : ℕ). any k p ≡ false) (le-antisymm l h) e
+
+  pub no-any : (n : ℕ) → ((k : ℕ) → k < n → p k ≡ false) → any n p ≡ false
+  no-any n f = is-false (any n p) (λ e. let w = any-find n e in clash (w .2) (f (w .0) (w .1)))
 
   pub all-at : (n : ℕ) → all n p ≡ true → (k : ℕ) → k < n → p k ≡ true
   unfolding all

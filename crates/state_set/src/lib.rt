@@ -1,8 +1,8 @@
 // Sets of states (01, "States and sets"): four 64-bit words, in by value and back by value. State s is the bit of value 2^(s mod 64) in word s/64.
 //
-//   empty, first_states, with                   sets made from nothing, from a number of states, by one state more
+//   empty, first_states, single, with           sets made from nothing, from a number of states, by one state more
 //   contains, is_subset, meets, is_empty, equals    tests
-//   union, meet, difference                     word by word
+//   union, meet, difference, without            word by word; without one state
 //   count, smallest                             the number of states; the least of them
 //
 // Each contract is an equality with the model's definition of the same thing.
@@ -66,6 +66,12 @@ impl StateSet {
         self
     }
 
+    pub fn single(s: usize) -> Self
+        ensures { λ r. ⌜ r .words ≡ single s ⌝ }
+    {
+        StateSet::empty().with(s)
+    }
+
     pub fn union(mut self, other: StateSet) -> Self
         ensures { λ r. ⌜ r .words ≡ union (self .words) (other .words) ⌝ }
     {
@@ -91,6 +97,12 @@ impl StateSet {
             self.words[w] &= !other.words[w];
         }
         self
+    }
+
+    pub fn without(self, s: usize) -> Self
+        ensures { λ r. ⌜ r .words ≡ difference (self .words) (single s) ⌝ }
+    {
+        self.difference(StateSet::single(s))
     }
 
     pub fn equals(self, other: StateSet) -> bool

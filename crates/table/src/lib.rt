@@ -7,10 +7,10 @@
 //
 // Functions below the calls ask for a store that is long enough; `refusal` asks for nothing.
 ghost use mathlib.Core.Path.{_≡_};
-ghost use Prim.Native.Nat.{_+_, _≤_, _<_};
+ghost use Prim.Native.Nat.{_+_, _*_, _≤_, _<_};
 ghost use lib.ListN.{length, getD};
 ghost use mathlib.Core.List.{[]};
-ghost use Rattle.model.specs.Sets.{top, any, image};
+ghost use Rattle.model.specs.Sets.{WORDS, top, any, image};
 ghost use Rattle.model.specs.Stores.{storeWords, maxGroups, groupAt, rowAt, setAt, beyond, nonZero, stray, refuse, accept};
 use state_set::StateSet;
 use state_set::WORDS;
@@ -29,7 +29,7 @@ pub const STORE_WORDS: usize = (2 + MAX_GROUPS + MAX_STATES) * WORDS;
 
 // The set whose words begin at `at`.
 pub fn set_at(store: &[u64], at: usize) -> StateSet
-    requires { ⌜ at + 4 ≤ length (now store) ⌝ }
+    requires { ⌜ at + WORDS ≤ length (now store) ⌝ }
     ensures { λ r. ⌜ r .words ≡ setAt (now (store .entry)) at ⌝ }
 {
     let mut words = [0; WORDS];
@@ -101,24 +101,13 @@ fn is_beyond(x: StateSet, n: usize) -> bool
     !x.is_subset(StateSet::first_states(n))
 }
 
-fn group_beyond(store: &[u64], n: usize, g: usize) -> bool
-    requires { ⌜ (g ≤ maxGroups) × (storeWords ≤ length (now store)) ⌝ }
-    ensures { λ r. ⌜ r ≡ any g (λ j. beyond n (setAt (now (store .entry)) (groupAt j))) ⌝ }
+// One of the `count` sets that begin at `at` has a state from n up.
+fn any_beyond(store: &[u64], at: usize, count: usize, n: usize) -> bool
+    requires { ⌜ at + WORDS * count ≤ length (now store) ⌝ }
+    ensures { λ r. ⌜ r ≡ any count (λ j. beyond n (setAt (now (store .entry)) (at + WORDS * j))) ⌝ }
 {
-    for j in 0..g {
-        if is_beyond(group_at(store, j), n) {
-            return true;
-        }
-    }
-    false
-}
-
-fn row_beyond(store: &[u64], n: usize) -> bool
-    requires { ⌜ (n ≤ top) × (storeWords ≤ length (now store)) ⌝ }
-    ensures { λ r. ⌜ r ≡ any n (λ s. beyond n (setAt (now (store .entry)) (rowAt s))) ⌝ }
-{
-    for s in 0..n {
-        if is_beyond(row_at(store, s), n) {
+    for j in 0..count {
+        if is_beyond(set_at(store, at + WORDS * j), n) {
             return true;
         }
     }
@@ -149,10 +138,10 @@ fn is_stray(store: &[u64], n: usize, g: usize) -> bool
     if is_beyond(set_at(store, FORBIDDEN_AT), n) {
         return true;
     }
-    if group_beyond(store, n, g) {
+    if any_beyond(store, GROUPS_AT, g, n) {
         return true;
     }
-    if row_beyond(store, n) {
+    if any_beyond(store, ROWS_AT, n, n) {
         return true;
     }
     if non_zero(store, GROUPS_AT + WORDS * g, ROWS_AT) {
