@@ -97,15 +97,15 @@ module _ (store : List ℕ) (n g allowance : ℕ) where
 
 -- Nothing is written unless the verdict is unsafe.
 pub decides : (t : Table) (allowance : ℕ) {answer : Decision} {states : List ℕ}
-    → (fits (layout t) (t .n) (length (t .groups)) allowance ≡ true)
-    × (decisionOf (stored t) (run (stored t) allowance) ≡ answer)
-    × (cond (eqb (answer .verdict) 1) (smallestPath (stored t)) [] ≡ states)
+    → fits (layout t) (t .n) (length (t .groups)) allowance ≡ true
+    → decisionOf (stored t) (run (stored t) allowance) ≡ answer
+    → cond (eqb (answer .verdict) 1) (smallestPath (stored t)) [] ≡ states
     → Decides t allowance answer states
-decides t allowance {answer} {states} facts =
+decides t allowance {answer} {states} f e p =
     let store = layout t in
     let g = length (t .groups) in
-    let answers = answer-is store (t .n) g allowance answer (facts .0) (facts .1) in
+    let answers = answer-is store (t .n) g allowance answer f e in
     record {
       answers = λ path h. answers (length path) h;
-      writes = λ path h. buffer-is store (t .n) g allowance answer path states (answers (length path) h) (facts .2);
+      writes = λ path h. buffer-is store (t .n) g allowance answer path states (answers (length path) h) p;
     }
