@@ -1,7 +1,8 @@
--- Tables A to H, each figure by computation. A declaration for each line, since one for all would near the step limit.
+-- Tables A to H, each figure by computation. Each line has a declaration of its own: one for all takes most of the steps that antt allows.
 --
---   computes       names what has to unfold: to unfold it is to unfold all of that
---   a, b, .., g    the lines; worked: the fact
+--   computes      names what has to unfold: to unfold it is to unfold all of that
+--   a, .., g      the lines
+--   worked        the fact
 use mathlib.Core.Path.{refl}
 use Rattle.model.specs.Sets.{any, all, first, picked, tab, bit, member, number, setOf, empty, union, meet, subset, same, meets, states, firstStates, members, size, smallest, image}
 use Rattle.model.specs.Tables.{post, hold, coverOf, cover, allowed}

@@ -1,12 +1,13 @@
 -- What 01 says of the small tables A to H, as one fact about the definitions that the calls' contracts cite.
 --
---   stored t                            the table that the store of t holds, which is what the calls speak of
---   Decides t allowance answer path     decide, lent the store of t and any path buffer of at least 256 bytes, answers so, leaves these
---                                       states at the front of the buffer and the rest of it untouched
---   Safe t allowance count invariant    safe, with the states of the invariant
---   Unsafe t allowance count path       unsafe, with the path
---   Undecided t allowance count         undecided
---   Worked                              the tables, in 01's order and with every figure that it gives
+--   stored t                              the table that the store of t holds, which is what the calls speak of
+--   Decides t allowance answer states     decide, lent the store of t and any path buffer of at least 256 bytes, answers so, leaves these
+--                                         states at the front of the buffer and the rest of it untouched
+--   Safe t allowance count invariant      safe, with the states of the invariant
+--   Unsafe t allowance count path         unsafe, with the path
+--   Undecided t allowance count           undecided
+--   LineA, .., LineH                      01's lines, with every figure that they give
+--   Worked                                all eight
 use Prim.Native.Nat.{ℕ, _-_, _*_, _≤_}
 use mathlib.Core.Path.{_≡_}
 use mathlib.Core.List.{List, [], _∷_}
@@ -50,6 +51,7 @@ LineA = Safe A release 0 (0 ∷ 1 ∷ [])
 abbrev pub LineB : Type 0
 LineB = Unsafe B release 3 (0 ∷ 1 ∷ 2 ∷ 3 ∷ []) × (backwardNumber (stored B) ≡ 3)
 
+-- B with allowance 2, and with allowance 3.
 abbrev pub LineC : Type 0
 LineC = Undecided B 2 2 × Unsafe B 3 3 (0 ∷ 1 ∷ 2 ∷ 3 ∷ [])
 
@@ -68,7 +70,7 @@ LineF = Unsafe F release 0 (0 ∷ [])
 abbrev pub LineG : Type 0
 LineG = Safe G release 0 []
 
--- No filler: one block holds just L bytes of content.
+-- The third figure is "no filler": the content of the one block is just L bytes.
 abbrev pub LineH : Type 0
 LineH =
     (contentLength 61 0 ≡ 508)
