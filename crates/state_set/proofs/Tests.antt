@@ -6,12 +6,12 @@
 --   meets-meet                   a state in common: something in the meet
 use Prim.Native.Nat.{ℕ, _≤_, _<_}
 use native.Mathlib.Omega.{arith}
-use mathlib.Core.Path.{_≡_, refl, sym, ap, _∙_, subst}
+use mathlib.Core.Path.{_≡_, sym, ap, _∙_, subst}
 use mathlib.Core.Logic.{⊎-elim}
-use mathlib.Core.Bool.{Bool, true, false, not, _&&_, _||_}
+use mathlib.Core.Bool.{true, false, not, _&&_}
 use lib.ListN.{length, getD}
 use lib.Seq.{ext-getD}
-use Rattle.model.specs.Sets.{WORDS, top, Set, member, empty, meet, difference, subset, same, meets}
+use Rattle.model.specs.Sets.{WORDS, Set, member, empty, meet, difference, subset, same, meets}
 use Rattle.model.proofs.Bounds.{and-true, and-intro, not-true, is-false, clash, same-test}
 use Rattle.model.proofs.SetLaws.{Proper, In, in-top, in-setOf, setOf-in, in-or-out, empty-in, in-meet, meet-in, subset-in, in-subset, subset-not, same-set, in-meets, meets-in}
 
