@@ -1,20 +1,21 @@
 -- The bits of a number after the operations of a machine word.
 --
---   shift-bit            a bit above the lowest is one of the half
---   bit-and, bit-or      the bits of `&` and `|`, by one law over any operation that acts on digits alone
---   bit-not              the bits of `!` at k digits
---   bit-power            the bits of a power of two
---   ones-picked          `count_ones` is how many places have a bit
---   trailing-first       `trailing_zeros` is the first place that has one; first-bit: there is one, unless the number is 0
-use Prim.Native.Nat.{ℕ, zero, suc, _+_, _-_, _*_, _/_, _%_, _^_, _≤_, _<_}
+--   shift-bit                  a bit above the lowest is one of the half
+--   bit-and, bit-or            the bits of `&` and `|`, by one law over what acts on each digit apart
+--   bit-not                    the bits of `!` at k digits
+--   one-shl                    `1 << k` is a power of two
+--   bit-zero, bit-power        the bits of 0, and of a power of two
+--   ones-picked                `count_ones` is how many places have a bit
+--   trailing-first             `trailing_zeros` is the first place that has one
+--   first-bit                  there is one, unless the number is 0
+use Prim.Native.Nat.{ℕ, zero, suc, _+_, _-_, _*_, _/_, _%_, _^_, _<_}
 use native.Mathlib.Nat.{not-suc-le-zero, le-of-suc-le-suc, pow-suc, pow-succ', div-div-eq-div-mul, div-one, zero-div, mod-one, mod-lt, add-zero, add-suc, one-mul}
 use native.Mathlib.Numerals.{one-add}
 use native.Mathlib.Omega.{arith}
-use mathlib.Core.Path.{_≡_, refl, sym, ap, ap₂, _∙_, subst}
-use mathlib.Core.Logic.{_⊎_, inl, inr, ⊎-elim}
+use mathlib.Core.Path.{_≡_, refl, sym, ap, ap₂, _∙_}
+use mathlib.Core.Logic.{⊎-elim}
 use mathlib.Core.Bool.{Bool, true, false, not, _&&_, _||_, cond}
-use mathlib.Core.List.{List, [], _∷_, _++_}
-use borrow.Author.Tests.{eqb-true, eqb-false, eq-eqb, ne-eqb}
+use mathlib.Core.List.{[], _∷_}
 use lib.Dec.{eqb, eqb·zero-suc, eqb·suc-zero, eqb·suc-suc}
 use lib.Pow.{pow-pos, mod-pow-add, shl-exact}
 use lib.ListN.{length, length-append}
@@ -28,34 +29,34 @@ pub shift-bit : (x i : ℕ) → bit x (suc i) ≡ bit (x / 2) i
 unfolding bit
 shift-bit x i = ap (λ (y : ℕ). eqb (y % 2) 1) (ap (λ (y : ℕ). x / y) (pow-succ' 2 i) ∙ sym (div-div-eq-div-mul x 2 (2 ^ i)))
 
--- ---- & and |
-
 -- what holds of 0 and of 1 holds of any digit
 by-digit : (P : ℕ → Type 0) → P 0 → P 1 → (d : ℕ) → d < 2 → P d
 by-digit P a b zero h = a
 by-digit P a b (suc zero) h = b
 by-digit P a b (suc (suc d)) h = absurd (omega arith)
 
--- an operation on numbers that acts on their digits apart, by the Boolean operation op on a digit and a digit
-module _ (f : ℕ → ℕ → ℕ) (op : Bool → Bool → Bool)
-    (shr : (a b k : ℕ) → f a b / 2 ^ k ≡ f (a / 2 ^ k) (b / 2 ^ k))
-    (low : (a b k : ℕ) → f a b % 2 ^ k ≡ f (a % 2 ^ k) (b % 2 ^ k))
-    (digit : (a b : ℕ) → a < 2 → b < 2 → eqb (f a b) 1 ≡ op (eqb a 1) (eqb b 1)) where
-  bit-of : (x y i : ℕ) → bit (f x y) i ≡ op (bit x i) (bit y i)
-  unfolding bit
-  bit-of x y i =
-      ap (λ (n : ℕ). eqb n 1) (ap (λ (n : ℕ). n % 2) (shr x y i) ∙ low (x / 2 ^ i) (y / 2 ^ i) 1)
-      ∙ digit (x / 2 ^ i % 2) (y / 2 ^ i % 2) (omega arith) (omega arith)
+-- ---- & and |
+
+-- an operation that acts on the digits of its numbers apart, and on two digits as op does
+bit-of : (f : ℕ → ℕ → ℕ) (op : Bool → Bool → Bool)
+    → ((a b k : ℕ) → f a b / 2 ^ k ≡ f (a / 2 ^ k) (b / 2 ^ k)) → ((a b k : ℕ) → f a b % 2 ^ k ≡ f (a % 2 ^ k) (b % 2 ^ k))
+    → eqb (f 0 0) 1 ≡ op false false → eqb (f 0 1) 1 ≡ op false true → eqb (f 1 0) 1 ≡ op true false → eqb (f 1 1) 1 ≡ op true true
+    → (x y i : ℕ) → bit (f x y) i ≡ op (bit x i) (bit y i)
+unfolding bit
+bit-of f op shr low d₀₀ d₀₁ d₁₀ d₁₁ x y i =
+    let b = y / 2 ^ i % 2 in
+    let small : b < 2 = omega arith in
+    ap (λ (n : ℕ). eqb n 1) (ap (λ (n : ℕ). n % 2) (shr x y i) ∙ low (x / 2 ^ i) (y / 2 ^ i) 1)
+    ∙ by-digit (λ a. eqb (f a b) 1 ≡ op (eqb a 1) (eqb b 1))
+    (by-digit (λ e. eqb (f 0 e) 1 ≡ op false (eqb e 1)) d₀₀ d₀₁ b small)
+    (by-digit (λ e. eqb (f 1 e) 1 ≡ op true (eqb e 1)) d₁₀ d₁₁ b small)
+    (x / 2 ^ i % 2) (omega arith)
 
 pub bit-and : (x y i : ℕ) → bit (bitAnd x y) i ≡ (bit x i && bit y i)
-bit-and =
-    bit-of bitAnd (λ a b. a && b) and-shr and-mod
-    (λ a b h k. by-digit (λ x. eqb (bitAnd x b) 1 ≡ (eqb x 1 && eqb b 1)) refl (by-digit (λ y. eqb (bitAnd 1 y) 1 ≡ (true && eqb y 1)) refl refl b k) a h)
+bit-and = bit-of bitAnd _&&_ and-shr and-mod refl refl refl refl
 
 pub bit-or : (x y i : ℕ) → bit (bitOr x y) i ≡ (bit x i || bit y i)
-bit-or =
-    bit-of bitOr (λ a b. a || b) or-shr or-mod
-    (λ a b h k. by-digit (λ x. eqb (bitOr x b) 1 ≡ (eqb x 1 || eqb b 1)) refl (by-digit (λ y. eqb (bitOr 1 y) 1 ≡ (true || eqb y 1)) refl refl b k) a h)
+bit-or = bit-of bitOr _||_ or-shr or-mod refl refl refl refl
 
 -- ---- !
 

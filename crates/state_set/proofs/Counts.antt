@@ -2,14 +2,14 @@
 --
 --   Counting X w n     n is the number of states of X in its first w words: counting-none, counting-more, counting-all
 --   Passing X w        X has no state in its first w words: passing-none, passing-more; passing-here, where the next word has one; passing-all
-use Prim.Native.Nat.{ℕ, zero, suc, _+_, _-_, _*_, _/_, _%_, _^_, _≤_, _<_}
+use Prim.Native.Nat.{ℕ, _+_, _-_, _*_, _≤_, _<_}
 use native.Mathlib.Nat.{not-suc-le-zero, le-antisymm, mod-eq-of-lt}
 use native.Mathlib.Omega.{arith}
-use mathlib.Core.Path.{_≡_, refl, sym, ap, ap₂, _∙_, subst}
-use mathlib.Core.Logic.{inl, inr, ⊎-elim}
-use mathlib.Core.Bool.{Bool, true, false}
+use mathlib.Core.Path.{_≡_, refl, sym, ap, ap₂, _∙_}
+use mathlib.Core.Logic.{⊎-elim}
+use mathlib.Core.Bool.{false}
 use lib.ListN.{length, getD}
-use lib.Count.{ones, ones-le, trailingZeros, trailing-le}
+use lib.Count.{ones, ones-le, trailingZeros}
 use mir.Syntax.{w64}
 use mir.Val.{Fits}
 use Rattle.model.specs.Sets.{WORDS, top, Set, first, picked, bit, member, members, size, smallest}

@@ -1,25 +1,27 @@
 -- Tests on sets, by their words and by each other.
 --
---   same-words, other-word       equal word by word, or with a word that differs
---   same-empty                   no state: the same as the empty set
---   subset-difference            inclusion: nothing in the difference
---   meets-meet                   a state in common: something in the meet
+--   same-words, other-word           equal word by word, or with a word that differs
+--   same-empty                       no state: the same as the empty set
+--   in-difference, difference-in     membership in a difference, as SetLaws has it for the other operations
+--   subset-difference                inclusion: nothing in the difference
+--   meets-meet                       a state in common: something in the meet
 use Prim.Native.Nat.{ℕ, _≤_, _<_}
 use native.Mathlib.Omega.{arith}
-use mathlib.Core.Path.{_≡_, refl, sym, ap, _∙_, subst}
+use mathlib.Core.Path.{_≡_, sym, ap, _∙_, subst}
 use mathlib.Core.Logic.{⊎-elim}
-use mathlib.Core.Bool.{Bool, true, false, not, _&&_, _||_}
+use mathlib.Core.Bool.{true, false, not, _&&_}
 use lib.ListN.{length, getD}
 use lib.Seq.{ext-getD}
-use Rattle.model.specs.Sets.{WORDS, top, Set, member, empty, meet, difference, subset, same, meets}
+use Rattle.model.specs.Sets.{WORDS, Set, member, empty, meet, difference, subset, same, meets}
 use Rattle.model.proofs.Bounds.{and-true, and-intro, not-true, is-false, clash, same-test}
 use Rattle.model.proofs.SetLaws.{Proper, In, in-top, in-setOf, setOf-in, in-or-out, empty-in, in-meet, meet-in, subset-in, in-subset, subset-not, same-set, in-meets, meets-in}
 
 pub same-words : (X Y : Set) → length X ≡ WORDS → length Y ≡ WORDS → (w : ℕ) → WORDS ≤ w → ((v : ℕ) → v < w → getD X v 0 ≡ getD Y v 0) → true ≡ same X Y
 unfolding same
 same-words X Y x y w last e =
-    let all : X ≡ Y = ext-getD 0 X Y (x ∙ sym y) (λ v h. e v (omega (arith, x))) in
-    sym (and-intro (subset X Y) (subset Y X) (in-subset (λ s h. subst (λ Z. In Z s) all h)) (in-subset (λ s h. subst (λ Z. In Z s) (sym all) h)))
+    let reflexive : subset X X ≡ true = in-subset (λ s h. h) in
+    subst (λ Z. true ≡ same X Z) (ext-getD 0 X Y (x ∙ sym y) (λ v h. e v (omega (arith, x))))
+    (sym (and-intro (subset X X) (subset X X) reflexive reflexive))
 
 pub other-word : (X Y : Set) → Proper X → Proper Y → (w : ℕ) → (getD X w 0 ≡ getD Y w 0 → ⊥) → false ≡ same X Y
 unfolding same
@@ -34,7 +36,7 @@ same-empty X =
     same-test (subset X empty && subset empty X) (subset X empty) (λ e. and-true (subset X empty) (subset empty X) e .0)
     (λ e. and-intro (subset X empty) (subset empty X) e (in-subset (λ s h. absurd (empty-in h))))
 
--- ---- difference, as SetLaws has the other operations
+-- ---- inclusion and meeting, by a set made of both
 
 pub in-difference : {X Y : Set} {s : ℕ} → In X s → (In Y s → ⊥) → In (difference X Y) s
 unfolding difference

@@ -1,9 +1,9 @@
 // Sets of states (01, "States and sets"): four 64-bit words, in by value and back by value. State s is the bit of value 2^(s mod 64) in word s/64.
 //
-//   empty, first_states, single, with           sets made from nothing, from a number of states, by one state more
+//   empty, first_states, with                       no state; the states below a number; one state more
 //   contains, is_subset, meets, is_empty, equals    tests
-//   union, meet, difference, without            word by word; without one state
-//   count, smallest                             the number of states; the least of them
+//   union, meet, difference                         word by word
+//   count, smallest                                 the number of states; the least of them
 //
 // Each contract is an equality with the model's definition of the same thing.
 ghost use mathlib.Core.Path.{_≡_};

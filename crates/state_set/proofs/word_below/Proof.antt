@@ -1,5 +1,5 @@
 -- `word_below`: in each of its cases the exponent is the lesser of 64 and n - from.
-use Prim.Native.Nat.{ℕ, min, _-_, _^_, _≤_, _<_}
+use Prim.Native.Nat.{ℕ, _-_, _^_, _≤_}
 use native.Mathlib.Omega.{arith}
 use mathlib.Core.Path.{_≡_, sym, ap, _∙_, subst}
 use borrow.Author.Needs.{needs}

@@ -26,5 +26,5 @@ count-spec =
     (λ c. states-fit _ _ (search needs) (word-ones _ (search needs)))
     (λ c. search needs)
     (λ c. search needs)
-    (λ c. counting-more _ _ _ (proper (search needs) (λ w. search needs)) (c .before .before .loop .inv) (search needs))
+    (λ c. counting-more _ _ _ (search (needs, proper)) (c .before .before .loop .inv) (search needs))
     (λ c. counting-all _ _ _ (c .before .loop .inv) (search needs)))

@@ -1,14 +1,14 @@
 -- `StateSet::difference`: the words passed are those of the difference, the others still those of self.
 use Prim.Native.Nat.{_-_}
-use mathlib.Core.Bool.{_&&_, not}
 use borrow.Author.Needs.{needs}
 use Rattle.model.specs.Sets.{WORDS, difference}
-use Rattle.state_set.proofs.Words.{proper, Filling, filling-none, filling-all, both, and-not-wise, wordwise-more}
+use Rattle.model.proofs.SetLaws.{setOf-proper}
+use Rattle.state_set.proofs.Words.{proper, Filling, filling-none, filling-all, and-not-wise, wordwise-more}
 use Rattle.state_set.proofs.StateSet.difference.Statement.{statement}
 use Rattle.state_set.proofs.StateSet.difference.Tie as tie
 
 abbrev Inv-loop : tie.InvT-loop
-Inv-loop self₀ other w₀ self w = Filling (both (λ a b. a && not b) (self₀ .words) (other .words)) (self₀ .words) w (self .words)
+Inv-loop self₀ other w₀ self w = Filling (difference (self₀ .words) (other .words)) (self₀ .words) w (self .words)
 
 abbrev μ-loop : tie.MeasureT-loop
 μ-loop self₀ other w₀ self w = WORDS - w
@@ -20,7 +20,7 @@ difference-spec =
     (tie.spec
     Inv-loop
     μ-loop
-    (λ c. filling-none _ _ (search needs))
+    (λ c. filling-none _ _ (setOf-proper _ .long) (search needs))
     (λ c. search needs)
     (λ c. search needs)
     (λ c. search needs)
@@ -28,7 +28,5 @@ difference-spec =
     (λ c. search needs)
     (λ c. search needs)
     (λ c. search needs)
-    (λ c.
-    wordwise-more and-not-wise _ _ (proper (search needs) (λ w. search needs)) (proper (search needs) (λ w. search needs)) _ (search needs) _
-    (c .before .before .before .loop .inv))
+    (λ c. wordwise-more and-not-wise _ _ (search (needs, proper)) (search (needs, proper)) _ (search needs) _ (c .before .before .before .loop .inv))
     (λ c. filling-all _ _ _ _ (c .before .loop .inv) (search needs)))

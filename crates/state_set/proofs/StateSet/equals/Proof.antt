@@ -27,7 +27,7 @@ equals-spec =
     (λ c. search needs)
     (λ c. search needs)
     (λ c. search needs)
-    (λ c. other-word _ _ (proper (search needs) (λ w. search needs)) (proper (search needs) (λ w. search needs)) _ (c .if1 .taken))
+    (λ c. other-word _ _ (search (needs, proper)) (search (needs, proper)) _ (c .if1 .taken))
     (λ c. search needs)
     (λ c. search needs)
     (λ c. (search needs, below-more _ _ (c .before .before .before .before .loop .inv .1) (c .if1 .left)))

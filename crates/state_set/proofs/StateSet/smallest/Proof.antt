@@ -26,7 +26,7 @@ smallest-spec =
     (λ c. search needs)
     (λ c. bits-fit _ (trailing-le 64 _))
     (λ c. states-fit _ _ (search needs) (trailing-le 64 _))
-    (λ c. passing-here _ _ (proper (search needs) (λ w. search needs)) (c .before .before .before .loop .inv) (search needs) (c .if1 .taken))
+    (λ c. passing-here _ _ (search (needs, proper)) (c .before .before .before .loop .inv) (search needs) (c .if1 .taken))
     (λ c. search needs)
     (λ c. search needs)
     (λ c. passing-more _ _ (c .before .before .before .loop .inv) (search needs) (c .if1 .left))

@@ -12,5 +12,5 @@ with-spec =
     (λ c. search needs)
     (λ c. search needs)
     (λ c. search needs)
-    (λ c. with-bit _ _ (proper (search needs) (λ w. search needs)) (search needs))
-    (λ c. with-past _ _ (proper (search needs) (λ w. search needs)) (search needs)))
+    (λ c. with-bit _ _ (search (needs, proper)) (search needs))
+    (λ c. with-past _ _ (search (needs, proper)) (search needs)))
