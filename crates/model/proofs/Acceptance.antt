@@ -6,21 +6,21 @@
 --   Check, check-of        the same with grounds 20 and 21, of an accepted check
 use Prim.Native.Nat.{ℕ, _≤_, _<_}
 use native.Mathlib.Omega.{arith}
-use mathlib.Core.Path.{_≡_, refl, ap, subst}
+use mathlib.Core.Path.{_≡_, refl, sym, ap, _∙_, subst}
 use mathlib.Core.Logic.{⊎-elim}
 use mathlib.Core.Bool.{Bool, true, false, cond, _||_, true≢false}
 use mathlib.Core.List.{List, [], _∷_, _++_}
-use borrow.Author.Tests.{ltb-false, le-ltb, le-leb, eqb-true, eqb-false, ne-eqb}
+use borrow.Author.Tests.{lt-ltb, ltb-false, le-ltb, le-leb, eqb-true, eqb-false, ne-eqb}
 use lib.Dec.{eqb, leb, ltb, lit<}
 use lib.ListN.{length}
-use Rattle.model.specs.Sets.{top, Set, member, firstStates}
+use Rattle.model.specs.Sets.{maxStates, Set, member, firstStates}
 use Rattle.model.specs.Tables.{Table}
-use Rattle.model.specs.Stores.{maxGroups, storeWords, forbiddenAt, rowAt, setAt, tableOf, refuse, beyond, stray, badStates, accept}
+use Rattle.model.specs.Stores.{maxGroups, storeWords, forbiddenAt, rowAt, setAt, tableOf, refuse, beyond, malformed, badStates, sharedGrounds}
 use Rattle.model.specs.Calls.{release, decideGrounds, decisionOf, declined, decideAnswer}
 use Rattle.model.specs.Rounds.{Outcome, run}
 use Rattle.model.specs.Promises.{Accepted}
 use Rattle.model.proofs.Bounds.{and-intro, decided, clash, any-none, lt-or-ge}
-use Rattle.model.proofs.SetLaws.{in-top, in-states, _⊆_}
+use Rattle.model.proofs.SetLaws.{in-bound, in-states, _⊆_}
 use Rattle.model.proofs.WellFormed.{WellFormed}
 
 -- ---- tests that do not hold
@@ -37,8 +37,8 @@ or-false false b e = (refl, e)
 not-beyond : (n : ℕ) (X : Set) → beyond n X ≡ false → X ⊆ firstStates n
 unfolding beyond firstStates
 not-beyond n X e s h =
-    in-states n _ (in-top h)
-    (⊎-elim (λ l. l) (λ l. absurd (clash (and-intro (leb n s) (member X s) (le-leb n s l) (h .is)) (any-none _ top e s (in-top h)))) (lt-or-ge s n))
+    in-states n _ (in-bound h)
+    (⊎-elim (λ l. l) (λ l. absurd (clash (and-intro (leb n s) (member X s) (le-leb n s l) (h .is)) (any-none _ maxStates e s (in-bound h)))) (lt-or-ge s n))
     refl
 
 -- ---- a store
@@ -46,9 +46,9 @@ not-beyond n X e s h =
 pub record Store (store : List ℕ) (n g : ℕ) : Type 0 where
   pub long : storeWords ≤ length store
   pub some : 0 < n
-  pub small : n ≤ top
+  pub small : n ≤ maxStates
   pub few : g ≤ maxGroups
-  pub clean : stray store n g ≡ false
+  pub clean : malformed store n g ≡ false
 
 positive : (n : ℕ) → (n ≡ 0 → ⊥) → 0 < n
 positive n f = omega arith
@@ -57,7 +57,7 @@ not-zero : (n : ℕ) → 0 < n → n ≡ 0 → ⊥
 not-zero n h e = omega arith
 
 -- the grounds that the calls share, and those that a call adds
-pub accepted-store : (store : List ℕ) (n g : ℕ) (later : List (Bool × ℕ)) → refuse (accept store n g ++ later) ≡ 0
+pub accepted-store : (store : List ℕ) (n g : ℕ) (later : List (Bool × ℕ)) → refuse (sharedGrounds store n g ++ later) ≡ 0
     → Store store n g × (refuse later ≡ 0)
 unfolding refuse badStates
 accepted-store store n g later e =
@@ -65,11 +65,11 @@ accepted-store store n g later e =
     let states = cond-zero _ 14 _ (lit< tt) (long .1) in
     let groups = cond-zero _ 15 _ (lit< tt) (states .1) in
     let clean = cond-zero _ 17 _ (lit< tt) (groups .1) in
-    let n-ok = or-false (eqb n 0) (ltb top n) (states .0) in (
+    let n-ok = or-false (eqb n 0) (ltb maxStates n) (states .0) in (
       record {
         long = ltb-false (length store) storeWords (long .0);
         some = positive n (eqb-false n 0 (n-ok .0));
-        small = ltb-false top n (n-ok .1);
+        small = ltb-false maxStates n (n-ok .1);
         few = ltb-false maxGroups g (groups .0);
         clean = clean .0;
       },
@@ -77,13 +77,18 @@ accepted-store store n g later e =
     )
 
 -- and back: where none of the shared grounds holds, those that the call adds decide
-pub store-accepted : (store : List ℕ) (n g : ℕ) (later : List (Bool × ℕ)) → Store store n g → refuse (accept store n g ++ later) ≡ refuse later
+pub store-accepted : (store : List ℕ) (n g : ℕ) (later : List (Bool × ℕ)) → Store store n g → refuse (sharedGrounds store n g ++ later) ≡ refuse later
 unfolding refuse badStates
 store-accepted store n g later s =
-    rw (le-ltb (length store) storeWords (s .long), ne-eqb n 0 (not-zero n (s .some)), le-ltb top n (s .small), le-ltb maxGroups g (s .few), s .clean)
+    rw (le-ltb (length store) storeWords (s .long), ne-eqb n 0 (not-zero n (s .some)), le-ltb maxStates n (s .small), le-ltb maxGroups g (s .few), s .clean)
+
+-- a state of the table has its row in the store
+pub row-is : (store : List ℕ) (n g s : ℕ) → s < n → (tableOf store n g) .row s ≡ setAt store (rowAt s)
+unfolding tableOf
+row-is store n g s h = rw (lt-ltb s n h)
 
 pub well-formed : (store : List ℕ) (n g : ℕ) → Store store n g → WellFormed (tableOf store n g)
-unfolding stray tableOf
+unfolding malformed tableOf
 well-formed store n g s =
     let a = or-false _ _ (s .clean) in
     let b = or-false _ _ (a .0) in
@@ -93,7 +98,9 @@ well-formed store n g s =
     record {
       initial = not-beyond n (setAt store 0) (e .0);
       forbidden = not-beyond n (setAt store forbiddenAt) (e .1);
-      rows = λ x h. not-beyond n (setAt store (rowAt x)) (any-none (λ y. beyond n (setAt store (rowAt y))) n (c .1) x h);
+      rows = λ x h.
+          subst (λ (X : Set). X ⊆ firstStates n) (sym (row-is store n g x h))
+          (not-beyond n (setAt store (rowAt x)) (any-none (λ y. beyond n (setAt store (rowAt y))) n (c .1) x h));
     }
 
 -- ---- an accepted check
@@ -101,7 +108,7 @@ well-formed store n g s =
 pub record Check (store : List ℕ) (n g allowance room : ℕ) : Type 0 where
   pub held : Store store n g
   pub within : allowance ≤ release
-  pub roomy : top ≤ room
+  pub roomy : maxStates ≤ room
   pub answer : decideAnswer store n g allowance room ≡ decisionOf (tableOf store n g) (run (tableOf store n g) allowance)
 
 -- an answer with refusal 0 is that of the rounds
@@ -113,12 +120,12 @@ pub check-of : (store : List ℕ) (n g allowance room : ℕ) → Accepted store 
 unfolding decideAnswer decideGrounds refuse
 check-of store n g allowance room a =
     let none = answered (tableOf store n g) (run (tableOf store n g) allowance) (refuse (decideGrounds store n g allowance room)) (a .accepted) in
-    let parts = accepted-store store n g ((ltb release allowance, 20) ∷ (ltb room top, 21) ∷ []) none in
+    let parts = accepted-store store n g ((ltb release allowance, 20) ∷ (ltb room maxStates, 21) ∷ []) none in
     let within = cond-zero (ltb release allowance) 20 _ (lit< tt) (parts .1) in
-    let roomy = cond-zero (ltb room top) 21 _ (lit< tt) (within .1) in
+    let roomy = cond-zero (ltb room maxStates) 21 _ (lit< tt) (within .1) in
     record {
       held = parts .0;
       within = ltb-false release allowance (within .0);
-      roomy = ltb-false room top (roomy .0);
+      roomy = ltb-false room maxStates (roomy .0);
       answer = ap (λ (k : ℕ). cond (eqb k 0) (decisionOf (tableOf store n g) (run (tableOf store n g) allowance)) (declined k)) none;
     }

@@ -17,7 +17,7 @@ use mathlib.Core.Bool.{Bool, true, false, not, _&&_, _||_, cond, true≢false, f
 use mathlib.Core.List.{[], _∷_, _++_}
 use lib.ListN.{length, getD, length-append, List·getD-append}
 use lib.Seq.{getD-at}
-use Rattle.model.specs.Sets.{any, all, first, tab}
+use Rattle.model.specs.Sets.{any, all, first, tabulate}
 
 -- ---- Booleans
 
@@ -182,21 +182,21 @@ first-none p n f =
 -- ---- lists by their elements
 
 module _ {A : Type 0} (f : ℕ → A) where
-  pub length-tab : (n : ℕ) → length (tab n f) ≡ n
-  unfolding tab
-  length-tab zero = refl
-  length-tab (suc n) = length-append (tab n f) (f n ∷ []) ∙ ap (λ m. m + 1) (length-tab n) ∙ add-one n
+  pub length-tabulate : (n : ℕ) → length (tabulate n f) ≡ n
+  unfolding tabulate
+  length-tabulate zero = refl
+  length-tabulate (suc n) = length-append (tabulate n f) (f n ∷ []) ∙ ap (λ m. m + 1) (length-tabulate n) ∙ add-one n
 
-  pub getD-tab : (n i : ℕ) (d : A) → i < n → getD (tab n f) i d ≡ f i
-  unfolding tab
-  getD-tab zero i d h = absurd (not-suc-le-zero h)
-  getD-tab (suc n) i d h =
+  pub getD-tabulate : (n i : ℕ) (d : A) → i < n → getD (tabulate n f) i d ≡ f i
+  unfolding tabulate
+  getD-tabulate zero i d h = absurd (not-suc-le-zero h)
+  getD-tabulate (suc n) i d h =
       ⊎-elim
-      (λ e. subst (λ (j : ℕ). getD (tab n f ++ (f n ∷ [])) j d ≡ f j) (sym e) (getD-at (tab n f) (f n) [] d n (length-tab n)))
-      (λ l. List·getD-append (tab n f) (f n ∷ []) d i (subst (λ (m : ℕ). i < m) (sym (length-tab n)) l) ∙ getD-tab n i d l)
+      (λ e. subst (λ (j : ℕ). getD (tabulate n f ++ (f n ∷ [])) j d ≡ f j) (sym e) (getD-at (tabulate n f) (f n) [] d n (length-tabulate n)))
+      (λ l. List·getD-append (tabulate n f) (f n ∷ []) d i (subst (λ (m : ℕ). i < m) (sym (length-tabulate n)) l) ∙ getD-tabulate n i d l)
       (below-suc h)
 
-pub tab-cong : {A : Type 0} (f g : ℕ → A) (n : ℕ) → ((i : ℕ) → i < n → f i ≡ g i) → tab n f ≡ tab n g
-unfolding tab
-tab-cong f g zero e = refl
-tab-cong f g (suc n) e = ap₂ (λ xs x. xs ++ (x ∷ [])) (tab-cong f g n (λ i h. e i (omega arith))) (e n (omega arith))
+pub tabulate-cong : {A : Type 0} (f g : ℕ → A) (n : ℕ) → ((i : ℕ) → i < n → f i ≡ g i) → tabulate n f ≡ tabulate n g
+unfolding tabulate
+tabulate-cong f g zero e = refl
+tabulate-cong f g (suc n) e = ap₂ (λ xs x. xs ++ (x ∷ [])) (tabulate-cong f g n (λ i h. e i (omega arith))) (e n (omega arith))

@@ -8,4 +8,3 @@ pub mod ImageLaws
 pub mod RoundLaws
 pub mod PathLaws
 pub mod Acceptance
-pub mod Kept

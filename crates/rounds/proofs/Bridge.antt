@@ -6,54 +6,60 @@
 --   iterate-cong                 steps that agree on a kind of set that they keep iterate alike
 --   forward-is, backward-is      R and S
 use Prim.Native.Nat.{ℕ, zero, suc, _<_}
-use mathlib.Core.Path.{_≡_, refl, ap, _∙_}
+use mathlib.Core.Path.{_≡_, refl, sym, ap, _∙_, subst}
 use mathlib.Core.Bool.{cond}
 use mathlib.Core.List.{List, [], _∷_}
 use lib.ListN.{getD}
-use Rattle.model.specs.Sets.{top, Set, member, empty, union, meet, subset, firstStates}
+use Rattle.model.specs.Sets.{maxStates, Set, member, empty, union, meet, subset, firstStates}
 use Rattle.model.specs.Tables.{post, hold, coverOf, cover}
 use Rattle.model.specs.Rounds.{iterate, forwardStep, forward, backwardStep, backward}
 use Rattle.model.specs.Stores.{rowAt, setAt, tableOf}
-use Rattle.model.proofs.Bounds.{and-true, and-intro, getD-tab, tab-cong}
-use Rattle.model.proofs.SetLaws.{setOf-proper, In, in-top, in-setOf, setOf-in, in-meet, meet-in, _⊆_, subset-in, in-subset, same-set, empty-in}
+use Rattle.model.proofs.Bounds.{and-true, and-intro, getD-tabulate, tabulate-cong}
+use Rattle.model.proofs.SetLaws.{setOf-proper, In, in-bound, in-setOf, setOf-in, in-meet, meet-in, firstStates-in, _⊆_, subset-in, in-subset, same-set, empty-in}
 use Rattle.model.proofs.Fixpoints.{iterate-has}
 use Rattle.model.proofs.CoverLaws.{in-hold, hold-in, forwardStep-within, backwardStep-within}
-use Rattle.model.proofs.ImageLaws.{image-top, image-cong}
+use Rattle.model.proofs.Acceptance.{row-is}
+use Rattle.model.proofs.ImageLaws.{image-bound, image-cong}
 use Rattle.rounds.specs.Steps.{covers, narrowed, successorsBy, coverBy, forwardBy, keptBy, backwardBy}
 
 -- ---- the cover
 
-pub covers-read : (n : ℕ) (L : List Set) (s : ℕ) → s < top → getD (covers n L) s [] ≡ coverOf n L s
+pub covers-read : (n : ℕ) (L : List Set) (s : ℕ) → s < maxStates → getD (covers n L) s [] ≡ coverOf n L s
 unfolding covers
-covers-read n L s h = getD-tab (coverOf n L) top s [] h
+covers-read n L s h = getD-tabulate (coverOf n L) maxStates s [] h
 
 pub covers-add : (n : ℕ) (L : List Set) (Z : Set) → narrowed (covers n L) Z ≡ covers n (Z ∷ L)
 unfolding narrowed covers coverOf
 covers-add n L Z =
-    tab-cong _ _ top (λ s h. ap (λ (row : Set). cond (member Z s) (meet row Z) row) (getD-tab (coverOf n L) top s [] h))
+    tabulate-cong _ _ maxStates (λ s h. ap (λ (row : Set). cond (member Z s) (meet row Z) row) (getD-tabulate (coverOf n L) maxStates s [] h))
 
 -- ---- sets of the table's states
 
 module _ (store : List ℕ) (n g : ℕ) where
   pub successorsBy-is : (X : Set) → X ⊆ firstStates n → successorsBy store X ≡ post n ((tableOf store n g) .row) X
-  unfolding successorsBy post tableOf
-  successorsBy-is X i = image-top n _ X i
+  unfolding successorsBy post
+  successorsBy-is X i = image-bound n _ X i ∙ image-cong n _ _ X (λ s h m. sym (row-is store n g s h))
 
   pub coverBy-is : (L : List Set) (X : Set) → X ⊆ firstStates n → coverBy (covers n L) X ≡ cover n L X
   unfolding coverBy cover
-  coverBy-is L X i = image-cong top _ (coverOf n L) X (λ s h m. covers-read n L s h) ∙ image-top n (coverOf n L) X i
+  coverBy-is L X i = image-cong maxStates _ (coverOf n L) X (λ s h m. covers-read n L s h) ∙ image-bound n (coverOf n L) X i
 
   pub keptBy-is : (X Y : Set) → X ⊆ firstStates n → keptBy store X Y ≡ meet X (hold n ((tableOf store n g) .row) Y)
-  unfolding keptBy meet tableOf
+  unfolding keptBy meet
   keptBy-is X Y i =
       same-set _ _ (setOf-proper _) (setOf-proper _)
       (λ s h.
       let both = and-true (member X s) (subset (setAt store (rowAt s)) Y) (setOf-in _ h) in
       let m : In X s = record { is = both .0 } in
-      in-meet m (in-hold n _ (i s m) (subset-in (both .1))))
+      in-meet m (in-hold n _ (i s m) (subst (λ (R : Set). R ⊆ Y) (sym (row-at s m)) (subset-in (both .1)))))
       (λ s h.
       let both = meet-in h in
-      in-setOf _ (in-top h) (and-intro (member X s) (subset (setAt store (rowAt s)) Y) (both .0 .is) (in-subset (hold-in n _ (both .1)))))
+      in-setOf _ (in-bound h)
+      (and-intro (member X s) (subset (setAt store (rowAt s)) Y) (both .0 .is)
+      (in-subset (subst (λ (R : Set). R ⊆ Y) (row-at s (both .0)) (hold-in n _ (both .1))))))
+    where
+      row-at : (s : ℕ) → In X s → (tableOf store n g) .row s ≡ setAt store (rowAt s)
+      row-at s m = row-is store n g s (firstStates-in (i s m))
 
 -- ---- R and S
 

@@ -7,21 +7,21 @@ use Prim.Native.Nat.{ℕ}
 use mathlib.Core.Bool.{cond, _&&_}
 use mathlib.Core.List.{List, []}
 use lib.ListN.{getD}
-use Rattle.model.specs.Sets.{top, Set, member, setOf, union, meet, subset, image, tab}
+use Rattle.model.specs.Sets.{maxStates, Set, member, setOf, union, meet, subset, image, tabulate}
 use Rattle.model.specs.Tables.{coverOf}
 use Rattle.model.specs.Stores.{rowAt, setAt}
 
 unfoldable pub covers : ℕ → List Set → List Set
-covers n L = tab top (coverOf n L)
+covers n L = tabulate maxStates (coverOf n L)
 
 unfoldable pub narrowed : List Set → Set → List Set
-narrowed rows Z = tab top (λ s. let row = getD rows s [] in cond (member Z s) (meet row Z) row)
+narrowed rows Z = tabulate maxStates (λ s. let row = getD rows s [] in cond (member Z s) (meet row Z) row)
 
 unfoldable pub successorsBy : List ℕ → Set → Set
-successorsBy store X = image top (λ s. setAt store (rowAt s)) X
+successorsBy store X = image maxStates (λ s. setAt store (rowAt s)) X
 
 unfoldable pub coverBy : List Set → Set → Set
-coverBy rows X = image top (λ s. getD rows s []) X
+coverBy rows X = image maxStates (λ s. getD rows s []) X
 
 unfoldable pub forwardBy : List ℕ → List Set → Set → Set → Set → Set
 forwardBy store rows initial Z X = coverBy rows (meet Z (union initial (successorsBy store X)))

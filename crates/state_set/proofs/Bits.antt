@@ -1,6 +1,5 @@
 -- The bits of a number after the operations of a machine word.
 --
---   shift-bit                  a bit above the lowest is one of the half
 --   bit-and, bit-or            the bits of `&` and `|`, by one law over what acts on each digit apart
 --   bit-not                    the bits of `!` at k digits
 --   one-shl                    `1 << k` is a power of two
@@ -9,7 +8,7 @@
 --   trailing-first             `trailing_zeros` is the first place that has one
 --   first-bit                  there is one, unless the number is 0
 use Prim.Native.Nat.{ℕ, zero, suc, _+_, _-_, _*_, _/_, _%_, _^_, _<_}
-use native.Mathlib.Nat.{not-suc-le-zero, le-of-suc-le-suc, pow-suc, pow-succ', div-div-eq-div-mul, div-one, zero-div, mod-one, mod-lt, add-zero, add-suc, one-mul}
+use native.Mathlib.Nat.{not-suc-le-zero, le-of-suc-le-suc, pow-suc, div-one, zero-div, mod-one, mod-lt, add-zero, add-suc, one-mul}
 use native.Mathlib.Numerals.{one-add}
 use native.Mathlib.Omega.{arith}
 use mathlib.Core.Path.{_≡_, refl, sym, ap, ap₂, _∙_}
@@ -21,13 +20,9 @@ use lib.Pow.{pow-pos, mod-pow-add, shl-exact}
 use lib.ListN.{length, length-append}
 use lib.Bits.{bitAnd, bitOr, and-shr, or-shr, and-mod, or-mod}
 use lib.Count.{ones, ones-cat, under, trailingZeros}
-use Rattle.model.specs.Sets.{first, picked, bit}
+use Rattle.model.specs.Sets.{first, filter, bit}
 use Rattle.model.proofs.Bounds.{first-least, lt-or-ge}
-use Rattle.model.proofs.SetLaws.{bits-eq}
-
-pub shift-bit : (x i : ℕ) → bit x (suc i) ≡ bit (x / 2) i
-unfolding bit
-shift-bit x i = ap (λ (y : ℕ). eqb (y % 2) 1) (ap (λ (y : ℕ). x / y) (pow-succ' 2 i) ∙ sym (div-div-eq-div-mul x 2 (2 ^ i)))
+use Rattle.model.proofs.SetLaws.{shift-bit, bits-eq}
 
 -- what holds of 0 and of 1 holds of any digit
 by-digit : (P : ℕ → Type 0) → P 0 → P 1 → (d : ℕ) → d < 2 → P d
@@ -95,19 +90,19 @@ bit-power (suc k) (suc i) =
 -- ---- counts
 
 -- the numbers below from + k that pass are those below from, and the ones in a number that has the next k tests for bits
-pub ones-picked : (p : ℕ → Bool) (from x k : ℕ) → ((i : ℕ) → i < k → bit x i ≡ p (from + i))
-    → length (picked (from + k) p) ≡ length (picked from p) + ones (x % 2 ^ k)
-unfolding picked bit ones
-ones-picked p from x zero e = ap (λ (n : ℕ). length (picked n p)) (add-zero from) ∙ sym (ap (λ (n : ℕ). length (picked from p) + ones n) (mod-one x) ∙ add-zero _)
-ones-picked p from x (suc k) e =
+pub ones-filter : (p : ℕ → Bool) (from x k : ℕ) → ((i : ℕ) → i < k → bit x i ≡ p (from + i))
+    → length (filter (from + k) p) ≡ length (filter from p) + ones (x % 2 ^ k)
+unfolding filter bit ones
+ones-filter p from x zero e = ap (λ (n : ℕ). length (filter n p)) (add-zero from) ∙ sym (ap (λ (n : ℕ). length (filter from p) + ones n) (mod-one x) ∙ add-zero _)
+ones-filter p from x (suc k) e =
     let cut : ones (x % 2 ^ suc k) ≡ ones (x / 2 ^ k % 2) + ones (x % 2 ^ k) =
     ap (λ (m : ℕ). ones (x % 2 ^ m)) (sym (one-add k)) ∙ ap ones (mod-pow-add x 1 k) ∙ ones-cat k (x / 2 ^ k % 2) (x % 2 ^ k) (mod-lt x (pow-pos k)) in
     let last : length (cond (p (from + k)) ((from + k) ∷ []) []) ≡ ones (x / 2 ^ k % 2) =
     ap (λ b. length (cond b ((from + k) ∷ []) [])) (sym (e k (omega arith)))
     ∙ by-digit (λ d. length (cond (eqb d 1) ((from + k) ∷ []) []) ≡ ones d) refl refl (x / 2 ^ k % 2) (omega arith) in
-    ap (λ (n : ℕ). length (picked n p)) (add-suc from k)
-    ∙ length-append (picked (from + k) p) (cond (p (from + k)) ((from + k) ∷ []) [])
-    ∙ omega (arith, ones-picked p from x k (λ i h. e i (omega arith)))
+    ap (λ (n : ℕ). length (filter n p)) (add-suc from k)
+    ∙ length-append (filter (from + k) p) (cond (p (from + k)) ((from + k) ∷ []) [])
+    ∙ omega (arith, ones-filter p from x k (λ i h. e i (omega arith)))
 
 first-cong : (p q : ℕ → Bool) (n : ℕ) → ((i : ℕ) → p i ≡ q i) → first n p ≡ first n q
 unfolding first

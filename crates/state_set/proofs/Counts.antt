@@ -12,17 +12,17 @@ use lib.ListN.{length, getD}
 use lib.Count.{ones, ones-le, trailingZeros}
 use mir.Syntax.{w64}
 use mir.Val.{Fits}
-use Rattle.model.specs.Sets.{WORDS, top, Set, first, picked, bit, member, members, size, smallest}
+use Rattle.model.specs.Sets.{WORDS, maxStates, Set, first, filter, bit, member, members, size, smallest}
 use Rattle.model.proofs.Bounds.{first-passes, first-least, first-is, first-none, lt-or-ge}
 use Rattle.model.proofs.SetLaws.{Proper, member-at}
-use Rattle.state_set.proofs.Bits.{bit-zero, ones-picked, trailing-first, first-bit}
+use Rattle.state_set.proofs.Bits.{bit-zero, ones-filter, trailing-first, first-bit}
 
 -- ---- what is added fits
 
 pub bits-fit : (b : ℕ) → b ≤ 64 → Fits w64 b
 bits-fit b h = record { fits = omega arith }
 
-pub states-fit : (n b : ℕ) → n ≤ top → b ≤ 64 → Fits w64 (n + b)
+pub states-fit : (n b : ℕ) → n ≤ maxStates → b ≤ 64 → Fits w64 (n + b)
 states-fit n b k h = record { fits = omega arith }
 
 pub word-ones : (x : ℕ) → Fits w64 x → ones x ≤ 64
@@ -33,11 +33,11 @@ word-ones x f = ones-le 64 x (f .fits)
 pub record Counting (X : Set) (w n : ℕ) : Type 0 where
   pub within : w ≤ WORDS
   pub small : n ≤ 64 * w
-  pub is : n ≡ length (picked (64 * w) (member X))
+  pub is : n ≡ length (filter (64 * w) (member X))
 
 module _ (X : Set) where
   pub counting-none : Counting X 0 0
-  unfolding picked
+  unfolding filter
   counting-none = record { within = omega arith; small = omega arith; is = refl }
 
   pub counting-more : (w n : ℕ) → Proper X → Counting X w n → w < WORDS → Counting X (w + 1) (n + ones (getD X w 0))
@@ -48,14 +48,14 @@ module _ (X : Set) where
         small = omega (arith, ones-le 64 (getD X w 0) (x .fits w h));
         is =
             sym
-            (ap (λ (m : ℕ). length (picked m (member X))) next
-            ∙ ones-picked (member X) (64 * w) (getD X w 0) 64 (λ i l. sym (member-at X w i h l))
+            (ap (λ (m : ℕ). length (filter m (member X))) next
+            ∙ ones-filter (member X) (64 * w) (getD X w 0) 64 (λ i l. sym (member-at X w i h l))
             ∙ ap₂ (λ (m k : ℕ). m + k) (sym (so .is)) (ap ones (mod-eq-of-lt (x .fits w h))));
       }
 
   pub counting-all : (w n : ℕ) → Counting X w n → WORDS ≤ w → n ≡ size X
   unfolding size members
-  counting-all w n so h = so .is ∙ ap (λ (m : ℕ). length (picked (64 * m) (member X))) (le-antisymm (so .within) h)
+  counting-all w n so h = so .is ∙ ap (λ (m : ℕ). length (filter (64 * m) (member X))) (le-antisymm (so .within) h)
 
 -- ---- the least state
 
@@ -90,10 +90,10 @@ module _ (X : Set) where
       let found : place < 64 = first-bit 64 word (x .fits w h) some in
       ap (λ (n : ℕ). 64 * w + n) (trailing-first 64 word)
       ∙ sym
-      (first-is (member X) top (64 * w + place) (omega arith) (member-at X w place h found ∙ first-passes (bit word) 64 found)
+      (first-is (member X) maxStates (64 * w + place) (omega arith) (member-at X w place h found ∙ first-passes (bit word) 64 found)
       (λ s l.
       ⊎-elim (so .none s) (λ a. member-in w s h a (omega arith) ∙ first-least (bit word) 64 (s - 64 * w) (omega arith)) (lt-or-ge s (64 * w))))
 
-  pub passing-all : (w : ℕ) → Passing X w → WORDS ≤ w → top ≡ smallest X
+  pub passing-all : (w : ℕ) → Passing X w → WORDS ≤ w → maxStates ≡ smallest X
   unfolding smallest
-  passing-all w so h = sym (first-none (member X) top (λ s l. so .none s (omega arith)))
+  passing-all w so h = sym (first-none (member X) maxStates (λ s l. so .none s (omega arith)))

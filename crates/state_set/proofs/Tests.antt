@@ -2,7 +2,6 @@
 --
 --   same-words, other-word           equal word by word, or with a word that differs
 --   same-empty                       no state: the same as the empty set
---   in-difference, difference-in     membership in a difference, as SetLaws has it for the other operations
 --   subset-difference                inclusion: nothing in the difference
 --   meets-meet                       a state in common: something in the meet
 use Prim.Native.Nat.{ℕ, _≤_, _<_}
@@ -12,9 +11,9 @@ use mathlib.Core.Logic.{⊎-elim}
 use mathlib.Core.Bool.{true, false, not, _&&_}
 use lib.ListN.{length, getD}
 use lib.Seq.{ext-getD}
-use Rattle.model.specs.Sets.{WORDS, Set, member, empty, meet, difference, subset, same, meets}
-use Rattle.model.proofs.Bounds.{and-true, and-intro, not-true, is-false, clash, same-test}
-use Rattle.model.proofs.SetLaws.{Proper, In, in-top, in-setOf, setOf-in, in-or-out, empty-in, in-meet, meet-in, subset-in, in-subset, subset-not, same-set, in-meets, meets-in}
+use Rattle.model.specs.Sets.{WORDS, Set, empty, meet, difference, subset, same, meets}
+use Rattle.model.proofs.Bounds.{and-true, and-intro, not-true, is-false, same-test}
+use Rattle.model.proofs.SetLaws.{Proper, in-or-out, empty-in, in-meet, meet-in, in-difference, difference-in, subset-in, in-subset, subset-not, same-set, in-meets, meets-in}
 
 pub same-words : (X Y : Set) → length X ≡ WORDS → length Y ≡ WORDS → (w : ℕ) → WORDS ≤ w → ((v : ℕ) → v < w → getD X v 0 ≡ getD Y v 0) → true ≡ same X Y
 unfolding same
@@ -37,17 +36,6 @@ same-empty X =
     (λ e. and-intro (subset X empty) (subset empty X) e (in-subset (λ s h. absurd (empty-in h))))
 
 -- ---- inclusion and meeting, by a set made of both
-
-pub in-difference : {X Y : Set} {s : ℕ} → In X s → (In Y s → ⊥) → In (difference X Y) s
-unfolding difference
-in-difference {X} {Y} {s} h out =
-    in-setOf _ (in-top h) (and-intro (member X s) (not (member Y s)) (h .is) (ap not (is-false (member Y s) (λ e. out (record { is = e })))))
-
-pub difference-in : {X Y : Set} {s : ℕ} → In (difference X Y) s → In X s × (In Y s → ⊥)
-unfolding difference
-difference-in {X} {Y} {s} h =
-    let both = and-true (member X s) (not (member Y s)) (setOf-in _ h) in
-    (record { is = both .0 }, λ k. clash (k .is) (not-true (member Y s) (both .1)))
 
 pub subset-difference : (X Y : Set) → subset (difference X Y) empty ≡ subset X Y
 subset-difference X Y =

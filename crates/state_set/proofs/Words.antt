@@ -24,9 +24,9 @@ use lib.ListN.{length, getD, set, take, drop, length-set, drop-of-length-le}
 use lib.Seq.{take-suc, take-all, length-take-le, drop-cons, set-at, getD-at, append-snoc, getD-set-same, getD-set-other, ext-getD}
 use mir.Syntax.{w64}
 use mir.Val.{Fits}
-use Rattle.model.specs.Sets.{WORDS, top, Set, bit, member, number, setOf, single, union, states, firstStates}
-use Rattle.model.proofs.Bounds.{decided, same-test, getD-tab}
-use Rattle.model.proofs.SetLaws.{Proper, setOf-proper, bits-eq, bit-number, number-lt, member-at, in-top, in-union, union-in, single-in, same-set}
+use Rattle.model.specs.Sets.{WORDS, maxStates, Set, bit, member, number, setOf, single, union, states, firstStates}
+use Rattle.model.proofs.Bounds.{decided, same-test, getD-tabulate}
+use Rattle.model.proofs.SetLaws.{Proper, setOf-proper, bits-eq, bit-number, number-lt, member-at, in-bound, in-union, union-in, single-in, same-set}
 use Rattle.state_set.proofs.Bits.{bit-and, bit-or, bit-not, one-shl, bit-zero, bit-power}
 
 -- what `search needs` shows of the words of a parameter
@@ -37,18 +37,18 @@ proper l f = record { long = l; fits = λ w h. f w .fits }
 
 pub member-word : (X : Set) (s : ℕ) → s / 64 < WORDS → eqb (bitAnd (getD X (s / 64) 0 / 2 ^ (s % 64)) 1) 1 ≡ member X s
 unfolding member bit
-member-word X s h = rw (and-mask (getD X (s / 64) 0 / 2 ^ (s % 64)) 1, lt-ltb s top (omega arith))
+member-word X s h = rw (and-mask (getD X (s / 64) 0 / 2 ^ (s % 64)) 1, lt-ltb s maxStates (omega arith))
 
 pub member-past : (X : Set) (s : ℕ) → WORDS ≤ s / 64 → ltb (s / 64) WORDS ≡ member X s
 unfolding member
-member-past X s h = rw (le-ltb (s / 64) WORDS h, le-ltb s top (omega arith))
+member-past X s h = rw (le-ltb (s / 64) WORDS h, le-ltb s maxStates (omega arith))
 
 -- ---- the words of a comprehension
 
 module _ (p : ℕ → Bool) (w : ℕ) (h : w < WORDS) where
   setOf-word : getD (setOf p) w 0 ≡ number p (64 * w) 64
   unfolding setOf
-  setOf-word = getD-tab (λ v. number p (64 * v) 64) WORDS w 0 h
+  setOf-word = getD-tabulate (λ v. number p (64 * v) 64) WORDS w 0 h
 
   pub word-is : (x : ℕ) → x < 2 ^ 64 → ((i : ℕ) → i < 64 → bit x i ≡ p (64 * w + i)) → x ≡ getD (setOf p) w 0
   word-is x k e =
@@ -174,9 +174,9 @@ module _ (s w : ℕ) (h : w < WORDS) where
 
 module _ (X : Set) (s : ℕ) (x : Proper X) where
   -- a word of the union with {s}
-  joined : (w : ℕ) → w < WORDS → bitOr (getD X w 0) (getD (single s) w 0) ≡ getD (union X (single s)) w 0
+  concat : (w : ℕ) → w < WORDS → bitOr (getD X w 0) (getD (single s) w 0) ≡ getD (union X (single s)) w 0
   unfolding union single
-  joined w h = wordwise-word or-wise X (single s) x (setOf-proper _) w h
+  concat w h = wordwise-word or-wise X (single s) x (setOf-proper _) w h
 
   pub with-bit : s / 64 < WORDS → set X (s / 64) (bitOr (getD X (s / 64) 0) (1 * 2 ^ (s % 64) % 2 ^ 64)) ≡ union X (single s)
   unfolding union
@@ -190,14 +190,14 @@ module _ (X : Set) (s : ℕ) (x : Proper X) where
       ⊎-elim
       (λ e.
       subst (λ (u : ℕ). getD (set X w y) u 0 ≡ getD (union X (single s)) u 0) (sym (eqb-true v w e))
-      (getD-set-same X w y 0 (omega (arith, x .long)) ∙ ap (bitOr (getD X w 0)) (single-here s w h refl) ∙ joined w h))
+      (getD-set-same X w y 0 (omega (arith, x .long)) ∙ ap (bitOr (getD X w 0)) (single-here s w h refl) ∙ concat w h))
       (λ e.
       getD-set-other X w v y 0 (eqb-false v w e)
-      ∙ sym (or-zero-r (getD X v 0)) ∙ ap (bitOr (getD X v 0)) (single-other s v below (eqb-false v w e)) ∙ joined v below)
+      ∙ sym (or-zero-r (getD X v 0)) ∙ ap (bitOr (getD X v 0)) (single-other s v below (eqb-false v w e)) ∙ concat v below)
       (decided (eqb v w)))
 
   pub with-past : WORDS ≤ s / 64 → X ≡ union X (single s)
   unfolding union
   with-past h =
       same-set X (union X (single s)) x (setOf-proper _) (λ t k. in-union (inl k))
-      (λ t k. ⊎-elim (λ i. i) (λ i. absurd (omega (arith, single-in i, in-top i))) (union-in k))
+      (λ t k. ⊎-elim (λ i. i) (λ i. absurd (omega (arith, single-in i, in-bound i))) (union-in k))

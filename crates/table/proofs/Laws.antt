@@ -16,10 +16,10 @@ use borrow.Author.Tests.{le-leb, leb-true, eqb-true, eq-eqb, ne-eqb, lt-leb}
 use lib.Dec.{eqb, leb}
 use lib.ListN.{length, getD, set, take, drop, length-set, length-take, length-drop}
 use lib.Seq.{ext-getD, getD-take, getD-drop, getD-set-same, getD-set-other}
-use Rattle.model.specs.Sets.{WORDS, top, Set, member, subset, firstStates, any}
-use Rattle.model.specs.Stores.{maxGroups, forbiddenAt, groupAt, rowAt, storeWords, setAt, beyond, nonZero, stray}
+use Rattle.model.specs.Sets.{WORDS, maxStates, Set, member, subset, firstStates, any}
+use Rattle.model.specs.Stores.{maxGroups, forbiddenAt, groupAt, rowAt, storeWords, setAt, beyond, nonZero, malformed}
 use Rattle.model.proofs.Bounds.{and-true, and-intro, or-intro, is-false, clash, same-test, lt-or-ge, any-intro, any-find, any-turn, no-any, not-true}
-use Rattle.model.proofs.SetLaws.{In, in-top, in-firstStates, firstStates-in, _⊆_, subset-in, subset-not}
+use Rattle.model.proofs.SetLaws.{In, in-bound, in-firstStates, firstStates-in, _⊆_, subset-in, subset-not}
 
 -- ---- a set copied out of the store
 
@@ -58,10 +58,10 @@ beyond-is n X =
     same-test (not (subset X (firstStates n))) (beyond n X)
     (λ e.
     let w = subset-not X (firstStates n) (not-true (subset X (firstStates n)) e) in
-    let h : n ≤ w .0 = ⊎-elim (λ l. absurd (w .2 (in-firstStates (in-top (w .1)) l))) (λ l. l) (lt-or-ge (w .0) n) in
-    any-intro _ top (w .0) (in-top (w .1)) (and-intro (leb n (w .0)) (member X (w .0)) (le-leb n (w .0) h) (w .1 .is)))
+    let h : n ≤ w .0 = ⊎-elim (λ l. absurd (w .2 (in-firstStates (in-bound (w .1)) l))) (λ l. l) (lt-or-ge (w .0) n) in
+    any-intro _ maxStates (w .0) (in-bound (w .1)) (and-intro (leb n (w .0)) (member X (w .0)) (le-leb n (w .0) h) (w .1 .is)))
     (λ e.
-    let w = any-find _ top e in
+    let w = any-find _ maxStates e in
     let both = and-true (leb n (w .0)) (member X (w .0)) (w .2) in
     ap not (is-false (subset X (firstStates n)) (λ i. outside (w .0) (leb-true n (w .0) (both .0)) (subset-in i (w .0) (record { is = both .1 })))))
   where
@@ -111,27 +111,27 @@ module _ (store : List ℕ) (n g : ℕ) where
   abbrev pub group-used : Bool
   group-used = nonZero store (groupAt g) (groupAt maxGroups)
 
-  pub stray-initial : initial-beyond ≡ true → true ≡ stray store n g
-  unfolding stray
-  stray-initial e = rw e
+  pub malformed-initial : initial-beyond ≡ true → true ≡ malformed store n g
+  unfolding malformed
+  malformed-initial e = rw e
 
-  pub stray-forbidden : forbidden-beyond ≡ true → true ≡ stray store n g
-  unfolding stray
-  stray-forbidden e = rw (e, or-true initial-beyond)
+  pub malformed-forbidden : forbidden-beyond ≡ true → true ≡ malformed store n g
+  unfolding malformed
+  malformed-forbidden e = rw (e, or-true initial-beyond)
 
-  pub stray-group : group-beyond ≡ true → true ≡ stray store n g
-  unfolding stray
-  stray-group e = rw (e, or-true (initial-beyond || forbidden-beyond))
+  pub malformed-group : group-beyond ≡ true → true ≡ malformed store n g
+  unfolding malformed
+  malformed-group e = rw (e, or-true (initial-beyond || forbidden-beyond))
 
-  pub stray-row : row-beyond ≡ true → true ≡ stray store n g
-  unfolding stray
-  stray-row e = rw (e, or-true (initial-beyond || forbidden-beyond || group-beyond))
+  pub malformed-row : row-beyond ≡ true → true ≡ malformed store n g
+  unfolding malformed
+  malformed-row e = rw (e, or-true (initial-beyond || forbidden-beyond || group-beyond))
 
-  pub stray-unused : group-used ≡ true → true ≡ stray store n g
-  unfolding stray
-  stray-unused e = rw (e, or-true (initial-beyond || forbidden-beyond || group-beyond || row-beyond))
+  pub malformed-unused : group-used ≡ true → true ≡ malformed store n g
+  unfolding malformed
+  malformed-unused e = rw (e, or-true (initial-beyond || forbidden-beyond || group-beyond || row-beyond))
 
-  pub stray-last : initial-beyond ≡ false → forbidden-beyond ≡ false → group-beyond ≡ false → row-beyond ≡ false → group-used ≡ false
-      → nonZero store (rowAt n) storeWords ≡ stray store n g
-  unfolding stray
-  stray-last a b c d e = rw (a, b, c, d, e)
+  pub malformed-last : initial-beyond ≡ false → forbidden-beyond ≡ false → group-beyond ≡ false → row-beyond ≡ false → group-used ≡ false
+      → nonZero store (rowAt n) storeWords ≡ malformed store n g
+  unfolding malformed
+  malformed-last a b c d e = rw (a, b, c, d, e)

@@ -10,8 +10,8 @@ ghost use mathlib.Core.Path.{_≡_};
 ghost use Prim.Native.Nat.{_+_, _*_, _≤_, _<_};
 ghost use lib.ListN.{length, getD};
 ghost use mathlib.Core.List.{[]};
-ghost use Rattle.model.specs.Sets.{WORDS, top, any, image};
-ghost use Rattle.model.specs.Stores.{storeWords, maxGroups, groupAt, rowAt, setAt, beyond, nonZero, stray, refuse, accept};
+ghost use Rattle.model.specs.Sets.{WORDS, maxStates, any, image};
+ghost use Rattle.model.specs.Stores.{storeWords, maxGroups, groupAt, rowAt, setAt, beyond, nonZero, malformed, refuse, sharedGrounds};
 use state_set::StateSet;
 use state_set::WORDS;
 
@@ -48,7 +48,7 @@ pub fn group_at(store: &[u64], j: usize) -> StateSet
 
 // The successors of state s.
 pub fn row_at(store: &[u64], s: usize) -> StateSet
-    requires { ⌜ (s < top) × (storeWords ≤ length (now store)) ⌝ }
+    requires { ⌜ (s < maxStates) × (storeWords ≤ length (now store)) ⌝ }
     ensures { λ r. ⌜ r .words ≡ setAt (now (store .entry)) (rowAt s) ⌝ }
 {
     set_at(store, ROWS_AT + WORDS * s)
@@ -57,7 +57,7 @@ pub fn row_at(store: &[u64], s: usize) -> StateSet
 // All successors of states in x, which is taken apart from its least state up.
 pub fn successors(store: &[u64], x: StateSet) -> StateSet
     requires { ⌜ storeWords ≤ length (now store) ⌝ }
-    ensures { λ r. ⌜ r .words ≡ image top (λ s. setAt (now (store .entry)) (rowAt s)) (x .words) ⌝ }
+    ensures { λ r. ⌜ r .words ≡ image maxStates (λ s. setAt (now (store .entry)) (rowAt s)) (x .words) ⌝ }
 {
     let mut found = StateSet::empty();
     let mut rest = x;
@@ -73,7 +73,7 @@ pub fn successors(store: &[u64], x: StateSet) -> StateSet
 pub type Rows = [[u64; WORDS]; MAX_STATES];
 
 pub fn row_of(rows: &Rows, s: usize) -> StateSet
-    requires { ⌜ s < top ⌝ }
+    requires { ⌜ s < maxStates ⌝ }
     ensures { λ r. ⌜ r .words ≡ getD (now (rows .entry)) s [] ⌝ }
 {
     let words = rows[s];
@@ -82,7 +82,7 @@ pub fn row_of(rows: &Rows, s: usize) -> StateSet
 
 // The union of the rows of the states of x.
 pub fn union_of(rows: &Rows, x: StateSet) -> StateSet
-    ensures { λ r. ⌜ r .words ≡ image top (λ s. getD (now (rows .entry)) s []) (x .words) ⌝ }
+    ensures { λ r. ⌜ r .words ≡ image maxStates (λ s. getD (now (rows .entry)) s []) (x .words) ⌝ }
 {
     let mut found = StateSet::empty();
     let mut rest = x;
@@ -128,9 +128,9 @@ fn non_zero(store: &[u64], from: usize, to: usize) -> bool
 }
 
 // A 1 bit for a state from n up, or a word of an unused group or row not 0.
-fn is_stray(store: &[u64], n: usize, g: usize) -> bool
-    requires { ⌜ (n ≤ top) × (g ≤ maxGroups) × (storeWords ≤ length (now store)) ⌝ }
-    ensures { λ r. ⌜ r ≡ stray (now (store .entry)) n g ⌝ }
+fn is_malformed(store: &[u64], n: usize, g: usize) -> bool
+    requires { ⌜ (n ≤ maxStates) × (g ≤ maxGroups) × (storeWords ≤ length (now store)) ⌝ }
+    ensures { λ r. ⌜ r ≡ malformed (now (store .entry)) n g ⌝ }
 {
     if is_beyond(set_at(store, 0), n) {
         return true;
@@ -152,7 +152,7 @@ fn is_stray(store: &[u64], n: usize, g: usize) -> bool
 
 // Why a store with n states and g groups is declined, or 0.
 pub fn refusal(store: &[u64], n: usize, g: usize) -> u8
-    ensures { λ r. ⌜ r ≡ refuse (accept (now (store .entry)) n g) ⌝ }
+    ensures { λ r. ⌜ r ≡ refuse (sharedGrounds (now (store .entry)) n g) ⌝ }
 {
     if store.len() < STORE_WORDS {
         return 10;
@@ -166,7 +166,7 @@ pub fn refusal(store: &[u64], n: usize, g: usize) -> u8
     if MAX_GROUPS < g {
         return 15;
     }
-    if is_stray(store, n, g) {
+    if is_malformed(store, n, g) {
         return 17;
     }
     0

@@ -16,11 +16,11 @@ use mathlib.Core.List.{List, [], _∷_}
 use borrow.Author.Tests.{eqb-true, eq-eqb, leb-true, le-ltb}
 use lib.Dec.{eqb, ltb}
 use lib.ListN.{length, getD, drop}
-use Rattle.model.specs.Sets.{top, any}
+use Rattle.model.specs.Sets.{maxStates, any}
 use Rattle.model.specs.Tables.{Table}
 use Rattle.model.specs.Rounds.{run}
 use Rattle.model.specs.Paths.{smallestPath}
-use Rattle.model.specs.Stores.{maxGroups, forbiddenAt, groupAt, rowAt, storeWords, setAt, tableOf, layout, refuse, beyond, nonZero, stray, badStates}
+use Rattle.model.specs.Stores.{maxGroups, forbiddenAt, groupAt, rowAt, storeWords, setAt, tableOf, layout, refuse, beyond, nonZero, malformed, badStates}
 use Rattle.model.specs.Calls.{release, overwrite, Decision, decisionOf, decideGrounds, decideAnswer, decideBuffer}
 use Rattle.model.proofs.Bounds.{and-true, not-true, is-false, clash, any-find}
 use Rattle.worked_tables.specs.Worked.{stored, Decides}
@@ -68,17 +68,17 @@ module _ (store : List ℕ) (n g allowance : ℕ) where
   unfoldable pub fits : Bool
   fits = eqb (refuse plain) 0 && (not straySet && zeros (drop (rowAt n) store))
 
-  fits-accepted : (room : ℕ) → fits ≡ true → top ≤ room → refuse (decideGrounds store n g allowance room) ≡ 0
-  unfolding fits refuse decideGrounds stray
+  fits-accepted : (room : ℕ) → fits ≡ true → maxStates ≤ room → refuse (decideGrounds store n g allowance room) ≡ 0
+  unfolding fits refuse decideGrounds malformed
   fits-accepted room f h =
       let parts = and-true _ _ f in
       let unused = and-true _ _ (parts .1) in
       rw (not-true straySet (unused .0))
       (rw (nonZero-none store (rowAt n) storeWords (unused .1))
-      (rw (le-ltb room top h) (eqb-true (refuse plain) 0 (parts .0))))
+      (rw (le-ltb room maxStates h) (eqb-true (refuse plain) 0 (parts .0))))
 
   answer-is : (answer : Decision) → fits ≡ true → decisionOf (tableOf store n g) (run (tableOf store n g) allowance) ≡ answer
-      → (room : ℕ) → top ≤ room → decideAnswer store n g allowance room ≡ answer
+      → (room : ℕ) → maxStates ≤ room → decideAnswer store n g allowance room ≡ answer
   unfolding decideAnswer
   answer-is answer f e room h = rw (fits-accepted room f h) e
 

@@ -4,11 +4,11 @@
 --   a, .., g      the lines
 --   worked        the fact
 use mathlib.Core.Path.{refl}
-use Rattle.model.specs.Sets.{any, all, first, picked, tab, bit, member, number, setOf, empty, union, meet, subset, same, meets, states, firstStates, members, size, smallest, image}
-use Rattle.model.specs.Tables.{post, hold, coverOf, cover, allowed}
+use Rattle.model.specs.Sets.{any, all, first, filter, tabulate, bit, member, number, setOf, empty, union, meet, subset, same, meets, states, firstStates, members, size, smallest, image}
+use Rattle.model.specs.Tables.{post, hold, coverOf, cover, notForbidden}
 use Rattle.model.specs.Rounds.{iterate, forwardStep, forward, backwardStep, backward, roundOf, firstRound, nextRound, isSafe, isUnsafe, settle, rounds, run, eliminationStep, eliminated, backwardNumber}
-use Rattle.model.specs.Paths.{near, shortest, walk, smallestPath}
-use Rattle.model.specs.Stores.{setAt, tableOf, joined, layout, refuse, beyond, nonZero, badStates}
+use Rattle.model.specs.Paths.{reaching, shortest, walk, smallestPath}
+use Rattle.model.specs.Stores.{setAt, tableOf, concat, layout, refuse, beyond, nonZero, badStates}
 use Rattle.model.specs.Files.{setBytes, sets, contents, weighted, checkOf, blockOf}
 use Rattle.model.specs.Calls.{release, decisionOf}
 use Rattle.worked_tables.specs.Tables.{A, B, D, E, F, G}
@@ -16,7 +16,7 @@ use Rattle.worked_tables.specs.Worked.{LineA, LineB, LineC, LineD, LineE
 use Rattle.worked_tables.proofs.Decides.{zeros, fits, decides}
 
 computes : Type 0
-unfolding any all first picked tab bit member number setOf empty union meet subset same meets states firstStates members size smallest image post hold coverOf cover allowed iterate forwardStep forward backwardStep backward roundOf firstRound nextRound isSafe isUnsafe settle rounds run eliminationStep eliminated backwardNumber near shortest walk smallestPath setAt tableOf joined layout refuse beyond nonZero badStates setBytes sets contents weighted checkOf blockOf decisionOf zeros fits
+unfolding any all first filter tabulate bit member number setOf empty union meet subset same meets states firstStates members size smallest image post hold coverOf cover notForbidden iterate forwardStep forward backwardStep backward roundOf firstRound nextRound isSafe isUnsafe settle rounds run eliminationStep eliminated backwardNumber reaching shortest walk smallestPath setAt tableOf concat layout refuse beyond nonZero badStates setBytes sets contents weighted checkOf blockOf decisionOf zeros fits
 computes = Unit {0}
 
 -- A pair by a call: what stands in a tuple itself is computed twice, which costs seconds for B and C.

@@ -12,7 +12,7 @@ use Prim.Native.Nat.{ℕ, _-_, _*_, _≤_}
 use mathlib.Core.Path.{_≡_}
 use mathlib.Core.List.{List, [], _∷_}
 use lib.ListN.{length}
-use Rattle.model.specs.Sets.{top}
+use Rattle.model.specs.Sets.{maxStates}
 use Rattle.model.specs.Tables.{Table}
 use Rattle.model.specs.Rounds.{backwardNumber}
 use Rattle.model.specs.Stores.{tableOf, layout}
@@ -24,9 +24,9 @@ abbrev pub stored : Table → Table
 stored t = tableOf (layout t) (t .n) (length (t .groups))
 
 pub record Decides (t : Table) (allowance : ℕ) (answer : Decision) (states : List ℕ) : Type 0 where
-  pub answers : (path : List ℕ) → top ≤ length path
+  pub answers : (path : List ℕ) → maxStates ≤ length path
       → decideAnswer (layout t) (t .n) (length (t .groups)) allowance (length path) ≡ answer
-  pub writes : (path : List ℕ) → top ≤ length path
+  pub writes : (path : List ℕ) → maxStates ≤ length path
       → decideBuffer (layout t) (t .n) (length (t .groups)) allowance path ≡ overwrite states path
 
 abbrev pub Safe : Table → ℕ → ℕ → List ℕ → Type 0

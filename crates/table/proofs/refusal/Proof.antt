@@ -25,7 +25,7 @@ refusal-spec =
       ne-eqb _ _ (d .before .before .if2 .left),
       le-ltb _ _ (d .before .if3 .left),
       le-ltb _ _ (d .if4 .left),
-      sym (c .before .is-stray .ensures) ∙ c .if5 .taken,
+      sym (c .before .is-malformed .ensures) ∙ c .if5 .taken,
     ))
     (λ c.
     let d = c .before .before in
@@ -34,5 +34,5 @@ refusal-spec =
       ne-eqb _ _ (d .before .before .if2 .left),
       le-ltb _ _ (d .before .if3 .left),
       le-ltb _ _ (d .if4 .left),
-      sym (c .before .is-stray .ensures) ∙ c .if5 .left,
+      sym (c .before .is-malformed .ensures) ∙ c .if5 .left,
     )))

@@ -3,7 +3,7 @@ use mathlib.Core.Path.{ap, _∙_}
 use borrow.Author.Needs.{needs}
 use Rattle.model.specs.Sets.{union, size}
 use Rattle.model.specs.Stores.{rowAt, setAt}
-use Rattle.model.proofs.SetLaws.{in-top}
+use Rattle.model.proofs.SetLaws.{in-bound}
 use Rattle.model.proofs.ImageLaws.{peel-in, peel-size, Peeling, peel-start, peel-turn, peel-end}
 use Rattle.table.proofs.successors.Statement.{statement}
 use Rattle.table.proofs.successors.Tie as tie
@@ -24,7 +24,7 @@ successors-spec =
     (λ c. peel-start _ _ (c .empty .ensures))
     (λ c κs. search needs)
     (λ c κs. search needs)
-    (λ c κs. (in-top (peel-in _ (c .before .before .is-empty .ensures) (c .before .if1 .taken) (c .smallest .ensures)), search needs))
+    (λ c κs. (in-bound (peel-in _ (c .before .before .is-empty .ensures) (c .before .if1 .taken) (c .smallest .ensures)), search needs))
     (λ c κs. search needs)
     (λ c κs. search needs)
     (λ c.

@@ -4,7 +4,7 @@ use mathlib.Core.List.{[]}
 use lib.ListN.{getD}
 use borrow.Author.Needs.{needs}
 use Rattle.model.specs.Sets.{union, size}
-use Rattle.model.proofs.SetLaws.{in-top}
+use Rattle.model.proofs.SetLaws.{in-bound}
 use Rattle.model.proofs.ImageLaws.{peel-in, peel-size, Peeling, peel-start, peel-turn, peel-end}
 use Rattle.table.proofs.union_of.Statement.{statement}
 use Rattle.table.proofs.union_of.Tie as tie
@@ -25,7 +25,7 @@ union-of-spec =
     (λ c. peel-start _ _ (c .empty .ensures))
     (λ c κs. search needs)
     (λ c κs. search needs)
-    (λ c κs. in-top (peel-in _ (c .before .before .is-empty .ensures) (c .before .if1 .taken) (c .smallest .ensures)))
+    (λ c κs. in-bound (peel-in _ (c .before .before .is-empty .ensures) (c .before .if1 .taken) (c .smallest .ensures)))
     (λ c κs. search needs)
     (λ c κs. search needs)
     (λ c.
