@@ -21,6 +21,7 @@ use Rattle.model.specs.Rounds.{Outcome, run}
 use Rattle.model.specs.Promises.{Accepted}
 use Rattle.model.proofs.Bounds.{and-intro, decided, clash, any-none, lt-or-ge}
 use Rattle.model.proofs.SetLaws.{in-bound, in-states, _⊆_}
+use Rattle.model.proofs.StoreLaws.{row-is}
 use Rattle.model.proofs.WellFormed.{WellFormed}
 
 -- ---- tests that do not hold
@@ -81,11 +82,6 @@ pub store-accepted : (store : List ℕ) (n g : ℕ) (later : List (Bool × ℕ))
 unfolding refuse badStates
 store-accepted store n g later s =
     rw (le-ltb (length store) storeWords (s .long), ne-eqb n 0 (not-zero n (s .some)), le-ltb maxStates n (s .small), le-ltb maxGroups g (s .few), s .clean)
-
--- a state of the table has its row in the store
-pub row-is : (store : List ℕ) (n g s : ℕ) → s < n → (tableOf store n g) .row s ≡ setAt store (rowAt s)
-unfolding tableOf
-row-is store n g s h = rw (lt-ltb s n h)
 
 pub well-formed : (store : List ℕ) (n g : ℕ) → Store store n g → WellFormed (tableOf store n g)
 unfolding malformed tableOf
