@@ -37,6 +37,10 @@ pub or-intro : (a b : Bool) → (a ≡ true) ⊎ (b ≡ true) → (a || b) ≡ t
 or-intro true b h = refl
 or-intro false b h = ⊎-elim (λ p. absurd (false≢true p)) (λ q. q) h
 
+pub or-false : (a b : Bool) → (a || b) ≡ false → (a ≡ false) × (b ≡ false)
+or-false true b e = absurd (true≢false e)
+or-false false b e = (refl, e)
+
 pub not-true : (a : Bool) → not a ≡ true → a ≡ false
 not-true true e = absurd (false≢true e)
 not-true false e = refl

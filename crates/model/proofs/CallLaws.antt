@@ -18,8 +18,8 @@ use Rattle.model.specs.Sets.{maxStates, any, number}
 use Rattle.model.specs.Stores.{maxGroups, storeWords, tableOf, layout, refuse, beyond, nonZero, badStates}
 use Rattle.model.specs.Files.{le16At, contentLength, blocksFor, fileLength, checkOf, fileOf, part, contentsOf, setNumber, tableIn}
 use Rattle.model.specs.Calls.{overwrite, TableRead, firstFault, blockFault, maxFile, readRefusal, readAnswer, readBuffer, Written, writeGrounds, writeAnswer, writeBuffer}
-use Rattle.model.proofs.Bounds.{by-cond, any-none}
-use Rattle.model.proofs.ListLaws.{or-false, none-any, orElse-none, orElse-clear, refuse-none, refuse-skip, refuse-clear, clear-refuse, firstFault-clear, clear-firstFault}
+use Rattle.model.proofs.Bounds.{by-cond, any-none, or-false, no-any}
+use Rattle.model.proofs.ListLaws.{orElse-none, orElse-clear, refuse-none, refuse-skip, refuse-clear, clear-refuse, firstFault-clear, clear-firstFault}
 use Rattle.model.proofs.StoreLaws.{nonZero-zero, zero-nonZero, Clean, malformed-clean, clean-malformed}
 
 -- what is given where nothing is refused
@@ -169,7 +169,7 @@ module _ (input : List ℕ) (room : ℕ) where
       ∙ refuse-skip _ 14 _ (r .states)
       ∙ refuse-skip _ 15 _ (le-ltb maxGroups g (r .groups))
       ∙ refuse-skip _ 16 _ (ap not (eq-eqb m (blocksFor (contentLength n g)) (r .blocks)))
-      ∙ refuse-skip _ 17 _ (none-any (λ k. beyond n (setNumber bytes n k)) (2 + g + n) (r .within))
+      ∙ refuse-skip _ 17 _ (no-any (λ k. beyond n (setNumber bytes n k)) (2 + g + n) (r .within))
       ∙ refuse-skip _ 18 _ (zero-nonZero bytes (contentLength n g) (508 * m) (r .filler))
       ∙ refuse-none
     where

@@ -1,6 +1,6 @@
 -- Laws of lists in parts, of buffers written over, and of refusals.
 --
---   or-false, none-any                        of two tests neither passes; none below a bound does
+--   or-false, no-any                        of two tests neither passes; none below a bound does
 --   part-front, part-behind                   a part of two lists joined: within the first, behind it
 --   getD-behind, getD-past                    an element behind the first of two lists; past the end
 --   div-below, mod-below                      a place in n lists of w elements: its list and its place there
@@ -26,25 +26,18 @@ use native.Mathlib.Numerals.{add-one}
 use native.Mathlib.Omega.{arith}
 use mathlib.Core.Path.{_≡_, refl, sym, ap, ap₂, _∙_, subst}
 use mathlib.Core.Logic.{⊎-elim}
-use mathlib.Core.Bool.{Bool, true, false, not, _&&_, _||_, cond, true≢false}
+use mathlib.Core.Bool.{Bool, true, false, not, _&&_, cond}
 use mathlib.Core.List.{List, [], _∷_, _++_, append-assoc}
 use borrow.Author.Tests.{eqb-true, eqb-false}
 use lib.Dec.{eqb}
 use lib.ListN.{set, length, getD, take, drop, length-append, length-drop, List·getD-append, List·getD-eq-default}
 use lib.Seq.{take-all, take-at, drop-at, take-append-le, drop-append-le, getD-append-add, getD-take, getD-drop, drop-drop, take-add, drop-cons, set-at}
-use Rattle.model.specs.Sets.{any, tabulate}
+use Rattle.model.specs.Sets.{tabulate}
 use Rattle.model.specs.Stores.{concat, refuse}
 use Rattle.model.specs.Calls.{overwrite, firstFault}
-use Rattle.model.proofs.Bounds.{and-true, not-true, is-false, clash, by-cond, decided, below-suc, any-find}
+use Rattle.model.proofs.Bounds.{and-true, not-true, by-cond, decided, below-suc}
 
 -- ---- tests none of which passes
-
-pub or-false : (a b : Bool) → (a || b) ≡ false → (a ≡ false) × (b ≡ false)
-or-false true b e = absurd (true≢false e)
-or-false false b e = (refl, e)
-
-pub none-any : (p : ℕ → Bool) (n : ℕ) → ((k : ℕ) → k < n → p k ≡ false) → any n p ≡ false
-none-any p n f = is-false (any n p) (λ e. let w = any-find p n e in clash (w .2) (f (w .0) (w .1)))
 
 -- ---- the part of w elements from `at` on
 

@@ -29,9 +29,9 @@ use Rattle.model.specs.Stores.{maxGroups, forbiddenAt, groupAt, rowAt, s
 use Rattle.model.specs.Files.{sets}
 use Rattle.model.specs.Calls.{overwrite}
 use Rattle.model.specs.RoundTrip.{Bounded}
-use Rattle.model.proofs.Bounds.{and-true, and-intro, not-true, is-false, clash, decided, by-cond, lt-or-ge, any-intro, any-find, any-none, length-tabulate, getD-tabulate, tabulate-cong}
+use Rattle.model.proofs.Bounds.{and-true, and-intro, not-true, is-false, clash, decided, by-cond, lt-or-ge, any-intro, any-find, any-none, length-tabulate, getD-tabulate, tabulate-cong, or-false, no-any}
 use Rattle.model.proofs.SetLaws.{Proper, setOf-proper, In, in-bound}
-use Rattle.model.proofs.ListLaws.{or-false, none-any, part-front, part-behind, getD-past, Wide, length-concat, part-concat, concat-cong, concat-parts}
+use Rattle.model.proofs.ListLaws.{part-front, part-behind, getD-past, Wide, length-concat, part-concat, concat-cong, concat-parts}
 use Rattle.model.proofs.FileLaws.{number-none, sets-group, sets-row}
 
 -- ---- a set among the words of a store
@@ -250,8 +250,8 @@ clean-malformed store n g c =
     rw (
       c .initial,
       c .forbidden,
-      none-any (λ j. beyond n (setAt store (groupAt j))) g (c .group),
-      none-any (λ s. beyond n (setAt store (rowAt s))) n (c .row),
+      no-any (λ j. beyond n (setAt store (groupAt j))) g (c .group),
+      no-any (λ s. beyond n (setAt store (rowAt s))) n (c .row),
       zero-nonZero store (groupAt g) (groupAt maxGroups) (c .no-group),
       zero-nonZero store (rowAt n) storeWords (c .no-row),
     )
