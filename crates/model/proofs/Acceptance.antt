@@ -78,7 +78,7 @@ well-formed store n g s =
     record {
       initial = inside (setAt store 0) (c .initial);
       forbidden = inside (setAt store forbiddenAt) (c .forbidden);
-      rows = λ x h. subst (λ (X : Set). X ⊆ firstStates n) (sym (row-is store n g x h)) (inside (setAt store (rowAt x)) (c .row x h))
+      rows = λ x h. subst (λ (X : Set). X ⊆ firstStates n) (sym (row-is store n g x h)) (inside (setAt store (rowAt x)) (c .row x h));
     }
   where
     inside : (X : Set) → beyond n X ≡ false → X ⊆ firstStates n

@@ -13,3 +13,4 @@ pub mod FileLaws
 pub mod CallLaws
 pub mod RoundTrips
 pub mod Acceptance
+pub mod Kept
