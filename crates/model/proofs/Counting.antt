@@ -1,7 +1,7 @@
 -- Laws of counting: the length of a list of picked numbers, and the number of states in a set.
 --
---   picked-le, picked-lt           where what passes p passes q, p picks at most as many as q; fewer, if a number passes q alone
---   picked-bound                   where only numbers below n pass, at most n are picked
+--   filter-le, filter-lt           where what passes p passes q, p picks at most as many as q; fewer, if a number passes q alone
+--   filter-bound                   where only numbers below n pass, at most n are picked
 --   size-le, size-lt               a set inside another has at most its size; strictly inside, fewer
 --   all-or-fewer                   a set inside another is all of it, or has fewer members
 --   size-bound, size-pos           a set of n states has at most n members; one with a member has at least one

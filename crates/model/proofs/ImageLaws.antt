@@ -2,7 +2,7 @@
 --
 --   image-none          the image of a set without states is empty
 --   image-peel          the image of a set is what one of its states gives, joined to the image of the rest
---   image-top           the image of a set of states below n does not depend on the bound, from n up
+--   image-bound           the image of a set of states below n does not depend on the bound, from n up
 --   image-cong          the image reads f at the set's states only
 --   peel-in, peel-size                  a loop that takes a set apart from its least state up: that state is in it, and what is left is smaller
 --   Peeling, peel-start, -turn, -end    its invariant: what is joined so far, with the image of what is left, is the whole

@@ -1,14 +1,13 @@
 -- Laws of lists in parts, of buffers written over, and of refusals.
 --
---   or-false, no-any                        of two tests neither passes; none below a bound does
 --   part-front, part-behind                   a part of two lists joined: within the first, behind it
 --   getD-behind, getD-past                    an element behind the first of two lists; past the end
 --   div-below, mod-below                      a place in n lists of w elements: its list and its place there
 --   Wide n w f                                the lists f 0, .., f (n − 1) have w elements each
---   length-joined, part-joined                such lists joined: the length, and one of them as a part
---   getD-joined, getD-joined-at               an element by its list and its place there, and by its place in all
---   tab-next, joined-next                     one more, for a loop; joined-cong: the same lists joined
---   joined-parts                              the parts of a list joined
+--   length-concat, part-concat                such lists joined: the length, and one of them as a part
+--   getD-concat, getD-concat-at               an element by its list and its place there, and by its place in all
+--   tabulate-next, concat-next                     one more, for a loop; joined-cong: the same lists joined
+--   concat-parts                              the parts of a list joined
 --   length-overwrite, take-overwrite          a buffer written over: its length and its front
 --   overwrite-front, overwrite-behind         its elements
 --   overwrite-append, overwrite-more          written over in two parts, the second where the buffer is lent from there on
@@ -36,8 +35,6 @@ use Rattle.model.specs.Sets.{tabulate}
 use Rattle.model.specs.Stores.{concat, refuse}
 use Rattle.model.specs.Calls.{overwrite, firstFault}
 use Rattle.model.proofs.Bounds.{and-true, not-true, by-cond, decided, below-suc}
-
--- ---- tests none of which passes
 
 -- ---- the part of w elements from `at` on
 

@@ -10,7 +10,7 @@
 --   Within n X                                X is proper, and its states are below n
 --   beyond-below, below-beyond                no state from n up: the test and the fact
 --   nonZero-zero, zero-nonZero                only zeros in a stretch: the test and the fact
---   Clean, stray-clean, clean-stray           ground 17 does not hold: the test and the facts
+--   Clean, malformed-clean, clean-malformed           ground 17 does not hold: the test and the facts
 --   holds-sets, holds-clean                   the table read from a store that holds t has the sets of t, and the store is clean if they are
 use Prim.Native.Nat.{ℕ, _+_, _*_, _-_, _/_, _^_, _≤_, _<_}
 use native.Mathlib.Nat.{not-le-of-lt}

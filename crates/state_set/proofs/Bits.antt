@@ -4,7 +4,7 @@
 --   bit-not                    the bits of `!` at k digits
 --   one-shl                    `1 << k` is a power of two
 --   bit-zero, bit-power        the bits of 0, and of a power of two
---   ones-picked                `count_ones` is how many places have a bit
+--   ones-filter                `count_ones` is how many places have a bit
 --   trailing-first             `trailing_zeros` is the first place that has one
 --   first-bit                  there is one, unless the number is 0
 use Prim.Native.Nat.{ℕ, zero, suc, _+_, _-_, _*_, _/_, _%_, _^_, _<_}

@@ -3,7 +3,7 @@
 --   Copying, copied             a loop that copies the words of a set; the set when it is done
 --   beyond-is                   a set has a state from n up exactly if it is not inside the first n states
 --   non-zero-start, -pass, -hit, -end   a loop that looks for a word other than 0
---   stray-initial, .., stray-last   the tests of ground 17, one after the other
+--   malformed-initial, .., malformed-last   the tests of ground 17, one after the other
 use Prim.Native.Nat.{ℕ, zero, suc, _+_, _-_, min, _≤_, _<_}
 use native.Mathlib.Nat.{le-antisymm}
 use native.Mathlib.Omega.{arith}
