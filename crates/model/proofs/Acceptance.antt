@@ -2,25 +2,25 @@
 --
 --   cond-zero              a ground with a number other than 0 did not hold
 --   Store                  a store that holds a table: grounds 10, 14, 15 and 17 do not hold; well-formed: its table is well formed
---   accepted-store         from the grounds that the calls share
+--   accepted-store         from the grounds that the calls share; store-accepted: and back
 --   Check, check-of        the same with grounds 20 and 21, of an accepted check
-use Prim.Native.Nat.{ℕ, zero, suc, _+_, _≤_, _<_}
+use Prim.Native.Nat.{ℕ, _≤_, _<_}
 use native.Mathlib.Omega.{arith}
-use mathlib.Core.Path.{_≡_, refl, sym, ap, _∙_, subst}
-use mathlib.Core.Logic.{_⊎_, inl, inr, ⊎-elim}
-use mathlib.Core.Bool.{Bool, true, false, not, cond, _&&_, _||_, true≢false}
+use mathlib.Core.Path.{_≡_, refl, ap, subst}
+use mathlib.Core.Logic.{⊎-elim}
+use mathlib.Core.Bool.{Bool, true, false, cond, _||_, true≢false}
 use mathlib.Core.List.{List, [], _∷_, _++_}
-use borrow.Author.Tests.{ltb-true, ltb-false, le-leb, leb-true, eqb-true, eqb-false}
+use borrow.Author.Tests.{ltb-false, le-ltb, le-leb, eqb-true, eqb-false, ne-eqb}
 use lib.Dec.{eqb, leb, ltb, lit<}
 use lib.ListN.{length}
-use Rattle.model.specs.Sets.{top, Set, member, any, firstStates, tab}
+use Rattle.model.specs.Sets.{top, Set, member, firstStates}
 use Rattle.model.specs.Tables.{Table}
-use Rattle.model.specs.Stores.{maxGroups, storeWords, forbiddenAt, groupAt, rowAt, setAt, tableOf, refuse, beyond, nonZero, stray, badStates, accept}
-use Rattle.model.specs.Calls.{Decision, release, decideGrounds, decisionOf, declined, decideAnswer}
-use Rattle.model.specs.Rounds.{Outcome, safe, unsafe, undecided, run}
+use Rattle.model.specs.Stores.{maxGroups, storeWords, forbiddenAt, rowAt, setAt, tableOf, refuse, beyond, stray, badStates, accept}
+use Rattle.model.specs.Calls.{release, decideGrounds, decisionOf, declined, decideAnswer}
+use Rattle.model.specs.Rounds.{Outcome, run}
 use Rattle.model.specs.Promises.{Accepted}
-use Rattle.model.proofs.Bounds.{and-intro, or-true, decided, clash, is-false, any-none, lt-or-ge}
-use Rattle.model.proofs.SetLaws.{In, in-top, in-states, _⊆_}
+use Rattle.model.proofs.Bounds.{and-intro, decided, clash, any-none, lt-or-ge}
+use Rattle.model.proofs.SetLaws.{in-top, in-states, _⊆_}
 use Rattle.model.proofs.WellFormed.{WellFormed}
 
 -- ---- tests that do not hold
@@ -53,6 +53,9 @@ pub record Store (store : List ℕ) (n g : ℕ) : Type 0 where
 positive : (n : ℕ) → (n ≡ 0 → ⊥) → 0 < n
 positive n f = omega arith
 
+not-zero : (n : ℕ) → 0 < n → n ≡ 0 → ⊥
+not-zero n h e = omega arith
+
 -- the grounds that the calls share, and those that a call adds
 pub accepted-store : (store : List ℕ) (n g : ℕ) (later : List (Bool × ℕ)) → refuse (accept store n g ++ later) ≡ 0
     → Store store n g × (refuse later ≡ 0)
@@ -72,6 +75,12 @@ accepted-store store n g later e =
       },
       clean .1,
     )
+
+-- and back: where none of the shared grounds holds, those that the call adds decide
+pub store-accepted : (store : List ℕ) (n g : ℕ) (later : List (Bool × ℕ)) → Store store n g → refuse (accept store n g ++ later) ≡ refuse later
+unfolding refuse badStates
+store-accepted store n g later s =
+    rw (le-ltb (length store) storeWords (s .long), ne-eqb n 0 (not-zero n (s .some)), le-ltb top n (s .small), le-ltb maxGroups g (s .few), s .clean)
 
 pub well-formed : (store : List ℕ) (n g : ℕ) → Store store n g → WellFormed (tableOf store n g)
 unfolding stray tableOf

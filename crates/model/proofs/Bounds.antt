@@ -3,7 +3,8 @@
 --   and-true, and-intro, or-true, or-intro     Boolean connectives as facts
 --   any-find, any-intro, any-none              some number below the bound passes; none does
 --   all-at, all-intro, all-not                 each passes; one that does not
---   first-le, first-passes, first-least        `first` is the least that passes, else the bound; first-is, first-none: so it is that one
+--   first-le, first-passes, first-least        `first` is the least that passes, else the bound; first-is, first-none: so it is that one;
+--                                              first-found, first-before: what passes at the bound, or anywhere, tells of it
 --   length-tab, getD-tab, tab-cong             a list by its elements
 use Prim.Native.Nat.{ℕ, zero, suc, _+_, _≤_, _<_, zero-le, suc-le-suc}
 use native.Mathlib.Nat.{le-of-suc-le-suc, not-suc-le-zero, eq-or-lt-of-le}
@@ -13,10 +14,10 @@ use native.Mathlib.Omega.{arith}
 use mathlib.Core.Path.{_≡_, refl, sym, ap, ap₂, _∙_, subst}
 use mathlib.Core.Logic.{_⊎_, inl, inr, ⊎-elim}
 use mathlib.Core.Bool.{Bool, true, false, not, _&&_, _||_, cond, true≢false, false≢true}
-use mathlib.Core.List.{List, [], _∷_, _++_}
+use mathlib.Core.List.{[], _∷_, _++_}
 use lib.ListN.{length, getD, length-append, List·getD-append}
 use lib.Seq.{getD-at}
-use Rattle.model.specs.Sets.{any, all, first, picked, tab}
+use Rattle.model.specs.Sets.{any, all, first, tab}
 
 -- ---- Booleans
 
@@ -149,6 +150,14 @@ first-is p n k h e f =
   where
     order : (a b : ℕ) → (a < b) ⊎ ((b ≡ a) ⊎ (b < a))
     order a b = ⊎-elim (λ l. inl l) (λ l. inr (eq-or-lt-of-le l)) (lt-or-ge a b)
+
+-- where the bound passes too, the first that passes does
+pub first-found : (p : ℕ → Bool) (n : ℕ) → p n ≡ true → p (first n p) ≡ true
+first-found p n h = ⊎-elim (λ e. ap p e ∙ h) (λ l. first-passes p n l) (eq-or-lt-of-le (first-le p n))
+
+-- what passes is not before the first
+pub first-before : (p : ℕ → Bool) (n k : ℕ) → p k ≡ true → first n p ≤ k
+first-before p n k e = ⊎-elim (λ l. absurd (clash e (first-least p n k l))) (λ l. l) (lt-or-ge k (first n p))
 
 -- none passes
 pub first-none : (p : ℕ → Bool) (n : ℕ) → ((j : ℕ) → j < n → p j ≡ false) → first n p ≡ n

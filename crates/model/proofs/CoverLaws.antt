@@ -1,6 +1,5 @@
 -- Laws of post, hold and covers: each by its members, then what they have in common with every closure (extensive, monotone, closed).
 --
---   firstStates-in, in-firstStates     the first n states are those below n that a set can hold
 --   in-allowed, allowed-in             the states not forbidden; allowed-within: they are states of the table
 --   image-mono, image-proper           images grow with the set; image-inside: an image is inside what each of its parts is inside
 --   in-post, post-in                   post, by its members; post-mono
@@ -13,25 +12,16 @@
 --   forwardStep-*, backwardStep-*      the steps of R and S are monotone, proper and within the first n states
 use Prim.Native.Nat.{ℕ, zero, suc, _<_}
 use mathlib.Core.Path.{_≡_, refl, sym, ap, subst}
-use mathlib.Core.Logic.{_⊎_, inl, inr, ⊎-elim}
+use mathlib.Core.Logic.{inl, inr, ⊎-elim}
 use mathlib.Core.Bool.{Bool, true, false, not, cond}
 use mathlib.Core.List.{List, [], _∷_, List·Memᴰ, List·Memᴰ·head, List·Memᴰ·tail, List·Memᴰ·cases-cons, List·Memᴰ·not-nil}
-use Rattle.model.specs.Sets.{top, Set, member, setOf, empty, union, meet, subset, states, firstStates, image}
+use Rattle.model.specs.Sets.{Set, member, empty, union, meet, firstStates, image}
 use Rattle.model.specs.Tables.{Table, post, hold, coverOf, cover, allowed}
 use Rattle.model.specs.Rounds.{forwardStep, backwardStep}
 use Rattle.model.proofs.Bounds.{not-true, by-cond, clash}
-use Rattle.model.proofs.SetLaws.{Proper, setOf-proper, In, in-top, in-union, union-in, in-meet, meet-in, in-states, states-in, _⊆_, subset-in, in-subset, in-image, image-in}
-use Rattle.model.proofs.Fixpoints.{states-within}
+use Rattle.model.proofs.SetLaws.{Proper, setOf-proper, In, in-top, in-union, union-in, in-meet, meet-in, in-states, states-in, firstStates-in, states-within, _⊆_, subset-in, in-subset, in-image, image-in}
 
 -- ---- the states of the table
-
-pub in-firstStates : {n s : ℕ} → s < top → s < n → In (firstStates n) s
-unfolding firstStates
-in-firstStates {n} t h = in-states n _ t h refl
-
-pub firstStates-in : {n s : ℕ} → In (firstStates n) s → s < n
-unfolding firstStates
-firstStates-in {n} h = states-in n _ h .0
 
 module _ (n : ℕ) (F : Set) where
   pub in-allowed : {s : ℕ} → In (firstStates n) s → member F s ≡ false → In (allowed n F) s

@@ -1,8 +1,5 @@
 -- Chains of sets that only grow or only shrink, the solutions of X = f X that they reach, and backward elimination.
 --
---   le-induction, first-found        induction from a number up; what `first` finds passes, where the bound does
---   ⊆-of-eq, same-eq, eq-same        equality, inclusion, and the test `same`
---   states-within                    the states below n that pass are among the first n states
 --   chain-still                      a measure that rises until the chain is still, and is at most n: how soon it is still
 --   iterate-suc, iterate-has         one step more; induction: what x has and f keeps
 --   iterate-still                    a step that stands still stays still
@@ -12,46 +9,18 @@
 --   eliminated-shrinks, eliminated-mono     W only shrinks; eliminated-proper, eliminated-within: it is a set of states of the table
 --   backward-is, eliminated-still           the backward number is what 01 says, and W stays the same from there
 use Prim.Native.Nat.{ℕ, zero, suc, _+_, _-_, _≤_, _<_}
-use native.Mathlib.Nat.{eq-or-lt-of-le}
+use native.Mathlib.Decide.{le-ind}
 use native.Mathlib.Omega.{arith}
-use mathlib.Core.Path.{_≡_, refl, sym, ap, _∙_, subst}
+use mathlib.Core.Path.{_≡_, refl, sym, ap, _∙_}
 use mathlib.Core.Logic.{_⊎_, inl, inr, ⊎-elim}
-use mathlib.Core.Bool.{Bool, true}
-use Rattle.model.specs.Sets.{Set, first, empty, meet, subset, same, states, firstStates, size}
+use mathlib.Core.Bool.{Bool}
+use Rattle.model.specs.Sets.{Set, empty, meet, same, states, firstStates, size}
 use Rattle.model.specs.Tables.{Table, allowed}
 use Rattle.model.specs.Rounds.{iterate, eliminationStep, eliminated, backwardNumber}
 use Rattle.model.specs.Promises.{IsLeast, IsGreatest, BackwardIs}
-use Rattle.model.proofs.Bounds.{and-true, and-intro, clash, lt-or-ge, first-le, first-passes, first-least}
-use Rattle.model.proofs.SetLaws.{Proper, setOf-proper, In, in-top, empty-in, meet-in, in-states, states-in, _⊆_, subset-in, in-subset, same-set}
+use Rattle.model.proofs.Bounds.{first-found, first-before, first-le}
+use Rattle.model.proofs.SetLaws.{Proper, setOf-proper, empty-in, meet-in, _⊆_, in-subset, same-set, same-eq, eq-same, ⊆-of-eq, states-within}
 use Rattle.model.proofs.Counting.{size-bound, all-or-fewer}
-
--- ---- numbers and sets
-
-pub le-induction : (P : ℕ → Type 0) (m : ℕ) → P m → ((n : ℕ) → P n → P (suc n)) → (n : ℕ) → m ≤ n → P n
-le-induction P m h g zero l = let e : m ≡ zero = omega arith in subst P e h
-le-induction P m h g (suc n) l =
-    ⊎-elim (λ e. subst P e h) (λ k. g n (le-induction P m h g n (omega arith))) (eq-or-lt-of-le l)
-
--- where the bound passes too, the first that passes does
-first-found : (p : ℕ → Bool) (n : ℕ) → p n ≡ true → p (first n p) ≡ true
-first-found p n h = ⊎-elim (λ e. ap p e ∙ h) (λ l. first-passes p n l) (eq-or-lt-of-le (first-le p n))
-
-pub ⊆-of-eq : {X Y : Set} → X ≡ Y → X ⊆ Y
-⊆-of-eq e s h = subst (λ (X : Set). In X s) e h
-
-pub same-eq : {X Y : Set} → Proper X → Proper Y → same X Y ≡ true → X ≡ Y
-unfolding same
-same-eq {X} {Y} x y e =
-    let both = and-true (subset X Y) (subset Y X) e in
-    same-set X Y x y (subset-in (both .0)) (subset-in (both .1))
-
-pub eq-same : {X Y : Set} → X ≡ Y → same X Y ≡ true
-unfolding same
-eq-same {X} {Y} e = and-intro (subset X Y) (subset Y X) (in-subset (⊆-of-eq e)) (in-subset (⊆-of-eq (sym e)))
-
-pub states-within : (n : ℕ) (p : ℕ → Bool) → states n p ⊆ firstStates n
-unfolding firstStates
-states-within n p s h = in-states n _ (in-top h) (states-in n p h .0) refl
 
 -- ---- chains
 
@@ -83,7 +52,7 @@ iterate-has P f x h g (suc k) = g (iterate f x k) (iterate-has P f x h g k)
 -- for a loop that stops early
 pub iterate-still : (f : Set → Set) (x : Set) (k m : ℕ) → f (iterate f x k) ≡ iterate f x k → k ≤ m → iterate f x m ≡ iterate f x k
 unfolding iterate
-iterate-still f x k m e = le-induction (λ j. iterate f x j ≡ iterate f x k) k refl (λ j i. ap f i ∙ e) m
+iterate-still f x k m e = le-ind (λ j. iterate f x j ≡ iterate f x k) refl (λ j l i. ap f i ∙ e) m
 
 module _ (f : Set → Set) (x : Set) (n : ℕ)
     (proper : (k : ℕ) → Proper (iterate f x k))
@@ -155,7 +124,7 @@ module _ (t : Table) where
   eliminated-shrinks j s h = meet-in h .0
 
   pub eliminated-mono : (i j : ℕ) → i ≤ j → eliminated t j ⊆ eliminated t i
-  eliminated-mono i = le-induction (λ j. eliminated t j ⊆ eliminated t i) i (λ s h. h) (λ j f s h. f s (eliminated-shrinks j s h))
+  eliminated-mono i = le-ind (λ j. eliminated t j ⊆ eliminated t i) (λ s h. h) (λ j l f s h. f s (eliminated-shrinks j s h))
 
   pub eliminated-proper : (j : ℕ) → Proper (eliminated t j)
   unfolding eliminated eliminationStep allowed states meet
@@ -175,7 +144,7 @@ module _ (t : Table) where
   backward-is =
       record {
         still = same-eq (eliminated-proper _) (eliminated-proper _) (first-found (unchanged t) (t .n) (eq-same eliminated-done));
-        least = λ j e. ⊎-elim (λ l. absurd (clash (eq-same e) (first-least (unchanged t) (t .n) j l))) (λ h. h) (lt-or-ge j (backwardNumber t));
+        least = λ j e. first-before (unchanged t) (t .n) j (eq-same e);
         bounded = first-le (unchanged t) (t .n);
       }
 

@@ -7,16 +7,14 @@
 --   peel-start, peel-turn, peel-end     a loop's invariant: what is joined so far, with the image of what is left, is the whole
 --   in-difference, difference-in        membership in a difference
 --   union-assoc, union-empty            union is associative, and the empty set adds nothing
-use Prim.Native.Nat.{ℕ, zero, suc, _+_, _≤_, _<_}
-use native.Mathlib.Omega.{arith}
-use mathlib.Core.Path.{_≡_, refl, sym, ap, _∙_, subst}
-use mathlib.Core.Logic.{_⊎_, inl, inr, ⊎-elim}
-use mathlib.Core.Bool.{Bool, true, false, not, cond}
-use borrow.Author.Tests.{eqb-false}
-use Rattle.model.specs.Sets.{top, Set, member, setOf, empty, single, union, difference, subset, firstStates, image}
+use Prim.Native.Nat.{ℕ, _<_}
+use mathlib.Core.Path.{_≡_, sym, ap, _∙_, subst}
+use mathlib.Core.Logic.{inl, inr, ⊎-elim}
+use mathlib.Core.Bool.{true, not}
+use Rattle.model.specs.Sets.{top, Set, member, empty, single, union, difference, subset, firstStates, image}
 use Rattle.model.proofs.Bounds.{and-true, and-intro, not-true, is-false, clash}
-use Rattle.model.proofs.SetLaws.{Proper, setOf-proper, In, in-top, in-setOf, setOf-in, in-or-out, empty-in, in-single, single-in, in-union, union-in, _⊆_, subset-in, same-set, in-image, image-in}
-use Rattle.model.proofs.CoverLaws.{firstStates-in, image-proper}
+use Rattle.model.proofs.SetLaws.{Proper, setOf-proper, In, in-top, in-setOf, setOf-in, in-or-out, empty-in, single-in, firstStates-in, in-union, union-in, _⊆_, subset-in, same-set, in-image, image-in}
+use Rattle.model.proofs.CoverLaws.{image-proper}
 
 -- ---- difference and union
 
@@ -70,6 +68,7 @@ module _ (n : ℕ) (f : ℕ → Set) where
           (λ e. in-union (inl (subst (λ (y : ℕ). In (f y) s) (single-in e) (w .3))))
           (λ o. in-union (inr (in-image f (difference X (single x)) n (w .1) (in-difference (w .2) o) (w .3))))
           (in-or-out (single x) (w .0))
+
       together : (s : ℕ) → (y : ℕ) × (y < n) × In (difference X (single x)) y × In (f y) s → In (image n f X) s
       together s w = in-image f X n (w .1) (difference-in (w .2) .0) (w .3)
 

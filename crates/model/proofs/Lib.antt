@@ -8,3 +8,4 @@ pub mod ImageLaws
 pub mod RoundLaws
 pub mod PathLaws
 pub mod Acceptance
+pub mod Kept

@@ -1,6 +1,5 @@
 -- Laws of paths (specs/Paths.antt): near as a breadth-first search from the forbidden states, the path that walk finds, distances.
 --
---   in-firstStates, firstStates-in     the states of a table
 --   near-suc, near-mono                what is near stays near
 --   in-near, near-in                   a state is within k + 1 steps exactly if it, or a successor, is within k
 --   near-leads, leads-near             from a state within k steps at most k more lead to a forbidden one, and back
@@ -33,19 +32,11 @@ use Rattle.model.specs.Tables.{Table}
 use Rattle.model.specs.Paths.{leads, isPath, near, far, distance, shortest, hasPath, walk, smallestPath}
 use Rattle.model.specs.Promises.{NotAfter, IsSmallest}
 use Rattle.model.proofs.Bounds.{and-true, and-intro, is-false, clash, by-cond, first-passes, first-least, lt-or-ge}
-use Rattle.model.proofs.SetLaws.{In, in-top, in-or-out, in-union, union-in, in-meet, meet-in, in-states, states-in, _⊆_, in-meets, meets-in, smallest-le, smallest-in}
+use Rattle.model.proofs.SetLaws.{In, in-top, in-or-out, in-union, union-in, in-meet, meet-in, in-states, states-in, in-firstStates, firstStates-in, _⊆_, in-meets, meets-in, smallest-le, smallest-in}
 use Rattle.model.proofs.Counting.{size-lt, size-bound, size-pos}
 use Rattle.model.proofs.WellFormed.{WellFormed}
 
 -- ---- general laws
-
-pub in-firstStates : {n s : ℕ} → s < top → s < n → In (firstStates n) s
-unfolding firstStates
-in-firstStates {n} h l = in-states n (λ u. true) h l refl
-
-pub firstStates-in : {n s : ℕ} → In (firstStates n) s → s < n
-unfolding firstStates
-firstStates-in {n} h = states-in n (λ u. true) h .0
 
 -- a test that begins with a membership, as isPath and leads do
 in-and : {X : Set} {x : ℕ} {b : Bool} → In X x → b ≡ true → (member X x && b) ≡ true

@@ -3,19 +3,19 @@ use Prim.Native.Nat.{ℕ, zero, suc, _+_, _-_, _≤_, _<_, zero-le, suc-le-suc}
 use native.Mathlib.Nat.{not-suc-le-zero}
 use native.Mathlib.Omega.{arith}
 use mathlib.Core.Path.{_≡_, refl, sym, ap, _∙_, subst}
-use mathlib.Core.Logic.{_⊎_, inl, inr, ⊎-elim}
-use mathlib.Core.Bool.{Bool, true, false, not, false≢true}
+use mathlib.Core.Logic.{inl, inr, ⊎-elim}
+use mathlib.Core.Bool.{true, false, not, false≢true}
 use mathlib.Core.List.{List, [], _∷_, List·Memᴰ, List·Memᴰ·head}
 use lib.ListN.{length}
 use Rattle.model.specs.Sets.{Set, member, union, meet, subset, firstStates}
-use Rattle.model.specs.Tables.{Table, post, hold, cover, allowed}
+use Rattle.model.specs.Tables.{Table, post, hold, allowed}
 use Rattle.model.specs.Rounds.{iterate, forwardStep, forward, backwardStep, backward, Round, roundOf, firstRound, nextRound, isSafe, isUnsafe, Outcome, safe, unsafe, undecided, settle, rounds, run, eliminationStep, eliminated, backwardNumber}
 use Rattle.model.specs.Paths.{leads, isPath}
 use Rattle.model.specs.Promises.{IsLeast, IsGreatest, roundAt, IsRound, GoesOn, Pinned, IsInvariant}
 use Rattle.model.proofs.Bounds.{and-true, and-intro, not-true, is-false, clash, decided, by-cond, below-suc, lt-or-ge}
-use Rattle.model.proofs.SetLaws.{In, in-or-out, in-union, union-in, in-meet, meet-in, _⊆_, subset-in, in-subset, subset-not}
-use Rattle.model.proofs.Fixpoints.{⊆-of-eq, from-below, from-above, greatest-post, eliminated-mono, eliminated-within, backward-is}
-use Rattle.model.proofs.CoverLaws.{firstStates-in, allowed-in, in-allowed, allowed-within, in-post, post-in, in-hold, hold-in, hold-within, hold-mono, cover-extensive, cover-within, cover-idem, cover-inside, forwardStep-mono, forwardStep-proper, forwardStep-within, backwardStep-mono, backwardStep-proper, backwardStep-within}
+use Rattle.model.proofs.SetLaws.{In, in-or-out, in-union, union-in, in-meet, meet-in, firstStates-in, _⊆_, ⊆-of-eq, subset-in, in-subset, subset-not}
+use Rattle.model.proofs.Fixpoints.{from-below, from-above, greatest-post, eliminated-mono, eliminated-within, backward-is}
+use Rattle.model.proofs.CoverLaws.{allowed-in, in-allowed, allowed-within, in-post, post-in, in-hold, hold-in, hold-within, cover-extensive, cover-idem, cover-inside, forwardStep-mono, forwardStep-proper, forwardStep-within, backwardStep-mono, backwardStep-proper, backwardStep-within}
 use Rattle.model.proofs.WellFormed.{WellFormed}
 
 -- ---- one round

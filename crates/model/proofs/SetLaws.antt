@@ -8,19 +8,17 @@
 --   in-OP, OP-in                   membership in the result of the operation OP from that in its arguments, and back
 --   _⊆_                            inclusion; subset-in, in-subset: the test and the fact; antisymmetry: same-set
 use Prim.Native.Nat.{ℕ, zero, suc, _+_, _*_, _/_, _%_, _^_, _≤_, _<_}
-use native.Mathlib.Nat.{not-suc-le-zero, le-of-suc-le-suc, pow-suc, pow-succ', div-div-eq-div-mul, div-add-mod, mod-lt, add-suc, suc-add, add-zero}
+use native.Mathlib.Nat.{not-suc-le-zero, le-of-suc-le-suc, pow-suc, pow-succ', div-div-eq-div-mul, div-add-mod, add-suc, suc-add, add-zero}
 use native.Mathlib.Omega.{arith}
-use mathlib.Core.Path.{_≡_, refl, sym, ap, ap₂, _∙_, subst}
+use mathlib.Core.Path.{_≡_, refl, sym, ap, _∙_, subst}
 use mathlib.Core.Logic.{_⊎_, inl, inr, ⊎-elim}
-use mathlib.Core.Bool.{Bool, true, false, not, _&&_, _||_, cond, true≢false, false≢true}
-use mathlib.Core.List.{List, [], _∷_, _++_}
-use borrow.Author.Tests.{ltb-true, ltb-false, lt-ltb, le-ltb, eqb-true, eqb-false, eq-eqb}
+use mathlib.Core.Bool.{Bool, true, false, not, _&&_, _||_, cond, false≢true}
+use borrow.Author.Tests.{ltb-true, lt-ltb, eqb-true, eqb-false, eq-eqb}
 use lib.Dec.{eqb, ltb}
-use lib.Pow.{pow-pos}
 use lib.ListN.{length, getD}
 use lib.Seq.{ext-getD}
-use Rattle.model.specs.Sets.{WORDS, top, Set, any, all, first, tab, bit, member, number, setOf, empty, single, union, meet, difference, subset, same, meets, states, firstStates, smallest, image}
-use Rattle.model.proofs.Bounds.{and-true, and-intro, or-true, or-intro, not-true, is-false, clash, decided, same-test, by-cond, any-intro, any-find, any-none, all-at, all-intro, all-not, first-passes, first-least, lt-or-ge, below-suc, length-tab, getD-tab, tab-cong}
+use Rattle.model.specs.Sets.{WORDS, top, Set, tab, bit, member, number, setOf, empty, single, union, meet, subset, same, meets, states, firstStates, smallest, image}
+use Rattle.model.proofs.Bounds.{and-true, and-intro, or-true, or-intro, not-true, clash, decided, same-test, by-cond, any-intro, any-find, all-at, all-intro, all-not, first-passes, first-before, below-suc, length-tab, getD-tab}
 
 -- ---- bits
 
@@ -187,6 +185,14 @@ states-in n p {s} h =
     let both = and-true (ltb s n) (p s) (setOf-in _ h) in
     (ltb-true s n (both .0), both .1)
 
+pub in-firstStates : {n s : ℕ} → s < top → s < n → In (firstStates n) s
+unfolding firstStates
+in-firstStates {n} t h = in-states n _ t h refl
+
+pub firstStates-in : {n s : ℕ} → In (firstStates n) s → s < n
+unfolding firstStates
+firstStates-in {n} h = states-in n _ h .0
+
 -- ---- inclusion
 
 infix 40 _⊆_
@@ -222,9 +228,26 @@ subset-not X Y e = go (all-not (λ k. not (member X k) || member Y k) top e)
         (λ q. absurd (clash (or-intro (not (member X (w .0))) (member Y (w .0)) (inl (ap not q))) (w .2)))
         (decided (member X (w .0)))
 
+pub ⊆-of-eq : {X Y : Set} → X ≡ Y → X ⊆ Y
+⊆-of-eq e s h = subst (λ (X : Set). In X s) e h
+
+pub states-within : (n : ℕ) (p : ℕ → Bool) → states n p ⊆ firstStates n
+unfolding firstStates
+states-within n p s h = in-states n _ (in-top h) (states-in n p h .0) refl
+
 pub same-set : (X Y : Set) → Proper X → Proper Y → X ⊆ Y → Y ⊆ X → X ≡ Y
 same-set X Y x y f g =
     ext X Y x y (λ s h. same-test (member X s) (member Y s) (λ e. f s (record { is = e }) .is) (λ e. g s (record { is = e }) .is))
+
+pub same-eq : {X Y : Set} → Proper X → Proper Y → same X Y ≡ true → X ≡ Y
+unfolding same
+same-eq {X} {Y} x y e =
+    let both = and-true (subset X Y) (subset Y X) e in
+    same-set X Y x y (subset-in (both .0)) (subset-in (both .1))
+
+pub eq-same : {X Y : Set} → X ≡ Y → same X Y ≡ true
+unfolding same
+eq-same {X} {Y} e = and-intro (subset X Y) (subset Y X) (in-subset (⊆-of-eq e)) (in-subset (⊆-of-eq (sym e)))
 
 pub in-meets : {X Y : Set} {s : ℕ} → In X s → In Y s → meets X Y ≡ true
 unfolding meets
@@ -241,8 +264,7 @@ meets-in {X} {Y} e =
 
 pub smallest-le : {X : Set} {s : ℕ} → In X s → smallest X ≤ s
 unfolding smallest
-smallest-le {X} {s} h =
-    ⊎-elim (λ l. absurd (clash (h .is) (first-least (member X) top s l))) (λ l. l) (lt-or-ge s (first top (member X)))
+smallest-le {X} {s} h = first-before (member X) top s (h .is)
 
 pub smallest-in : {X : Set} {s : ℕ} → In X s → In X (smallest X)
 unfolding smallest

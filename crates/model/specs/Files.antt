@@ -10,7 +10,7 @@
 --   part input k            the 512 bytes of block k; contentsOf input: the contents of a file's blocks, joined
 --   tableIn bytes n g       the table that contents hold
 use Prim.Native.Nat.{ℕ, zero, suc, _+_, _*_, _/_, _%_}
-use mathlib.Core.Bool.{Bool, cond, _&&_}
+use mathlib.Core.Bool.{_&&_}
 use mathlib.Core.List.{List, [], _∷_, _++_}
 use lib.Dec.{ltb}
 use lib.ListN.{length, getD, take, drop, replicate}

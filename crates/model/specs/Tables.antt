@@ -8,7 +8,7 @@
 --
 -- Each definition takes only what it uses of a table.
 use Prim.Native.Nat.{ℕ}
-use mathlib.Core.Bool.{true, false, cond, not}
+use mathlib.Core.Bool.{cond, not}
 use mathlib.Core.List.{List, [], _∷_}
 use Rattle.model.specs.Sets.{Set, member, meet, subset, states, firstStates, image}
 
