@@ -1,25 +1,27 @@
--- Laws of post, hold and covers: each by its members, then what they have in common with every closure (extensive, monotone, closed).
+-- Laws of post, hold and covers: each by its members, and a cover as a closure.
 --
 --   in-allowed, allowed-in             the states not forbidden; allowed-within: they are states of the table
---   image-mono, image-proper           images grow with the set; image-inside: an image is inside what each of its parts is inside
---   in-post, post-in                   post, by its members; post-mono
---   in-hold, hold-in                   hold, by its members; hold-within (it holds states of the table only), hold-mono
---   in-coverOf, coverOf-in             the cover of a state: a state of the table that is in each listed set that holds the state
---   coverOf-self, coverOf-trans        a state is in its own cover; the cover of a state in a cover is inside that cover
---   cover-add-in, cover-add-out        adding Z changes the cover of each state in Z to its meet with Z, and no other
---   cover-extensive, cover-mono        a set is inside its cover; covers grow with the set
---   cover-closed, cover-inside         a cover holds the cover of each of its states; a set inside a listed set has its cover there too
---   forwardStep-*, backwardStep-*      the steps of R and S are monotone, proper and within the first n states
+--   image-mono, image-proper           an image grows with the set, and is proper; image-inside: it is where all of its parts are
+--   in-post, post-in, post-mono        post by its members
+--   in-hold, hold-in, hold-mono        hold by its members; hold-within: they are states of the table
+--   cover-add-in, cover-add-out        adding Z to the list changes the cover of each state in Z to its meet with Z, and no other cover
+--   in-coverOf, coverOf-in             the cover of a state s by its members: states of the table that are in each listed set with s
+--   coverOf-within, coverOf-self       so it holds states of the table only, s among them;
+--   coverOf-trans                      and holds the cover of each of its states
+--   Closed n L Y                       Y holds the cover of each of its states (it is an element of the abstract domain)
+--   listed-closed, cover-closed        each listed set is closed, and so is each cover
+--   cover-extensive, cover-minimal     the cover of X is the least closed set around X; cover-mono, cover-proper, cover-within
+--   forwardStep-*, backwardStep-*      the steps of R and S are monotone, proper and within the states of the table
 use Prim.Native.Nat.{ℕ, zero, suc, _<_}
 use mathlib.Core.Path.{_≡_, refl, sym, ap, subst}
 use mathlib.Core.Logic.{inl, inr, ⊎-elim}
-use mathlib.Core.Bool.{Bool, true, false, not, cond}
+use mathlib.Core.Bool.{true, false, not}
 use mathlib.Core.List.{List, [], _∷_, List·Memᴰ, List·Memᴰ·head, List·Memᴰ·tail, List·Memᴰ·cases-cons, List·Memᴰ·not-nil}
 use Rattle.model.specs.Sets.{Set, member, empty, union, meet, firstStates, image}
 use Rattle.model.specs.Tables.{Table, post, hold, coverOf, cover, allowed}
 use Rattle.model.specs.Rounds.{forwardStep, backwardStep}
 use Rattle.model.proofs.Bounds.{not-true, by-cond, clash}
-use Rattle.model.proofs.SetLaws.{Proper, setOf-proper, In, in-top, in-union, union-in, in-meet, meet-in, in-states, states-in, firstStates-in, states-within, _⊆_, subset-in, in-subset, in-image, image-in}
+use Rattle.model.proofs.SetLaws.{Proper, setOf-proper, In, in-top, in-union, union-in, in-meet, meet-in, in-states, states-in, states-within, firstStates-in, _⊆_, subset-in, in-subset, in-image, image-in}
 
 -- ---- the states of the table
 
@@ -89,52 +91,68 @@ module _ (n : ℕ) (row : ℕ → Set) where
 module _ (n : ℕ) where
   pub cover-add-in : (Z : Set) (L : List Set) (s : ℕ) → member Z s ≡ true → coverOf n (Z ∷ L) s ≡ meet (coverOf n L s) Z
   unfolding coverOf
-  cover-add-in Z L s e = ap (λ (b : Bool). cond b (meet (coverOf n L s) Z) (coverOf n L s)) e
+  cover-add-in Z L s e = rw e
 
   pub cover-add-out : (Z : Set) (L : List Set) (s : ℕ) → member Z s ≡ false → coverOf n (Z ∷ L) s ≡ coverOf n L s
   unfolding coverOf
-  cover-add-out Z L s e = ap (λ (b : Bool). cond b (meet (coverOf n L s) Z) (coverOf n L s)) e
+  cover-add-out Z L s e = rw e
 
   -- one more listed set is one more condition
-  in-cover-add : (Z : Set) (L : List Set) {s u : ℕ} → In (coverOf n L s) u → (In Z s → In Z u) → In (coverOf n (Z ∷ L) s) u
+  in-coverOf-cons : (Z : Set) (L : List Set) {s u : ℕ} → In (coverOf n L s) u → (In Z s → In Z u) → In (coverOf n (Z ∷ L) s) u
   unfolding coverOf
-  in-cover-add Z L {s} {u} h i = by-cond (λ (X : Set). In X u) (member Z s) _ _ (λ e. in-meet h (i (record { is = e }))) (λ e. h)
+  in-coverOf-cons Z L {s} {u} h i = by-cond (λ (X : Set). In X u) (member Z s) _ _ (λ e. in-meet h (i (record { is = e }))) (λ e. h)
 
-  cover-add-parts : (Z : Set) (L : List Set) {s u : ℕ} → In (coverOf n (Z ∷ L) s) u → In (coverOf n L s) u × (In Z s → In Z u)
+  coverOf-cons-in : (Z : Set) (L : List Set) {s u : ℕ} → In (coverOf n (Z ∷ L) s) u → In (coverOf n L s) u × (In Z s → In Z u)
   unfolding coverOf
-  cover-add-parts Z L {s} {u} =
+  coverOf-cons-in Z L {s} {u} =
       by-cond (λ (X : Set). In X u → In (coverOf n L s) u × (In Z s → In Z u)) (member Z s) _ _
       (λ e h. (meet-in h .0, λ k. meet-in h .1)) (λ e h. (h, λ k. absurd (clash (k .is) e)))
 
-  pub in-coverOf : (L : List Set) {s u : ℕ} → In (firstStates n) u → ((Z : Set) → List·Memᴰ Z L → In Z s → In Z u) → In (coverOf n L s) u
+  pub in-coverOf : (L : List Set) {s u : ℕ} → In (firstStates n) u
+      → ((Z : Set) → List·Memᴰ Z L → In Z s → In Z u) → In (coverOf n L s) u
   unfolding coverOf
   in-coverOf [] h i = h
-  in-coverOf (Z ∷ L) h i = in-cover-add Z L (in-coverOf L h (λ Y m. i Y (List·Memᴰ·tail m))) (i Z (List·Memᴰ·head refl))
+  in-coverOf (Z ∷ L) h i = in-coverOf-cons Z L (in-coverOf L h (λ Y m. i Y (List·Memᴰ·tail m))) (i Z (List·Memᴰ·head refl))
 
   pub coverOf-in : (L : List Set) {s u : ℕ} → In (coverOf n L s) u → (Z : Set) → List·Memᴰ Z L → In Z s → In Z u
   coverOf-in [] h Y m k = absurd (List·Memᴰ·not-nil m)
   coverOf-in (Z ∷ L) {s} {u} h Y m k =
-      let parts = cover-add-parts Z L h in
-      ⊎-elim (λ e. subst (λ (X : Set). In X s → In X u) (sym e) (parts .1) k) (λ l. coverOf-in L (parts .0) Y l k) (List·Memᴰ·cases-cons m)
+      let both = coverOf-cons-in Z L h in
+      ⊎-elim (λ e. subst (λ (X : Set). In X s → In X u) (sym e) (both .1) k) (λ l. coverOf-in L (both .0) Y l k) (List·Memᴰ·cases-cons m)
 
   pub coverOf-within : (L : List Set) (s : ℕ) → coverOf n L s ⊆ firstStates n
   unfolding coverOf
   coverOf-within [] s u h = h
-  coverOf-within (Z ∷ L) s u h = coverOf-within L s u (cover-add-parts Z L h .0)
+  coverOf-within (Z ∷ L) s u h = coverOf-within L s u (coverOf-cons-in Z L h .0)
 
   pub coverOf-self : (L : List Set) {s : ℕ} → In (firstStates n) s → In (coverOf n L s) s
   coverOf-self L h = in-coverOf L h (λ Z m k. k)
 
   pub coverOf-trans : (L : List Set) (s : ℕ) {u : ℕ} → In (coverOf n L s) u → coverOf n L u ⊆ coverOf n L s
-  coverOf-trans L s {u} h x k =
-      in-coverOf L (coverOf-within L u x k) (λ Z m i. coverOf-in L k Z m (coverOf-in L h Z m i))
+  coverOf-trans L s {u} h x k = in-coverOf L (coverOf-within L u x k) (λ Z m i. coverOf-in L k Z m (coverOf-in L h Z m i))
 
 -- ---- the cover of a set
 
+abbrev pub Closed : ℕ → List Set → Set → Type 0
+Closed n L Y = (x : ℕ) → In Y x → coverOf n L x ⊆ Y
+
 module _ (n : ℕ) (L : List Set) where
+  pub listed-closed : (Z : Set) → List·Memᴰ Z L → Closed n L Z
+  listed-closed Z m x h s k = coverOf-in n L k Z m h
+
+  pub cover-closed : (X : Set) → Closed n L (cover n L X)
+  unfolding cover
+  cover-closed X x h s k =
+      let w = image-in (coverOf n L) X n h in
+      in-image (coverOf n L) X n (w .1) (w .2) (coverOf-trans n L (w .0) (w .3) s k)
+
   pub cover-extensive : (X : Set) → X ⊆ firstStates n → X ⊆ cover n L X
   unfolding cover
   cover-extensive X i s h = in-image (coverOf n L) X n (firstStates-in (i s h)) h (coverOf-self n L (i s h))
+
+  pub cover-minimal : (X Y : Set) → Closed n L Y → X ⊆ Y → cover n L X ⊆ Y
+  unfolding cover
+  cover-minimal X Y c i = image-inside n (coverOf n L) X Y (λ x h. c x (i x h))
 
   pub cover-mono : (X Y : Set) → X ⊆ Y → cover n L X ⊆ cover n L Y
   unfolding cover
@@ -148,21 +166,6 @@ module _ (n : ℕ) (L : List Set) where
   unfolding cover
   cover-within X = image-inside n (coverOf n L) X (firstStates n) (λ x h. coverOf-within n L x)
 
-  pub cover-closed : (X : Set) {x : ℕ} → In (cover n L X) x → coverOf n L x ⊆ cover n L X
-  unfolding cover
-  cover-closed X h s k =
-      let w = image-in (coverOf n L) X n h in
-      in-image (coverOf n L) X n (w .1) (w .2) (coverOf-trans n L (w .0) (w .3) s k)
-
-  -- a cover holds the cover of each set inside it
-  pub cover-idem : (X Y : Set) → X ⊆ cover n L Y → cover n L X ⊆ cover n L Y
-  unfolding cover
-  cover-idem X Y i = image-inside n (coverOf n L) X (cover n L Y) (λ x h. cover-closed Y (i x h))
-
-  pub cover-inside : (X Z : Set) → List·Memᴰ Z L → X ⊆ Z → cover n L X ⊆ Z
-  unfolding cover
-  cover-inside X Z m i = image-inside n (coverOf n L) X Z (λ x h s k. coverOf-in n L k Z m (i x h))
-
 -- ---- the steps of R and S
 
 module _ (t : Table) (L : List Set) (Z : Set) where
@@ -171,9 +174,8 @@ module _ (t : Table) (L : List Set) (Z : Set) where
   forwardStep-mono X Y i =
       cover-mono (t .n) L _ _
       (λ s h.
-      let parts = meet-in h in
-      in-meet (parts .0)
-      (in-union (⊎-elim (λ k. inl k) (λ k. inr (post-mono (t .n) (t .row) X Y i s k)) (union-in (parts .1)))))
+      let both = meet-in h in
+      in-meet (both .0) (in-union (⊎-elim (λ k. inl k) (λ k. inr (post-mono (t .n) (t .row) X Y i s k)) (union-in (both .1)))))
 
   pub forwardStep-proper : (X : Set) → Proper (forwardStep t L Z X)
   unfolding forwardStep
@@ -183,16 +185,16 @@ module _ (t : Table) (L : List Set) (Z : Set) where
   unfolding forwardStep
   forwardStep-within X = cover-within (t .n) L _
 
-  pub backwardStep-mono : (X Y : Set) → X ⊆ Y → backwardStep t L Z X ⊆ backwardStep t L Z Y
+module _ (t : Table) (L : List Set) (R : Set) where
+  pub backwardStep-mono : (X Y : Set) → X ⊆ Y → backwardStep t L R X ⊆ backwardStep t L R Y
   unfolding backwardStep
   backwardStep-mono X Y i =
-      cover-mono (t .n) L _ _
-      (λ s h. in-meet (meet-in h .0) (hold-mono (t .n) (t .row) X Y i s (meet-in h .1)))
+      cover-mono (t .n) L _ _ (λ s h. in-meet (meet-in h .0) (hold-mono (t .n) (t .row) X Y i s (meet-in h .1)))
 
-  pub backwardStep-proper : (X : Set) → Proper (backwardStep t L Z X)
+  pub backwardStep-proper : (X : Set) → Proper (backwardStep t L R X)
   unfolding backwardStep
   backwardStep-proper X = cover-proper (t .n) L _
 
-  pub backwardStep-within : (X : Set) → backwardStep t L Z X ⊆ firstStates (t .n)
+  pub backwardStep-within : (X : Set) → backwardStep t L R X ⊆ firstStates (t .n)
   unfolding backwardStep
   backwardStep-within X = cover-within (t .n) L _

@@ -47,7 +47,7 @@ module _ (t : Table) (allowance : ℕ) where
         invariant = λ e. safe-invariant t allowance q;
       }
   outcome-2 w h path (unsafe i) q =
-      let found = unsafe-path t allowance w q in
+      let found = unsafe-path t w allowance q in
       record {
         decided = inr refl;
         unsafe-path = λ e. found;
@@ -143,7 +143,7 @@ promises =
           of-answer store n g allowance path ok (λ a. SamePath a (shortestAnswer store n g (length path)) (bufferFor (tableOf store n g) a path) (shortestBuffer store n g path))
           (outcome-path (tableOf store n g) _ _ path _
           (λ i q.
-          let found = unsafe-path (tableOf store n g) allowance w q in
+          let found = unsafe-path (tableOf store n g) w allowance q in
           shortest-found store n g path (store-accepted store n g ((ltb (length path) top, 21) ∷ []) (c .held) ∙ rw (le-ltb (length path) top (c .roomy))) (has-path w (found .0) (found .1))));
       round = round-is;
       pinned = pinned;
