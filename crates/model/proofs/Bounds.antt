@@ -1,13 +1,13 @@
--- Laws of tests below a bound, and of lists made by `tab`.
+-- Laws of tests below a bound, and of lists made by `tabulate`.
 --
 --   and-true, and-intro, or-true, or-intro     Boolean connectives as facts
---   any-find, any-intro, any-none              some number below the bound passes; none does
+--   any-find, any-intro, any-none              some number below the bound passes; none does; any-start, -turn, -end: a loop that looks for one
 --   all-at, all-intro, all-not                 each passes; one that does not
 --   first-le, first-passes, first-least        `first` is the least that passes, else the bound; first-is, first-none: so it is that one;
 --                                              first-found, first-before: what passes at the bound, or anywhere, tells of it
---   length-tab, getD-tab, tab-cong             a list by its elements
+--   length-tabulate, getD-tabulate, tabulate-cong             a list by its elements
 use Prim.Native.Nat.{ℕ, zero, suc, _+_, _≤_, _<_, zero-le, suc-le-suc}
-use native.Mathlib.Nat.{le-of-suc-le-suc, not-suc-le-zero, eq-or-lt-of-le}
+use native.Mathlib.Nat.{le-of-suc-le-suc, not-suc-le-zero, eq-or-lt-of-le, le-antisymm}
 use native.Mathlib.Decide.{decLt}
 use native.Mathlib.Numerals.{add-one}
 use native.Mathlib.Omega.{arith}
@@ -17,7 +17,7 @@ use mathlib.Core.Bool.{Bool, true, false, not, _&&_, _||_, cond, true≢false, f
 use mathlib.Core.List.{[], _∷_, _++_}
 use lib.ListN.{length, getD, length-append, List·getD-append}
 use lib.Seq.{getD-at}
-use Rattle.model.specs.Sets.{any, all, first, tab}
+use Rattle.model.specs.Sets.{any, all, first, tabulate}
 
 -- ---- Booleans
 
@@ -36,6 +36,10 @@ or-true false b e = inr e
 pub or-intro : (a b : Bool) → (a ≡ true) ⊎ (b ≡ true) → (a || b) ≡ true
 or-intro true b h = refl
 or-intro false b h = ⊎-elim (λ p. absurd (false≢true p)) (λ q. q) h
+
+pub or-false : (a b : Bool) → (a || b) ≡ false → (a ≡ false) × (b ≡ false)
+or-false true b e = absurd (true≢false e)
+or-false false b e = (refl, e)
 
 pub not-true : (a : Bool) → not a ≡ true → a ≡ false
 not-true true e = absurd (false≢true e)
@@ -96,6 +100,21 @@ module _ (p : ℕ → Bool) where
 
   pub any-none : (n : ℕ) → any n p ≡ false → (k : ℕ) → k < n → p k ≡ false
   any-none n e k h = is-false (p k) (λ q. clash (any-intro n k h q) e)
+
+  -- a loop that looks for one that passes: none before the first turn, none after a turn that found none
+  pub any-start : any 0 p ≡ false
+  unfolding any
+  any-start = refl
+
+  pub any-turn : (i : ℕ) → any i p ≡ false → p i ≡ false → any (i + 1) p ≡ false
+  unfolding any
+  any-turn i e f = rw (add-one, e) f
+
+  pub any-end : (i n : ℕ) → i ≤ n → n ≤ i → any i p ≡ false → any n p ≡ false
+  any-end i n l h e = subst (λ (k : ℕ). any k p ≡ false) (le-antisymm l h) e
+
+  pub no-any : (n : ℕ) → ((k : ℕ) → k < n → p k ≡ false) → any n p ≡ false
+  no-any n f = is-false (any n p) (λ e. let w = any-find n e in clash (w .2) (f (w .0) (w .1)))
 
   pub all-at : (n : ℕ) → all n p ≡ true → (k : ℕ) → k < n → p k ≡ true
   unfolding all
@@ -167,21 +186,21 @@ first-none p n f =
 -- ---- lists by their elements
 
 module _ {A : Type 0} (f : ℕ → A) where
-  pub length-tab : (n : ℕ) → length (tab n f) ≡ n
-  unfolding tab
-  length-tab zero = refl
-  length-tab (suc n) = length-append (tab n f) (f n ∷ []) ∙ ap (λ m. m + 1) (length-tab n) ∙ add-one n
+  pub length-tabulate : (n : ℕ) → length (tabulate n f) ≡ n
+  unfolding tabulate
+  length-tabulate zero = refl
+  length-tabulate (suc n) = length-append (tabulate n f) (f n ∷ []) ∙ ap (λ m. m + 1) (length-tabulate n) ∙ add-one n
 
-  pub getD-tab : (n i : ℕ) (d : A) → i < n → getD (tab n f) i d ≡ f i
-  unfolding tab
-  getD-tab zero i d h = absurd (not-suc-le-zero h)
-  getD-tab (suc n) i d h =
+  pub getD-tabulate : (n i : ℕ) (d : A) → i < n → getD (tabulate n f) i d ≡ f i
+  unfolding tabulate
+  getD-tabulate zero i d h = absurd (not-suc-le-zero h)
+  getD-tabulate (suc n) i d h =
       ⊎-elim
-      (λ e. subst (λ (j : ℕ). getD (tab n f ++ (f n ∷ [])) j d ≡ f j) (sym e) (getD-at (tab n f) (f n) [] d n (length-tab n)))
-      (λ l. List·getD-append (tab n f) (f n ∷ []) d i (subst (λ (m : ℕ). i < m) (sym (length-tab n)) l) ∙ getD-tab n i d l)
+      (λ e. subst (λ (j : ℕ). getD (tabulate n f ++ (f n ∷ [])) j d ≡ f j) (sym e) (getD-at (tabulate n f) (f n) [] d n (length-tabulate n)))
+      (λ l. List·getD-append (tabulate n f) (f n ∷ []) d i (subst (λ (m : ℕ). i < m) (sym (length-tabulate n)) l) ∙ getD-tabulate n i d l)
       (below-suc h)
 
-pub tab-cong : {A : Type 0} (f g : ℕ → A) (n : ℕ) → ((i : ℕ) → i < n → f i ≡ g i) → tab n f ≡ tab n g
-unfolding tab
-tab-cong f g zero e = refl
-tab-cong f g (suc n) e = ap₂ (λ xs x. xs ++ (x ∷ [])) (tab-cong f g n (λ i h. e i (omega arith))) (e n (omega arith))
+pub tabulate-cong : {A : Type 0} (f g : ℕ → A) (n : ℕ) → ((i : ℕ) → i < n → f i ≡ g i) → tabulate n f ≡ tabulate n g
+unfolding tabulate
+tabulate-cong f g zero e = refl
+tabulate-cong f g (suc n) e = ap₂ (λ xs x. xs ++ (x ∷ [])) (tabulate-cong f g n (λ i h. e i (omega arith))) (e n (omega arith))

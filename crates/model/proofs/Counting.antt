@@ -1,7 +1,7 @@
 -- Laws of counting: the length of a list of picked numbers, and the number of states in a set.
 --
---   picked-le, picked-lt           where what passes p passes q, p picks at most as many as q; fewer, if a number passes q alone
---   picked-bound                   where only numbers below n pass, at most n are picked
+--   filter-le, filter-lt           where what passes p passes q, p picks at most as many as q; fewer, if a number passes q alone
+--   filter-bound                   where only numbers below n pass, at most n are picked
 --   size-le, size-lt               a set inside another has at most its size; strictly inside, fewer
 --   all-or-fewer                   a set inside another is all of it, or has fewer members
 --   size-bound, size-pos           a set of n states has at most n members; one with a member has at least one
@@ -13,9 +13,9 @@ use mathlib.Core.Logic.{_⊎_, inl, inr, ⊎-elim}
 use mathlib.Core.Bool.{Bool, true, false, cond}
 use mathlib.Core.List.{[], _∷_}
 use lib.ListN.{length, length-append}
-use Rattle.model.specs.Sets.{top, Set, picked, member, empty, subset, firstStates, members, size}
+use Rattle.model.specs.Sets.{maxStates, Set, filter, member, empty, subset, firstStates, members, size}
 use Rattle.model.proofs.Bounds.{is-false, decided, below-suc}
-use Rattle.model.proofs.SetLaws.{In, in-top, empty-in, states-in, _⊆_, subset-in, subset-not}
+use Rattle.model.proofs.SetLaws.{In, in-bound, empty-in, states-in, _⊆_, subset-in, subset-not}
 
 -- ---- picked numbers
 
@@ -29,49 +29,49 @@ digit-le true b f = rw (f refl) (omega arith)
 digit-le false b f = omega arith
 
 -- one place more adds one number, if it passes
-length-picked : (p : ℕ → Bool) (n : ℕ) → length (picked (suc n) p) ≡ length (picked n p) + digit (p n)
-unfolding picked
-length-picked p n = length-append (picked n p) _ ∙ ap (λ (m : ℕ). length (picked n p) + m) (go (p n))
+length-filter : (p : ℕ → Bool) (n : ℕ) → length (filter (suc n) p) ≡ length (filter n p) + digit (p n)
+unfolding filter
+length-filter p n = length-append (filter n p) _ ∙ ap (λ (m : ℕ). length (filter n p) + m) (go (p n))
   where
     go : (b : Bool) → length (cond b (n ∷ []) []) ≡ digit b
     go true = refl
     go false = refl
 
 module _ (p q : ℕ → Bool) (f : (k : ℕ) → p k ≡ true → q k ≡ true) where
-  pub picked-le : (n : ℕ) → length (picked n p) ≤ length (picked n q)
-  unfolding picked
-  picked-le zero = omega arith
-  picked-le (suc n) = omega (arith, picked-le n, digit-le (p n) (q n) (f n), length-picked p n, length-picked q n)
+  pub filter-le : (n : ℕ) → length (filter n p) ≤ length (filter n q)
+  unfolding filter
+  filter-le zero = omega arith
+  filter-le (suc n) = omega (arith, filter-le n, digit-le (p n) (q n) (f n), length-filter p n, length-filter q n)
 
-  pub picked-lt : (n k : ℕ) → k < n → q k ≡ true → p k ≡ false → length (picked n p) < length (picked n q)
-  picked-lt zero k h i o = absurd (not-suc-le-zero h)
-  picked-lt (suc n) k h i o =
+  pub filter-lt : (n k : ℕ) → k < n → q k ≡ true → p k ≡ false → length (filter n p) < length (filter n q)
+  filter-lt zero k h i o = absurd (not-suc-le-zero h)
+  filter-lt (suc n) k h i o =
       ⊎-elim
-      (λ e. omega (arith, picked-le n, ap digit (sym (ap p e) ∙ o), ap digit (sym (ap q e) ∙ i), length-picked p n, length-picked q n))
-      (λ l. omega (arith, picked-lt n k l i o, digit-le (p n) (q n) (f n), length-picked p n, length-picked q n))
+      (λ e. omega (arith, filter-le n, ap digit (sym (ap p e) ∙ o), ap digit (sym (ap q e) ∙ i), length-filter p n, length-filter q n))
+      (λ l. omega (arith, filter-lt n k l i o, digit-le (p n) (q n) (f n), length-filter p n, length-filter q n))
       (below-suc h)
 
 -- of the numbers below m at most m pass, and at most n if all that pass are below n
-pub picked-bound : (p : ℕ → Bool) (n : ℕ) → ((k : ℕ) → p k ≡ true → k < n)
-    → (m : ℕ) → (length (picked m p) ≤ m) × (length (picked m p) ≤ n)
-unfolding picked
-picked-bound p n f zero = omega arith
-picked-bound p n f (suc m) =
+pub filter-bound : (p : ℕ → Bool) (n : ℕ) → ((k : ℕ) → p k ≡ true → k < n)
+    → (m : ℕ) → (length (filter m p) ≤ m) × (length (filter m p) ≤ n)
+unfolding filter
+filter-bound p n f zero = omega arith
+filter-bound p n f (suc m) =
     ⊎-elim
-    (λ e. omega (arith, f m e, ap digit e, picked-bound p n f m, length-picked p m))
-    (λ e. omega (arith, ap digit e, picked-bound p n f m, length-picked p m))
+    (λ e. omega (arith, f m e, ap digit e, filter-bound p n f m, length-filter p m))
+    (λ e. omega (arith, ap digit e, filter-bound p n f m, length-filter p m))
     (decided (p m))
 
 -- ---- the size of a set
 
 pub size-le : {X Y : Set} → X ⊆ Y → size X ≤ size Y
 unfolding size members
-size-le {X} {Y} f = picked-le (member X) (member Y) (λ k e. f k (record { is = e }) .is) top
+size-le {X} {Y} f = filter-le (member X) (member Y) (λ k e. f k (record { is = e }) .is) maxStates
 
 pub size-lt : {X Y : Set} {s : ℕ} → X ⊆ Y → In Y s → (In X s → ⊥) → size X < size Y
 unfolding size members
 size-lt {X} {Y} {s} f h g =
-    picked-lt (member X) (member Y) (λ k e. f k (record { is = e }) .is) top s (in-top h) (h .is)
+    filter-lt (member X) (member Y) (λ k e. f k (record { is = e }) .is) maxStates s (in-bound h) (h .is)
     (is-false (member X s) (λ e. g (record { is = e })))
 
 pub all-or-fewer : {X Y : Set} → X ⊆ Y → (Y ⊆ X) ⊎ (size X < size Y)
@@ -80,7 +80,7 @@ all-or-fewer {X} {Y} f =
 
 pub size-bound : {X : Set} {n : ℕ} → X ⊆ firstStates n → size X ≤ n
 unfolding size members firstStates
-size-bound {X} {n} f = picked-bound (member X) n (λ k e. states-in n _ (f k (record { is = e })) .0) top .1
+size-bound {X} {n} f = filter-bound (member X) n (λ k e. states-in n _ (f k (record { is = e })) .0) maxStates .1
 
 pub size-pos : {X : Set} {s : ℕ} → In X s → 0 < size X
 size-pos {X} {s} h = let l : size empty < size X = size-lt (λ k e. absurd (empty-in e)) h (λ e. empty-in e) in omega arith

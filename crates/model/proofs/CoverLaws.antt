@@ -1,6 +1,6 @@
 -- Laws of post, hold and covers: each by its members, and a cover as a closure.
 --
---   in-allowed, allowed-in             the states not forbidden; allowed-within: they are states of the table
+--   in-notForbidden, notForbidden-in             the states not forbidden; allowed-within: they are states of the table
 --   image-mono, image-proper           an image grows with the set, and is proper; image-inside: it is where all of its parts are
 --   in-post, post-in, post-mono        post by its members
 --   in-hold, hold-in, hold-mono        hold by its members; hold-within: they are states of the table
@@ -18,25 +18,25 @@ use mathlib.Core.Logic.{inl, inr, ⊎-elim}
 use mathlib.Core.Bool.{true, false, not}
 use mathlib.Core.List.{List, [], _∷_, List·Memᴰ, List·Memᴰ·head, List·Memᴰ·tail, List·Memᴰ·cases-cons, List·Memᴰ·not-nil}
 use Rattle.model.specs.Sets.{Set, member, empty, union, meet, firstStates, image}
-use Rattle.model.specs.Tables.{Table, post, hold, coverOf, cover, allowed}
+use Rattle.model.specs.Tables.{Table, post, hold, coverOf, cover, notForbidden}
 use Rattle.model.specs.Rounds.{forwardStep, backwardStep}
 use Rattle.model.proofs.Bounds.{not-true, by-cond, clash}
-use Rattle.model.proofs.SetLaws.{Proper, setOf-proper, In, in-top, in-union, union-in, in-meet, meet-in, in-states, states-in, states-within, firstStates-in, _⊆_, subset-in, in-subset, in-image, image-in}
+use Rattle.model.proofs.SetLaws.{Proper, setOf-proper, In, in-bound, in-union, union-in, in-meet, meet-in, in-states, states-in, states-within, firstStates-in, _⊆_, subset-in, in-subset, in-image, image-in}
 
 -- ---- the states of the table
 
 module _ (n : ℕ) (F : Set) where
-  pub in-allowed : {s : ℕ} → In (firstStates n) s → member F s ≡ false → In (allowed n F) s
-  unfolding allowed
-  in-allowed h e = in-states n _ (in-top h) (firstStates-in h) (ap not e)
+  pub in-notForbidden : {s : ℕ} → In (firstStates n) s → member F s ≡ false → In (notForbidden n F) s
+  unfolding notForbidden
+  in-notForbidden h e = in-states n _ (in-bound h) (firstStates-in h) (ap not e)
 
-  pub allowed-in : {s : ℕ} → In (allowed n F) s → member F s ≡ false
-  unfolding allowed
-  allowed-in {s} h = not-true (member F s) (states-in n _ h .1)
+  pub notForbidden-in : {s : ℕ} → In (notForbidden n F) s → member F s ≡ false
+  unfolding notForbidden
+  notForbidden-in {s} h = not-true (member F s) (states-in n _ h .1)
 
-  pub allowed-within : allowed n F ⊆ firstStates n
-  unfolding allowed
-  allowed-within = states-within n _
+  pub notForbidden-within : notForbidden n F ⊆ firstStates n
+  unfolding notForbidden
+  notForbidden-within = states-within n _
 
 -- ---- images
 
@@ -73,7 +73,7 @@ module _ (n : ℕ) (row : ℕ → Set) where
 
   pub in-hold : {X : Set} {s : ℕ} → In (firstStates n) s → row s ⊆ X → In (hold n row X) s
   unfolding hold
-  in-hold h i = in-states n _ (in-top h) (firstStates-in h) (in-subset i)
+  in-hold h i = in-states n _ (in-bound h) (firstStates-in h) (in-subset i)
 
   pub hold-in : {X : Set} {s : ℕ} → In (hold n row X) s → row s ⊆ X
   unfolding hold

@@ -15,7 +15,7 @@ use mathlib.Core.Path.{_≡_, refl, sym, ap, _∙_}
 use mathlib.Core.Logic.{_⊎_, inl, inr, ⊎-elim}
 use mathlib.Core.Bool.{Bool}
 use Rattle.model.specs.Sets.{Set, empty, meet, same, states, firstStates, size}
-use Rattle.model.specs.Tables.{Table, allowed}
+use Rattle.model.specs.Tables.{Table, notForbidden}
 use Rattle.model.specs.Rounds.{iterate, eliminationStep, eliminated, backwardNumber}
 use Rattle.model.specs.Promises.{IsLeast, IsGreatest, BackwardIs}
 use Rattle.model.proofs.Bounds.{first-found, first-before, first-le}
@@ -127,11 +127,11 @@ module _ (t : Table) where
   eliminated-mono i = le-ind (λ j. eliminated t j ⊆ eliminated t i) (λ s h. h) (λ j l f s h. f s (eliminated-shrinks j s h))
 
   pub eliminated-proper : (j : ℕ) → Proper (eliminated t j)
-  unfolding eliminated eliminationStep allowed states meet
+  unfolding eliminated eliminationStep notForbidden states meet
   eliminated-proper = iterate-has Proper (eliminationStep t) _ (setOf-proper _) (λ X h. setOf-proper _)
 
   pub eliminated-within : (j : ℕ) → eliminated t j ⊆ firstStates (t .n)
-  unfolding eliminated eliminationStep allowed
+  unfolding eliminated eliminationStep notForbidden
   eliminated-within =
       iterate-has (λ X. X ⊆ firstStates (t .n)) (eliminationStep t) _ (states-within (t .n) _) (λ X f s h. f s (meet-in h .0))
 

@@ -2,32 +2,23 @@
 --
 --   image-none          the image of a set without states is empty
 --   image-peel          the image of a set is what one of its states gives, joined to the image of the rest
---   image-top           the image of a set of states below n does not depend on the bound, from n up
+--   image-bound           the image of a set of states below n does not depend on the bound, from n up
 --   image-cong          the image reads f at the set's states only
---   peel-start, peel-turn, peel-end     a loop's invariant: what is joined so far, with the image of what is left, is the whole
---   in-difference, difference-in        membership in a difference
+--   peel-in, peel-size                  a loop that takes a set apart from its least state up: that state is in it, and what is left is smaller
+--   Peeling, peel-start, -turn, -end    its invariant: what is joined so far, with the image of what is left, is the whole
 --   union-assoc, union-empty            union is associative, and the empty set adds nothing
 use Prim.Native.Nat.{ℕ, _<_}
-use mathlib.Core.Path.{_≡_, sym, ap, _∙_, subst}
+use mathlib.Core.Path.{_≡_, sym, ap, ap₂, _∙_, subst}
 use mathlib.Core.Logic.{inl, inr, ⊎-elim}
-use mathlib.Core.Bool.{true, not}
-use Rattle.model.specs.Sets.{top, Set, member, empty, single, union, difference, subset, firstStates, image}
-use Rattle.model.proofs.Bounds.{and-true, and-intro, not-true, is-false, clash}
-use Rattle.model.proofs.SetLaws.{Proper, setOf-proper, In, in-top, in-setOf, setOf-in, in-or-out, empty-in, single-in, firstStates-in, in-union, union-in, _⊆_, subset-in, same-set, in-image, image-in}
+use mathlib.Core.Bool.{Bool, true, false, not}
+use borrow.Author.Tests.{not-false}
+use Rattle.model.specs.Sets.{maxStates, Set, empty, single, union, difference, subset, firstStates, image, size, smallest}
+use Rattle.model.proofs.Bounds.{not-true}
+use Rattle.model.proofs.SetLaws.{Proper, setOf-proper, In, in-bound, in-or-out, empty-in, in-single, single-in, firstStates-in, in-union, union-in, in-difference, difference-in, _⊆_, subset-in, subset-not, same-set, smallest-in, in-image, image-in}
+use Rattle.model.proofs.Counting.{size-lt}
 use Rattle.model.proofs.CoverLaws.{image-proper}
 
 -- ---- difference and union
-
-pub in-difference : {X Y : Set} {s : ℕ} → In X s → (In Y s → ⊥) → In (difference X Y) s
-unfolding difference
-in-difference {X} {Y} {s} h f =
-    in-setOf _ (in-top h) (and-intro (member X s) (not (member Y s)) (h .is) (ap not (is-false (member Y s) (λ e. f (record { is = e })))))
-
-pub difference-in : {X Y : Set} {s : ℕ} → In (difference X Y) s → In X s × (In Y s → ⊥)
-unfolding difference
-difference-in {X} {Y} {s} h =
-    let both = and-true (member X s) (not (member Y s)) (setOf-in _ h) in
-    (record { is = both .0 }, λ k. clash (k .is) (not-true (member Y s) (both .1)))
 
 pub union-assoc : (X Y Z : Set) → union X (union Y Z) ≡ union (union X Y) Z
 unfolding union
@@ -78,24 +69,54 @@ module _ (n : ℕ) (f : ℕ → Set) where
       (λ s h. let w = image-in f X n h in in-image g X n (w .1) (w .2) (subst (λ (Y : Set). In Y s) (e (w .0) (w .1) (w .2)) (w .3)))
       (λ s h. let w = image-in g X n h in in-image f X n (w .1) (w .2) (subst (λ (Y : Set). In Y s) (sym (e (w .0) (w .1) (w .2))) (w .3)))
 
-  pub image-top : (X : Set) → X ⊆ firstStates n → image top f X ≡ image n f X
-  image-top X i =
-      same-set _ _ (image-proper top f X) (image-proper n f X)
-      (λ s h. let w = image-in f X top h in in-image f X n (firstStates-in (i (w .0) (w .2))) (w .2) (w .3))
-      (λ s h. let w = image-in f X n h in in-image f X top (in-top (w .2)) (w .2) (w .3))
+  pub image-bound : (X : Set) → X ⊆ firstStates n → image maxStates f X ≡ image n f X
+  image-bound X i =
+      same-set _ _ (image-proper maxStates f X) (image-proper n f X)
+      (λ s h. let w = image-in f X maxStates h in in-image f X n (firstStates-in (i (w .0) (w .2))) (w .2) (w .3))
+      (λ s h. let w = image-in f X n h in in-image f X maxStates (in-bound (w .2)) (w .2) (w .3))
 
--- ---- a loop that peels: X at the start, the set `rest` to go, the set `out` joined so far
+-- ---- a loop that takes a set apart from its least state up: `rest` is what is left, x its least state, `rest′` what is left then
+
+-- (`done` is what the loop's test reads: that nothing is left)
+pub peel-in : {rest : Set} {x : ℕ} (done : Bool) → done ≡ subset rest empty → not done ≡ true → x ≡ smallest rest → In rest x
+peel-in {rest} done e n q =
+    subst (λ (y : ℕ). In rest y) (sym q) (smallest-in (subset-not rest empty (sym e ∙ not-true done n) .1))
+
+pub peel-size : {rest : Set} {x : ℕ} (rest′ : Set) → In rest x → rest′ ≡ difference rest (single x) → size rest′ < size rest
+peel-size {rest} {x} rest′ i e =
+    subst (λ (Y : Set). size Y < size rest) (sym e)
+    (size-lt (λ s h. difference-in h .0) i (λ h. difference-in h .1 (in-single (in-bound i))))
+
+-- what is joined so far, `out`, with the image of what is left, is the image of X
+pub record Peeling (f : ℕ → Set) (X out rest : Set) : Type 0 where
+  pub proper : Proper out
+  pub whole : union out (image maxStates f rest) ≡ image maxStates f X
 
 module _ (f : ℕ → Set) (X : Set) where
-  pub peel-start : union empty (image top f X) ≡ image top f X
-  peel-start = union-comm empty (image top f X) ∙ union-empty (image top f X) (image-proper top f X)
+  pub peel-start : {out : Set} → out ≡ empty → Peeling f X out X
+  unfolding empty
+  peel-start e =
+      record {
+        proper = subst Proper (sym e) (setOf-proper _);
+        whole =
+            ap (λ (Y : Set). union Y (image maxStates f X)) e
+            ∙ union-comm empty (image maxStates f X)
+            ∙ union-empty (image maxStates f X) (image-proper maxStates f X);
+      }
 
-  pub peel-turn : (out rest : Set) (x : ℕ) → In rest x → union out (image top f rest) ≡ image top f X
-      → union (union out (f x)) (image top f (difference rest (single x))) ≡ image top f X
-  peel-turn out rest x i e =
-      sym (union-assoc out (f x) (image top f (difference rest (single x))))
-      ∙ ap (union out) (sym (image-peel top f rest x i (in-top i)))
-      ∙ e
+  pub peel-turn : {out rest out′ rest′ : Set} {x : ℕ} → In rest x → out′ ≡ union out (f x) → rest′ ≡ difference rest (single x)
+      → Peeling f X out rest → Peeling f X out′ rest′
+  unfolding union
+  peel-turn {out} {rest} {x = x} i p q so =
+      record {
+        proper = subst Proper (sym p) (setOf-proper _);
+        whole =
+            ap₂ (λ (Y Z : Set). union Y (image maxStates f Z)) p q
+            ∙ sym (union-assoc out (f x) (image maxStates f (difference rest (single x))))
+            ∙ ap (union out) (sym (image-peel maxStates f rest x i (in-bound i)))
+            ∙ so .whole;
+      }
 
-  pub peel-end : (out rest : Set) → Proper out → subset rest empty ≡ true → union out (image top f rest) ≡ image top f X → out ≡ image top f X
-  peel-end out rest p e i = sym (union-empty out p) ∙ ap (union out) (sym (image-none top f rest e)) ∙ i
+  pub peel-end : {out rest : Set} (done : Bool) → done ≡ subset rest empty → not done ≡ false → Peeling f X out rest → out ≡ image maxStates f X
+  peel-end {out} {rest} done e n so =
+      sym (union-empty out (so .proper)) ∙ ap (union out) (sym (image-none maxStates f rest (sym e ∙ not-false done n))) ∙ so .whole

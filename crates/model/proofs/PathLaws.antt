@@ -1,8 +1,8 @@
 -- Laws of paths (specs/Paths.antt): near as a breadth-first search from the forbidden states, the path that walk finds, distances.
 --
---   near-suc, near-mono                what is near stays near
---   in-near, near-in                   a state is within k + 1 steps exactly if it, or a successor, is within k
---   near-leads, leads-near             from a state within k steps at most k more lead to a forbidden one, and back
+--   reaching-suc, reaching-mono                what is near stays near
+--   in-reaching, reaching-in                   a state is within k + 1 steps exactly if it, or a successor, is within k
+--   reaching-leads, leads-reaching             from a state within k steps at most k more lead to a forbidden one, and back
 --   At t s k                           s is k steps from a forbidden state and no fewer; near-at, at-unique: there is one such k
 --   Nearest t X d                      so near are the nearest states of X; nearest-at: each of those
 --   at-row                             the row of a state at k + 1 is nearest at k
@@ -14,8 +14,8 @@
 --   path-of, has-path                  there is a path exactly if hasPath says so
 --   smallest-is, smallest-below        smallestPath is the path that 01 names; its states are below n
 --   distance-is, distance-at           the distance of s is k exactly if s is at k
---   distance-far, far-distance         it is far exactly if s is never near
---   near-distance, distance-near       it is at most k exactly if s is within k steps
+--   distance-unreachable, unreachable-distance         it is far exactly if s is never near
+--   reaching-distance, distance-reaching       it is at most k exactly if s is within k steps
 --   pick-distance                      pick by distances: the least state of X whose distance is at most d
 use Prim.Native.Nat.{ℕ, zero, suc, _≤_, _<_, zero-le, suc-le-suc}
 use native.Mathlib.Nat.{le-refl, le-of-suc-le-suc, not-suc-le-zero, eq-or-lt-of-le}
@@ -27,12 +27,12 @@ use mathlib.Core.List.{List, [], _∷_}
 use borrow.Author.Tests.{ltb-true, ltb-false, lt-ltb}
 use lib.Dec.{ltb}
 use lib.ListN.{length, getD}
-use Rattle.model.specs.Sets.{top, Set, member, meet, meets, firstStates, smallest, first, size}
+use Rattle.model.specs.Sets.{maxStates, Set, member, meet, meets, firstStates, smallest, first, size}
 use Rattle.model.specs.Tables.{Table}
-use Rattle.model.specs.Paths.{leads, isPath, near, far, distance, shortest, hasPath, walk, smallestPath}
-use Rattle.model.specs.Promises.{NotAfter, IsSmallest}
+use Rattle.model.specs.Paths.{leads, isPath, reaching, unreachable, distance, shortest, hasPath, walk, smallestPath}
+use Rattle.model.specs.Promises.{LexLe, IsSmallest}
 use Rattle.model.proofs.Bounds.{and-true, and-intro, is-false, clash, by-cond, first-passes, first-least, lt-or-ge}
-use Rattle.model.proofs.SetLaws.{In, in-top, in-or-out, in-union, union-in, in-meet, meet-in, in-states, states-in, in-firstStates, firstStates-in, _⊆_, in-meets, meets-in, smallest-le, smallest-in}
+use Rattle.model.proofs.SetLaws.{In, in-bound, in-or-out, in-union, union-in, in-meet, meet-in, in-states, states-in, in-firstStates, firstStates-in, _⊆_, in-meets, meets-in, smallest-le, smallest-in}
 use Rattle.model.proofs.Counting.{size-lt, size-bound, size-pos}
 use Rattle.model.proofs.WellFormed.{WellFormed}
 
@@ -48,57 +48,57 @@ and-in X x b e = let both = and-true (member X x) b e in (record { is = both .0 
 -- ---- near
 
 module _ (t : Table) where
-  pub near-suc : (k : ℕ) → near t k ⊆ near t (suc k)
-  unfolding near
-  near-suc k s h = in-union (inl h)
+  pub reaching-suc : (k : ℕ) → reaching t k ⊆ reaching t (suc k)
+  unfolding reaching
+  reaching-suc k s h = in-union (inl h)
 
-  pub near-mono : (i j : ℕ) → i ≤ j → near t i ⊆ near t j
-  near-mono i zero l s h = let e : i ≡ zero = omega arith in rw e at h
-  near-mono i (suc j) l s h =
-      ⊎-elim (λ (e : i ≡ suc j). rw e at h) (λ m. near-suc j s (near-mono i j (le-of-suc-le-suc m) s h)) (eq-or-lt-of-le l)
+  pub reaching-mono : (i j : ℕ) → i ≤ j → reaching t i ⊆ reaching t j
+  reaching-mono i zero l s h = let e : i ≡ zero = omega arith in rw e at h
+  reaching-mono i (suc j) l s h =
+      ⊎-elim (λ (e : i ≡ suc j). rw e at h) (λ m. reaching-suc j s (reaching-mono i j (le-of-suc-le-suc m) s h)) (eq-or-lt-of-le l)
 
-  pub in-near : (k : ℕ) {s x : ℕ} → In (firstStates (t .n)) s → In (t .row s) x → In (near t k) x → In (near t (suc k)) s
-  unfolding near
-  in-near k h r c =
-      in-union (inr (in-states (t .n) (λ u. meets (t .row u) (near t k)) (in-top h) (firstStates-in h) (in-meets r c)))
+  pub in-reaching : (k : ℕ) {s x : ℕ} → In (firstStates (t .n)) s → In (t .row s) x → In (reaching t k) x → In (reaching t (suc k)) s
+  unfolding reaching
+  in-reaching k h r c =
+      in-union (inr (in-states (t .n) (λ u. meets (t .row u) (reaching t k)) (in-bound h) (firstStates-in h) (in-meets r c)))
 
-  pub near-in : (k : ℕ) {s : ℕ} → In (near t (suc k)) s
-      → In (near t k) s ⊎ ((x : ℕ) × In (firstStates (t .n)) s × In (t .row s) x × In (near t k) x)
-  unfolding near
-  near-in k {s} h = ⊎-elim inl (λ q. inr (go (states-in (t .n) (λ u. meets (t .row u) (near t k)) q))) (union-in h)
+  pub reaching-in : (k : ℕ) {s : ℕ} → In (reaching t (suc k)) s
+      → In (reaching t k) s ⊎ ((x : ℕ) × In (firstStates (t .n)) s × In (t .row s) x × In (reaching t k) x)
+  unfolding reaching
+  reaching-in k {s} h = ⊎-elim inl (λ q. inr (go (states-in (t .n) (λ u. meets (t .row u) (reaching t k)) q))) (union-in h)
     where
-      go : (s < t .n) × (meets (t .row s) (near t k) ≡ true) → (x : ℕ) × In (firstStates (t .n)) s × In (t .row s) x × In (near t k) x
-      go w = let m = meets-in (w .1) in (m .0, in-firstStates (in-top h) (w .0), m .1, m .2)
+      go : (s < t .n) × (meets (t .row s) (reaching t k) ≡ true) → (x : ℕ) × In (firstStates (t .n)) s × In (t .row s) x × In (reaching t k) x
+      go w = let m = meets-in (w .1) in (m .0, in-firstStates (in-bound h) (w .0), m .1, m .2)
 
-  pub near-leads : (k : ℕ) {s : ℕ} → In (near t k) s → (xs : List ℕ) × (leads t s xs ≡ true) × (length xs ≤ k)
-  unfolding near leads
-  near-leads zero h = ([], h .is, zero-le)
-  near-leads (suc k) {s} h =
+  pub reaching-leads : (k : ℕ) {s : ℕ} → In (reaching t k) s → (xs : List ℕ) × (leads t s xs ≡ true) × (length xs ≤ k)
+  unfolding reaching leads
+  reaching-leads zero h = ([], h .is, zero-le)
+  reaching-leads (suc k) {s} h =
       ⊎-elim
-      (λ c. let w = near-leads k c in (w .0, w .1, omega arith))
-      (λ m. let w = near-leads k {s = m .0} (m .3) in (m .0 ∷ w .0, in-and (m .2) (w .1), suc-le-suc (w .2)))
-      (near-in k h)
+      (λ c. let w = reaching-leads k c in (w .0, w .1, omega arith))
+      (λ m. let w = reaching-leads k {s = m .0} (m .3) in (m .0 ∷ w .0, in-and (m .2) (w .1), suc-le-suc (w .2)))
+      (reaching-in k h)
 
 -- ---- how near exactly
 
 -- s is k steps from a forbidden state and no fewer
 pub record At (t : Table) (s k : ℕ) : Type 0 where
-  pub within : In (near t k) s
-  pub no-closer : (j : ℕ) → j < k → In (near t j) s → ⊥
+  pub within : In (reaching t k) s
+  pub no-closer : (j : ℕ) → j < k → In (reaching t j) s → ⊥
 
 -- the states of X nearest to a forbidden one are d steps from it
 pub record Nearest (t : Table) (X : Set) (d : ℕ) : Type 0 where
-  pub within : meets X (near t d) ≡ true
-  pub no-closer : (j : ℕ) → j < d → meets X (near t j) ≡ false
+  pub within : meets X (reaching t d) ≡ true
+  pub no-closer : (j : ℕ) → j < d → meets X (reaching t j) ≡ false
 
 module _ (t : Table) where
-  pub near-at : (k : ℕ) {s : ℕ} → In (near t k) s → (d : ℕ) × (d ≤ k) × At t s d
-  near-at zero h = (zero, zero-le, record { within = h; no-closer = λ j l. absurd (not-suc-le-zero l) })
-  near-at (suc k) {s} h =
+  pub reaching-at : (k : ℕ) {s : ℕ} → In (reaching t k) s → (d : ℕ) × (d ≤ k) × At t s d
+  reaching-at zero h = (zero, zero-le, record { within = h; no-closer = λ j l. absurd (not-suc-le-zero l) })
+  reaching-at (suc k) {s} h =
       ⊎-elim
-      (λ c. let w = near-at k c in (w .0, omega arith, w .2))
-      (λ f. (suc k, le-refl (suc k), record { within = h; no-closer = λ j l i. f (near-mono t j k (le-of-suc-le-suc l) s i) }))
-      (in-or-out (near t k) s)
+      (λ c. let w = reaching-at k c in (w .0, omega arith, w .2))
+      (λ f. (suc k, le-refl (suc k), record { within = h; no-closer = λ j l i. f (reaching-mono t j k (le-of-suc-le-suc l) s i) }))
+      (in-or-out (reaching t k) s)
 
   pub at-unique : {s i j : ℕ} → At t s i → At t s j → i ≡ j
   at-unique {s} {i} {j} a b =
@@ -107,7 +107,7 @@ module _ (t : Table) where
       (λ l. ⊎-elim (λ e. sym e) (λ m. absurd (a .no-closer j m (b .within))) (eq-or-lt-of-le l))
       (lt-or-ge i j)
 
-  pub nearest-at : {X : Set} {s d : ℕ} → Nearest t X d → In X s → In (near t d) s → At t s d
+  pub nearest-at : {X : Set} {s d : ℕ} → Nearest t X d → In X s → In (reaching t d) s → At t s d
   nearest-at n h c = record { within = c; no-closer = λ j l i. clash (in-meets h i) (n .no-closer j l) }
 
   pub at-row : {s d : ℕ} → At t s (suc d) → Nearest t (t .row s) d
@@ -117,35 +117,35 @@ module _ (t : Table) where
       record {
         within = in-meets (m .2) (m .3);
         no-closer =
-            λ j l. is-false (meets (t .row s) (near t j))
-            (λ e. let w = meets-in e in a .no-closer (suc j) (suc-le-suc l) (in-near t j (m .1) (w .1) (w .2)));
+            λ j l. is-false (meets (t .row s) (reaching t j))
+            (λ e. let w = meets-in e in a .no-closer (suc j) (suc-le-suc l) (in-reaching t j (m .1) (w .1) (w .2)));
       })
-      (near-in t d (a .within))
+      (reaching-in t d (a .within))
 
   -- there is a state at each smaller distance: near grows at each step up to s
-  pub at-size : (k : ℕ) {s : ℕ} → At t s k → k < size (near t k)
+  pub at-size : (k : ℕ) {s : ℕ} → At t s k → k < size (reaching t k)
   at-size zero a = size-pos (a .within)
   at-size (suc k) {s} a =
       let w = meets-in (at-row a .within) in
-      let fewer : size (near t k) < size (near t (suc k)) = size-lt (near-suc t k) (a .within) (a .no-closer k (omega arith)) in
+      let fewer : size (reaching t k) < size (reaching t (suc k)) = size-lt (reaching-suc t k) (a .within) (a .no-closer k (omega arith)) in
       omega (arith, at-size k (nearest-at (at-row a) (w .1) (w .2)))
 
-  pub shortest-le : (k : ℕ) {s : ℕ} → In (t .initial) s → In (near t k) s → shortest t ≤ k
+  pub shortest-le : (k : ℕ) {s : ℕ} → In (t .initial) s → In (reaching t k) s → shortest t ≤ k
   unfolding shortest
   shortest-le k h c =
-      let p : ℕ → Bool = λ j. meets (t .initial) (near t j) in
+      let p : ℕ → Bool = λ j. meets (t .initial) (reaching t j) in
       ⊎-elim (λ l. absurd (clash (in-meets h c) (first-least p (t .n) k l))) (λ l. l) (lt-or-ge k (first (t .n) p))
 
   pub shortest-nearest : hasPath t ≡ true → Nearest t (t .initial) (shortest t)
   unfolding hasPath shortest
   shortest-nearest e =
-      let p : ℕ → Bool = λ j. meets (t .initial) (near t j) in
+      let p : ℕ → Bool = λ j. meets (t .initial) (reaching t j) in
       record { within = first-passes p (t .n) (ltb-true _ _ e); no-closer = first-least p (t .n) }
 
 -- ---- walk
 
 abbrev pub pick : Table → ℕ → Set → ℕ
-pick t d X = smallest (meet X (near t d))
+pick t d X = smallest (meet X (reaching t d))
 
 module _ (t : Table) where
   pub length-walk : (d : ℕ) (X : Set) → length (walk t d X) ≡ suc d
@@ -164,7 +164,7 @@ module _ (t : Table) where
       (both .0, nearest-at t n (both .0) (both .1))
 
   pub walk-leads : (d : ℕ) {X : Set} → Nearest t X d → (x : ℕ) × (xs : List ℕ) × (walk t d X ≡ x ∷ xs) × In X x × (leads t x xs ≡ true)
-  unfolding walk leads near
+  unfolding walk leads reaching
   walk-leads zero {X} n = let p = pick-at n in (pick t zero X, [], refl, p .0, p .1 .within .is)
   walk-leads (suc d) {X} n =
       let p = pick-at n in
@@ -178,35 +178,35 @@ module _ (t : Table) where
 -- ---- well-formed tables
 
 module _ {t : Table} (ok : WellFormed t) where
-  pub near-states : (k : ℕ) → near t k ⊆ firstStates (t .n)
-  unfolding near
-  near-states zero s h = ok .forbidden s h
-  near-states (suc k) s h = ⊎-elim (near-states k s) (λ m. m .1) (near-in t k h)
+  pub reaching-states : (k : ℕ) → reaching t k ⊆ firstStates (t .n)
+  unfolding reaching
+  reaching-states zero s h = ok .forbidden s h
+  reaching-states (suc k) s h = ⊎-elim (reaching-states k s) (λ m. m .1) (reaching-in t k h)
 
   -- the successors of a state of the table
   successors : {s : ℕ} → In (firstStates (t .n)) s → t .row s ⊆ firstStates (t .n)
   successors {s} h = ok .rows s (firstStates-in h)
 
-  pub leads-near : (xs : List ℕ) {s : ℕ} → In (firstStates (t .n)) s → leads t s xs ≡ true → In (near t (length xs)) s
-  unfolding near leads
-  leads-near [] h e = record { is = e }
-  leads-near (x ∷ xs) {s} h e =
+  pub leads-reaching : (xs : List ℕ) {s : ℕ} → In (firstStates (t .n)) s → leads t s xs ≡ true → In (reaching t (length xs)) s
+  unfolding reaching leads
+  leads-reaching [] h e = record { is = e }
+  leads-reaching (x ∷ xs) {s} h e =
       let p = and-in (t .row s) x _ e in
-      in-near t (length xs) h (p .0) (leads-near xs (successors h x (p .0)) (p .1))
+      in-reaching t (length xs) h (p .0) (leads-reaching xs (successors h x (p .0)) (p .1))
 
   pub at-lt : (k : ℕ) {s : ℕ} → At t s k → k < t .n
-  at-lt k a = omega (arith, at-size t k a, size-bound (near-states k))
+  at-lt k a = omega (arith, at-size t k a, size-bound (reaching-states k))
 
-  path-near : (x : ℕ) (xs : List ℕ) → isPath t (x ∷ xs) ≡ true → In (t .initial) x × In (near t (length xs)) x
+  path-reaching : (x : ℕ) (xs : List ℕ) → isPath t (x ∷ xs) ≡ true → In (t .initial) x × In (reaching t (length xs)) x
   unfolding isPath
-  path-near x xs e = let p = and-in (t .initial) x _ e in (p .0, leads-near xs (ok .initial x (p .0)) (p .1))
+  path-reaching x xs e = let p = and-in (t .initial) x _ e in (p .0, leads-reaching xs (ok .initial x (p .0)) (p .1))
 
   pub has-path : (xs : List ℕ) → isPath t xs ≡ true → hasPath t ≡ true
   unfolding isPath hasPath
   has-path [] e = absurd (false≢true e)
   has-path (x ∷ xs) e =
-      let p = path-near x xs e in
-      let a = near-at t (length xs) (p .1) in
+      let p = path-reaching x xs e in
+      let a = reaching-at t (length xs) (p .1) in
       lt-ltb (shortest t) (t .n) (omega (arith, shortest-le t (a .0) (p .0) (a .2 .within), at-lt (a .0) (a .2)))
 
   -- ---- the path that 01 names
@@ -214,20 +214,20 @@ module _ {t : Table} (ok : WellFormed t) where
   no-shorter : (ys : List ℕ) → isPath t ys ≡ true → length (smallestPath t) ≤ length ys
   unfolding isPath
   no-shorter [] e = absurd (false≢true e)
-  no-shorter (y ∷ ys) e = let p = path-near y ys e in omega (arith, length-smallest t, shortest-le t (length ys) (p .0) (p .1))
+  no-shorter (y ∷ ys) e = let p = path-reaching y ys e in omega (arith, length-smallest t, shortest-le t (length ys) (p .0) (p .1))
 
   -- y is near enough to be picked; where it is the one picked, its successors decide
   pub walk-smallest : (ys : List ℕ) {X : Set} {y : ℕ} → X ⊆ firstStates (t .n) → In X y → leads t y ys ≡ true
-      → NotAfter (walk t (length ys) X) (y ∷ ys)
+      → LexLe (walk t (length ys) X) (y ∷ ys)
   unfolding walk leads
   walk-smallest [] {X} {y} f h e =
-      ⊎-elim (λ q. inr (q, tt)) inl (eq-or-lt-of-le (smallest-le (in-meet h (leads-near [] (f y h) e))))
+      ⊎-elim (λ q. inr (q, tt)) inl (eq-or-lt-of-le (smallest-le (in-meet h (leads-reaching [] (f y h) e))))
   walk-smallest (z ∷ zs) {X} {y} f h e =
       let p = and-in (t .row y) z _ e in
       ⊎-elim (λ q. inr (q, rw q (walk-smallest zs (successors (f y h)) (p .0) (p .1)))) inl
-      (eq-or-lt-of-le (smallest-le (in-meet h (leads-near (z ∷ zs) (f y h) e))))
+      (eq-or-lt-of-le (smallest-le (in-meet h (leads-reaching (z ∷ zs) (f y h) e))))
 
-  no-smaller : (ys : List ℕ) → isPath t ys ≡ true → length ys ≡ length (smallestPath t) → NotAfter (smallestPath t) ys
+  no-smaller : (ys : List ℕ) → isPath t ys ≡ true → length ys ≡ length (smallestPath t) → LexLe (smallestPath t) ys
   unfolding isPath smallestPath
   no-smaller [] e l = absurd (false≢true e)
   no-smaller (y ∷ ys) e l =
@@ -261,49 +261,49 @@ module _ {t : Table} (ok : WellFormed t) where
 
 -- what a state has of its distance r: exactly that near, or never
 abbrev IsDistance : Table → ℕ → ℕ → Type 0
-IsDistance t s r = ((r < t .n) × At t s r) ⊎ (((k : ℕ) → k < t .n → In (near t k) s → ⊥) × (r ≡ far))
+IsDistance t s r = ((r < t .n) × At t s r) ⊎ (((k : ℕ) → k < t .n → In (reaching t k) s → ⊥) × (r ≡ unreachable))
 
 module _ (t : Table) where
   distance-cases : (s : ℕ) → IsDistance t s (distance t s)
   unfolding distance
   distance-cases s =
-      let p : ℕ → Bool = λ k. member (near t k) s in
+      let p : ℕ → Bool = λ k. member (reaching t k) s in
       let d = first (t .n) p in
-      by-cond (IsDistance t s) (ltb d (t .n)) d far
+      by-cond (IsDistance t s) (ltb d (t .n)) d unreachable
       (λ e.
       let l = ltb-true d (t .n) e in
       inl (l, record { within = record { is = first-passes p (t .n) l }; no-closer = λ j m h. clash (h .is) (first-least p (t .n) j m) }))
       (λ e. inr ((λ k l h. clash (h .is) (first-least p (t .n) k (omega (arith, ltb-false d (t .n) e)))), refl))
 
-  pub distance-far : (s : ℕ) → ((k : ℕ) → k < t .n → In (near t k) s → ⊥) → distance t s ≡ far
-  distance-far s f = ⊎-elim (λ c. absurd (f (distance t s) (c .0) (c .1 .within))) (λ c. c .1) (distance-cases s)
+  pub distance-unreachable : (s : ℕ) → ((k : ℕ) → k < t .n → In (reaching t k) s → ⊥) → distance t s ≡ unreachable
+  distance-unreachable s f = ⊎-elim (λ c. absurd (f (distance t s) (c .0) (c .1 .within))) (λ c. c .1) (distance-cases s)
 
   module _ (s k : ℕ) (l : k < t .n) where
     pub distance-is : At t s k → distance t s ≡ k
     distance-is a = ⊎-elim (λ c. at-unique t (c .1) a) (λ c. absurd (c .0 k l (a .within))) (distance-cases s)
 
-    pub near-distance : In (near t k) s → distance t s ≤ k
-    near-distance h =
+    pub reaching-distance : In (reaching t k) s → distance t s ≤ k
+    reaching-distance h =
         ⊎-elim
         (λ c. ⊎-elim (λ m. absurd (c .1 .no-closer k m h)) (λ m. m) (lt-or-ge k (distance t s)))
         (λ c. absurd (c .0 k l h))
         (distance-cases s)
 
-    -- no more states than a set can hold: `far` is no distance
-    module _ (small : t .n ≤ top) where
+    -- no more states than a set can hold: `unreachable` is no distance
+    module _ (small : t .n ≤ maxStates) where
       pub distance-at : distance t s ≡ k → At t s k
       distance-at e = ⊎-elim (λ c. rw e at (c .1)) (λ c. absurd (omega arith)) (distance-cases s)
 
-      pub distance-near : distance t s ≤ k → In (near t k) s
-      distance-near m =
-          ⊎-elim (λ c. near-mono t (distance t s) k m s (c .1 .within)) (λ c. absurd (omega arith)) (distance-cases s)
+      pub distance-reaching : distance t s ≤ k → In (reaching t k) s
+      distance-reaching m =
+          ⊎-elim (λ c. reaching-mono t (distance t s) k m s (c .1 .within)) (λ c. absurd (omega arith)) (distance-cases s)
 
-      pub far-distance : distance t s ≡ far → In (near t k) s → ⊥
-      far-distance e h = omega (arith, near-distance h)
+      pub unreachable-distance : distance t s ≡ unreachable → In (reaching t k) s → ⊥
+      unreachable-distance e h = omega (arith, reaching-distance h)
 
-  pub pick-distance : {X : Set} (x d : ℕ) → d < t .n → t .n ≤ top → In X x → distance t x ≤ d
+  pub pick-distance : {X : Set} (x d : ℕ) → d < t .n → t .n ≤ maxStates → In X x → distance t x ≤ d
       → ((y : ℕ) → y < x → In X y → distance t y ≤ d → ⊥) → pick t d X ≡ x
   pick-distance {X} x d l small h m f =
-      let i = in-meet h (distance-near x d l small m) in
+      let i = in-meet h (distance-reaching x d l small m) in
       let both = meet-in (smallest-in i) in
-      ⊎-elim (λ e. e) (λ q. absurd (f (pick t d X) q (both .0) (near-distance (pick t d X) d l (both .1)))) (eq-or-lt-of-le (smallest-le i))
+      ⊎-elim (λ e. e) (λ q. absurd (f (pick t d X) q (both .0) (reaching-distance (pick t d X) d l (both .1)))) (eq-or-lt-of-le (smallest-le i))

@@ -5,15 +5,15 @@
 --   round-facts, round-is              each round has them, and is as 01 says
 --   in-next-Z, next-Z-in               Z of the next round by its members: S ∩ hold S
 --   in-eliminated, eliminated-in       W of the next round of elimination by its members
---   eliminated-allowed, -closed        Wj holds allowed states only; no step leaves Wb
+--   eliminated-notForbidden, -closed        Wj holds allowed states only; no step leaves Wb
 --   Z-eliminated                       Zi ⊆ Wi
 --   steps-stay, initial-S              for a set W of allowed states that no step leaves: post(Ri) ∩ W ⊆ Zi, and Init ⊆ W gives Init ⊆ Si
 --   backward-stops                     round b says safe or unsafe
---   run-ends, pinned                   the outcome tells which round was the first to stop; the first round to stop gives the outcome
+--   run-ends, first-stop                   the outcome tells which round was the first to stop; the first round to stop gives the outcome
 --   count-backward                     the count is at most b
 --   undecided-count, undecided-short   undecided comes after an allowance all used up, and that was below b
 --   larger-run                         a larger allowance never changes a verdict given
---   eliminated-far, eliminated-leads   a state of Wj has no way of j steps or fewer to a forbidden state; a state not in Wj has a way
+--   eliminated-unreachable, eliminated-leads   a state of Wj has no way of j steps or fewer to a forbidden state; a state not in Wj has a way
 --   count-path, unsafe-long            every path has at least as many steps as the count
 --   unsafe-path                        where the rounds say unsafe there is a path
 --   invariant-no-path                  an invariant rules out every path
@@ -27,14 +27,14 @@ use mathlib.Core.Bool.{true, false, not, false≢true}
 use mathlib.Core.List.{List, [], _∷_, List·Memᴰ, List·Memᴰ·head}
 use lib.ListN.{length}
 use Rattle.model.specs.Sets.{Set, member, union, meet, subset, firstStates}
-use Rattle.model.specs.Tables.{Table, post, hold, allowed}
+use Rattle.model.specs.Tables.{Table, post, hold, notForbidden}
 use Rattle.model.specs.Rounds.{iterate, forwardStep, forward, backwardStep, backward, Round, roundOf, firstRound, nextRound, isSafe, isUnsafe, Outcome, safe, unsafe, undecided, settle, rounds, run, eliminationStep, eliminated, backwardNumber}
 use Rattle.model.specs.Paths.{leads, isPath}
-use Rattle.model.specs.Promises.{IsLeast, IsGreatest, roundAt, IsRound, GoesOn, Pinned, IsInvariant}
+use Rattle.model.specs.Promises.{IsLeast, IsGreatest, roundAt, IsFirst, IsNext, IsRound, Continues, FirstStop, IsInvariant}
 use Rattle.model.proofs.Bounds.{and-true, and-intro, not-true, is-false, clash, decided, by-cond, lt-or-ge, below-suc}
 use Rattle.model.proofs.SetLaws.{In, in-or-out, in-union, union-in, in-meet, meet-in, firstStates-in, _⊆_, ⊆-of-eq, subset-in, in-subset, subset-not}
 use Rattle.model.proofs.Fixpoints.{from-below, from-above, greatest-post, eliminated-mono, eliminated-within, backward-is}
-use Rattle.model.proofs.CoverLaws.{in-allowed, allowed-in, allowed-within, in-post, post-in, in-hold, hold-in, hold-within, Closed, listed-closed, cover-closed, cover-extensive, cover-minimal, forwardStep-mono, forwardStep-proper, forwardStep-within, backwardStep-mono, backwardStep-proper, backwardStep-within}
+use Rattle.model.proofs.CoverLaws.{in-notForbidden, notForbidden-in, notForbidden-within, in-post, post-in, in-hold, hold-in, hold-within, Closed, listed-closed, cover-closed, cover-extensive, cover-minimal, forwardStep-mono, forwardStep-proper, forwardStep-within, backwardStep-mono, backwardStep-proper, backwardStep-within}
 use Rattle.model.proofs.WellFormed.{WellFormed}
 
 -- ---- one round
@@ -105,28 +105,22 @@ module _ (t : Table) (L : List Set) (Z : Set) (listed : List·Memᴰ Z L) (withi
 
 pub round-facts : (t : Table) (i : ℕ) → RoundFacts t (roundAt t i)
 unfolding roundAt firstRound nextRound
-round-facts t zero = roundOf-facts t _ _ (List·Memᴰ·head refl) (allowed-within (t .n) (t .forbidden))
+round-facts t zero = roundOf-facts t _ _ (List·Memᴰ·head refl) (notForbidden-within (t .n) (t .forbidden))
 round-facts t (suc i) = roundOf-facts t _ _ (List·Memᴰ·head refl) (λ s h. hold-within (t .n) (t .row) _ s (meet-in h .1))
 
 module _ (t : Table) where
-  round-solves : (i : ℕ)
-      → IsLeast (forwardStep t ((roundAt t i) .list) ((roundAt t i) .Z)) ((roundAt t i) .R)
-      × IsGreatest (backwardStep t ((roundAt t i) .list) ((roundAt t i) .R)) ((roundAt t i) .S)
-  unfolding roundAt firstRound nextRound roundOf
-  round-solves zero = (forward-least t _ _, backward-greatest t _ _)
-  round-solves (suc i) = (forward-least t _ _, backward-greatest t _ _)
+  pub round-first : IsFirst t (roundAt t 0)
+  unfolding roundAt firstRound roundOf
+  round-first = record { Z-is = refl; list-is = refl }
 
-  pub round-is : (i : ℕ) → IsRound t i
+  pub round-next : (i : ℕ) → IsNext t (roundAt t i) (roundAt t (suc i))
+  unfolding roundAt nextRound roundOf
+  round-next i = record { Z-is = refl; list-is = refl }
+
+  pub round-is : (i : ℕ) → IsRound t (roundAt t i)
   unfolding roundAt firstRound nextRound roundOf
-  round-is i =
-      record {
-        first-Z = refl;
-        first-list = refl;
-        next-Z = refl;
-        next-list = refl;
-        R-least = round-solves i .0;
-        S-greatest = round-solves i .1;
-      }
+  round-is zero = record { R-least = forward-least t _ _; S-greatest = backward-greatest t _ _ }
+  round-is (suc i) = record { R-least = forward-least t _ _; S-greatest = backward-greatest t _ _ }
 
   S-in-Z : (i : ℕ) → (roundAt t i) .S ⊆ (roundAt t i) .Z
   S-in-Z i s h = let r = round-facts t i in r .R-in-Z s (r .S-in-R s h)
@@ -134,11 +128,11 @@ module _ (t : Table) where
   pub in-next-Z : (i : ℕ) {s : ℕ} → In ((roundAt t i) .S) s → t .row s ⊆ (roundAt t i) .S → In ((roundAt t (suc i)) .Z) s
   in-next-Z i {s} h f =
       let r = round-facts t i in
-      ⊆-of-eq (sym (round-is i .next-Z)) s (in-meet h (in-hold _ _ (r .R-within s (r .S-in-R s h)) f))
+      ⊆-of-eq (sym (round-next i .Z-is)) s (in-meet h (in-hold _ _ (r .R-within s (r .S-in-R s h)) f))
 
   pub next-Z-in : (i : ℕ) {s : ℕ} → In ((roundAt t (suc i)) .Z) s → In ((roundAt t i) .S) s × (t .row s ⊆ (roundAt t i) .S)
   next-Z-in i {s} h =
-      let both = meet-in (⊆-of-eq (round-is i .next-Z) s h) in
+      let both = meet-in (⊆-of-eq (round-next i .Z-is) s h) in
       (both .0, hold-in _ _ (both .1))
 
 -- ---- backward elimination
@@ -152,9 +146,9 @@ module _ (t : Table) where
   unfolding eliminated iterate eliminationStep
   eliminated-in j h = (meet-in h .0, hold-in _ _ (meet-in h .1))
 
-  eliminated-allowed : (j : ℕ) → eliminated t j ⊆ allowed (t .n) (t .forbidden)
+  eliminated-notForbidden : (j : ℕ) → eliminated t j ⊆ notForbidden (t .n) (t .forbidden)
   unfolding eliminated iterate
-  eliminated-allowed j = eliminated-mono t zero j zero-le
+  eliminated-notForbidden j = eliminated-mono t zero j zero-le
 
   -- no step leaves Wb
   eliminated-closed : (s : ℕ) → In (eliminated t (backwardNumber t)) s → t .row s ⊆ eliminated t (backwardNumber t)
@@ -174,7 +168,7 @@ module _ (t : Table) where
 abbrev StepsStay : Table → Set → ℕ → Type 0
 StepsStay t W i = (s u : ℕ) → In ((roundAt t i) .R) s → In (t .row s) u → In W u → In ((roundAt t i) .Z) u
 
-module _ (t : Table) (W : Set) (W-allowed : W ⊆ allowed (t .n) (t .forbidden)) (W-closed : (s : ℕ) → In W s → t .row s ⊆ W) where
+module _ (t : Table) (W : Set) (W-notForbidden : W ⊆ notForbidden (t .n) (t .forbidden)) (W-closed : (s : ℕ) → In W s → t .row s ⊆ W) where
   -- where that holds no step leaves Ri ∩ W, so it is kept
   meet-closed : (i : ℕ) → StepsStay t W i → (s : ℕ) → In (meet ((roundAt t i) .R) W) s → t .row s ⊆ meet ((roundAt t i) .R) W
   meet-closed i stay s h u r =
@@ -193,14 +187,14 @@ module _ (t : Table) (W : Set) (W-allowed : W ⊆ allowed (t .n) (t .forbidden))
   -- and R of the next round steps into Si only, which is inside Ri
   steps-stay : (i : ℕ) → StepsStay t W i
   unfolding roundAt firstRound roundOf
-  steps-stay zero s u h r w = W-allowed u w
+  steps-stay zero s u h r w = W-notForbidden u w
   steps-stay (suc i) s u h r w =
       let in-S = next-Z-in t i (round-facts t (suc i) .R-in-Z s h) .1 u r in
       meet-in-next i (steps-stay i) u (in-meet (round-facts t i .S-in-R u in-S) w)
 
   initial-R : t .initial ⊆ W → (i : ℕ) → t .initial ⊆ (roundAt t i) .R
   unfolding roundAt firstRound roundOf
-  initial-R f zero s h = round-facts t zero .R-initial s h (W-allowed s (f s h))
+  initial-R f zero s h = round-facts t zero .R-initial s h (W-notForbidden s (f s h))
   initial-R f (suc i) s h = round-facts t (suc i) .R-initial s h (meet-in-next i (steps-stay i) s (in-meet (initial-R f i s h) (f s h)))
 
   initial-S : t .initial ⊆ W → (i : ℕ) → t .initial ⊆ (roundAt t i) .S
@@ -227,14 +221,14 @@ module _ (t : Table) (r : Round) where
 
 -- every round before round i goes on
 abbrev Before : Table → ℕ → Type 0
-Before t i = (j : ℕ) → j < i → GoesOn t j
+Before t i = (j : ℕ) → j < i → Continues t j
 
 module _ (t : Table) where
-  before-suc : {i : ℕ} → Before t i → GoesOn t i → Before t (suc i)
-  before-suc before g j h = ⊎-elim (λ e. subst (GoesOn t) (sym e) g) (λ l. before j l) (below-suc h)
+  before-suc : {i : ℕ} → Before t i → Continues t i → Before t (suc i)
+  before-suc before g j h = ⊎-elim (λ e. subst (Continues t) (sym e) g) (λ l. before j l) (below-suc h)
 
   -- Rb is inside Wb, so its steps end in Wb, and so in Zb; then Init inside Zb is safe, and Init not inside Zb is not inside Sb
-  pub backward-stops : GoesOn t (backwardNumber t) → ⊥
+  pub backward-stops : Continues t (backwardNumber t) → ⊥
   backward-stops g = clash (isSafe-intro t r (λ s h. S-in-Z t b s (isUnsafe-false t r (g .not-unsafe) s h)) steps) (g .not-safe)
     where
       b : ℕ
@@ -247,7 +241,7 @@ module _ (t : Table) where
       steps u h =
           let p = post-in _ _ h in
           let in-W = eliminated-closed t (p .0) (Z-eliminated t b (p .0) (round-facts t b .R-in-Z (p .0) (p .2))) u (p .3) in
-          steps-stay t (eliminated t b) (eliminated-allowed t b) (eliminated-closed t) b (p .0) u (p .2) (p .3) in-W
+          steps-stay t (eliminated t b) (eliminated-notForbidden t b) (eliminated-closed t) b (p .0) u (p .2) (p .3) in-W
 
   before-backward : {i : ℕ} → Before t i → i ≤ backwardNumber t
   before-backward {i} before =
@@ -264,7 +258,7 @@ record Reached (t : Table) (allowance i : ℕ) : Type 0 where
 abbrev Ends : Table → ℕ → Outcome → Type 0
 Ends t allowance (safe i X) = Reached t allowance i × (isSafe t (roundAt t i) ≡ true) × (X ≡ (roundAt t i) .R)
 Ends t allowance (unsafe i) = Reached t allowance i × (isSafe t (roundAt t i) ≡ false) × (isUnsafe t (roundAt t i) ≡ true)
-Ends t allowance (undecided i) = Reached t allowance i × GoesOn t i × (i ≡ allowance)
+Ends t allowance (undecided i) = Reached t allowance i × Continues t i × (i ≡ allowance)
 
 abbrev pub countOf : Outcome → ℕ
 countOf (safe i X) = i
@@ -272,7 +266,7 @@ countOf (unsafe i) = i
 countOf (undecided i) = i
 
 module _ (t : Table) (allowance : ℕ) where
-  settle-ends : (i : ℕ) (later : Outcome) → Reached t allowance i → (GoesOn t i → Ends t allowance later)
+  settle-ends : (i : ℕ) (later : Outcome) → Reached t allowance i → (Continues t i → Ends t allowance later)
       → Ends t allowance (settle t (roundAt t i) i later)
   unfolding settle
   settle-ends i later h go =
@@ -320,15 +314,18 @@ module _ (t : Table) (allowance : ℕ) where
       let g = before i (omega arith) in
       run-from i (suc left) (omega arith) (λ j l. before j (omega arith)) ∙ rw (g .not-safe, g .not-unsafe)
 
-  pub pinned : Pinned t allowance
+  pub first-stop : FirstStop t allowance
   unfolding rounds settle
-  pinned =
+  first-stop =
       record {
         at-safe = λ i h before s. run-from i (allowance - i) (omega arith) before ∙ rounds-safe (allowance - i) i s;
         at-unsafe = λ i h before s u. run-from i (allowance - i) (omega arith) before ∙ rounds-unsafe (allowance - i) i s u;
         at-undecided = λ on.
             let g = on allowance (omega arith) in
             run-from allowance zero (omega arith) (λ j l. on j (omega arith)) ∙ rw (g .not-safe, g .not-unsafe);
+        only-undecided = λ i q.
+            let e = subst (Ends t allowance) q run-ends in
+            (e .2, λ j l. before-suc t (e .0 .before) (e .1) j (omega (arith, e .2)));
       }
     where
       rounds-safe : (left i : ℕ) → isSafe t (roundAt t i) ≡ true → rounds t left i (roundAt t i) ≡ safe i ((roundAt t i) .R)
@@ -344,26 +341,26 @@ pub larger-run : (t : Table) (a b : ℕ) → a ≤ b → ((i : ℕ) → run t a 
 larger-run t a b h = go (run t a) (run-ends t a)
   where
     go : (o : Outcome) → Ends t a o → ((i : ℕ) → o ≡ undecided i → ⊥) → run t b ≡ o
-    go (safe i X) e d = pinned t b .at-safe i (omega (arith, e .0 .within)) (e .0 .before) (e .1) ∙ ap (safe i) (sym (e .2))
-    go (unsafe i) e d = pinned t b .at-unsafe i (omega (arith, e .0 .within)) (e .0 .before) (e .1) (e .2)
+    go (safe i X) e d = first-stop t b .at-safe i (omega (arith, e .0 .within)) (e .0 .before) (e .1) ∙ ap (safe i) (sym (e .2))
+    go (unsafe i) e d = first-stop t b .at-unsafe i (omega (arith, e .0 .within)) (e .0 .before) (e .1) (e .2)
     go (undecided i) e d = absurd (d i refl)
 
 -- ---- paths
 
 module _ (t : Table) where
-  pub eliminated-far : (j : ℕ) (xs : List ℕ) {s : ℕ} → In (eliminated t j) s → leads t s xs ≡ true → j < length xs
+  pub eliminated-unreachable : (j : ℕ) (xs : List ℕ) {s : ℕ} → In (eliminated t j) s → leads t s xs ≡ true → j < length xs
   unfolding leads
-  eliminated-far j [] {s} h e = absurd (clash e (allowed-in _ _ (eliminated-allowed t j s h)))
-  eliminated-far zero (x ∷ xs) h e = omega arith
-  eliminated-far (suc j) (x ∷ xs) {s} h e =
+  eliminated-unreachable j [] {s} h e = absurd (clash e (notForbidden-in _ _ (eliminated-notForbidden t j s h)))
+  eliminated-unreachable zero (x ∷ xs) h e = omega arith
+  eliminated-unreachable (suc j) (x ∷ xs) {s} h e =
       let step = and-true (member (t .row s) x) (leads t x xs) e in
-      suc-le-suc (eliminated-far j xs (eliminated-in t j h .1 x (record { is = step .0 })) (step .1))
+      suc-le-suc (eliminated-unreachable j xs (eliminated-in t j h .1 x (record { is = step .0 })) (step .1))
 
   pub eliminated-leads : WellFormed t → (j : ℕ) {s : ℕ} → In (firstStates (t .n)) s → (In (eliminated t j) s → ⊥)
       → (xs : List ℕ) × (leads t s xs ≡ true)
   unfolding leads eliminated iterate
   eliminated-leads w zero {s} h out =
-      ([], ⊎-elim (λ e. e) (λ e. absurd (out (in-allowed _ _ h e))) (decided (member (t .forbidden) s)))
+      ([], ⊎-elim (λ e. e) (λ e. absurd (out (in-notForbidden _ _ h e))) (decided (member (t .forbidden) s)))
   eliminated-leads w (suc j) {s} h out =
       ⊎-elim
       (λ k.
@@ -389,7 +386,7 @@ module _ (t : Table) where
       let p = path-parts xs e in
       let in-S = isUnsafe-false t (roundAt t j) (before j (omega arith) .not-unsafe) (p .0) (p .3) in
       let in-W = Z-eliminated t j (p .0) (S-in-Z t j (p .0) in-S) in
-      omega (arith, ap length (p .2), eliminated-far j (p .1) in-W (p .4))
+      omega (arith, ap length (p .2), eliminated-unreachable j (p .1) in-W (p .4))
 
   pub count-path : (allowance : ℕ) (xs : List ℕ) → isPath t xs ≡ true → countOf (run t allowance) < length xs
   count-path allowance = before-path _ (run-reached t allowance .before)
@@ -410,14 +407,14 @@ module _ (t : Table) where
       not-kept : t .initial ⊆ W → ⊥
       not-kept f =
           isUnsafe-true t (roundAt t i) (subst (Ends t allowance) q (run-ends t allowance) .2)
-          (initial-S t W (eliminated-allowed t _) (eliminated-closed t) f i)
+          (initial-S t W (eliminated-notForbidden t _) (eliminated-closed t) f i)
 
 -- ---- invariants
 
 module _ (t : Table) where
   invariant-leads : {X : Set} → IsInvariant t X → (xs : List ℕ) {s : ℕ} → In X s → leads t s xs ≡ true → ⊥
   unfolding leads
-  invariant-leads v [] {s} h e = clash e (v .allowed s (h .is))
+  invariant-leads v [] {s} h e = clash e (v .notForbidden s (h .is))
   invariant-leads v (x ∷ xs) {s} h e =
       let step = and-true (member (t .row s) x) (leads t x xs) e in
       invariant-leads v xs (record { is = v .closed s x (h .is) (step .0) }) (step .1)
@@ -427,13 +424,14 @@ module _ (t : Table) where
       let p = path-parts t xs e in
       invariant-leads v (p .1) (record { is = v .initial (p .0) (p .3 .is) }) (p .4)
 
-  invariant-intro : (X : Set) → t .initial ⊆ X → X ⊆ allowed (t .n) (t .forbidden) → ((s : ℕ) → In X s → t .row s ⊆ X)
+  invariant-intro : (X : Set) → t .initial ⊆ X → X ⊆ notForbidden (t .n) (t .forbidden) → ((s : ℕ) → In X s → t .row s ⊆ X)
       → IsInvariant t X
   invariant-intro X f g c =
       record {
         initial = λ s h. f s (record { is = h }) .is;
-        allowed = λ s h. allowed-in _ _ (g s (record { is = h }));
+        notForbidden = λ s h. notForbidden-in _ _ (g s (record { is = h }));
         closed = λ s u h r. c s (record { is = h }) u (record { is = r }) .is;
+        within = λ s h. firstStates-in (notForbidden-within _ _ s (g s (record { is = h })));
       }
 
   isSafe-invariant : (i : ℕ) → isSafe t (roundAt t i) ≡ true → IsInvariant t ((roundAt t i) .R)
@@ -442,7 +440,7 @@ module _ (t : Table) where
       let in-Z = isSafe-true t (roundAt t i) e in
       invariant-intro _
       (λ s h. r .R-initial s h (in-Z s (in-union (inl h))))
-      (λ s h. eliminated-allowed t i s (Z-eliminated t i s (r .R-in-Z s h)))
+      (λ s h. eliminated-notForbidden t i s (Z-eliminated t i s (r .R-in-Z s h)))
       (λ s h u k. r .R-steps s u h k (in-Z u (in-union (inr (in-post _ _ (firstStates-in (r .R-within s h)) h k)))))
 
   pub safe-invariant : (allowance : ℕ) {i : ℕ} {X : Set} → run t allowance ≡ safe i X → IsInvariant t X

@@ -17,13 +17,13 @@ use borrow.Author.Tests.{ltb-true, lt-ltb, eqb-true, eqb-false, eq-eqb}
 use lib.Dec.{eqb, ltb}
 use lib.ListN.{length, getD}
 use lib.Seq.{ext-getD}
-use Rattle.model.specs.Sets.{WORDS, top, Set, tab, bit, member, number, setOf, empty, single, union, meet, subset, same, meets, states, firstStates, smallest, image}
-use Rattle.model.proofs.Bounds.{and-true, and-intro, or-true, or-intro, not-true, clash, decided, same-test, by-cond, any-intro, any-find, all-at, all-intro, all-not, first-passes, first-before, below-suc, length-tab, getD-tab}
+use Rattle.model.specs.Sets.{WORDS, maxStates, Set, tabulate, bit, member, number, setOf, empty, single, union, meet, difference, subset, same, meets, states, firstStates, smallest, image}
+use Rattle.model.proofs.Bounds.{and-true, and-intro, or-true, or-intro, not-true, is-false, clash, decided, same-test, by-cond, any-intro, any-find, all-at, all-intro, all-not, first-passes, first-before, below-suc, length-tabulate, getD-tabulate}
 
 -- ---- bits
 
 -- bits above the lowest are those of the half, and the lowest is the parity
-shift-bit : (x i : ℕ) → bit x (suc i) ≡ bit (x / 2) i
+pub shift-bit : (x i : ℕ) → bit x (suc i) ≡ bit (x / 2) i
 unfolding bit
 shift-bit x i = ap (λ (y : ℕ). eqb (y % 2) 1) (ap (λ (y : ℕ). x / y) (pow-succ' 2 i) ∙ sym (div-div-eq-div-mul x 2 (2 ^ i)))
 
@@ -65,18 +65,18 @@ module _ (p : ℕ → Bool) where
 
 -- ---- comprehension
 
-pub member-setOf : (p : ℕ → Bool) (s : ℕ) → member (setOf p) s ≡ (ltb s top && p s)
+pub member-setOf : (p : ℕ → Bool) (s : ℕ) → member (setOf p) s ≡ (ltb s maxStates && p s)
 unfolding member setOf
-member-setOf p s = go (decided (ltb s top))
+member-setOf p s = go (decided (ltb s maxStates))
   where
-    go : (ltb s top ≡ true) ⊎ (ltb s top ≡ false) → (ltb s top && bit (getD (tab WORDS (λ w. number p (64 * w) 64)) (s / 64) 0) (s % 64)) ≡ (ltb s top && p s)
+    go : (ltb s maxStates ≡ true) ⊎ (ltb s maxStates ≡ false) → (ltb s maxStates && bit (getD (tabulate WORDS (λ w. number p (64 * w) 64)) (s / 64) 0) (s % 64)) ≡ (ltb s maxStates && p s)
     go (inr e) = rw e
     go (inl e) =
-        let h : s < top = ltb-true s top e in
+        let h : s < maxStates = ltb-true s maxStates e in
         let word : s / 64 < WORDS = omega arith in
         let place : s % 64 < 64 = omega arith in
-        ap (λ b. ltb s top && b)
-        (ap (λ (x : ℕ). bit x (s % 64)) (getD-tab (λ w. number p (64 * w) 64) WORDS (s / 64) 0 word)
+        ap (λ b. ltb s maxStates && b)
+        (ap (λ (x : ℕ). bit x (s % 64)) (getD-tabulate (λ w. number p (64 * w) 64) WORDS (s / 64) 0 word)
         ∙ bit-number p (64 * (s / 64)) 64 (s % 64) place
         ∙ ap p (div-add-mod s 64))
 
@@ -89,8 +89,8 @@ pub setOf-proper : (p : ℕ → Bool) → Proper (setOf p)
 unfolding setOf
 setOf-proper p =
     record {
-      long = length-tab (λ w. number p (64 * w) 64) WORDS;
-      fits = λ w h. subst (λ (x : ℕ). x < 2 ^ 64) (sym (getD-tab (λ v. number p (64 * v) 64) WORDS w 0 h)) (number-lt p (64 * w) 64);
+      long = length-tabulate (λ w. number p (64 * w) 64) WORDS;
+      fits = λ w h. subst (λ (x : ℕ). x < 2 ^ 64) (sym (getD-tabulate (λ v. number p (64 * v) 64) WORDS w 0 h)) (number-lt p (64 * w) 64);
     }
 
 -- numbers with the same bits are equal
@@ -109,9 +109,9 @@ unfolding member
 member-at X w i h l =
     let word : (64 * w + i) / 64 ≡ w = omega arith in
     let place : (64 * w + i) % 64 ≡ i = omega arith in
-    rw (lt-ltb (64 * w + i) top (omega arith), word, place)
+    rw (lt-ltb (64 * w + i) maxStates (omega arith), word, place)
 
-pub ext : (X Y : Set) → Proper X → Proper Y → ((s : ℕ) → s < top → member X s ≡ member Y s) → X ≡ Y
+pub ext : (X Y : Set) → Proper X → Proper Y → ((s : ℕ) → s < maxStates → member X s ≡ member Y s) → X ≡ Y
 ext X Y x y e =
     ext-getD 0 X Y (x .long ∙ sym (y .long))
     (λ w h.
@@ -119,10 +119,10 @@ ext X Y x y e =
     bits-eq 64 (getD X w 0) (getD Y w 0) (x .fits w word) (y .fits w word)
     (λ i l. sym (member-at X w i word l) ∙ e (64 * w + i) (omega arith) ∙ member-at Y w i word l))
 
-pub setOf-cong : (p q : ℕ → Bool) → ((s : ℕ) → s < top → p s ≡ q s) → setOf p ≡ setOf q
+pub setOf-cong : (p q : ℕ → Bool) → ((s : ℕ) → s < maxStates → p s ≡ q s) → setOf p ≡ setOf q
 setOf-cong p q e =
     ext (setOf p) (setOf q) (setOf-proper p) (setOf-proper q)
-    (λ s h. member-setOf p s ∙ ap (λ b. ltb s top && b) (e s h) ∙ sym (member-setOf q s))
+    (λ s h. member-setOf p s ∙ ap (λ b. ltb s maxStates && b) (e s h) ∙ sym (member-setOf q s))
 
 -- ---- membership as a fact
 
@@ -130,15 +130,15 @@ pub record In (X : Set) (s : ℕ) : Type 0 where
   pub is : member X s ≡ true
 
 -- a set holds states below top only
-pub in-top : {X : Set} {s : ℕ} → In X s → s < top
+pub in-bound : {X : Set} {s : ℕ} → In X s → s < maxStates
 unfolding member
-in-top {X} {s} h = ltb-true s top (and-true (ltb s top) _ (h .is) .0)
+in-bound {X} {s} h = ltb-true s maxStates (and-true (ltb s maxStates) _ (h .is) .0)
 
-pub in-setOf : (p : ℕ → Bool) {s : ℕ} → s < top → p s ≡ true → In (setOf p) s
-in-setOf p {s} h e = record { is = member-setOf p s ∙ and-intro (ltb s top) (p s) (lt-ltb s top h) e }
+pub in-setOf : (p : ℕ → Bool) {s : ℕ} → s < maxStates → p s ≡ true → In (setOf p) s
+in-setOf p {s} h e = record { is = member-setOf p s ∙ and-intro (ltb s maxStates) (p s) (lt-ltb s maxStates h) e }
 
 pub setOf-in : (p : ℕ → Bool) {s : ℕ} → In (setOf p) s → p s ≡ true
-setOf-in p {s} h = and-true (ltb s top) (p s) (sym (member-setOf p s) ∙ h .is) .1
+setOf-in p {s} h = and-true (ltb s maxStates) (p s) (sym (member-setOf p s) ∙ h .is) .1
 
 -- a state is a member or it is not
 pub in-or-out : (X : Set) (s : ℕ) → In X s ⊎ (In X s → ⊥)
@@ -148,7 +148,7 @@ pub empty-in : {s : ℕ} → In empty s → ⊥
 unfolding empty
 empty-in h = false≢true (setOf-in _ h)
 
-pub in-single : {s : ℕ} → s < top → In (single s) s
+pub in-single : {s : ℕ} → s < maxStates → In (single s) s
 unfolding single
 in-single {s} h = in-setOf _ h (eq-eqb s s refl)
 
@@ -158,8 +158,8 @@ single-in {x} {s} h = eqb-true s x (setOf-in _ h)
 
 pub in-union : {X Y : Set} {s : ℕ} → In X s ⊎ In Y s → In (union X Y) s
 unfolding union
-in-union {X} {Y} {s} (inl h) = in-setOf _ (in-top h) (or-intro (member X s) (member Y s) (inl (h .is)))
-in-union {X} {Y} {s} (inr h) = in-setOf _ (in-top h) (or-intro (member X s) (member Y s) (inr (h .is)))
+in-union {X} {Y} {s} (inl h) = in-setOf _ (in-bound h) (or-intro (member X s) (member Y s) (inl (h .is)))
+in-union {X} {Y} {s} (inr h) = in-setOf _ (in-bound h) (or-intro (member X s) (member Y s) (inr (h .is)))
 
 pub union-in : {X Y : Set} {s : ℕ} → In (union X Y) s → In X s ⊎ In Y s
 unfolding union
@@ -167,7 +167,7 @@ union-in {X} {Y} {s} h = ⊎-elim (λ e. inl (record { is = e })) (λ e. inr (re
 
 pub in-meet : {X Y : Set} {s : ℕ} → In X s → In Y s → In (meet X Y) s
 unfolding meet
-in-meet {X} {Y} {s} h k = in-setOf _ (in-top h) (and-intro (member X s) (member Y s) (h .is) (k .is))
+in-meet {X} {Y} {s} h k = in-setOf _ (in-bound h) (and-intro (member X s) (member Y s) (h .is) (k .is))
 
 pub meet-in : {X Y : Set} {s : ℕ} → In (meet X Y) s → In X s × In Y s
 unfolding meet
@@ -175,7 +175,18 @@ meet-in {X} {Y} {s} h =
     let both = and-true (member X s) (member Y s) (setOf-in _ h) in
     (record { is = both .0 }, record { is = both .1 })
 
-pub in-states : (n : ℕ) (p : ℕ → Bool) {s : ℕ} → s < top → s < n → p s ≡ true → In (states n p) s
+pub in-difference : {X Y : Set} {s : ℕ} → In X s → (In Y s → ⊥) → In (difference X Y) s
+unfolding difference
+in-difference {X} {Y} {s} h out =
+    in-setOf _ (in-bound h) (and-intro (member X s) (not (member Y s)) (h .is) (ap not (is-false (member Y s) (λ e. out (record { is = e })))))
+
+pub difference-in : {X Y : Set} {s : ℕ} → In (difference X Y) s → In X s × (In Y s → ⊥)
+unfolding difference
+difference-in {X} {Y} {s} h =
+    let both = and-true (member X s) (not (member Y s)) (setOf-in _ h) in
+    (record { is = both .0 }, λ k. clash (k .is) (not-true (member Y s) (both .1)))
+
+pub in-states : (n : ℕ) (p : ℕ → Bool) {s : ℕ} → s < maxStates → s < n → p s ≡ true → In (states n p) s
 unfolding states
 in-states n p {s} t h e = in-setOf _ t (and-intro (ltb s n) (p s) (lt-ltb s n h) e)
 
@@ -185,7 +196,7 @@ states-in n p {s} h =
     let both = and-true (ltb s n) (p s) (setOf-in _ h) in
     (ltb-true s n (both .0), both .1)
 
-pub in-firstStates : {n s : ℕ} → s < top → s < n → In (firstStates n) s
+pub in-firstStates : {n s : ℕ} → s < maxStates → s < n → In (firstStates n) s
 unfolding firstStates
 in-firstStates {n} t h = in-states n _ t h refl
 
@@ -205,13 +216,13 @@ subset-in {X} {Y} e s h =
     record {
       is =
           ⊎-elim (λ q. absurd (clash (h .is) (not-true (member X s) q))) (λ q. q)
-          (or-true (not (member X s)) (member Y s) (all-at (λ k. not (member X k) || member Y k) top e s (in-top h)));
+          (or-true (not (member X s)) (member Y s) (all-at (λ k. not (member X k) || member Y k) maxStates e s (in-bound h)));
     }
 
 pub in-subset : {X Y : Set} → X ⊆ Y → subset X Y ≡ true
 unfolding subset
 in-subset {X} {Y} f =
-    all-intro (λ k. not (member X k) || member Y k) top
+    all-intro (λ k. not (member X k) || member Y k) maxStates
     (λ s h.
     or-intro (not (member X s)) (member Y s)
     (⊎-elim (λ e. inr (f s (record { is = e }) .is)) (λ e. inl (ap not e)) (decided (member X s))))
@@ -219,9 +230,9 @@ in-subset {X} {Y} f =
 -- where X is not inside Y, some state is in X and not in Y
 pub subset-not : (X Y : Set) → subset X Y ≡ false → (s : ℕ) × In X s × (In Y s → ⊥)
 unfolding subset
-subset-not X Y e = go (all-not (λ k. not (member X k) || member Y k) top e)
+subset-not X Y e = go (all-not (λ k. not (member X k) || member Y k) maxStates e)
   where
-    go : (s : ℕ) × (s < top) × ((not (member X s) || member Y s) ≡ false) → (s : ℕ) × In X s × (In Y s → ⊥)
+    go : (s : ℕ) × (s < maxStates) × ((not (member X s) || member Y s) ≡ false) → (s : ℕ) × In X s × (In Y s → ⊥)
     go w =
         ⊎-elim
         (λ q. (w .0, record { is = q }, λ k. clash (or-intro (not (member X (w .0))) (member Y (w .0)) (inr (k .is))) (w .2)))
@@ -233,7 +244,7 @@ pub ⊆-of-eq : {X Y : Set} → X ≡ Y → X ⊆ Y
 
 pub states-within : (n : ℕ) (p : ℕ → Bool) → states n p ⊆ firstStates n
 unfolding firstStates
-states-within n p s h = in-states n _ (in-top h) (states-in n p h .0) refl
+states-within n p s h = in-states n _ (in-bound h) (states-in n p h .0) refl
 
 pub same-set : (X Y : Set) → Proper X → Proper Y → X ⊆ Y → Y ⊆ X → X ≡ Y
 same-set X Y x y f g =
@@ -251,12 +262,12 @@ eq-same {X} {Y} e = and-intro (subset X Y) (subset Y X) (in-subset (⊆-of-eq e)
 
 pub in-meets : {X Y : Set} {s : ℕ} → In X s → In Y s → meets X Y ≡ true
 unfolding meets
-in-meets {X} {Y} {s} h k = any-intro (λ i. member X i && member Y i) top s (in-top h) (and-intro (member X s) (member Y s) (h .is) (k .is))
+in-meets {X} {Y} {s} h k = any-intro (λ i. member X i && member Y i) maxStates s (in-bound h) (and-intro (member X s) (member Y s) (h .is) (k .is))
 
 pub meets-in : {X Y : Set} → meets X Y ≡ true → (s : ℕ) × In X s × In Y s
 unfolding meets
 meets-in {X} {Y} e =
-    let w = any-find (λ i. member X i && member Y i) top e in
+    let w = any-find (λ i. member X i && member Y i) maxStates e in
     let both = and-true (member X (w .0)) (member Y (w .0)) (w .2) in
     (w .0, record { is = both .0 }, record { is = both .1 })
 
@@ -264,11 +275,11 @@ meets-in {X} {Y} e =
 
 pub smallest-le : {X : Set} {s : ℕ} → In X s → smallest X ≤ s
 unfolding smallest
-smallest-le {X} {s} h = first-before (member X) top s (h .is)
+smallest-le {X} {s} h = first-before (member X) maxStates s (h .is)
 
 pub smallest-in : {X : Set} {s : ℕ} → In X s → In X (smallest X)
 unfolding smallest
-smallest-in {X} {s} h = record { is = first-passes (member X) top (omega (arith, smallest-le h, in-top h)) }
+smallest-in {X} {s} h = record { is = first-passes (member X) maxStates (omega (arith, smallest-le h, in-bound h)) }
 
 -- ---- images
 

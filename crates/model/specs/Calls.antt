@@ -2,45 +2,48 @@
 -- declines"). An answer has 01's numbers; `refusal` is 0 where the call is not declined, and every other field is 0 (the invariant empty)
 -- where it is.
 --
---   release                                the allowance of a release check
+--   maxAllowance, release                  the greatest allowance, which is that of a release check
 --   overwrite xs old                       xs at the front of a buffer that held old, the rest of it untouched
 --   Decision, decideAnswer, decideBuffer   decide: the grounds in order, the answer, the path buffer at exit
 --   Shortest, shortestAnswer, shortestBuffer
 --   TableRead, readAnswer, readBuffer      read: the buffer is the store
 --   Written, writeAnswer, writeBuffer      write: the buffer is the output
 --
--- A buffer's length is the length of the list that it holds.
+-- A buffer's length is the length of the list that it holds. Decide, shortest path and write are lent the store to read only.
 use Prim.Native.Nat.{ℕ, zero, suc, _+_, _*_, _/_, _%_}
 use mathlib.Core.Bool.{Bool, cond, not, _||_}
 use mathlib.Core.List.{List, [], _∷_, _++_}
 use lib.Dec.{eqb, ltb}
 use lib.ListN.{length, drop}
-use Rattle.model.specs.Sets.{top, Set, empty, size, any}
+use Rattle.model.specs.Sets.{maxStates, Set, empty, size, any}
 use Rattle.model.specs.Tables.{Table}
 use Rattle.model.specs.Rounds.{Outcome, safe, unsafe, undecided, run}
 use Rattle.model.specs.Paths.{shortest, hasPath, smallestPath}
-use Rattle.model.specs.Stores.{maxGroups, storeWords, tableOf, layout, refuse, beyond, nonZero, badStates, accept}
-use Rattle.model.specs.Files.{pairAt, contentLength, blocksFor, fileLength, checkOf, fileOf, part, contentsOf, setNumber, tableIn}
+use Rattle.model.specs.Stores.{maxGroups, storeWords, tableOf, layout, refuse, beyond, nonZero, badStates, sharedGrounds}
+use Rattle.model.specs.Files.{le16At, contentLength, blocksFor, fileLength, checkOf, fileOf, part, contentsOf, setNumber, tableIn}
 
 unfoldable pub overwrite : List ℕ → List ℕ → List ℕ
 overwrite xs old = xs ++ drop (length xs) old
 
 -- ---- decide
 
--- The greatest allowance, which is that of a release check: as many refinements as there can be states.
+-- As many refinements as there can be states.
+abbrev pub maxAllowance : ℕ
+maxAllowance = maxStates
+
 abbrev pub release : ℕ
-release = top
+release = maxAllowance
 
 pub record Decision : Type 0 where
   pub refusal : ℕ
-  pub verdict : ℕ  -- 0 safe, 1 unsafe, 2 undecided
+  pub verdict : ℕ  -- 0 safe, 1 unsafe, 2 undecided, where refusal is 0
   pub count : ℕ  -- of refinements
   pub invariant : Set  -- empty unless safe
   pub size : ℕ  -- of the invariant
   pub steps : ℕ  -- d, 0 unless unsafe
 
 unfoldable pub decideGrounds : List ℕ → ℕ → ℕ → ℕ → ℕ → List (Bool × ℕ)
-decideGrounds store n g allowance room = accept store n g ++ ((ltb release allowance, 20) ∷ (ltb room top, 21) ∷ [])
+decideGrounds store n g allowance room = sharedGrounds store n g ++ ((ltb maxAllowance allowance, 20) ∷ (ltb room maxStates, 21) ∷ [])
 
 unfoldable pub decisionOf : Table → Outcome → Decision
 decisionOf t (safe i R) = record { refusal = 0; verdict = 0; count = i; invariant = R; size = size R; steps = 0 }
@@ -70,7 +73,7 @@ pub record Shortest : Type 0 where
   pub steps : ℕ  -- d, 0 if there is none
 
 unfoldable pub shortestGrounds : List ℕ → ℕ → ℕ → ℕ → List (Bool × ℕ)
-shortestGrounds store n g room = accept store n g ++ ((ltb room top, 21) ∷ [])
+shortestGrounds store n g room = sharedGrounds store n g ++ ((ltb room maxStates, 21) ∷ [])
 
 unfoldable pub shortestAnswer : List ℕ → ℕ → ℕ → ℕ → Shortest
 shortestAnswer store n g room =
@@ -101,20 +104,20 @@ firstFault (suc m) f = let e = firstFault m f in cond (eqb e 0) (f m) e
 unfoldable pub blockFault : List ℕ → ℕ → ℕ
 blockFault block k =
     refuse
-    ((not (eqb (pairAt block 0) k), 12)
-    ∷ (not (eqb (pairAt block 510) (checkOf block)), 13)
+    ((not (eqb (le16At block 0) k), 12)
+    ∷ (not (eqb (le16At block 510) (checkOf block)), 13)
     ∷ [])
 
 -- The largest file: n and g at their greatest.
 abbrev pub maxFile : ℕ
-maxFile = fileLength top maxGroups
+maxFile = fileLength maxStates maxGroups
 
 unfoldable pub readRefusal : List ℕ → ℕ → ℕ
 readRefusal input room =
     let blocks = length input / 512 in
     let bytes = contentsOf input in
-    let n = pairAt bytes 0 in
-    let g = pairAt bytes 2 in
+    let n = le16At bytes 0 in
+    let g = le16At bytes 2 in
     let size = contentLength n g in
     let early =
     refuse
@@ -136,13 +139,13 @@ unfoldable pub readAnswer : List ℕ → ℕ → TableRead
 readAnswer input room =
     let bytes = contentsOf input in
     let k = readRefusal input room in
-    let table : TableRead = record { refusal = 0; n = pairAt bytes 0; g = pairAt bytes 2 } in
+    let table : TableRead = record { refusal = 0; n = le16At bytes 0; g = le16At bytes 2 } in
     cond (eqb k 0) table (record { refusal = k; n = 0; g = 0 })
 
 unfoldable pub readBuffer : List ℕ → List ℕ → List ℕ
 readBuffer input store =
     let bytes = contentsOf input in
-    let filled = overwrite (layout (tableIn bytes (pairAt bytes 0) (pairAt bytes 2))) store in
+    let filled = overwrite (layout (tableIn bytes (le16At bytes 0) (le16At bytes 2))) store in
     cond (eqb (readRefusal input (length store)) 0) filled store
 
 -- ---- write
@@ -152,7 +155,7 @@ pub record Written : Type 0 where
   pub length : ℕ
 
 unfoldable pub writeGrounds : List ℕ → ℕ → ℕ → ℕ → List (Bool × ℕ)
-writeGrounds store n g room = accept store n g ++ ((ltb room (fileLength n g), 19) ∷ [])
+writeGrounds store n g room = sharedGrounds store n g ++ ((ltb room (fileLength n g), 19) ∷ [])
 
 unfoldable pub writeAnswer : List ℕ → ℕ → ℕ → ℕ → Written
 writeAnswer store n g room =

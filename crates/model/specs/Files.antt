@@ -1,28 +1,28 @@
 -- Files of blocks (01, "Blocks").
 --
---   two x                   x as two bytes, low byte first; pairAt bytes i: the number whose two bytes stand at i
+--   le16 x                  x as two bytes, low byte first; le16At bytes i: the number whose two bytes stand at i
 --   setWidth n              w, the bytes that a set takes; setBytes w X: its bytes
 --   sets t                  the sets of a table in the file's order: initial, forbidden, the groups, the rows
 --   contents t              the contents joined; contentLength n g: L, how many bytes they are
 --   blocksFor l             how many blocks hold l bytes of content; fileLength n g: the bytes of the file
---   checkOf bytes           the check of a block
+--   checkOf bytes           the check of a block (a weighted checksum)
 --   blockOf bytes k         block k of a file with these contents; fileOf t: the file of a table
 --   part input k            the 512 bytes of block k; contentsOf input: the contents of a file's blocks, joined
 --   tableIn bytes n g       the table that contents hold
 use Prim.Native.Nat.{ℕ, zero, suc, _+_, _*_, _/_, _%_}
-use mathlib.Core.Bool.{_&&_}
+use mathlib.Core.Bool.{cond, _&&_}
 use mathlib.Core.List.{List, [], _∷_, _++_}
 use lib.Dec.{ltb}
 use lib.ListN.{length, getD, take, drop, replicate}
-use Rattle.model.specs.Sets.{Set, bit, member, number, setOf, tab}
+use Rattle.model.specs.Sets.{Set, bit, member, number, setOf, empty, tabulate}
 use Rattle.model.specs.Tables.{Table}
-use Rattle.model.specs.Stores.{joined}
+use Rattle.model.specs.Stores.{concat}
 
-abbrev pub two : ℕ → List ℕ
-two x = x % 256 ∷ x / 256 % 256 ∷ []
+abbrev pub le16 : ℕ → List ℕ
+le16 x = x % 256 ∷ x / 256 % 256 ∷ []
 
-abbrev pub pairAt : List ℕ → ℕ → ℕ
-pairAt bytes i = getD bytes i 0 + 256 * getD bytes (i + 1) 0
+abbrev pub le16At : List ℕ → ℕ → ℕ
+le16At bytes i = getD bytes i 0 + 256 * getD bytes (i + 1) 0
 
 -- ---- contents
 
@@ -31,15 +31,15 @@ setWidth n = (n + 7) / 8
 
 -- State s is the bit of value 2^(s mod 8) in byte s/8.
 unfoldable pub setBytes : ℕ → Set → List ℕ
-setBytes w X = tab w (λ j. number (member X) (8 * j) 8)
+setBytes w X = tabulate w (λ j. number (member X) (8 * j) 8)
 
 unfoldable pub sets : Table → List Set
-sets t = t .initial ∷ t .forbidden ∷ (t .groups ++ tab (t .n) (t .row))
+sets t = t .initial ∷ t .forbidden ∷ (t .groups ++ tabulate (t .n) (t .row))
 
 unfoldable pub contents : Table → List ℕ
 contents t =
     let xs = sets t in
-    two (t .n) ++ (two (length (t .groups)) ++ joined (length xs) (λ k. setBytes (setWidth (t .n)) (getD xs k [])))
+    le16 (t .n) ++ (le16 (length (t .groups)) ++ concat (length xs) (λ k. setBytes (setWidth (t .n)) (getD xs k [])))
 
 abbrev pub contentLength : ℕ → ℕ → ℕ
 contentLength n g = 4 + setWidth n * (2 + g + n)
@@ -60,14 +60,14 @@ weighted bytes (suc i) = weighted bytes i + (i + 1) * getD bytes i 0
 unfoldable pub checkOf : List ℕ → ℕ
 checkOf bytes = weighted bytes 510 % 65521
 
--- The number k, 508 bytes of content with 0 for filler, and the check.
+-- The number k, 508 bytes of content with 0 for filler (padding), and the check.
 unfoldable pub blockOf : List ℕ → ℕ → List ℕ
 blockOf bytes k =
-    let front = two k ++ take 508 (drop (508 * k) bytes ++ replicate 508 0) in
-    front ++ two (checkOf front)
+    let front = le16 k ++ take 508 (drop (508 * k) bytes ++ replicate 508 0) in
+    front ++ le16 (checkOf front)
 
 unfoldable pub fileOf : Table → List ℕ
-fileOf t = let bytes = contents t in joined (blocksFor (length bytes)) (blockOf bytes)
+fileOf t = let bytes = contents t in concat (blocksFor (length bytes)) (blockOf bytes)
 
 -- ---- reading
 
@@ -75,7 +75,7 @@ unfoldable pub part : List ℕ → ℕ → List ℕ
 part input k = take 512 (drop (512 * k) input)
 
 unfoldable pub contentsOf : List ℕ → List ℕ
-contentsOf input = joined (length input / 512) (λ k. take 508 (drop 2 (part input k)))
+contentsOf input = concat (length input / 512) (λ k. take 508 (drop 2 (part input k)))
 
 -- The set whose w bytes begin at `at`.
 unfoldable pub setIn : List ℕ → ℕ → ℕ → Set
@@ -91,6 +91,6 @@ tableIn bytes n g =
       n = n;
       initial = setNumber bytes n 0;
       forbidden = setNumber bytes n 1;
-      groups = tab g (λ j. setNumber bytes n (2 + j));
-      row = λ s. setNumber bytes n (2 + g + s);
+      groups = tabulate g (λ j. setNumber bytes n (2 + j));
+      row = λ s. cond (ltb s n) (setNumber bytes n (2 + g + s)) empty;
     }

@@ -1,27 +1,49 @@
 -- The promises: demands 2 and 3, and what pins the rounds, as statements about the definitions. The proofs stand in proofs/.
 --
---   IsLeast, IsGreatest        the least and the greatest solution of X = f X
+--   Operations                 post, hold and covers by their members, and what adding a set to the list does
+--   IsLeast, IsGreatest        the least and the greatest solution of X = f X (least and greatest fixpoint)
 --   roundAt t i                round i, whether or not the rounds get that far
---   Pinned                     the outcome is that of the first round that stops
+--   IsFirst, IsNext, IsRound   where a round's list and Z come from; its R and S
+--   Continues, FirstStop       a round that says neither safe nor unsafe; the outcome is that of the first round that does
 --   BackwardIs                 the backward number is the least j for which W stays the same
---   IsSmallest                 a shortest path, and the smallest of those
---   IsInvariant                a set that holds every initial state, no forbidden one and no step out
---   Demand2, Demand3           the demands, of one answer; SameAnswer: of two; SamePath: of decide's and shortest path's
---   Promises                   all of it, of every accepted call
+--   LexLe, IsSmallest          lexicographic order; a shortest path, and the smallest of those
+--   IsInvariant                an inductive invariant: it holds every initial state, no forbidden one and no step out
+--   Carries                    what an answer carries with its verdict, and what is left in the path buffer
+--   Demand2, Demand3           the demands, of one answer; SameAnswer: of two
+--   PathAnswer                 what the call shortest path returns and leaves in the path buffer
+--   Accepted, Promises         all of it, of every table and of every accepted call
+--   Untouched                  a call that declines leaves its buffer as it was
 use Prim.Native.Nat.{ℕ, zero, suc, _≤_, _<_}
 use mathlib.Core.Path.{_≡_}
-use mathlib.Core.Logic.{_⊎_}
+use mathlib.Core.Logic.{_⊎_, _↔_}
 use mathlib.Core.Bool.{true, false}
-use mathlib.Core.List.{List, [], _∷_}
+use mathlib.Core.List.{List, [], _∷_, List·Memᴰ}
 use lib.ListN.{length, take}
-use Rattle.model.specs.Sets.{Set, member, subset, meet}
-use Rattle.model.specs.Tables.{Table, hold, allowed}
+use Rattle.model.specs.Sets.{maxStates, Set, member, empty, meet, subset, size}
+use Rattle.model.specs.Tables.{Table, post, hold, coverOf, cover, notForbidden}
 use Rattle.model.specs.Rounds.{Round, forwardStep, backwardStep, firstRound, nextRound, isSafe, isUnsafe, safe, unsafe, undecided, run, eliminated, backwardNumber}
-use Rattle.model.specs.Paths.{isPath}
-use Rattle.model.specs.Stores.{tableOf}
-use Rattle.model.specs.Calls.{Decision, Shortest, release, decideAnswer, decideBuffer, shortestAnswer, shortestBuffer}
+use Rattle.model.specs.Paths.{isPath, smallestPath}
+use Rattle.model.specs.Stores.{storeWords, tableOf}
+use Rattle.model.specs.Calls.{overwrite, Decision, release, decisionOf, decideAnswer, decideBuffer, Shortest, shortestAnswer, shortestBuffer, readAnswer, readBuffer, writeAnswer, writeBuffer}
 
--- ---- the rounds are pinned
+-- ---- the operations, for states that a set can hold
+
+pub record Operations (n : ℕ) (row : ℕ → Set) (L : List Set) (X : Set) : Type 0 where
+  pub post-members : (u : ℕ)
+      → (member (post n row X) u ≡ true) ↔ ((s : ℕ) × (s < n) × (member X s ≡ true) × (member (row s) u ≡ true))
+  -- a state without successors is in hold X for each X
+  pub hold-members : (s : ℕ) → s < maxStates
+      → (member (hold n row X) s ≡ true) ↔ ((s < n) × ((u : ℕ) → member (row s) u ≡ true → member X u ≡ true))
+  -- the meet of the listed sets that contain s, or all n states if none does
+  pub coverOf-members : (s u : ℕ) → u < maxStates
+      → (member (coverOf n L s) u ≡ true) ↔ ((u < n) × ((Z : Set) → List·Memᴰ Z L → member Z s ≡ true → member Z u ≡ true))
+  pub cover-members : (u : ℕ)
+      → (member (cover n L X) u ≡ true) ↔ ((s : ℕ) × (s < n) × (member X s ≡ true) × (member (coverOf n L s) u ≡ true))
+  -- adding Z to the list changes the cover of each state in Z to its meet with Z, and no other cover
+  pub add-in : (Z : Set) (s : ℕ) → member Z s ≡ true → coverOf n (Z ∷ L) s ≡ meet (coverOf n L s) Z
+  pub add-out : (Z : Set) (s : ℕ) → member Z s ≡ false → coverOf n (Z ∷ L) s ≡ coverOf n L s
+
+-- ---- the rounds
 
 pub record IsLeast (f : Set → Set) (X : Set) : Type 0 where
   pub solves : X ≡ f X
@@ -35,27 +57,30 @@ unfoldable pub roundAt : Table → ℕ → Round
 roundAt t zero = firstRound t
 roundAt t (suc i) = nextRound t (roundAt t i)
 
--- Round i is as 01 says: list and Z come from the round before, R is the least and S the greatest solution.
-pub record IsRound (t : Table) (i : ℕ) : Type 0 where
-  pub first-Z : (roundAt t 0) .Z ≡ allowed (t .n) (t .forbidden)
-  pub first-list : (roundAt t 0) .list ≡ allowed (t .n) (t .forbidden) ∷ t .groups
-  pub next-Z : (roundAt t (suc i)) .Z ≡ meet ((roundAt t i) .S) (hold (t .n) (t .row) ((roundAt t i) .S))
-  pub next-list : (roundAt t (suc i)) .list ≡ (roundAt t (suc i)) .Z ∷ (roundAt t i) .list
-  pub R-least : IsLeast (forwardStep t ((roundAt t i) .list) ((roundAt t i) .Z)) ((roundAt t i) .R)
-  pub S-greatest : IsGreatest (backwardStep t ((roundAt t i) .list) ((roundAt t i) .R)) ((roundAt t i) .S)
+pub record IsFirst (t : Table) (r : Round) : Type 0 where
+  pub Z-is : r .Z ≡ notForbidden (t .n) (t .forbidden)
+  pub list-is : r .list ≡ notForbidden (t .n) (t .forbidden) ∷ t .groups
 
--- Round i neither says safe nor unsafe.
-pub record GoesOn (t : Table) (i : ℕ) : Type 0 where
+pub record IsNext (t : Table) (r next : Round) : Type 0 where
+  pub Z-is : next .Z ≡ meet (r .S) (hold (t .n) (t .row) (r .S))
+  pub list-is : next .list ≡ next .Z ∷ r .list
+
+pub record IsRound (t : Table) (r : Round) : Type 0 where
+  pub R-least : IsLeast (forwardStep t (r .list) (r .Z)) (r .R)
+  pub S-greatest : IsGreatest (backwardStep t (r .list) (r .R)) (r .S)
+
+pub record Continues (t : Table) (i : ℕ) : Type 0 where
   pub not-safe : isSafe t (roundAt t i) ≡ false
   pub not-unsafe : isUnsafe t (roundAt t i) ≡ false
 
--- The outcome is that of round i, where the rounds before it go on and it is within the allowance.
-pub record Pinned (t : Table) (allowance : ℕ) : Type 0 where
-  pub at-safe : (i : ℕ) → i ≤ allowance → ((j : ℕ) → j < i → GoesOn t j) → isSafe t (roundAt t i) ≡ true
+pub record FirstStop (t : Table) (allowance : ℕ) : Type 0 where
+  pub at-safe : (i : ℕ) → i ≤ allowance → ((j : ℕ) → j < i → Continues t j) → isSafe t (roundAt t i) ≡ true
       → run t allowance ≡ safe i ((roundAt t i) .R)
-  pub at-unsafe : (i : ℕ) → i ≤ allowance → ((j : ℕ) → j < i → GoesOn t j) → isSafe t (roundAt t i) ≡ false → isUnsafe t (roundAt t i) ≡ true
+  pub at-unsafe : (i : ℕ) → i ≤ allowance → ((j : ℕ) → j < i → Continues t j) → isSafe t (roundAt t i) ≡ false → isUnsafe t (roundAt t i) ≡ true
       → run t allowance ≡ unsafe i
-  pub at-undecided : ((j : ℕ) → j ≤ allowance → GoesOn t j) → run t allowance ≡ undecided allowance
+  pub at-undecided : ((j : ℕ) → j ≤ allowance → Continues t j) → run t allowance ≡ undecided allowance
+  -- undecided comes only at the allowance, and with count equal to it
+  pub only-undecided : (i : ℕ) → run t allowance ≡ undecided i → (i ≡ allowance) × ((j : ℕ) → j ≤ allowance → Continues t j)
 
 -- ---- backward elimination
 
@@ -66,33 +91,41 @@ pub record BackwardIs (t : Table) (b : ℕ) : Type 0 where
 
 -- ---- paths and invariants
 
--- xs stands before ys, or is ys: the smaller first state, then the smaller second, and so on.
-abbrev pub NotAfter : List ℕ → List ℕ → Type 0
-NotAfter [] ys = Unit {0}
-NotAfter (x ∷ xs) [] = ⊥
-NotAfter (x ∷ xs) (y ∷ ys) = (x < y) ⊎ ((x ≡ y) × NotAfter xs ys)
+-- The smaller first state, then the smaller second, and so on.
+abbrev pub LexLe : List ℕ → List ℕ → Type 0
+LexLe [] ys = Unit {0}
+LexLe (x ∷ xs) [] = ⊥
+LexLe (x ∷ xs) (y ∷ ys) = (x < y) ⊎ ((x ≡ y) × LexLe xs ys)
 
 pub record IsSmallest (t : Table) (xs : List ℕ) : Type 0 where
   pub path : isPath t xs ≡ true
   pub shortest : (ys : List ℕ) → isPath t ys ≡ true → length xs ≤ length ys
-  pub smallest : (ys : List ℕ) → isPath t ys ≡ true → length ys ≡ length xs → NotAfter xs ys
+  pub smallest : (ys : List ℕ) → isPath t ys ≡ true → length ys ≡ length xs → LexLe xs ys
 
 pub record IsInvariant (t : Table) (X : Set) : Type 0 where
   pub initial : (s : ℕ) → member (t .initial) s ≡ true → member X s ≡ true
-  pub allowed : (s : ℕ) → member X s ≡ true → member (t .forbidden) s ≡ false
+  pub notForbidden : (s : ℕ) → member X s ≡ true → member (t .forbidden) s ≡ false
   pub closed : (s u : ℕ) → member X s ≡ true → member (t .row s) u ≡ true → member X u ≡ true
+  pub within : (s : ℕ) → member X s ≡ true → s < t .n
 
--- ---- the demands: of a table, what decide returned (and was allowed), and what it left in the path buffer
+-- ---- one answer: a table, the allowance, what decide returned, and the path buffer before and after
+
+pub record Carries (t : Table) (allowance : ℕ) (a : Decision) (before after : List ℕ) : Type 0 where
+  pub with-safe : a .verdict ≡ 0 → (a .size ≡ size (a .invariant)) × (a .steps ≡ 0) × (after ≡ before)
+  -- d + 1 states at the front of the buffer, and no other byte
+  pub with-unsafe : a .verdict ≡ 1
+      → (a .invariant ≡ empty) × (a .size ≡ 0) × (length (smallestPath t) ≡ suc (a .steps)) × (after ≡ overwrite (smallestPath t) before)
+  pub with-undecided : a .verdict ≡ 2 → (a .invariant ≡ empty) × (a .size ≡ 0) × (a .steps ≡ 0) × (a .count ≡ allowance) × (after ≡ before)
 
 -- A release check.
-pub record Demand2 (t : Table) (a : Decision) (buffer : List ℕ) : Type 0 where
+pub record Demand2 (t : Table) (a : Decision) (after : List ℕ) : Type 0 where
   -- never undecided
   pub decided : (a .verdict ≡ 0) ⊎ (a .verdict ≡ 1)
   -- unsafe exactly when there is a path
   pub unsafe-path : a .verdict ≡ 1 → (xs : List ℕ) × (isPath t xs ≡ true)
   pub path-unsafe : (xs : List ℕ) → isPath t xs ≡ true → a .verdict ≡ 1
   -- with the path that 01 names, in the d + 1 bytes at the front of the buffer
-  pub smallest-path : a .verdict ≡ 1 → IsSmallest t (take (suc (a .steps)) buffer)
+  pub smallest-path : a .verdict ≡ 1 → IsSmallest t (take (suc (a .steps)) after)
   -- else safe, with an invariant
   pub invariant : a .verdict ≡ 0 → IsInvariant t (a .invariant)
 
@@ -102,7 +135,7 @@ pub record Demand3 (t : Table) (allowance : ℕ) (a : Decision) : Type 0 where
   pub count-path : a .verdict ≡ 1 → (xs : List ℕ) → isPath t xs ≡ true → a .count < length xs
   pub enough : backwardNumber t ≤ allowance → a .verdict ≡ 2 → ⊥
 
--- Two answers are the same: the rest of either path buffer plays no part.
+-- Two answers, and the path buffers after them, of which only the states written play a part.
 pub record SameAnswer (a b : Decision) (p q : List ℕ) : Type 0 where
   pub verdict : a .verdict ≡ b .verdict
   pub count : a .count ≡ b .count
@@ -111,11 +144,14 @@ pub record SameAnswer (a b : Decision) (p q : List ℕ) : Type 0 where
   pub steps : a .steps ≡ b .steps
   pub states : a .verdict ≡ 1 → take (suc (a .steps)) p ≡ take (suc (b .steps)) q
 
--- The call shortest path finds decide's path.
-pub record SamePath (a : Decision) (s : Shortest) (p q : List ℕ) : Type 0 where
-  pub found : a .verdict ≡ 1 → s .found ≡ 1
-  pub steps : a .verdict ≡ 1 → s .steps ≡ a .steps
-  pub buffer : a .verdict ≡ 1 → q ≡ p
+-- What the call shortest path returned, and the path buffer before and after.
+pub record PathAnswer (t : Table) (a : Shortest) (before after : List ℕ) : Type 0 where
+  pub found-or-none : (a .found ≡ 0) ⊎ (a .found ≡ 1)
+  pub found-path : (a .found ≡ 1) ↔ ((xs : List ℕ) × (isPath t xs ≡ true))
+  -- the path that 01 names, which decide writes too: d + 1 states at the front of the buffer, and no other byte
+  pub with-path : a .found ≡ 1
+      → IsSmallest t (smallestPath t) × (length (smallestPath t) ≡ suc (a .steps)) × (after ≡ overwrite (smallestPath t) before)
+  pub without-path : a .found ≡ 0 → (a .steps ≡ 0) × (after ≡ before)
 
 -- ---- the promises
 
@@ -123,26 +159,46 @@ pub record SamePath (a : Decision) (s : Shortest) (p q : List ℕ) : Type 0 wher
 pub record Accepted (store : List ℕ) (n g allowance room : ℕ) : Type 0 where
   pub accepted : (decideAnswer store n g allowance room) .refusal ≡ 0
 
--- What is promised of every two accepted checks of one table.
 pub record Promises : Type 0 where
+  -- of every table
+  pub operations : (n : ℕ) (row : ℕ → Set) (L : List Set) (X : Set) → Operations n row L X
+  pub first-round : (t : Table) → IsFirst t (roundAt t 0)
+  pub next-round : (t : Table) (i : ℕ) → IsNext t (roundAt t i) (roundAt t (suc i))
+  pub each-round : (t : Table) (i : ℕ) → IsRound t (roundAt t i)
+  pub first-stop : (t : Table) (allowance : ℕ) → FirstStop t allowance
+  pub backward-number : (t : Table) → BackwardIs t (backwardNumber t)
+  pub demand3 : (t : Table) (allowance : ℕ) → Demand3 t allowance (decisionOf t (run t allowance))
+  -- of every accepted check: the answer is that of the rounds
+  pub answer : (store : List ℕ) (n g allowance : ℕ) (path : List ℕ)
+      → Accepted store n g allowance (length path)
+      → decideAnswer store n g allowance (length path) ≡ decisionOf (tableOf store n g) (run (tableOf store n g) allowance)
+  pub carries : (store : List ℕ) (n g allowance : ℕ) (path : List ℕ)
+      → Accepted store n g allowance (length path)
+      → Carries (tableOf store n g) allowance (decideAnswer store n g allowance (length path)) path (decideBuffer store n g allowance path)
   pub demand2 : (store : List ℕ) (n g : ℕ) (path : List ℕ)
       → Accepted store n g release (length path)
       → Demand2 (tableOf store n g) (decideAnswer store n g release (length path)) (decideBuffer store n g release path)
-  pub demand3 : (store : List ℕ) (n g allowance : ℕ) (path : List ℕ)
-      → Accepted store n g allowance (length path)
-      → Demand3 (tableOf store n g) allowance (decideAnswer store n g allowance (length path))
-  -- a larger allowance never changes a verdict given
-  pub larger : (store : List ℕ) (n g allowance more : ℕ) (path other : List ℕ)
-      → Accepted store n g allowance (length path)
-      → Accepted store n g more (length other)
+  -- of every two accepted checks of one table, which lies in the first words of both stores: a larger allowance never changes a verdict
+  -- given
+  pub larger : (store other : List ℕ) (n g allowance more : ℕ) (p q : List ℕ)
+      → Accepted store n g allowance (length p)
+      → Accepted other n g more (length q)
+      → take storeWords store ≡ take storeWords other
       → allowance ≤ more
-      → ((decideAnswer store n g allowance (length path)) .verdict ≡ 2 → ⊥)
-      → SameAnswer (decideAnswer store n g allowance (length path)) (decideAnswer store n g more (length other))
-      (decideBuffer store n g allowance path) (decideBuffer store n g more other)
-  pub same-path : (store : List ℕ) (n g allowance : ℕ) (path : List ℕ)
-      → Accepted store n g allowance (length path)
-      → SamePath (decideAnswer store n g allowance (length path)) (shortestAnswer store n g (length path))
-      (decideBuffer store n g allowance path) (shortestBuffer store n g path)
-  pub round : (t : Table) (i : ℕ) → IsRound t i
-  pub pinned : (t : Table) (allowance : ℕ) → Pinned t allowance
-  pub backward : (t : Table) → BackwardIs t (backwardNumber t)
+      → ((decideAnswer store n g allowance (length p)) .verdict ≡ 2 → ⊥)
+      → SameAnswer (decideAnswer store n g allowance (length p)) (decideAnswer other n g more (length q))
+      (decideBuffer store n g allowance p) (decideBuffer other n g more q)
+  -- of every call of shortest path that is not declined
+  pub shortest-path : (store : List ℕ) (n g : ℕ) (path : List ℕ)
+      → (shortestAnswer store n g (length path)) .refusal ≡ 0
+      → PathAnswer (tableOf store n g) (shortestAnswer store n g (length path)) path (shortestBuffer store n g path)
+
+-- What every call that declines leaves.
+pub record Untouched : Type 0 where
+  pub decide : (store : List ℕ) (n g allowance : ℕ) (path : List ℕ)
+      → ((decideAnswer store n g allowance (length path)) .refusal ≡ 0 → ⊥) → decideBuffer store n g allowance path ≡ path
+  pub shortest-path : (store : List ℕ) (n g : ℕ) (path : List ℕ)
+      → ((shortestAnswer store n g (length path)) .refusal ≡ 0 → ⊥) → shortestBuffer store n g path ≡ path
+  pub read : (input store : List ℕ) → ((readAnswer input (length store)) .refusal ≡ 0 → ⊥) → readBuffer input store ≡ store
+  pub write : (store : List ℕ) (n g : ℕ) (output : List ℕ)
+      → ((writeAnswer store n g (length output)) .refusal ≡ 0 → ⊥) → writeBuffer store n g output ≡ output

@@ -1,18 +1,21 @@
 -- The rounds (01, "Rounds": fixpoint-guided abstraction refinement after Cousot, Ganty and Raskin), and backward elimination.
 --
 --   iterate f x k       f applied k times to x
---   forward t L Z       R of a round: the least X with X = cover(Z meet (Init union post X)), the abstract reachable states inside Z
---   backward t L R      S of a round: the greatest X with X = cover(R meet hold X), the states of R that may stay in R for ever
---   Round               the list, Z, R and S of one round
---   rounds t left i r   the outcome from round i on, with `left` refinements left of the allowance
+--   forward t L Z       R of a round: the least X with X = cover(Z meet (Init union post X)) (the abstract forward reachable states
+--                       inside Z, a least fixpoint)
+--   backward t L R      S of a round: the greatest X with X = cover(R meet hold X) (the abstract states all of whose runs stay in R, a
+--                       greatest fixpoint)
+--   Round               the list (the predicates so far), Z, R and S of one round
+--   nextRound t r       a refinement: the next Z is added to the list
+--   rounds t left i r   the outcome from round i on, with `left` refinements left of the allowance (the bound on refinements)
 --   run t allowance     the outcome of a check
---   eliminated t j      W after j rounds of backward elimination
+--   eliminated t j      W after j rounds of backward elimination (j steps towards the greatest W with W = W meet hold W)
 --   backwardNumber t    the least j for which W is the same after j and after j + 1 rounds
 use Prim.Native.Nat.{ℕ, zero, suc}
 use mathlib.Core.Bool.{Bool, cond, not}
 use mathlib.Core.List.{List, _∷_}
 use Rattle.model.specs.Sets.{Set, empty, union, meet, subset, same, first, firstStates}
-use Rattle.model.specs.Tables.{Table, post, hold, cover, allowed}
+use Rattle.model.specs.Tables.{Table, post, hold, cover, notForbidden}
 
 unfoldable pub iterate : (Set → Set) → Set → ℕ → Set
 iterate f x zero = x
@@ -44,7 +47,7 @@ unfoldable pub roundOf : Table → List Set → Set → Round
 roundOf t L Z = let r = forward t L Z in record { list = L; Z = Z; R = r; S = backward t L r }
 
 unfoldable pub firstRound : Table → Round
-firstRound t = let z = allowed (t .n) (t .forbidden) in roundOf t (z ∷ t .groups) z
+firstRound t = let z = notForbidden (t .n) (t .forbidden) in roundOf t (z ∷ t .groups) z
 
 -- Step 6: the next Z is S meet hold(S), and it is added to the list.
 unfoldable pub nextRound : Table → Round → Round
@@ -82,7 +85,7 @@ unfoldable pub eliminationStep : Table → Set → Set
 eliminationStep t W = meet W (hold (t .n) (t .row) W)
 
 unfoldable pub eliminated : Table → ℕ → Set
-eliminated t j = iterate (eliminationStep t) (allowed (t .n) (t .forbidden)) j
+eliminated t j = iterate (eliminationStep t) (notForbidden (t .n) (t .forbidden)) j
 
 unfoldable pub backwardNumber : Table → ℕ
 backwardNumber t = first (t .n) (λ j. same (eliminated t j) (eliminated t (suc j)))

@@ -1,18 +1,19 @@
 -- Sets of states (01, "States and sets").
 --
 --   WORDS            words in a set
---   top              states a set can hold, 64 for each word
---   Set              a set: the list of its words
+--   maxStates        states that a set can hold, 64 for each word: the greatest n
+--   Set              a set of states: the list of its words (a bit vector)
 --   member X s       state s is in X: the bit of value 2^(s mod 64) in word s/64
---   setOf p          the set of the states that pass p (the comprehension; each operation below is one)
---   empty, single s, union, meet, difference       {}, {s}, X ∪ Y, X ∩ Y, X \ Y
+--   setOf p          the set of the states that pass p (comprehension)
+--   empty, single s, union, meet, difference       {}, {s}, X ∪ Y, X ∩ Y, X \ Y, each a comprehension
 --   subset X Y, same X Y, meets X Y                 inclusion; inclusion both ways; a state in common
 --   states n p       the states below n that pass p; firstStates n: all n states
---   members X        the states of X, rising; size X: how many (the ones in its words)
---   smallest X       its least state, or top if it has none
+--   members X        the states of X, rising; size X: how many (that they are the ones in its words is a theorem)
+--   smallest X       its least state, or maxStates if it has none
 --   image n f X      the union of f x over the states x of X below n
 --
--- Tests over the numbers below a bound: any, all, first (the least that passes, else the bound), picked (those that pass, rising).
+-- Tests over the numbers below a bound: any, all, first (the least that passes, else the bound), filter (those that pass, rising);
+-- tabulate n f is the list f 0, .., f (n − 1).
 use Prim.Native.Nat.{ℕ, zero, suc, _+_, _*_, _/_, _%_, _^_}
 use mathlib.Core.Bool.{Bool, true, false, cond, not, _&&_, _||_}
 use mathlib.Core.List.{List, [], _∷_, _++_}
@@ -23,8 +24,8 @@ use lib.ListN.{length, getD}
 abbrev pub WORDS : ℕ
 WORDS = 4
 
-abbrev pub top : ℕ
-top = 64 * WORDS
+abbrev pub maxStates : ℕ
+maxStates = 64 * WORDS
 
 abbrev pub Set : Type 0
 Set = List ℕ
@@ -43,14 +44,14 @@ unfoldable pub first : ℕ → (ℕ → Bool) → ℕ
 first zero p = zero
 first (suc n) p = cond (p zero) zero (suc (first n (λ k. p (suc k))))
 
-unfoldable pub picked : ℕ → (ℕ → Bool) → List ℕ
-picked zero p = []
-picked (suc n) p = picked n p ++ cond (p n) (n ∷ []) []
+unfoldable pub filter : ℕ → (ℕ → Bool) → List ℕ
+filter zero p = []
+filter (suc n) p = filter n p ++ cond (p n) (n ∷ []) []
 
 -- The list f 0, f 1, .., f (n − 1).
-unfoldable pub tab : {A : Type 0} → ℕ → (ℕ → A) → List A
-tab zero f = []
-tab (suc n) f = tab n f ++ (f n ∷ [])
+unfoldable pub tabulate : {A : Type 0} → ℕ → (ℕ → A) → List A
+tabulate zero f = []
+tabulate (suc n) f = tabulate n f ++ (f n ∷ [])
 
 -- ---- membership and comprehension
 
@@ -58,7 +59,7 @@ unfoldable pub bit : ℕ → ℕ → Bool
 bit x i = eqb (x / 2 ^ i % 2) 1
 
 unfoldable pub member : Set → ℕ → Bool
-member X s = ltb s top && bit (getD X (s / 64) 0) (s % 64)
+member X s = ltb s maxStates && bit (getD X (s / 64) 0) (s % 64)
 
 -- The number whose bit i is p (from + i), for i below count.
 unfoldable pub number : (ℕ → Bool) → ℕ → ℕ → ℕ
@@ -66,7 +67,7 @@ number p from zero = 0
 number p from (suc count) = cond (p from) 1 0 + 2 * number p (suc from) count
 
 unfoldable pub setOf : (ℕ → Bool) → Set
-setOf p = tab WORDS (λ w. number p (64 * w) 64)
+setOf p = tabulate WORDS (λ w. number p (64 * w) 64)
 
 -- ---- operations
 
@@ -86,13 +87,13 @@ unfoldable pub difference : Set → Set → Set
 difference X Y = setOf (λ s. member X s && not (member Y s))
 
 unfoldable pub subset : Set → Set → Bool
-subset X Y = all top (λ s. not (member X s) || member Y s)
+subset X Y = all maxStates (λ s. not (member X s) || member Y s)
 
 unfoldable pub same : Set → Set → Bool
 same X Y = subset X Y && subset Y X
 
 unfoldable pub meets : Set → Set → Bool
-meets X Y = any top (λ s. member X s && member Y s)
+meets X Y = any maxStates (λ s. member X s && member Y s)
 
 unfoldable pub states : ℕ → (ℕ → Bool) → Set
 states n p = setOf (λ s. ltb s n && p s)
@@ -101,13 +102,13 @@ unfoldable pub firstStates : ℕ → Set
 firstStates n = states n (λ s. true)
 
 unfoldable pub members : Set → List ℕ
-members X = picked top (member X)
+members X = filter maxStates (member X)
 
 unfoldable pub size : Set → ℕ
 size X = length (members X)
 
 unfoldable pub smallest : Set → ℕ
-smallest X = first top (member X)
+smallest X = first maxStates (member X)
 
 unfoldable pub image : ℕ → (ℕ → Set) → Set → Set
 image zero f X = empty

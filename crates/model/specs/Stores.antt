@@ -7,18 +7,18 @@
 --   tableOf store n g          the table that a store holds
 --   layout t                   the words of a table, those of unused groups and rows 0
 --   beyond n X                 X has a state from n up
---   stray store n g            ground 17 of a store
---   refuse                     the number of the first ground that holds, or 0 for none
---   accept store n g           the grounds that decide, shortest path and write share, in order
+--   malformed store n g        ground 17 of a store
+--   refuse                     the number (the error code) of the first ground that holds, or 0 for none
+--   sharedGrounds store n g    the grounds that decide, shortest path and write share, in order
 use Prim.Native.Nat.{ℕ, zero, suc, _+_, _*_}
 use mathlib.Core.Bool.{Bool, cond, not, _&&_, _||_}
 use mathlib.Core.List.{List, [], _∷_, _++_}
 use lib.Dec.{eqb, leb, ltb}
 use lib.ListN.{length, getD, take, drop}
-use Rattle.model.specs.Sets.{WORDS, top, Set, member, empty, any, tab}
+use Rattle.model.specs.Sets.{WORDS, maxStates, Set, member, empty, any, tabulate}
 use Rattle.model.specs.Tables.{Table}
 
--- The one place that says how many groups a table can have. The greatest n is top.
+-- The one place that says how many groups a table can have. The greatest n is maxStates.
 abbrev pub maxGroups : ℕ
 maxGroups = 64
 
@@ -32,7 +32,7 @@ abbrev pub rowAt : ℕ → ℕ
 rowAt s = (2 + maxGroups) * WORDS + WORDS * s
 
 abbrev pub storeWords : ℕ
-storeWords = (2 + maxGroups + top) * WORDS
+storeWords = (2 + maxGroups + maxStates) * WORDS
 
 unfoldable pub setAt : List ℕ → ℕ → Set
 setAt store at = take WORDS (drop at store)
@@ -43,21 +43,21 @@ tableOf store n g =
       n = n;
       initial = setAt store 0;
       forbidden = setAt store forbiddenAt;
-      groups = tab g (λ j. setAt store (groupAt j));
-      row = λ s. setAt store (rowAt s);
+      groups = tabulate g (λ j. setAt store (groupAt j));
+      row = λ s. cond (ltb s n) (setAt store (rowAt s)) empty;
     }
 
--- The lists f 0, f 1, .., f (n − 1), joined.
-unfoldable pub joined : ℕ → (ℕ → List ℕ) → List ℕ
-joined zero f = []
-joined (suc n) f = joined n f ++ f n
+-- The lists f 0, f 1, .., f (n − 1), one after the other.
+unfoldable pub concat : ℕ → (ℕ → List ℕ) → List ℕ
+concat zero f = []
+concat (suc n) f = concat n f ++ f n
 
 unfoldable pub layout : Table → List ℕ
 layout t =
     t .initial
     ++ (t .forbidden
-    ++ (joined maxGroups (λ j. getD (t .groups) j empty)
-    ++ joined top (λ s. cond (ltb s (t .n)) (t .row s) empty)))
+    ++ (concat maxGroups (λ j. getD (t .groups) j empty)
+    ++ concat maxStates (λ s. cond (ltb s (t .n)) (t .row s) empty)))
 
 -- ---- refusals
 
@@ -66,15 +66,15 @@ refuse [] = 0
 refuse (ground ∷ later) = cond (ground .0) (ground .1) (refuse later)
 
 unfoldable pub beyond : ℕ → Set → Bool
-beyond n X = any top (λ s. leb n s && member X s)
+beyond n X = any maxStates (λ s. leb n s && member X s)
 
 -- Some word from `from` on and before `to` is not 0.
 unfoldable pub nonZero : List ℕ → ℕ → ℕ → Bool
 nonZero xs from to = any to (λ i. leb from i && not (eqb (getD xs i 0) 0))
 
 -- A 1 bit for a state from n up, or a word of an unused group or row not 0.
-unfoldable pub stray : List ℕ → ℕ → ℕ → Bool
-stray store n g =
+unfoldable pub malformed : List ℕ → ℕ → ℕ → Bool
+malformed store n g =
     beyond n (setAt store 0)
     || beyond n (setAt store forbiddenAt)
     || any g (λ j. beyond n (setAt store (groupAt j)))
@@ -84,12 +84,12 @@ stray store n g =
 
 -- n is 0 or over the greatest.
 unfoldable pub badStates : ℕ → Bool
-badStates n = eqb n 0 || ltb top n
+badStates n = eqb n 0 || ltb maxStates n
 
-abbrev pub accept : List ℕ → ℕ → ℕ → List (Bool × ℕ)
-accept store n g =
+abbrev pub sharedGrounds : List ℕ → ℕ → ℕ → List (Bool × ℕ)
+sharedGrounds store n g =
     (ltb (length store) storeWords, 10)
     ∷ (badStates n, 14)
     ∷ (ltb maxGroups g, 15)
-    ∷ (stray store n g, 17)
+    ∷ (malformed store n g, 17)
     ∷ []

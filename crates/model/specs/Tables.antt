@@ -1,10 +1,12 @@
 -- Tables, and the cover of a list of sets (01, "States and sets" and "Cover").
 --
---   Table               n states, the initial and the forbidden set, the groups, the successors of each state
---   post n row X        all successors of states in X (the image, or strongest postcondition)
---   hold n row X        all states whose every successor is in X (the universal predecessor, or weakest liberal precondition)
---   coverOf n L s       the cover of one state for the list L (its class in the disjunctive abstraction that L generates)
---   cover n L X         the cover of a set: the union of the covers of its states (its closure in that abstraction)
+--   Table               a finite transition system: n states, the initial and the forbidden (error) states, the groups (the predicates
+--                       that generate the first abstraction), and for each state its row (the set of its successors)
+--   post n row X        all successors of states in X (the strongest postcondition)
+--   hold n row X        all states of the table whose every successor is in X (the universal predecessor, or weakest liberal precondition)
+--   coverOf n L s       the cover of one state for a list L of sets (the closure of {s} in the disjunctive abstraction that L generates)
+--   cover n L X         the cover of a set: the union of the covers of its states (the closure of X in that abstraction)
+--   notForbidden n F    the states of the table that are not forbidden
 --
 -- Each definition takes only what it uses of a table.
 use Prim.Native.Nat.{ℕ}
@@ -26,8 +28,8 @@ post n row X = image n row X
 unfoldable pub hold : ℕ → (ℕ → Set) → Set → Set
 hold n row X = states n (λ s. subset (row s) X)
 
--- The meet of the listed sets that contain s, or all n states if none does. Listed sets hold states of the table only, so a meet that
--- starts from all n states is the meet of the sets.
+-- The meet of the listed sets that contain s, or all n states if none does. In an accepted call each listed set holds states of the
+-- table only, so the meet that starts from all n states is the meet of those sets.
 unfoldable pub coverOf : ℕ → List Set → ℕ → Set
 coverOf n [] s = firstStates n
 coverOf n (Z ∷ L) s = let older = coverOf n L s in cond (member Z s) (meet older Z) older
@@ -35,6 +37,5 @@ coverOf n (Z ∷ L) s = let older = coverOf n L s in cond (member Z s) (meet old
 unfoldable pub cover : ℕ → List Set → Set → Set
 cover n L X = image n (coverOf n L) X
 
--- The states not forbidden.
-unfoldable pub allowed : ℕ → Set → Set
-allowed n forbidden = states n (λ s. not (member forbidden s))
+unfoldable pub notForbidden : ℕ → Set → Set
+notForbidden n forbidden = states n (λ s. not (member forbidden s))

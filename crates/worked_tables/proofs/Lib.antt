@@ -1,1 +1,2 @@
+mod Decides
 pub mod Worked

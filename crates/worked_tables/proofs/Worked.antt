@@ -1,29 +1,65 @@
-use Prim.Native.Nat.{ℕ}
-use mathlib.Core.Path.{_≡_, refl}
-use mathlib.Core.List.{List, [], _∷_}
-use Rattle.model.specs.Sets.{any, all, first, picked, tab, bit, member, number, setOf, empty, single, union, meet, difference, subset, same, meets, states, firstStates, members, size, smallest, image}
-use Rattle.model.specs.Tables.{post, hold, coverOf, cover, allowed}
-use Rattle.model.specs.Rounds.{iterate, forwardStep, forward, backwardStep, backward, roundOf, firstRound, nextRound, isSafe, isUnsafe, safe, unsafe, undecided, settle, rounds, run, eliminationStep, eliminated, backwardNumber}
-use Rattle.model.specs.Paths.{near, shortest, walk, smallestPath, hasPath}
-use Rattle.model.specs.Calls.{decisionOf}
-use Rattle.worked_tables.specs.Tables.{small, A, B, D, E, F, G}
+-- Tables A to H, each figure by computation. Each line has a declaration of its own: one for all takes most of the steps that antt allows.
+--
+--   computes      names what has to unfold: to unfold it is to unfold all of that
+--   a, .., g      the lines
+--   worked        the fact
+use mathlib.Core.Path.{refl}
+use Rattle.model.specs.Sets.{any, all, first, filter, tabulate, bit, member, number, setOf, empty, union, meet, subset, same, meets, states, firstStates, members, size, smallest, image}
+use Rattle.model.specs.Tables.{post, hold, coverOf, cover, notForbidden}
+use Rattle.model.specs.Rounds.{iterate, forwardStep, forward, backwardStep, backward, roundOf, firstRound, nextRound, isSafe, isUnsafe, settle, rounds, run, eliminationStep, eliminated, backwardNumber}
+use Rattle.model.specs.Paths.{reaching, shortest, walk, smallestPath}
+use Rattle.model.specs.Stores.{setAt, tableOf, concat, layout, refuse, beyond, nonZero, badStates}
+use Rattle.model.specs.Files.{setBytes, sets, contents, weighted, checkOf, blockOf}
+use Rattle.model.specs.Calls.{release, decisionOf}
+use Rattle.worked_tables.specs.Tables.{A, B, D, E, F, G}
+use Rattle.worked_tables.specs.Worked.{LineA, LineB, LineC, LineD, LineE, LineF, LineG, LineH, Worked}
+use Rattle.worked_tables.proofs.Decides.{zeros, fits, decides}
 
-pub a : run A 256 ≡ safe 0 (small 3)
-unfolding any all first tab bit member number setOf empty union meet subset meets states firstStates image post hold coverOf cover allowed iterate forwardStep forward backwardStep backward roundOf firstRound nextRound isSafe isUnsafe settle rounds run
-a = refl
+computes : Type 0
+unfolding any all first filter tabulate bit member number setOf empty union meet subset same meets states firstStates members size smallest image post hold coverOf cover notForbidden iterate forwardStep forward backwardStep backward roundOf firstRound nextRound isSafe isUnsafe settle rounds run eliminationStep eliminated backwardNumber reaching shortest walk smallestPath setAt tableOf concat layout refuse beyond nonZero badStates setBytes sets contents weighted checkOf blockOf decisionOf zeros fits
+computes = Unit {0}
 
-pub b : run B 256 ≡ unsafe 3
-unfolding any all first tab bit member number setOf empty union meet subset meets states firstStates image post hold coverOf cover allowed iterate forwardStep forward backwardStep backward roundOf firstRound nextRound isSafe isUnsafe settle rounds run
-b = refl
+-- A pair by a call: what stands in a tuple itself is computed twice, which costs seconds for B and C.
+both : {P Q : Type 0} → P → Q → P × Q
+both p q = (p, q)
 
-pub c : run B 2 ≡ undecided 2
-unfolding any all first tab bit member number setOf empty union meet subset meets states firstStates image post hold coverOf cover allowed iterate forwardStep forward backwardStep backward roundOf firstRound nextRound isSafe isUnsafe settle rounds run
-c = refl
+a : LineA
+unfolding computes
+a = decides A release refl refl refl
 
-pub p : smallestPath B ≡ 0 ∷ 1 ∷ 2 ∷ 3 ∷ []
-unfolding any all first tab bit member number setOf empty union meet subset meets states smallest near shortest walk smallestPath
-p = refl
+b : LineB
+unfolding computes
+b = both (decides B release refl refl refl) refl
 
-pub bn : backwardNumber B ≡ 3
-unfolding any all first tab bit member number setOf empty union meet subset same meets states firstStates hold allowed iterate eliminationStep eliminated backwardNumber
-bn = refl
+c : LineC
+unfolding computes
+c = both (decides B 2 refl refl refl) (decides B 3 refl refl refl)
+
+d : LineD
+unfolding computes
+d = decides D release refl refl refl
+
+e : LineE
+unfolding computes
+e = (decides E release refl refl refl, refl, refl)
+
+f : LineF
+unfolding computes
+f = decides F release refl refl refl
+
+g : LineG
+unfolding computes
+g = decides G release refl refl refl
+
+pub worked : Worked
+worked =
+    record {
+      line-A = a;
+      line-B = b;
+      line-C = c;
+      line-D = d;
+      line-E = e;
+      line-F = f;
+      line-G = g;
+      line-H = (refl, refl, refl, refl, refl);
+    }

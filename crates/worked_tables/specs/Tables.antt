@@ -1,45 +1,56 @@
--- Tables A to H (01, "Small tables") as tables of the model, sets as four words.
-use Prim.Native.Nat.{ℕ, _+_, _^_}
-use mathlib.Core.List.{List, [], _∷_}
-use lib.ListN.{getD}
-use Rattle.model.specs.Sets.{Set}
+-- Tables A to G (01, "Small tables"), written as 01 writes them. C is B, and H says of a table only its n and g.
+--
+--   wordOf states                              the word whose bits are these states, each below 64 and named once
+--   set states                                 the set of these states
+--   successors steps s                         the states that a step from s leads to
+--   table n initial forbidden groups steps     a table; a step from a to b is the pair (a, b)
+use Prim.Native.Nat.{ℕ, _-_, _+_, _^_}
+use mathlib.Core.Bool.{cond}
+use mathlib.Core.List.{List, [], _∷_, map}
+use lib.Dec.{eqb}
+use lib.ListN.{replicate}
+use Rattle.model.specs.Sets.{WORDS, Set}
 use Rattle.model.specs.Tables.{Table}
 
--- A set of states below 64, by its first word.
-abbrev pub small : ℕ → Set
-small word = word ∷ 0 ∷ 0 ∷ 0 ∷ []
+abbrev pub wordOf : List ℕ → ℕ
+wordOf [] = 0
+wordOf (s ∷ states) = 2 ^ s + wordOf states
 
--- A table of n states below 64: initial, forbidden, groups and rows by their first words.
-abbrev pub table : ℕ → ℕ → ℕ → List Set → List ℕ → Table
-table n initial forbidden groups rows =
+abbrev pub set : List ℕ → Set
+set states = wordOf states ∷ replicate (WORDS - 1) 0
+
+abbrev pub successors : List (ℕ × ℕ) → ℕ → List ℕ
+successors [] s = []
+successors (step ∷ steps) s = cond (eqb (step .0) s) (step .1 ∷ successors steps s) (successors steps s)
+
+abbrev pub table : ℕ → List ℕ → List ℕ → List (List ℕ) → List (ℕ × ℕ) → Table
+table n initial forbidden groups steps =
     record {
       n = n;
-      initial = small initial;
-      forbidden = small forbidden;
-      groups = groups;
-      row = λ s. small (getD rows s 0);
+      initial = set initial;
+      forbidden = set forbidden;
+      groups = map set groups;
+      row = λ s. set (successors steps s);
     }
 
--- 0→1, 1→0, 2→2
 abbrev pub A : Table
-A = table 3 1 4 [] (2 ∷ 1 ∷ 4 ∷ [])
+A = table 3 (0 ∷ []) (2 ∷ []) [] ((0, 1) ∷ (1, 0) ∷ (2, 2) ∷ [])
 
--- 0→1, 1→2, 2→3, 4→4
+-- B, and D: B with groups.
+abbrev pub chain : List (List ℕ) → Table
+chain groups = table 5 (0 ∷ []) (3 ∷ []) groups ((0, 1) ∷ (1, 2) ∷ (2, 3) ∷ (4, 4) ∷ [])
+
 abbrev pub B : Table
-B = table 5 1 8 [] (2 ∷ 4 ∷ 8 ∷ 0 ∷ 16 ∷ [])
+B = chain []
 
--- B with groups {0}, {1}, {2}
 abbrev pub D : Table
-D = table 5 1 8 (small 1 ∷ small 2 ∷ small 4 ∷ []) (2 ∷ 4 ∷ 8 ∷ 0 ∷ 16 ∷ [])
+D = chain ((0 ∷ []) ∷ (1 ∷ []) ∷ (2 ∷ []) ∷ [])
 
--- 0→0, 1→2
 abbrev pub E : Table
-E = table 3 1 4 [] (1 ∷ 4 ∷ 0 ∷ [])
+E = table 3 (0 ∷ []) (2 ∷ []) [] ((0, 0) ∷ (1, 2) ∷ [])
 
--- state 0 initial and forbidden, no step
 abbrev pub F : Table
-F = table 1 1 1 [] (0 ∷ [])
+F = table 1 (0 ∷ []) (0 ∷ []) [] []
 
--- nothing initial or forbidden, no step
 abbrev pub G : Table
-G = table 1 0 0 [] (0 ∷ [])
+G = table 1 [] [] [] []

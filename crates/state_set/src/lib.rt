@@ -1,0 +1,161 @@
+// Sets of states (01, "States and sets"): four 64-bit words, in by value and back by value. State s is the bit of value 2^(s mod 64) in word s/64.
+//
+//   empty, first_states, with                       no state; the states below a number; one state more
+//   contains, is_subset, meets, is_empty, equals    tests
+//   union, meet, difference                         word by word
+//   count, smallest                                 the number of states; the least of them
+//
+// Each contract is an equality with the model's definition of the same thing.
+ghost use mathlib.Core.Path.{_≡_};
+ghost use Prim.Native.Nat.{min, _-_, _^_};
+ghost use Rattle.model.specs.Sets.{member, empty, single, union, meet, difference, subset, same, meets, firstStates, size, smallest};
+
+// The model's WORDS is the same number.
+pub const WORDS: usize = 4;
+
+pub struct StateSet {
+    pub words: [u64; WORDS],
+}
+
+// The word of the states below n, where state `from` is its lowest bit: ones up to n, as far as the word goes.
+fn word_below(n: usize, from: usize) -> u64
+    ensures { λ r. ⌜ r ≡ 2 ^ min 64 (n - from) - 1 ⌝ }
+{
+    if n <= from {
+        0
+    } else if n - from < 64 {
+        (1 << (n - from)) - 1
+    } else {
+        !0
+    }
+}
+
+impl StateSet {
+    pub fn empty() -> Self
+        ensures { λ r. ⌜ r .words ≡ empty ⌝ }
+    {
+        StateSet { words: [0; WORDS] }
+    }
+
+    // The states below n; all that a set can hold where n is past them.
+    pub fn first_states(n: usize) -> Self
+        ensures { λ r. ⌜ r .words ≡ firstStates n ⌝ }
+    {
+        let mut words = [0; WORDS];
+        for w in 0..WORDS {
+            words[w] = word_below(n, 64 * w);
+        }
+        StateSet { words }
+    }
+
+    pub fn contains(self, s: usize) -> bool
+        ensures { λ r. ⌜ r ≡ member (self .words) s ⌝ }
+    {
+        let w = s / 64;
+        w < WORDS && self.words[w] >> (s % 64) & 1 == 1
+    }
+
+    // The set with s; the same set where s is a state that no set can hold.
+    pub fn with(mut self, s: usize) -> Self
+        ensures { λ r. ⌜ r .words ≡ union (self .words) (single s) ⌝ }
+    {
+        let w = s / 64;
+        if w < WORDS {
+            self.words[w] |= 1 << (s % 64);
+        }
+        self
+    }
+
+    pub fn single(s: usize) -> Self
+        ensures { λ r. ⌜ r .words ≡ single s ⌝ }
+    {
+        StateSet::empty().with(s)
+    }
+
+    pub fn union(mut self, other: StateSet) -> Self
+        ensures { λ r. ⌜ r .words ≡ union (self .words) (other .words) ⌝ }
+    {
+        for w in 0..WORDS {
+            self.words[w] |= other.words[w];
+        }
+        self
+    }
+
+    pub fn meet(mut self, other: StateSet) -> Self
+        ensures { λ r. ⌜ r .words ≡ meet (self .words) (other .words) ⌝ }
+    {
+        for w in 0..WORDS {
+            self.words[w] &= other.words[w];
+        }
+        self
+    }
+
+    pub fn difference(mut self, other: StateSet) -> Self
+        ensures { λ r. ⌜ r .words ≡ difference (self .words) (other .words) ⌝ }
+    {
+        for w in 0..WORDS {
+            self.words[w] &= !other.words[w];
+        }
+        self
+    }
+
+    pub fn without(self, s: usize) -> Self
+        ensures { λ r. ⌜ r .words ≡ difference (self .words) (single s) ⌝ }
+    {
+        self.difference(StateSet::single(s))
+    }
+
+    pub fn equals(self, other: StateSet) -> bool
+        ensures { λ r. ⌜ r ≡ same (self .words) (other .words) ⌝ }
+    {
+        for w in 0..WORDS {
+            if self.words[w] != other.words[w] {
+                return false;
+            }
+        }
+        true
+    }
+
+    pub fn is_empty(self) -> bool
+        ensures { λ r. ⌜ r ≡ subset (self .words) empty ⌝ }
+    {
+        self.equals(StateSet::empty())
+    }
+
+    pub fn is_subset(self, other: StateSet) -> bool
+        ensures { λ r. ⌜ r ≡ subset (self .words) (other .words) ⌝ }
+    {
+        self.difference(other).is_empty()
+    }
+
+    // A state in common.
+    pub fn meets(self, other: StateSet) -> bool
+        ensures { λ r. ⌜ r ≡ meets (self .words) (other .words) ⌝ }
+    {
+        !self.meet(other).is_empty()
+    }
+
+    // The number of states: the ones in all words.
+    pub fn count(self) -> usize
+        ensures { λ r. ⌜ r ≡ size (self .words) ⌝ }
+    {
+        let mut states = 0;
+        for w in 0..WORDS {
+            states += u64::count_ones(self.words[w]) as usize;
+        }
+        states
+    }
+
+    // The least state, or the number of states that a set can hold where it has none.
+    pub fn smallest(self) -> usize
+        ensures { λ r. ⌜ r ≡ smallest (self .words) ⌝ }
+    {
+        for w in 0..WORDS {
+            let x = self.words[w];
+            if x != 0 {
+                return 64 * w + u64::trailing_zeros(x) as usize;
+            }
+        }
+        64 * WORDS
+    }
+}

@@ -1,0 +1,137 @@
+-- Laws of the store that the functions' proofs cite.
+--
+--   Copying, copied             a loop that copies the words of a set; the set when it is done
+--   beyond-is                   a set has a state from n up exactly if it is not inside the first n states
+--   non-zero-start, -pass, -hit, -end   a loop that looks for a word other than 0
+--   malformed-initial, .., malformed-last   the tests of ground 17, one after the other
+use Prim.Native.Nat.{ℕ, zero, suc, _+_, _-_, min, _≤_, _<_}
+use native.Mathlib.Nat.{le-antisymm}
+use native.Mathlib.Omega.{arith}
+use mathlib.Core.Path.{_≡_, refl, sym, ap, _∙_, subst}
+use mathlib.Core.Logic.{inl, inr, ⊎-elim}
+use mathlib.Core.Bool.{Bool, true, false, not, _&&_, _||_}
+use mathlib.Core.List.{List, []}
+use borrow.Author.Count.{below-more, below-none}
+use borrow.Author.Tests.{le-leb, leb-true, eqb-true, eq-eqb, ne-eqb, lt-leb}
+use lib.Dec.{eqb, leb}
+use lib.ListN.{length, getD, set, take, drop, length-set, length-take, length-drop}
+use lib.Seq.{ext-getD, getD-take, getD-drop, getD-set-same, getD-set-other}
+use Rattle.model.specs.Sets.{WORDS, maxStates, Set, member, subset, firstStates, any}
+use Rattle.model.specs.Stores.{maxGroups, forbiddenAt, groupAt, rowAt, storeWords, setAt, beyond, nonZero, malformed}
+use Rattle.model.proofs.Bounds.{and-true, and-intro, or-intro, is-false, clash, same-test, lt-or-ge, any-intro, any-find, any-turn, no-any, not-true}
+use Rattle.model.proofs.SetLaws.{In, in-bound, in-firstStates, firstStates-in, _⊆_, subset-in, subset-not}
+
+-- ---- a set copied out of the store
+
+-- the first w words are those of the store from `at` on
+pub record Copying (store : List ℕ) (at : ℕ) (words : List ℕ) (w : ℕ) : Type 0 where
+  pub within : w ≤ WORDS
+  pub long : length words ≡ WORDS
+  pub same : (k : ℕ) → k < w → getD words k 0 ≡ getD store (at + k) 0
+
+module _ (store : List ℕ) (at : ℕ) where
+  pub copying-more : (words : List ℕ) (w : ℕ) → w < WORDS → Copying store at words w → Copying store at (set words w (getD store (at + w) 0)) (w + 1)
+  copying-more words w h c =
+      record {
+        within = omega arith;
+        long = length-set words w _ ∙ c .long;
+        same =
+            below-more (λ k. getD (set words w (getD store (at + w) 0)) k 0 ≡ getD store (at + k) 0) w
+            (λ k l. getD-set-other words w k _ 0 (λ e. omega arith) ∙ c .same k l)
+            (getD-set-same words w _ 0 (subst (λ (m : ℕ). w < m) (sym (c .long)) h));
+      }
+
+  pub copied : (words : List ℕ) (w : ℕ) → at + WORDS ≤ length store → WORDS ≤ w → Copying store at words w → words ≡ setAt store at
+  unfolding setAt
+  copied words w h l c =
+      let long : length (take WORDS (drop at store)) ≡ WORDS = simp (length-take, length-drop) (omega arith) in
+      ext-getD 0 words (take WORDS (drop at store)) (c .long ∙ sym long)
+      (λ k b.
+      let below : k < WORDS = subst (λ (m : ℕ). k < m) (c .long) b in
+      c .same k (omega arith) ∙ sym (getD-take WORDS (drop at store) k 0 below ∙ getD-drop at store k 0))
+
+-- ---- acceptance
+
+pub beyond-is : (n : ℕ) (X : Set) → not (subset X (firstStates n)) ≡ beyond n X
+unfolding beyond
+beyond-is n X =
+    same-test (not (subset X (firstStates n))) (beyond n X)
+    (λ e.
+    let w = subset-not X (firstStates n) (not-true (subset X (firstStates n)) e) in
+    let h : n ≤ w .0 = ⊎-elim (λ l. absurd (w .2 (in-firstStates (in-bound (w .1)) l))) (λ l. l) (lt-or-ge (w .0) n) in
+    any-intro _ maxStates (w .0) (in-bound (w .1)) (and-intro (leb n (w .0)) (member X (w .0)) (le-leb n (w .0) h) (w .1 .is)))
+    (λ e.
+    let w = any-find _ maxStates e in
+    let both = and-true (leb n (w .0)) (member X (w .0)) (w .2) in
+    ap not (is-false (subset X (firstStates n)) (λ i. outside (w .0) (leb-true n (w .0) (both .0)) (subset-in i (w .0) (record { is = both .1 })))))
+  where
+    outside : (s : ℕ) → n ≤ s → In (firstStates n) s → ⊥
+    outside s h i = omega (arith, firstStates-in i)
+
+-- a loop that looks for a word other than 0, from `from` on
+module _ (xs : List ℕ) (from : ℕ) where
+  pub non-zero-start : nonZero xs from from ≡ false
+  unfolding nonZero
+  non-zero-start = no-any _ from (λ k l. rw (lt-leb from k l))
+
+  pub non-zero-pass : (i : ℕ) → nonZero xs from i ≡ false → getD xs i 0 ≡ 0 → nonZero xs from (i + 1) ≡ false
+  unfolding nonZero
+  non-zero-pass i e z = any-turn _ i e (clear (leb from i))
+    where
+      clear : (b : Bool) → (b && not (eqb (getD xs i 0) 0)) ≡ false
+      clear true = rw (eq-eqb (getD xs i 0) 0 z)
+      clear false = refl
+
+  pub non-zero-hit : (to i : ℕ) → from ≤ i → i < to → (getD xs i 0 ≡ 0 → ⊥) → nonZero xs from to ≡ true
+  unfolding nonZero
+  non-zero-hit to i l h z = any-intro _ to i h (and-intro (leb from i) (not (eqb (getD xs i 0) 0)) (le-leb from i l) (ap not (ne-eqb (getD xs i 0) 0 z)))
+
+  pub non-zero-end : (i to : ℕ) → i ≤ to → to ≤ i → nonZero xs from i ≡ false → nonZero xs from to ≡ false
+  non-zero-end i to l h e = subst (λ (k : ℕ). nonZero xs from k ≡ false) (le-antisymm l h) e
+
+-- ---- the tests of ground 17, one after the other
+
+or-true : (a : Bool) → (a || true) ≡ true
+or-true true = refl
+or-true false = refl
+
+module _ (store : List ℕ) (n g : ℕ) where
+  abbrev pub initial-beyond : Bool
+  initial-beyond = beyond n (setAt store 0)
+
+  abbrev pub forbidden-beyond : Bool
+  forbidden-beyond = beyond n (setAt store forbiddenAt)
+
+  abbrev pub group-beyond : Bool
+  group-beyond = any g (λ j. beyond n (setAt store (groupAt j)))
+
+  abbrev pub row-beyond : Bool
+  row-beyond = any n (λ s. beyond n (setAt store (rowAt s)))
+
+  abbrev pub group-used : Bool
+  group-used = nonZero store (groupAt g) (groupAt maxGroups)
+
+  pub malformed-initial : initial-beyond ≡ true → true ≡ malformed store n g
+  unfolding malformed
+  malformed-initial e = rw e
+
+  pub malformed-forbidden : forbidden-beyond ≡ true → true ≡ malformed store n g
+  unfolding malformed
+  malformed-forbidden e = rw (e, or-true initial-beyond)
+
+  pub malformed-group : group-beyond ≡ true → true ≡ malformed store n g
+  unfolding malformed
+  malformed-group e = rw (e, or-true (initial-beyond || forbidden-beyond))
+
+  pub malformed-row : row-beyond ≡ true → true ≡ malformed store n g
+  unfolding malformed
+  malformed-row e = rw (e, or-true (initial-beyond || forbidden-beyond || group-beyond))
+
+  pub malformed-unused : group-used ≡ true → true ≡ malformed store n g
+  unfolding malformed
+  malformed-unused e = rw (e, or-true (initial-beyond || forbidden-beyond || group-beyond || row-beyond))
+
+  pub malformed-last : initial-beyond ≡ false → forbidden-beyond ≡ false → group-beyond ≡ false → row-beyond ≡ false → group-used ≡ false
+      → nonZero store (rowAt n) storeWords ≡ malformed store n g
+  unfolding malformed
+  malformed-last a b c d e = rw (a, b, c, d, e)

@@ -1,0 +1,30 @@
+-- `non_zero`: no word passed is other than 0.
+use Prim.Native.Nat.{_-_, _≤_}
+use mathlib.Core.Path.{_≡_, sym, _∙_}
+use mathlib.Core.Bool.{false}
+use borrow.Author.Needs.{needs}
+use Rattle.model.specs.Stores.{nonZero}
+use Rattle.table.proofs.Laws.{non-zero-start, non-zero-pass, non-zero-hit, non-zero-end}
+use Rattle.table.proofs.non_zero.Statement.{statement}
+use Rattle.table.proofs.non_zero.Tie as tie
+
+abbrev Inv-loop : tie.InvT-loop
+Inv-loop store from to i₀ i = (from ≤ i) × (i ≤ to) × (nonZero store from i ≡ false)
+
+abbrev μ-loop : tie.MeasureT-loop
+μ-loop store from to i₀ i = to - i
+
+pub non-zero-spec : {M : Type 1} → statement M
+non-zero-spec =
+    tie.close
+    (tie.spec
+    Inv-loop
+    μ-loop
+    (λ c. (search needs, search needs, non-zero-start _ _))
+    (λ c. search needs)
+    (λ c. search needs)
+    (λ c. sym (non-zero-hit _ _ _ (c .before .before .before .loop .i) (search needs) (search needs) (search needs)))
+    (λ c. search needs)
+    (λ c. search needs)
+    (λ c. (search needs, search needs, non-zero-pass _ _ _ (c .before .before .before .loop .inv .2) (search needs)))
+    (λ c. sym (non-zero-end _ _ _ _ (search needs) (search needs) (c .before .loop .inv .2))))

@@ -1,0 +1,39 @@
+-- `union_of`: what is found, with the image of what is left, is the whole image.
+use mathlib.Core.Path.{ap, _∙_}
+use mathlib.Core.List.{[]}
+use lib.ListN.{getD}
+use borrow.Author.Needs.{needs}
+use Rattle.model.specs.Sets.{union, size}
+use Rattle.model.proofs.SetLaws.{in-bound}
+use Rattle.model.proofs.ImageLaws.{peel-in, peel-size, Peeling, peel-start, peel-turn, peel-end}
+use Rattle.table.proofs.union_of.Statement.{statement}
+use Rattle.table.proofs.union_of.Tie as tie
+
+abbrev Inv-loop : tie.InvT-loop
+Inv-loop rows found₀ rest₀ found rest = Peeling (λ s. getD rows s []) (rest₀ .words) (found .words) (rest .words)
+
+abbrev μ-loop : tie.MeasureT-loop
+μ-loop rows found₀ rest₀ found rest = size (rest .words)
+
+pub union-of-spec : {M : Type 1} → statement M
+union-of-spec =
+    tie.close
+    (tie.spec
+    Inv-loop
+    μ-loop
+    (λ c κs. search needs)
+    (λ c. peel-start _ _ (c .empty .ensures))
+    (λ c κs. search needs)
+    (λ c κs. search needs)
+    (λ c κs. in-bound (peel-in _ (c .before .before .is-empty .ensures) (c .before .if1 .taken) (c .smallest .ensures)))
+    (λ c κs. search needs)
+    (λ c κs. search needs)
+    (λ c.
+    let d = c .before .before .before in
+    peel-size _ (peel-in _ (d .before .before .is-empty .ensures) (d .before .if1 .taken) (d .smallest .ensures)) (c .without .ensures))
+    (λ c.
+    let d = c .before .before .before in
+    peel-turn _ _ (peel-in _ (d .before .before .is-empty .ensures) (d .before .if1 .taken) (d .smallest .ensures))
+    (c .before .union .ensures ∙ ap (union _) (c .before .before .row-of .ensures))
+    (c .without .ensures) (d .before .before .before .loop .inv))
+    (λ c. peel-end _ _ _ (c .before .is-empty .ensures) (c .if1 .left) (c .before .before .loop .inv)))

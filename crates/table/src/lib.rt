@@ -1,0 +1,173 @@
+// The lent store (01, "States and sets"): its layout, the sets in it, and the acceptance test that the calls share.
+//
+//   set_at, group_at, row_at     a set of the store
+//   successors                   post: all successors of the states of a set
+//   Rows, row_of, union_of       a row of words for each state, the set in one row, the union of the rows of a set's states
+//   refusal                      the first of the grounds 10, 14, 15 and 17 that holds, or 0
+//
+// Functions below the calls ask for a store that is long enough; `refusal` asks for nothing.
+ghost use mathlib.Core.Path.{_≡_};
+ghost use Prim.Native.Nat.{_+_, _*_, _≤_, _<_};
+ghost use lib.ListN.{length, getD};
+ghost use mathlib.Core.List.{[]};
+ghost use Rattle.model.specs.Sets.{WORDS, maxStates, any, image};
+ghost use Rattle.model.specs.Stores.{storeWords, maxGroups, groupAt, rowAt, setAt, beyond, nonZero, malformed, refuse, sharedGrounds};
+use state_set::StateSet;
+use state_set::WORDS;
+
+pub const MAX_STATES: usize = 64 * WORDS;
+
+pub const MAX_GROUPS: usize = 64;
+
+pub const FORBIDDEN_AT: usize = WORDS;
+
+pub const GROUPS_AT: usize = 2 * WORDS;
+
+pub const ROWS_AT: usize = (2 + MAX_GROUPS) * WORDS;
+
+pub const STORE_WORDS: usize = (2 + MAX_GROUPS + MAX_STATES) * WORDS;
+
+// The set whose words begin at `at`.
+pub fn set_at(store: &[u64], at: usize) -> StateSet
+    requires { ⌜ at + WORDS ≤ length (now store) ⌝ }
+    ensures { λ r. ⌜ r .words ≡ setAt (now (store .entry)) at ⌝ }
+{
+    let mut words = [0; WORDS];
+    for w in 0..WORDS {
+        words[w] = store[at + w];
+    }
+    StateSet { words }
+}
+
+pub fn group_at(store: &[u64], j: usize) -> StateSet
+    requires { ⌜ (j < maxGroups) × (storeWords ≤ length (now store)) ⌝ }
+    ensures { λ r. ⌜ r .words ≡ setAt (now (store .entry)) (groupAt j) ⌝ }
+{
+    set_at(store, GROUPS_AT + WORDS * j)
+}
+
+// The successors of state s.
+pub fn row_at(store: &[u64], s: usize) -> StateSet
+    requires { ⌜ (s < maxStates) × (storeWords ≤ length (now store)) ⌝ }
+    ensures { λ r. ⌜ r .words ≡ setAt (now (store .entry)) (rowAt s) ⌝ }
+{
+    set_at(store, ROWS_AT + WORDS * s)
+}
+
+// All successors of states in x, which is taken apart from its least state up.
+pub fn successors(store: &[u64], x: StateSet) -> StateSet
+    requires { ⌜ storeWords ≤ length (now store) ⌝ }
+    ensures { λ r. ⌜ r .words ≡ image maxStates (λ s. setAt (now (store .entry)) (rowAt s)) (x .words) ⌝ }
+{
+    let mut found = StateSet::empty();
+    let mut rest = x;
+    while !rest.is_empty() {
+        let s = rest.smallest();
+        found = found.union(row_at(store, s));
+        rest = rest.without(s);
+    }
+    found
+}
+
+// One row of words for each state.
+pub type Rows = [[u64; WORDS]; MAX_STATES];
+
+pub fn row_of(rows: &Rows, s: usize) -> StateSet
+    requires { ⌜ s < maxStates ⌝ }
+    ensures { λ r. ⌜ r .words ≡ getD (now (rows .entry)) s [] ⌝ }
+{
+    let words = rows[s];
+    StateSet { words }
+}
+
+// The union of the rows of the states of x.
+pub fn union_of(rows: &Rows, x: StateSet) -> StateSet
+    ensures { λ r. ⌜ r .words ≡ image maxStates (λ s. getD (now (rows .entry)) s []) (x .words) ⌝ }
+{
+    let mut found = StateSet::empty();
+    let mut rest = x;
+    while !rest.is_empty() {
+        let s = rest.smallest();
+        found = found.union(row_of(rows, s));
+        rest = rest.without(s);
+    }
+    found
+}
+
+// x has a state from n up.
+fn is_beyond(x: StateSet, n: usize) -> bool
+    ensures { λ r. ⌜ r ≡ beyond n (x .words) ⌝ }
+{
+    !x.is_subset(StateSet::first_states(n))
+}
+
+// One of the `count` sets that begin at `at` has a state from n up.
+fn any_beyond(store: &[u64], at: usize, count: usize, n: usize) -> bool
+    requires { ⌜ at + WORDS * count ≤ length (now store) ⌝ }
+    ensures { λ r. ⌜ r ≡ any count (λ j. beyond n (setAt (now (store .entry)) (at + WORDS * j))) ⌝ }
+{
+    for j in 0..count {
+        if is_beyond(set_at(store, at + WORDS * j), n) {
+            return true;
+        }
+    }
+    false
+}
+
+// Some word from `from` on and before `to` is not 0.
+fn non_zero(store: &[u64], from: usize, to: usize) -> bool
+    requires { ⌜ (from ≤ to) × (to ≤ length (now store)) ⌝ }
+    ensures { λ r. ⌜ r ≡ nonZero (now (store .entry)) from to ⌝ }
+{
+    for i in from..to {
+        if store[i] != 0 {
+            return true;
+        }
+    }
+    false
+}
+
+// A 1 bit for a state from n up, or a word of an unused group or row not 0.
+fn is_malformed(store: &[u64], n: usize, g: usize) -> bool
+    requires { ⌜ (n ≤ maxStates) × (g ≤ maxGroups) × (storeWords ≤ length (now store)) ⌝ }
+    ensures { λ r. ⌜ r ≡ malformed (now (store .entry)) n g ⌝ }
+{
+    if is_beyond(set_at(store, 0), n) {
+        return true;
+    }
+    if is_beyond(set_at(store, FORBIDDEN_AT), n) {
+        return true;
+    }
+    if any_beyond(store, GROUPS_AT, g, n) {
+        return true;
+    }
+    if any_beyond(store, ROWS_AT, n, n) {
+        return true;
+    }
+    if non_zero(store, GROUPS_AT + WORDS * g, ROWS_AT) {
+        return true;
+    }
+    non_zero(store, ROWS_AT + WORDS * n, STORE_WORDS)
+}
+
+// Why a store with n states and g groups is declined, or 0.
+pub fn refusal(store: &[u64], n: usize, g: usize) -> u8
+    ensures { λ r. ⌜ r ≡ refuse (sharedGrounds (now (store .entry)) n g) ⌝ }
+{
+    if store.len() < STORE_WORDS {
+        return 10;
+    }
+    if n == 0 {
+        return 14;
+    }
+    if MAX_STATES < n {
+        return 14;
+    }
+    if MAX_GROUPS < g {
+        return 15;
+    }
+    if is_malformed(store, n, g) {
+        return 17;
+    }
+    0
+}

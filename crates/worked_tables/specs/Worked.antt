@@ -1,0 +1,90 @@
+-- What 01 says of the small tables A to H, as one fact about the definitions that the calls' contracts cite.
+--
+--   stored t                              the table that the store of t holds, which is what the calls speak of
+--   Decides t allowance answer states     decide, lent the store of t and any path buffer of at least 256 bytes, answers so, leaves these
+--                                         states at the front of the buffer and the rest of it untouched
+--   Safe t allowance count invariant      safe, with the states of the invariant
+--   Unsafe t allowance count path         unsafe, with the path
+--   Undecided t allowance count           undecided
+--   LineA, .., LineH                      01's lines, with every figure that they give
+--   Worked                                all eight
+use Prim.Native.Nat.{ℕ, _-_, _*_, _≤_}
+use mathlib.Core.Path.{_≡_}
+use mathlib.Core.List.{List, [], _∷_}
+use lib.ListN.{length}
+use Rattle.model.specs.Sets.{maxStates}
+use Rattle.model.specs.Tables.{Table}
+use Rattle.model.specs.Rounds.{backwardNumber}
+use Rattle.model.specs.Stores.{tableOf, layout}
+use Rattle.model.specs.Files.{contents, contentLength, blocksFor, checkOf, blockOf}
+use Rattle.model.specs.Calls.{release, overwrite, Decision, decideAnswer, decideBuffer}
+use Rattle.worked_tables.specs.Tables.{set, A, B, D, E, F, G}
+
+abbrev pub stored : Table → Table
+stored t = tableOf (layout t) (t .n) (length (t .groups))
+
+pub record Decides (t : Table) (allowance : ℕ) (answer : Decision) (states : List ℕ) : Type 0 where
+  pub answers : (path : List ℕ) → maxStates ≤ length path
+      → decideAnswer (layout t) (t .n) (length (t .groups)) allowance (length path) ≡ answer
+  pub writes : (path : List ℕ) → maxStates ≤ length path
+      → decideBuffer (layout t) (t .n) (length (t .groups)) allowance path ≡ overwrite states path
+
+abbrev pub Safe : Table → ℕ → ℕ → List ℕ → Type 0
+Safe t allowance count invariant =
+    Decides t allowance
+    (record { refusal = 0; verdict = 0; count = count; invariant = set invariant; size = length invariant; steps = 0 }) []
+
+abbrev pub Unsafe : Table → ℕ → ℕ → List ℕ → Type 0
+Unsafe t allowance count path =
+    Decides t allowance
+    (record { refusal = 0; verdict = 1; count = count; invariant = set []; size = 0; steps = length path - 1 }) path
+
+abbrev pub Undecided : Table → ℕ → ℕ → Type 0
+Undecided t allowance count =
+    Decides t allowance (record { refusal = 0; verdict = 2; count = count; invariant = set []; size = 0; steps = 0 }) []
+
+-- ---- the eight lines
+
+abbrev pub LineA : Type 0
+LineA = Safe A release 0 (0 ∷ 1 ∷ [])
+
+abbrev pub LineB : Type 0
+LineB = Unsafe B release 3 (0 ∷ 1 ∷ 2 ∷ 3 ∷ []) × (backwardNumber (stored B) ≡ 3)
+
+-- B with allowance 2, and with allowance 3.
+abbrev pub LineC : Type 0
+LineC = Undecided B 2 2 × Unsafe B 3 3 (0 ∷ 1 ∷ 2 ∷ 3 ∷ [])
+
+abbrev pub LineD : Type 0
+LineD = Unsafe D release 0 (0 ∷ 1 ∷ 2 ∷ 3 ∷ [])
+
+abbrev pub LineE : Type 0
+LineE =
+    Safe E release 1 (0 ∷ [])
+    × (contents (stored E) ≡ 0x03 ∷ 0x00 ∷ 0x00 ∷ 0x00 ∷ 0x01 ∷ 0x04 ∷ 0x01 ∷ 0x04 ∷ 0x00 ∷ [])
+    × (checkOf (blockOf (contents (stored E)) 0) ≡ 97)
+
+abbrev pub LineF : Type 0
+LineF = Unsafe F release 0 (0 ∷ [])
+
+abbrev pub LineG : Type 0
+LineG = Safe G release 0 []
+
+-- The third figure is "no filler": the content of the one block is just L bytes.
+abbrev pub LineH : Type 0
+LineH =
+    (contentLength 61 0 ≡ 508)
+    × (blocksFor (contentLength 61 0) ≡ 1)
+    × (508 * blocksFor (contentLength 61 0) ≡ contentLength 61 0)
+    × (contentLength 61 1 ≡ 516)
+    × (blocksFor (contentLength 61 1) ≡ 2)
+
+pub record Worked : Type 0 where
+  pub line-A : LineA
+  pub line-B : LineB
+  pub line-C : LineC
+  pub line-D : LineD
+  pub line-E : LineE
+  pub line-F : LineF
+  pub line-G : LineG
+  pub line-H : LineH
