@@ -24,7 +24,7 @@
 --   length-contentsOf, getD-contentsOf(-at)   the contents of an input, by block and by place; contentsOf-bounded
 --   contentsOf-fileOf                         those of a table's file are those of the table, with zeros behind
 use Prim.Native.Nat.{ℕ, zero, suc, _+_, _*_, _-_, _/_, _%_, _^_, _≤_, _<_}
-use native.Mathlib.Nat.{le-refl, not-le-of-lt, suc-add, pow-succ', mul-assoc, mod-lt, add-zero, zero-add, add-assoc, div-add-mod}
+use native.Mathlib.Nat.{le-refl, mul-le-mul, not-le-of-lt, suc-add, pow-succ', mul-assoc, mod-lt, add-zero, zero-add, add-assoc, div-add-mod}
 use native.Mathlib.Omega.{arith}
 use mathlib.Core.Path.{_≡_, refl, sym, ap, ap₂, _∙_, subst}
 use mathlib.Core.Logic.{⊎-elim}
@@ -37,7 +37,7 @@ use lib.ListN.{length, getD, take, drop, replicate, length-append, length-replic
 use lib.Seq.{ext-getD, getD-take, getD-drop, length-take-le, getD-append-add, take-all}
 use Rattle.model.specs.Sets.{WORDS, maxStates, Set, tabulate, bit, member, number}
 use Rattle.model.specs.Tables.{Table}
-use Rattle.model.specs.Stores.{concat}
+use Rattle.model.specs.Stores.{maxGroups, concat}
 use Rattle.model.specs.Files.{le16, le16At, setWidth, setBytes, sets, contents, contentLength, blocksFor, fileLength, weighted, checkOf, blockOf, fileOf, part, contentsOf, setIn, setNumber, tableIn}
 use Rattle.model.specs.RoundTrip.{Bounded}
 use Rattle.model.proofs.Bounds.{and-true, is-false, lt-or-ge, length-tabulate, getD-tabulate}
@@ -508,3 +508,10 @@ module _ (t : Table) where
 pub tableIn-row : (bytes : List ℕ) (n g s : ℕ) → s < n → (tableIn bytes n g) .row s ≡ setNumber bytes n (2 + g + s)
 unfolding tableIn
 tableIn-row bytes n g s h = rw (lt-ltb s n h)
+
+-- the largest file is that of the most states and groups
+pub fileLength-most : (n g : ℕ) → n ≤ maxStates → g ≤ maxGroups → fileLength n g ≤ fileLength maxStates maxGroups
+fileLength-most n g h k =
+    let width : setWidth n ≤ setWidth maxStates = omega arith in
+    let count : 2 + g + n ≤ 2 + maxGroups + maxStates = omega arith in
+    omega (arith, mul-le-mul width count)

@@ -14,3 +14,4 @@ pub mod CallLaws
 pub mod RoundTrips
 pub mod Acceptance
 pub mod Kept
+pub mod Ranges

@@ -2,17 +2,14 @@
 --
 --   take-more, filter-more     one element more of a list, one number more that is picked if it passes
 --   spaced-append              two lists of numbers, each number after a space
---   size-top                   a set has at most as many states as a set can hold
-use Prim.Native.Nat.{ℕ, _+_, _≤_, _<_}
+use Prim.Native.Nat.{ℕ, _+_, _<_}
 use native.Mathlib.Numerals.{add-one}
 use mathlib.Core.Path.{_≡_, refl, sym, ap, _∙_}
 use mathlib.Core.Bool.{Bool, cond}
 use mathlib.Core.List.{List, [], _∷_, _++_, append-assoc}
 use lib.ListN.{length, take, getD}
 use lib.Seq.{take-suc}
-use Rattle.model.specs.Sets.{maxStates, Set, filter, member, members, size}
-use Rattle.model.proofs.SetLaws.{in-bound}
-use Rattle.model.proofs.Counting.{filter-bound}
+use Rattle.model.specs.Sets.{filter}
 use Rattle.report.specs.Text.{ascii, decimal, spaced}
 
 pub take-more : (xs : List ℕ) (i : ℕ) → i < length xs → take (i + 1) xs ≡ take i xs ++ (getD xs i 0 ∷ [])
@@ -28,9 +25,3 @@ spaced-append [] ys = refl
 spaced-append (x ∷ xs) ys =
     let number = ascii " " ++ decimal x in
     ap (λ (zs : List ℕ). number ++ zs) (spaced-append xs ys) ∙ sym (append-assoc number (spaced xs) (spaced ys))
-
--- ---- sets
-
-pub size-top : (X : Set) → size X ≤ maxStates
-unfolding size members
-size-top X = filter-bound (member X) maxStates (λ k e. in-bound (record { is = e })) maxStates .0

@@ -4,13 +4,13 @@ use mathlib.Core.List.{append-assoc}
 use borrow.Author.Needs.{needs}
 use Rattle.report.specs.Text.{ascii, invariantLine}
 use Rattle.report.proofs.Putting.{put-then}
-use Rattle.report.proofs.Turns.{size-top}
+use Rattle.model.proofs.Counting.{size-most}
 use Rattle.report.proofs.put_invariant_line.Statement.{statement}
 use Rattle.report.proofs.put_invariant_line.Tie as tie
 
 put-number-requires : tie.Need-put-number-requires
 put-number-requires c κs =
-    omega (arith, c .before .before .count .ensures, size-top (c .before .before .before .before .args .x .words))
+    omega (arith, c .before .before .count .ensures, size-most (c .before .before .before .before .args .x .words))
 
 returns : tie.Need-returns
 unfolding ascii invariantLine
