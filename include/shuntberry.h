@@ -74,7 +74,7 @@ extern "C" {
 
 /* What shuntberry_decide answers. */
 struct shuntberry_decision {
-    uint64_t invariant[4]; /* if safe, a set that holds the initial states and all their successors, and no forbidden state; else empty */
+    uint64_t invariant[4]; /* if safe, a set with the initial states, the successors of each of its states, and no forbidden state; else empty */
     uint32_t refusal;      /* 0, or the number of the refusal */
     uint32_t verdict;      /* SHUNTBERRY_SAFE, SHUNTBERRY_UNSAFE or SHUNTBERRY_UNDECIDED */
     uint32_t count;        /* the number of refinements made */
