@@ -227,12 +227,7 @@ pub fn shortest_path<'p>(
 pub fn read(input: &[u8], store: &mut [u64]) -> Result<TableRead, Refused> {
     // SAFETY: as in `decide`.
     let table = unsafe {
-        raw::shuntberry_read(
-            input.as_ptr(),
-            input.len(),
-            store.as_mut_ptr(),
-            store.len(),
-        )
+        raw::shuntberry_read(input.as_ptr(), input.len(), store.as_mut_ptr(), store.len())
     };
     accepted(table.refusal)?;
     Ok(TableRead {

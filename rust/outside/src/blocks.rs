@@ -56,7 +56,7 @@ pub fn contents(table: &Table) -> Vec<u8> {
 
 /// The length of the contents for n states and g groups.
 pub fn contents_length(n: usize, g: usize) -> usize {
-    4 + (n + 7) / 8 * (2 + g + n)
+    4 + n.div_ceil(8) * (2 + g + n)
 }
 
 /// The table in a file, or the number of the first ground to refuse it.

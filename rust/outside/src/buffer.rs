@@ -2,8 +2,8 @@
 
 use std::fmt::Debug;
 
-/// Elements on each side of a lent buffer.
-const GUARD: usize = 32;
+/// Elements on each side of a lent buffer. The number is odd, so that bytes begin at odd addresses.
+const GUARD: usize = 31;
 
 pub struct Lent<T> {
     cells: Vec<T>,
@@ -12,9 +12,11 @@ pub struct Lent<T> {
 
 impl<T: Copy + PartialEq + Debug + From<u8>> Lent<T> {
     pub fn new(content: &[T]) -> Lent<T> {
-        let mut cells: Vec<T> = (0..GUARD as u8).map(|i| T::from(0xa0 | i)).collect();
-        cells.extend(content);
-        cells.extend((0..GUARD as u8).map(|i| T::from(0x5f ^ i)));
+        let guard = |mask: u8| (0..GUARD as u8).map(move |i| T::from(mask ^ i));
+        let cells: Vec<T> = guard(0xa5)
+            .chain(content.iter().copied())
+            .chain(guard(0x5a))
+            .collect();
         let before = cells.clone();
         Lent { cells, before }
     }

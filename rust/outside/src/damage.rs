@@ -1,5 +1,5 @@
-//! Files that earn refusals: a good file with one kind of damage, whose refusal is known, or with
-//! several at once.
+//! Files that earn refusals: a good file with one kind of damage, whose refusal is mostly known, or
+//! with several at once.
 
 use crate::blocks::{self, BLOCK, CONTENT, LARGEST};
 use crate::generate::Random;
@@ -9,8 +9,12 @@ use crate::table::Table;
 /// checks right unless they are what it damages.
 #[derive(Clone, Copy, Debug, PartialEq, Eq, PartialOrd, Ord)]
 pub enum Damage {
+    /// No state or too many.
     StateCount,
+    /// Too many groups.
     GroupCount,
+    /// Another number of states or groups, but one that a table can have.
+    OtherCount,
     StrayBit,
     Filler,
     BlockMissing,
@@ -21,9 +25,10 @@ pub enum Damage {
     Length,
 }
 
-pub const DAMAGES: [Damage; 10] = [
+pub const DAMAGES: [Damage; 11] = [
     Damage::StateCount,
     Damage::GroupCount,
+    Damage::OtherCount,
     Damage::StrayBit,
     Damage::Filler,
     Damage::BlockMissing,
@@ -35,17 +40,18 @@ pub const DAMAGES: [Damage; 10] = [
 ];
 
 impl Damage {
-    /// The refusal that a good file earns by this damage alone.
-    pub fn refusal(self) -> u32 {
+    /// The refusal that a good file earns by this damage alone, if that depends on nothing else.
+    pub fn refusal(self) -> Option<u32> {
         match self {
-            Damage::Length => 11,
-            Damage::BlockNumber | Damage::BlocksExchanged => 12,
-            Damage::BlockCheck => 13,
-            Damage::StateCount => 14,
-            Damage::GroupCount => 15,
-            Damage::BlockMissing | Damage::BlockExtra => 16,
-            Damage::StrayBit => 17,
-            Damage::Filler => 18,
+            Damage::Length => Some(11),
+            Damage::BlockNumber | Damage::BlocksExchanged => Some(12),
+            Damage::BlockCheck => Some(13),
+            Damage::StateCount => Some(14),
+            Damage::GroupCount => Some(15),
+            Damage::BlockMissing | Damage::BlockExtra => Some(16),
+            Damage::StrayBit => Some(17),
+            Damage::Filler => Some(18),
+            Damage::OtherCount => None,
         }
     }
 
@@ -63,10 +69,11 @@ impl Damage {
     }
 }
 
-/// The file of a table with some damages, each of which applies to it.
+/// The file of a table with some damages, each of which applies to it and is done once.
 pub fn damaged(table: &Table, damages: &[Damage], random: &mut Random) -> Vec<u8> {
     let mut damages = damages.to_vec();
     damages.sort();
+    damages.dedup();
     let mut contents = blocks::contents(table);
     let used = contents.len();
     contents.resize(used.div_ceil(CONTENT) * CONTENT, 0);
@@ -104,6 +111,12 @@ fn damage_contents(
             };
             contents[2..4].copy_from_slice(&blocks::two_bytes(g));
         }
+        Damage::OtherCount => {
+            let n = random.pick(&[1, table.n / 2, table.n - 1, table.n + 1, 255, 256]);
+            let g = random.pick(&[0, table.g() / 2, table.g() + 1, 63, 64]);
+            let (at, number) = random.pick(&[(0, n.clamp(1, 256)), (2, g.min(64))]);
+            contents[at..at + 2].copy_from_slice(&blocks::two_bytes(number));
+        }
         Damage::StrayBit => {
             let set = random.below(2 + table.g() + table.n);
             let state = random.within(table.n, 8 * width - 1);
@@ -125,7 +138,7 @@ fn damage_contents(
 
 fn damage_file(damage: Damage, file: &mut Vec<u8>, random: &mut Random) {
     let count = file.len() / BLOCK;
-    let at = BLOCK * random.below(count.max(1));
+    let at = BLOCK * random.below(count);
     match damage {
         Damage::BlockNumber => {
             let number = loop {

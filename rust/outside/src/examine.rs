@@ -22,13 +22,13 @@ pub type Outcome = Result<(), String>;
 /// Up to this size the plain implementations are themselves held to trying everything.
 const SMALL: usize = 6;
 
-/// How often each thing came up, so that a reader sees what was tested.
+/// How often each kind of a thing came up, so that a reader sees what was tested.
 #[derive(Default)]
-pub struct Tally(pub BTreeMap<String, usize>);
+pub struct Tally(pub BTreeMap<(&'static str, String), usize>);
 
 impl Tally {
-    fn count(&mut self, what: impl Into<String>) {
-        *self.0.entry(what.into()).or_default() += 1;
+    fn count(&mut self, thing: &'static str, kind: impl ToString) {
+        *self.0.entry((thing, kind.to_string())).or_default() += 1;
     }
 
     pub fn add(&mut self, other: Tally) {
@@ -117,14 +117,9 @@ fn ensure(holds: bool, what: impl FnOnce() -> String) -> Outcome {
 pub fn random_table(libraries: &[&dyn Calls], random: &mut Random, tally: &mut Tally) -> Outcome {
     let kind = Kind::random(random);
     let table = kind.table(random);
-    for what in [
-        format!("steps {:?}", kind.steps),
-        format!("ends {:?}", kind.ends),
-        format!("groups {:?}", kind.groups),
-        format!("states up to {}", kind.n.next_multiple_of(64)),
-    ] {
-        tally.count(what);
-    }
+    tally.count("kind of steps", format!("{:?}", kind.steps));
+    tally.count("kind of ends", format!("{:?}", kind.ends));
+    tally.count("kind of groups", format!("{:?}", kind.groups));
     accepted_table(libraries, &table, random, tally)
         .and_then(|()| spoiled_arguments(libraries, &table, random, tally))
         .map_err(|fault| format!("{kind:?}: {fault}"))
@@ -145,7 +140,14 @@ pub fn accepted_table(
     let backward = rounds::backward_number(table);
 
     // The answers that are expected with each allowance, held to demands 2 and 3.
-    let mut allowances = vec![0, 1, backward.saturating_sub(1), backward, backward + 1, 256];
+    let mut allowances = vec![
+        0,
+        1,
+        backward.saturating_sub(1),
+        backward,
+        backward + 1,
+        256,
+    ];
     allowances.sort();
     allowances.dedup();
     let expected: Vec<(usize, Expected<Decision, u8>)> = allowances
@@ -158,14 +160,18 @@ pub fn accepted_table(
     if n <= SMALL {
         try_everything(table, &judged)?;
     }
-    for (_, Expected { answer, .. }) in &expected {
-        tally.count(match (answer.verdict, answer.count) {
-            (SAFE, 0) => "answer safe at once".to_string(),
-            (SAFE, _) => "answer safe after refinements".to_string(),
-            (UNSAFE, 0) => "answer unsafe at once".to_string(),
-            (UNSAFE, _) => "answer unsafe after refinements".to_string(),
-            _ => "answer undecided".to_string(),
-        });
+    tally.count("states", n);
+    tally.count("groups", g);
+    tally.count("backward number", backward);
+    for (allowance, Expected { answer, .. }) in &expected {
+        let verdict = ["safe", "unsafe", "undecided"][answer.verdict as usize];
+        tally.count("verdict", verdict);
+        if *allowance == 256 {
+            tally.count("refinements", answer.count);
+        }
+        if answer.verdict == UNSAFE {
+            tally.count("steps of the path", answer.steps);
+        }
     }
 
     for library in libraries {
@@ -242,10 +248,9 @@ fn demand_3(
 
 /// The plain implementations against trying all sets and all sequences of states.
 fn try_everything(table: &Table, judged: &Judged) -> Outcome {
-    ensure(
-        judged.path == search::first_path_of_all(table),
-        || "the path is not the first of all".to_string(),
-    )?;
+    ensure(judged.path == search::first_path_of_all(table), || {
+        "the path is not the first of all".to_string()
+    })?;
     let mut rounds = Rounds::new(table);
     rounds.decide(256);
     ensure(rounds::extremes_hold(&rounds), || {
@@ -282,7 +287,11 @@ fn round_trips(
     let mut filled = random.words(room);
     read(library, &written, &filled, &expected::read(file, room))?;
     let answer = library.read(&written, &mut filled);
-    same("read of what was written", (answer.n, answer.g), (n as u32, g as u32))?;
+    same(
+        "read of what was written",
+        (answer.n, answer.g),
+        (n as u32, g as u32),
+    )?;
     ensure(filled[..STORE_WORDS] == store[..STORE_WORDS], || {
         "what was written reads back as another table".to_string()
     })?;
@@ -425,9 +434,9 @@ fn spoiled_arguments(
     let decision = expected::decide(&store, n, g, allowance, path_len);
     let shortest = expected::shortest_path(&store, n, g, path_len);
     let written = expected::write(&store, n, g, output_len);
-    tally.count(format!("decide refusal {}", decision.answer.refusal));
-    tally.count(format!("shortest path refusal {}", shortest.answer.refusal));
-    tally.count(format!("write refusal {}", written.answer.refusal));
+    tally.count("refusal by decide", decision.answer.refusal);
+    tally.count("refusal by shortest path", shortest.answer.refusal);
+    tally.count("refusal by write", written.answer.refusal);
     for library in libraries {
         decide(*library, &store, (n, g, allowance), &path, &decision)
             .and_then(|()| shortest_path(*library, &store, (n, g), &path, &shortest))
@@ -464,12 +473,16 @@ pub fn random_file(libraries: &[&dyn Calls], random: &mut Random, tally: &mut Ta
     let expected = expected::read(&file, room);
     let fault = |fault: String| format!("{kind:?} with {damages:?}: {fault}");
 
-    // With a single damage the refusal is known beforehand.
-    if room >= STORE_WORDS && !random_bytes && damages.len() <= 1 {
-        let known = damages.first().map_or(0, |damage| damage.refusal());
+    // Of a whole file and of most single damages the answer is known beforehand.
+    let known = match damages[..] {
+        [] => Some(0),
+        [damage] => damage.refusal(),
+        _ => None,
+    };
+    if let Some(known) = known.filter(|_| room >= STORE_WORDS && !random_bytes) {
         same("the plain decoder", expected.answer.refusal, known).map_err(fault)?;
     }
-    tally.count(format!("read refusal {}", expected.answer.refusal));
+    tally.count("refusal by read", expected.answer.refusal);
     let store = random.words(room);
     for library in libraries {
         read(*library, &file, &store, &expected).map_err(fault)?;

@@ -97,12 +97,7 @@ pub fn decide(
 }
 
 /// Shortest path on any arguments.
-pub fn shortest_path(
-    store: &[u64],
-    n: usize,
-    g: usize,
-    path_len: usize,
-) -> Expected<Shortest, u8> {
+pub fn shortest_path(store: &[u64], n: usize, g: usize, path_len: usize) -> Expected<Shortest, u8> {
     match accept::shortest_path(store, n, g, path_len) {
         Ok(()) => Judged::new(&Table::from_store(store, n, g)).shortest_path(),
         Err(refusal) => Expected {

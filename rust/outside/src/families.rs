@@ -58,13 +58,21 @@ pub fn for_shortest_path(random: &mut Random) -> Vec<Family> {
 
 /// For read and write: one block, either side of the first block's end, and up to the largest file.
 pub fn for_files(random: &mut Random) -> Vec<Family> {
-    [(3, 0), (61, 0), (61, 1), (128, 0), (256, 0), (255, 64), (256, 64)]
-        .into_iter()
-        .map(|(n, g)| {
-            let tables = some(|| fan_out(n, 4, g, random));
-            family(format!("{n} states, {g} groups"), tables)
-        })
-        .collect()
+    [
+        (3, 0),
+        (61, 0),
+        (61, 1),
+        (128, 0),
+        (256, 0),
+        (255, 64),
+        (256, 64),
+    ]
+    .into_iter()
+    .map(|(n, g)| {
+        let tables = some(|| fan_out(n, 4, g, random));
+        family(format!("{n} states, {g} groups"), tables)
+    })
+    .collect()
 }
 
 fn some(mut table: impl FnMut() -> Table) -> Vec<Table> {

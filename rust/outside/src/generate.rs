@@ -58,6 +58,12 @@ impl Random {
         (0..n).map(|_| self.below(256) < chance).collect()
     }
 
+    /// A set of up to four states.
+    fn few(&mut self, n: usize) -> Set {
+        let states: Vec<usize> = (0..self.within(1, 4)).map(|_| self.below(n)).collect();
+        set_where(n, |s| states.contains(&s))
+    }
+
     /// The numbers below n in a random order.
     fn order(&mut self, n: usize) -> Vec<usize> {
         let mut order: Vec<usize> = (0..n).collect();
@@ -98,7 +104,7 @@ pub enum Ends {
     /// The first and the last state, where a corridor or layers begin and end.
     FirstAndLast,
     OneEach,
-    Some,
+    Few,
     NoInitial,
     NoForbidden,
     Overlapping,
@@ -108,7 +114,7 @@ pub enum Ends {
 pub const ENDS: [Ends; 7] = [
     Ends::FirstAndLast,
     Ends::OneEach,
-    Ends::Some,
+    Ends::Few,
     Ends::NoInitial,
     Ends::NoForbidden,
     Ends::Overlapping,
@@ -147,13 +153,13 @@ pub struct Kind {
 }
 
 impl Kind {
-    /// A kind at random. Most tables are small, where a fault shows soonest; the rest have all sizes,
-    /// with those at the edges of words more often.
+    /// A kind at random. Small tables, where everything can be tried, and those at the edges of words
+    /// come up more often than others.
     pub fn random(random: &mut Random) -> Kind {
-        let n = match random.below(20) {
-            0..8 => random.within(1, 6),
-            8..14 => random.within(1, 40),
-            14..17 => random.pick(&[63, 64, 65, 127, 128, 129, 191, 192, 193, 255, 256]),
+        let n = match random.below(10) {
+            0..3 => random.within(1, 6),
+            3..5 => random.within(1, 40),
+            5..7 => random.pick(&[63, 64, 65, 127, 128, 129, 191, 192, 193, 255, 256]),
             _ => random.within(1, MAX_STATES),
         };
         let ends = match random.below(3) {
@@ -279,12 +285,12 @@ fn ends(ends: Ends, n: usize, random: &mut Random) -> (Set, Set) {
     match ends {
         Ends::FirstAndLast => (one(0), one(n - 1)),
         Ends::OneEach => (one(random.below(n)), one(random.below(n))),
-        Ends::Some => (random.set(n, 40), random.set(n, 40)),
+        Ends::Few => (random.few(n), random.few(n)),
         Ends::NoInitial => (none(), random.set(n, 60)),
         Ends::NoForbidden => (random.set(n, 60), none()),
         Ends::Overlapping => {
             let both = random.below(n);
-            let (mut initial, mut forbidden) = (random.set(n, 40), random.set(n, 40));
+            let (mut initial, mut forbidden) = (random.few(n), random.few(n));
             initial[both] = true;
             forbidden[both] = true;
             (initial, forbidden)

@@ -45,7 +45,7 @@ impl<'t> Rounds<'t> {
         let mut i = 0;
         loop {
             let Round { z, r, s } = self.round(i);
-            if inside(&union(init, &post(table, r)), z) {
+            if inside(&union(post(table, r), init), z) {
                 let invariant = r.clone();
                 return (Outcome::Safe { invariant }, i);
             }
@@ -65,7 +65,7 @@ impl<'t> Rounds<'t> {
             let z = match self.rounds.last() {
                 None => not_forbidden(table),
                 Some(Round { s, .. }) => {
-                    let next = meet(s, &hold(table, s));
+                    let next = meet(hold(table, s), s);
                     self.list.push(next.clone());
                     next
                 }
@@ -82,21 +82,19 @@ impl<'t> Rounds<'t> {
 /// R: the least X with X = cover(Z meet (Init union post(X))).
 fn forward(table: &Table, covers: &[Set], z: &Set) -> Set {
     fixpoint(empty(table.n), |x| {
-        cover(covers, &meet(z, &union(&table.initial, &post(table, x))))
+        cover(covers, &meet(union(post(table, x), &table.initial), z))
     })
 }
 
 /// S: the greatest X with X = cover(R meet hold(X)).
 fn backward(table: &Table, covers: &[Set], r: &Set) -> Set {
-    fixpoint(full(table.n), |x| cover(covers, &meet(r, &hold(table, x))))
+    fixpoint(full(table.n), |x| cover(covers, &meet(hold(table, x), r)))
 }
 
 /// The cover of each state: the meet of all listed sets that contain it, or all n states if none does.
 fn covers(n: usize, list: &[Set]) -> Vec<Set> {
     let containing = |s: usize| list.iter().filter(move |set| set[s]);
-    (0..n)
-        .map(|s| containing(s).fold(full(n), |all, set| meet(&all, set)))
-        .collect()
+    (0..n).map(|s| containing(s).fold(full(n), meet)).collect()
 }
 
 /// The cover of X: the union of the covers of its states.
@@ -119,7 +117,7 @@ pub fn backward_number(table: &Table) -> usize {
     let mut w = not_forbidden(table);
     let mut j = 0;
     loop {
-        let next = meet(&w, &hold(table, &w));
+        let next = meet(hold(table, &w), &w);
         if next == w {
             return j;
         }
@@ -159,12 +157,14 @@ fn full(n: usize) -> Set {
     vec![true; n]
 }
 
-fn union(a: &Set, b: &Set) -> Set {
-    a.iter().zip(b).map(|(&a, &b)| a | b).collect()
+fn union(mut a: Set, b: &Set) -> Set {
+    a.iter_mut().zip(b).for_each(|(a, &b)| *a |= b);
+    a
 }
 
-fn meet(a: &Set, b: &Set) -> Set {
-    a.iter().zip(b).map(|(&a, &b)| a & b).collect()
+fn meet(mut a: Set, b: &Set) -> Set {
+    a.iter_mut().zip(b).for_each(|(a, &b)| *a &= b);
+    a
 }
 
 fn inside(a: &Set, b: &Set) -> bool {
@@ -175,7 +175,7 @@ fn inside(a: &Set, b: &Set) -> bool {
 fn union_at(sets: &[Set], x: &Set) -> Set {
     (0..x.len())
         .filter(|&s| x[s])
-        .fold(empty(x.len()), |all, s| union(&all, &sets[s]))
+        .fold(empty(x.len()), |all, s| union(all, &sets[s]))
 }
 
 /// Whether R and S of each round are the least and the greatest of all sets that solve 01's equations,
@@ -187,10 +187,10 @@ pub fn extremes_hold(rounds: &Rounds) -> bool {
         let list = &rounds.list[..table.g() + 1 + i];
         let covers = covers(n, list);
         let forward_step = |x: &Set| {
-            let reached = union(&table.initial, &post(table, x));
-            cover(&covers, &meet(&round.z, &reached))
+            let reached = union(post(table, x), &table.initial);
+            cover(&covers, &meet(reached, &round.z))
         };
-        let backward_step = |x: &Set| cover(&covers, &meet(&round.r, &hold(table, x)));
+        let backward_step = |x: &Set| cover(&covers, &meet(hold(table, x), &round.r));
         let all = || (0..1usize << n).map(|bits| set_where(n, |s| bits >> s & 1 == 1));
         forward_step(&round.r) == round.r
             && backward_step(&round.s) == round.s

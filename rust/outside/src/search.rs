@@ -33,9 +33,8 @@ pub fn smallest_shortest_path(table: &Table) -> Option<Vec<usize>> {
         .map(|s| (s, vec![s]))
         .collect();
     while !level.is_empty() {
-        let ending = |(state, path): (&usize, &Vec<usize>)| {
-            table.forbidden[*state].then(|| path.clone())
-        };
+        let ending =
+            |(state, path): (&usize, &Vec<usize>)| table.forbidden[*state].then(|| path.clone());
         if let Some(path) = level.iter().filter_map(ending).min() {
             return Some(path);
         }

@@ -1,11 +1,11 @@
 //! The benchmark: the library's four calls beside the optimised peer, in one run.
 //!
-//!     bench [--peer] [--repetitions R]
+//!     bench [--peer] [--repetitions R] [--only WORDS]
 //!
 //! In each repetition the library and the peers go through a family's tables in turn, in changing
 //! order; a ratio is of two times of one repetition. Printed are the median times of a call, and the
 //! median ratios with the range that holds 80 % of them. `--peer` measures the peer against itself,
-//! which shows the noise.
+//! which shows the noise; `--only` takes the rows that have the words in their call and family.
 
 use std::hint::black_box;
 use std::process::ExitCode;
@@ -99,18 +99,19 @@ impl Buffers {
 }
 
 fn main() -> ExitCode {
-    let Some((peer_only, repetitions)) = options() else {
-        eprintln!("usage: bench [--peer] [--repetitions R]");
+    let Some(options) = options() else {
+        eprintln!("usage: bench [--peer] [--repetitions R] [--only WORDS]");
         return ExitCode::from(2);
     };
-    let Some(subject) = subject(peer_only) else {
+    let Some(subject) = subject(options.peer) else {
         eprintln!("bench: built without the library; only --peer can be measured");
         return ExitCode::from(2);
     };
     println!(
-        "{}, {repetitions} repetitions, seed {SEED}. Times are medians in microseconds for one call; \
+        "{}, {} repetitions, seed {SEED}. Times are medians in microseconds for one call; \
          in brackets the range of 80 % of the ratios.\n",
-        processor()
+        processor(),
+        options.repetitions
     );
     println!(
         "| call | family | {} | peer | ratio | quick peer | ratio |",
@@ -128,22 +129,42 @@ fn main() -> ExitCode {
         (Call::Write, &files),
     ] {
         for family in families {
-            if let Err(fault) = measure(subject, call, family, repetitions) {
-                eprintln!("bench: {}, {}: {fault}", call.name(), family.name);
-                return ExitCode::FAILURE;
+            let row = format!("{} | {}", call.name(), family.name);
+            if !row.contains(&options.only) {
+                continue;
+            }
+            match measure(subject, call, family, options.repetitions) {
+                Ok(figures) => println!("| {row} | {figures} |"),
+                Err(fault) => {
+                    eprintln!("bench: {row}: {fault}");
+                    return ExitCode::FAILURE;
+                }
             }
         }
     }
     ExitCode::SUCCESS
 }
 
-fn options() -> Option<(bool, usize)> {
-    let mut options = (false, REPETITIONS);
+struct Options {
+    peer: bool,
+    repetitions: usize,
+    only: String,
+}
+
+fn options() -> Option<Options> {
+    let mut options = Options {
+        peer: false,
+        repetitions: REPETITIONS,
+        only: String::new(),
+    };
     let mut words = std::env::args().skip(1);
     while let Some(word) = words.next() {
         match word.as_str() {
-            "--peer" => options.0 = true,
-            "--repetitions" => options.1 = words.next()?.parse().ok().filter(|&r| r > 0)?,
+            "--peer" => options.peer = true,
+            "--repetitions" => {
+                options.repetitions = words.next()?.parse().ok().filter(|&r| r > 0)?;
+            }
+            "--only" => options.only = words.next()?,
             _ => return None,
         }
     }
@@ -162,19 +183,21 @@ fn subject(peer_only: bool) -> Option<&'static dyn Calls> {
 
 fn processor() -> String {
     let about = std::fs::read_to_string("/proc/cpuinfo").unwrap_or_default();
-    let model = about.lines().find_map(|line| line.strip_prefix("model name"));
+    let model = about
+        .lines()
+        .find_map(|line| line.strip_prefix("model name"));
     model.map_or("Unknown processor".to_string(), |model| {
         model.trim_start_matches([' ', '\t', ':']).to_string()
     })
 }
 
-/// Measures a call on a family and prints its row.
+/// Measures a call on a family: the figures of its row.
 fn measure(
     subject: &dyn Calls,
     call: Call,
     family: &Family,
     repetitions: usize,
-) -> Result<(), String> {
+) -> Result<String, String> {
     let libraries: [&dyn Calls; 3] = [subject, &Peer(Looks::Whole), &Peer(Looks::New)];
     // The two peers differ in decide only.
     let count = if call == Call::Decide { 3 } else { 2 };
@@ -207,21 +230,13 @@ fn measure(
         let (low, high) = (quantile(&ratios, 0.1), quantile(&ratios, 0.9));
         format!("{:.2} ({low:.2}–{high:.2})", median(&ratios))
     };
-    let mut row = format!(
-        "| {} | {} | {:.2} | {:.2} | {} |",
-        call.name(),
-        family.name,
-        per_call(0),
-        per_call(1),
-        ratio(1)
-    );
-    if count == 3 {
-        row += &format!(" {:.2} | {} |", per_call(2), ratio(2));
+    let beside = |which: usize| format!("{:.2} | {}", per_call(which), ratio(which));
+    let quick = if count == 3 {
+        beside(2)
     } else {
-        row += " | |";
-    }
-    println!("{row}");
-    Ok(())
+        "|".to_string()
+    };
+    Ok(format!("{:.2} | {} | {quick}", per_call(0), beside(1)))
 }
 
 /// That all answer the same, with the same in their buffers.

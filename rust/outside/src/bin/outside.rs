@@ -5,6 +5,7 @@
 //!
 //! `--peer` tests the optimised peer in the library's place; `--case I` repeats one case of a run.
 
+use std::collections::BTreeMap;
 use std::process::ExitCode;
 use std::sync::Mutex;
 use std::sync::atomic::{AtomicU64, Ordering};
@@ -16,7 +17,7 @@ use shuntberry_outside::generate::Random;
 use shuntberry_outside::peer::{Looks, Peer};
 
 const SEED: u64 = 20_260_401;
-const COUNT: u64 = 24_000;
+const COUNT: u64 = 40_000;
 const THREADS: usize = 2;
 /// Failures that are printed before the run is given up.
 const FAILURES: usize = 5;
@@ -162,35 +163,45 @@ fn random_case(libraries: &[&dyn Calls], seed: u64, case: u64, tally: &mut Tally
     }
 }
 
-/// Counts of the same thing on one line.
+/// A line for each thing that was counted, with its kinds in the order of their numbers, or, where
+/// there are many, with how many of them came up.
 fn print_tally(tally: &Tally) {
-    let mut heading = String::new();
-    for (what, count) in &tally.0 {
-        let (thing, kind) = what.rsplit_once(' ').unwrap_or(("", what));
-        if thing != heading {
-            if !heading.is_empty() {
-                println!();
-            }
-            heading = thing.to_string();
-            print!("  {heading}:");
-        }
-        print!(" {kind} {count},");
+    let mut lines: BTreeMap<&str, Vec<(&String, &usize)>> = BTreeMap::new();
+    for ((thing, kind), count) in &tally.0 {
+        lines.entry(thing).or_default().push((kind, count));
     }
-    println!();
+    for (thing, mut kinds) in lines {
+        kinds.sort_by_key(|(kind, _)| kind.parse::<u32>().unwrap_or(0));
+        let line = if let [(first, times), .., (last, _)] = kinds[..]
+            && kinds.len() > 16
+        {
+            let different = kinds.len();
+            format!("{different} different, from {first} ({times} times) to {last}")
+        } else {
+            let counted = kinds
+                .iter()
+                .map(|(kind, times)| format!("{kind} × {times}"));
+            counted.collect::<Vec<String>>().join(", ")
+        };
+        println!("  {thing}: {line}");
+    }
 }
 
 /// Refusals of document 01's table that no case earned.
 fn unearned_refusals(tally: &Tally) -> Vec<String> {
     let table: [(&str, &[u32]); 4] = [
-        ("decide", &[10, 14, 15, 17, 20, 21]),
-        ("shortest path", &[10, 14, 15, 17, 21]),
-        ("read", &[10, 11, 12, 13, 14, 15, 16, 17, 18]),
-        ("write", &[10, 14, 15, 17, 19]),
+        ("refusal by decide", &[10, 14, 15, 17, 20, 21]),
+        ("refusal by shortest path", &[10, 14, 15, 17, 21]),
+        ("refusal by read", &[10, 11, 12, 13, 14, 15, 16, 17, 18]),
+        ("refusal by write", &[10, 14, 15, 17, 19]),
     ];
-    let names = table.iter().flat_map(|(call, numbers)| {
-        numbers
-            .iter()
-            .map(move |number| format!("{call} refusal {number}"))
-    });
-    names.filter(|name| !tally.0.contains_key(name)).collect()
+    let mut unearned = Vec::new();
+    for (call, numbers) in table {
+        for number in numbers {
+            if !tally.0.contains_key(&(call, number.to_string())) {
+                unearned.push(format!("{call} {number}"));
+            }
+        }
+    }
+    unearned
 }
