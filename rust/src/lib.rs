@@ -1,6 +1,6 @@
 //! Is a forbidden state of a dialogue table reachable, and by which steps?
 //!
-//! A safe wrapper around the proved library: [`decide`], [`shortest_path`], [`read`] and [`write`],
+//! A safe wrapper around the proved library: [`decide`], [`shortest_path`], [`read`] and [`write()`],
 //! with slices in and enums out. No input makes a call panic: what the library does not accept, it
 //! refuses with a number ([`Refused`]), and every buffer is then as it was before.
 //!
