@@ -1,0 +1,2 @@
+pub mod MapAt
+pub mod Scans
