@@ -70,3 +70,43 @@ module _ (distances : List ℕ) (d : ℕ) (X : Set) where
   pick-found x h l f =
       first-is _ maxStates x (in-bound h) (and-intro (member X x) _ (h .is) (le-leb (getD distances x 0) d l))
       (λ s b. not-picked s (λ i. f s i b))
+
+-- ---- the least distance
+
+pub record Least (distances : List ℕ) (X rest : Set) (least : ℕ) : Type 0 where
+  pub passed : Passed (λ s. least ≤ getD distances s 0) X rest
+  pub met : (least ≡ unreachable) ⊎ ((s : ℕ) × In X s × (getD distances s 0 ≡ least) × (least < unreachable))
+
+module _ (distances : List ℕ) (X : Set) where
+  pub least-start : Least distances X X unreachable
+  least-start = record { passed = passed-start; met = inl refl }
+
+  module _ {rest rest′ : Set} {x : ℕ} {least : ℕ} (i : In rest x) (e : rest′ ≡ difference rest (single x)) (so : Least distances X rest least) where
+    pub least-keep : least ≤ getD distances x 0 → Least distances X rest′ least
+    least-keep l = record { passed = passed-turn i l e (so .passed); met = so .met }
+
+    pub least-closer : getD distances x 0 < least → Least distances X rest′ (getD distances x 0)
+    least-closer l =
+        let bounded : getD distances x 0 < unreachable = ⊎-elim (λ q. omega arith) (λ w. omega (arith, w .3)) (so .met) in
+        record {
+          passed =
+              passed-turn i (omega arith) e
+              (record { within = so .passed .within; has = λ s h o. omega (arith, so .passed .has s h o) });
+          met = inr (x, so .passed .within x i, refl, bounded);
+        }
+
+  pub least-end : {rest : Set} {least : ℕ} (done : Bool) → done ≡ subset rest empty → not done ≡ false → Least distances X rest least
+      → least ≡ leastBy distances X
+  unfolding leastBy
+  least-end {rest} {least} done e n so =
+      ⊎-elim
+      (λ q. q ∙ sym (first-none _ unreachable (λ j l. nearer j (omega arith))))
+      (λ w.
+      sym
+      (first-is _ unreachable least (w .3)
+      (any-intro _ maxStates (w .0) (in-bound (w .1)) (and-intro (member X (w .0)) _ (w .1 .is) (le-leb (getD distances (w .0) 0) least (omega (arith, w .2)))))
+      nearer))
+      (so .met)
+    where
+      nearer : (j : ℕ) → j < least → any maxStates (λ s. member X s && leb (getD distances s 0) j) ≡ false
+      nearer j l = no-any _ maxStates (λ s b. not-picked distances j X s (λ h. omega (arith, passed-end done e n (so .passed) h)))

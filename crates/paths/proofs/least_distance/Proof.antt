@@ -1,60 +1,23 @@
+-- `least_distance`: `least` is the least distance of the states passed.
+use native.Mathlib.Omega.{arith}
+use mathlib.Core.Path.{sym, subst}
+use mathlib.Core.Logic.{⊎-elim}
+use borrow.Author.Needs.{needs}
+use Rattle.model.specs.Sets.{size}
+use Rattle.model.proofs.SetLaws.{In, in-bound}
+use Rattle.model.proofs.ImageLaws.{peel-in, peel-size}
+use Rattle.paths.proofs.Scans.{Least, least-start, least-keep, least-closer, least-end}
 use Rattle.paths.proofs.least_distance.Statement.{statement}
 use Rattle.paths.proofs.least_distance.Tie as tie
-use Rattle.paths.proofs.least_distance.Reads as reads
-use Rattle.paths.proofs.least_distance.Lts as lts
-use Rattle.state_set.proofs.StateSet.is_empty.Reads as is-empty-reads
-use Rattle.state_set.proofs.StateSet.smallest.Reads as smallest-reads
-use Rattle.state_set.proofs.StateSet.without.Reads as without-reads
 
 abbrev Inv-loop : tie.InvT-loop
-Inv-loop distances least₀ rest₀ least rest = ?
+Inv-loop distances least₀ rest₀ least rest = Least distances (rest₀ .words) (rest .words) least
 
 abbrev μ-loop : tie.MeasureT-loop
-μ-loop distances least₀ rest₀ least rest = ?
+μ-loop distances least₀ rest₀ least rest = size (rest .words)
 
--- src/lib.rt:99:5
-loop-holds : tie.Need-loop-holds Inv-loop μ-loop
-loop-holds c = ?
-
--- src/lib.rt:99:12
-is-empty-requires : tie.Need-is-empty-requires Inv-loop μ-loop
-is-empty-requires c κs = ?
-
--- src/lib.rt:100:13
-smallest-requires : tie.Need-smallest-requires Inv-loop μ-loop
-smallest-requires c κs = ?
-
--- src/lib.rt:101:12
-mul-if2 : tie.Need-mul-if2 Inv-loop μ-loop
-mul-if2 c = ?
-
--- src/lib.rt:101:12
-element-copy-out-if2 : tie.Need-element-copy-out-if2 Inv-loop μ-loop
-element-copy-out-if2 c = ?
-
--- src/lib.rt:102:21
-mul-least : tie.Need-mul-least Inv-loop μ-loop
-mul-least c = ?
-
--- src/lib.rt:102:21
-element-copy-out-least : tie.Need-element-copy-out-least Inv-loop μ-loop
-element-copy-out-least c = ?
-
--- src/lib.rt:104:9
-without-requires : tie.Need-without-requires Inv-loop μ-loop
-without-requires c κs = ?
-
--- src/lib.rt:99:5
-loop-less : tie.Need-loop-less Inv-loop μ-loop
-loop-less c = ?
-
--- src/lib.rt:99:5
-loop-again : tie.Need-loop-again Inv-loop μ-loop
-loop-again c = ?
-
--- src/lib.rt:94:1
-returns : tie.Need-returns Inv-loop μ-loop
-returns c = ?
+least-in : (c : tie.After-smallest Inv-loop μ-loop) → In (c .before .before .before .loop .rest .words) (c .smallest .result)
+least-in c = peel-in _ (c .before .before .is-empty .ensures) (c .before .if1 .taken) (c .smallest .ensures)
 
 pub least-distance-spec : {M : Type 1} → statement M
 least-distance-spec =
@@ -62,14 +25,20 @@ least-distance-spec =
     (tie.spec
     Inv-loop
     μ-loop
-    loop-holds
-    is-empty-requires
-    smallest-requires
-    mul-if2
-    element-copy-out-if2
-    mul-least
-    element-copy-out-least
-    without-requires
-    loop-less
-    loop-again
-    returns)
+    (λ c. least-start _ _)
+    (λ c κs. search needs)
+    (λ c κs. search needs)
+    (λ c. omega (arith, in-bound (least-in c)))
+    (λ c. in-bound (least-in c))
+    (λ c. omega (arith, in-bound (least-in (c .before .before))))
+    (λ c. in-bound (least-in (c .before .before)))
+    (λ c κs. search needs)
+    (λ c. peel-size _ (least-in (c .before .before .before)) (c .without .ensures))
+    (λ c.
+    let d = c .before .before .before in
+    let so = d .before .before .before .loop .inv in
+    ⊎-elim
+    (λ w. rw (w .2) (least-closer _ _ (least-in d) (c .without .ensures) so (w .0 .taken)))
+    (λ w. rw (w .1) (least-keep _ _ (least-in d) (c .without .ensures) so (w .0 .left)))
+    (c .before .if2 .came))
+    (λ c. least-end _ _ _ (c .before .is-empty .ensures) (c .if1 .left) (c .before .before .loop .inv)))
