@@ -1,2 +1,3 @@
 pub mod MapAt
 pub mod Scans
+pub mod Transposed

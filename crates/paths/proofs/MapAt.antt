@@ -1,6 +1,7 @@
 -- Laws of mapAt, for a loop that takes a set apart and changes the element at each of its states.
 --
 --   length-mapAt, getD-mapAt             it by its length and its elements
+--   mapAt-tabulate                       of a list f 0, f 1, ..
 --   mapAt-none, mapAt-peel               no state, no change; a state's element changed first, then those at the rest
 --   Mapping, mapping-turn, -end          the loop's invariant, a turn of it, and what it leaves
 use Prim.Native.Nat.{ℕ, _<_}
@@ -24,6 +25,12 @@ module _ {A : Type 0} (f : A → A) (z : A) where
   getD-mapAt : (X : Set) (xs : List A) (i : ℕ) → i < length xs → getD (mapAt X f z xs) i z ≡ cond (member X i) (f (getD xs i z)) (getD xs i z)
   unfolding mapAt
   getD-mapAt X xs i h = getD-tabulate _ (length xs) i z h
+
+  pub mapAt-tabulate : (X : Set) (n : ℕ) (g : ℕ → A) → mapAt X f z (tabulate n g) ≡ tabulate n (λ s. cond (member X s) (f (g s)) (g s))
+  unfolding mapAt
+  mapAt-tabulate X n g =
+      ap (λ (m : ℕ). tabulate m (λ s. let x = getD (tabulate n g) s z in cond (member X s) (f x) x)) (length-tabulate g n)
+      ∙ tabulate-cong _ _ n (λ s l. ap (λ (x : A). cond (member X s) (f x) x) (getD-tabulate g n s z l))
 
   mapAt-none : (X : Set) (xs : List A) → subset X empty ≡ true → mapAt X f z xs ≡ xs
   mapAt-none X xs e =
