@@ -1,3 +1,4 @@
 pub mod MapAt
 pub mod Scans
 pub mod Transposed
+pub mod Walks

@@ -1,6 +1,15 @@
+-- `write_path`: one state of the walk, and by the call the rest of it. The measure is d, the steps left.
 use Prim.Native.Nat.{ℕ, _<_}
+use native.Mathlib.Numerals.{add-one}
+use native.Mathlib.Omega.{arith}
+use mathlib.Core.Path.{_≡_, refl, sym, ap, _∙_, subst}
+use mathlib.Core.List.{List}
+use borrow.Author.Needs.{needs}
 use borrow.Fn.Kinds.{In}
 use borrow.Fn.PlainCycle.{Measures, is, falls, and}
+use lib.ListN.{length, length-set}
+use lib.Seq.{length-sets}
+use Rattle.paths.proofs.Walks.{walkBy-last, walkBy-step, writable-first, writable-rest}
 use Rattle.paths.proofs.write_path.Reads as write-path
 use Rattle.paths.proofs.write_path.Kinds as write-path-kinds
 use Rattle.paths.proofs.+write_path.Lts-write_path as write-path-lts
@@ -10,156 +19,40 @@ use Rattle.paths.proofs.+write_path.{statement}
 use Rattle.paths.proofs.+write_path.Tie.{close}
 
 abbrev μ-write-path : Measures 3 write-path-kinds.ps ℕ
-μ-write-path κs a = ?
+μ-write-path κs a = a .1 .1 .1 .0
 
 abbrev write-path-at : ℕ → In 3 write-path-kinds.ps
-write-path-at t =
-    and 3 write-path-kinds.ps (is 3 write-path-kinds.ps μ-write-path t) write-path.Pre
+write-path-at t = and 3 write-path-kinds.ps (is 3 write-path-kinds.ps μ-write-path t) write-path.Pre
 
 abbrev write-path-below : ℕ → In 3 write-path-kinds.ps
-write-path-below t =
-    and 3 write-path-kinds.ps (falls 3 write-path-kinds.ps _<_ μ-write-path t) write-path.Pre
+write-path-below t = and 3 write-path-kinds.ps (falls 3 write-path-kinds.ps _<_ μ-write-path t) write-path.Pre
 
--- src/lib.rt:137:9
-write-path-smallest-at-requires : (t : ℕ) → write-path-lts.Need-smallest-at-requires (
-  smallest-at-reads.Asked,
-  smallest-at-reads.Learnt,
-  row-at-reads.Asked,
-  row-at-reads.Learnt,
-  write-path-below t,
-  write-path.Post,
-) (write-path-at t) write-path.Post
-write-path-smallest-at-requires t c κs = ?
-
--- src/lib.rt:138:16
-write-path-cast-path : (t : ℕ) → write-path-lts.Need-cast-path (
-  smallest-at-reads.Asked,
-  smallest-at-reads.Learnt,
-  row-at-reads.Asked,
-  row-at-reads.Learnt,
-  write-path-below t,
-  write-path.Post,
-) (write-path-at t) write-path.Post
-write-path-cast-path t c = ?
-
--- src/lib.rt:138:5
-write-path-slice-write-path : (t : ℕ) → write-path-lts.Need-slice-write-path (
-  smallest-at-reads.Asked,
-  smallest-at-reads.Learnt,
-  row-at-reads.Asked,
-  row-at-reads.Learnt,
-  write-path-below t,
-  write-path.Post,
-) (write-path-at t) write-path.Post
-write-path-slice-write-path t c = ?
-
--- src/lib.rt:140:38
-write-path-row-at-requires : (t : ℕ) → write-path-lts.Need-row-at-requires (
-  smallest-at-reads.Asked,
-  smallest-at-reads.Learnt,
-  row-at-reads.Asked,
-  row-at-reads.Learnt,
-  write-path-below t,
-  write-path.Post,
-) (write-path-at t) write-path.Post
-write-path-row-at-requires t c κs = ?
-
--- src/lib.rt:140:56
-write-path-sub-write-path : (t : ℕ) → write-path-lts.Need-sub-write-path (
-  smallest-at-reads.Asked,
-  smallest-at-reads.Learnt,
-  row-at-reads.Asked,
-  row-at-reads.Learnt,
-  write-path-below t,
-  write-path.Post,
-) (write-path-at t) write-path.Post
-write-path-sub-write-path t c = ?
-
--- src/lib.rt:140:69
-write-path-add-write-path : (t : ℕ) → write-path-lts.Need-add-write-path (
-  smallest-at-reads.Asked,
-  smallest-at-reads.Learnt,
-  row-at-reads.Asked,
-  row-at-reads.Learnt,
-  write-path-below t,
-  write-path.Post,
-) (write-path-at t) write-path.Post
-write-path-add-write-path t c = ?
-
--- src/lib.rt:140:9
-write-path-write-path-requires : (t : ℕ) → write-path-lts.Need-write-path-requires (
-  smallest-at-reads.Asked,
-  smallest-at-reads.Learnt,
-  row-at-reads.Asked,
-  row-at-reads.Learnt,
-  write-path-below t,
-  write-path.Post,
-) (write-path-at t) write-path.Post
-write-path-write-path-requires t c κs = ?
-
--- src/lib.rt:126:1
-write-path-same-length : (t : ℕ) → write-path-lts.Need-same-length (
-  smallest-at-reads.Asked,
-  smallest-at-reads.Learnt,
-  row-at-reads.Asked,
-  row-at-reads.Learnt,
-  write-path-below t,
-  write-path.Post,
-) (write-path-at t) write-path.Post
-write-path-same-length t c = ?
-
--- src/lib.rt:126:1
-write-path-returns : (t : ℕ) → write-path-lts.Need-returns (
-  smallest-at-reads.Asked,
-  smallest-at-reads.Learnt,
-  row-at-reads.Asked,
-  row-at-reads.Learnt,
-  write-path-below t,
-  write-path.Post,
-) (write-path-at t) write-path.Post
-write-path-returns t c = ?
-
--- src/lib.rt:126:1
-write-path-same-length-2 : (t : ℕ) → write-path-lts.Need-same-length-2 (
-  smallest-at-reads.Asked,
-  smallest-at-reads.Learnt,
-  row-at-reads.Asked,
-  row-at-reads.Learnt,
-  write-path-below t,
-  write-path.Post,
-) (write-path-at t) write-path.Post
-write-path-same-length-2 t c = ?
-
--- src/lib.rt:126:1
-write-path-returns-2 : (t : ℕ) → write-path-lts.Need-returns-2 (
-  smallest-at-reads.Asked,
-  smallest-at-reads.Learnt,
-  row-at-reads.Asked,
-  row-at-reads.Learnt,
-  write-path-below t,
-  write-path.Post,
-) (write-path-at t) write-path.Post
-write-path-returns-2 t c = ?
+abbrev claims : ℕ → write-path-lts.Claims
+claims t =
+    (smallest-at-reads.Asked, smallest-at-reads.Learnt, row-at-reads.Asked, row-at-reads.Learnt, write-path-below t, write-path.Post)
 
 pub +write-path-spec : {M : Type 1} → statement M
-+write-path-spec = close μ-write-path λ t. write-path-lts.spec (
-  smallest-at-reads.Asked,
-  smallest-at-reads.Learnt,
-  row-at-reads.Asked,
-  row-at-reads.Learnt,
-  write-path-below t,
-  write-path.Post,
-)
-    (write-path-at t)
-    write-path.Post
-    (write-path-smallest-at-requires t)
-    (write-path-cast-path t)
-    (write-path-slice-write-path t)
-    (write-path-row-at-requires t)
-    (write-path-sub-write-path t)
-    (write-path-add-write-path t)
-    (write-path-write-path-requires t)
-    (write-path-same-length t)
-    (write-path-returns t)
-    (write-path-same-length-2 t)
-    (write-path-returns-2 t)
++write-path-spec =
+    close μ-write-path
+    (λ t.
+    write-path-lts.spec (claims t) (write-path-at t) write-path.Post
+    (λ c κs. search needs)
+    (λ c. omega (arith, writable-first _ _ _ _ (c .smallest-at .ensures) (c .before .before .before .pre .1)))
+    (λ c. omega (arith, c .before .before .before .pre .1 .fits))
+    (λ c κs. (writable-first _ _ _ _ (c .before .smallest-at .ensures) (c .before .before .before .before .pre .1), c .before .before .before .before .pre .1 .long))
+    (λ c. search needs)
+    (λ c. let start = c .before .before .before .before .before .before in omega (arith, start, start .pre .1 .fits))
+    (λ c κs.
+    let d = c .before .before .before in
+    let start = d .before .before .before in (
+      omega (arith, start .pre .0, c .before .before .if1 .taken),
+      rw length-set (writable-rest _ _ _ _ (d .smallest-at .ensures) (start .pre .1) (c .before .row-at .ensures) (c .before .before .if1 .taken)),
+    ))
+    (λ c. ap length (c .before .before .write-path .ensures) ∙ simp (length-sets, length-set))
+    (λ c.
+    let call = c .before .before .before in
+    let d = call .before .before .before in
+    c .before .before .write-path .ensures
+    ∙ rw (walkBy-step _ _ _ _ (d .smallest-at .ensures) (call .before .row-at .ensures) (call .before .before .if1 .taken), add-one))
+    (λ c. simp length-set)
+    (λ c. rw (walkBy-last _ _ _ _ (c .before .smallest-at .ensures) (c .if1 .left))))
