@@ -1,4 +1,5 @@
 pub mod MapAt
 pub mod Scans
 pub mod Transposed
+pub mod Layers
 pub mod Walks

@@ -18,11 +18,11 @@ use Rattle.model.proofs.SetLaws.{In, in-bound, in-or-out, empty-in, in-single, 
 use Rattle.paths.specs.Search.{mapAt}
 
 module _ {A : Type 0} (f : A → A) (z : A) where
-  length-mapAt : (X : Set) (xs : List A) → length (mapAt X f z xs) ≡ length xs
+  pub length-mapAt : (X : Set) (xs : List A) → length (mapAt X f z xs) ≡ length xs
   unfolding mapAt
   length-mapAt X xs = length-tabulate _ (length xs)
 
-  getD-mapAt : (X : Set) (xs : List A) (i : ℕ) → i < length xs → getD (mapAt X f z xs) i z ≡ cond (member X i) (f (getD xs i z)) (getD xs i z)
+  pub getD-mapAt : (X : Set) (xs : List A) (i : ℕ) → i < length xs → getD (mapAt X f z xs) i z ≡ cond (member X i) (f (getD xs i z)) (getD xs i z)
   unfolding mapAt
   getD-mapAt X xs i h = getD-tabulate _ (length xs) i z h
 
