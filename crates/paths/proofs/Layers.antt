@@ -41,17 +41,20 @@ module _ (store : List ℕ) (n : ℕ) where
   in-row : {s u : ℕ} → s < n → In ((tableOf store n 0) .row s) u → member (setAt store (rowAt s)) u ≡ true
   in-row {s} {u} l h = subst (λ (X : Set). In X u) (row-is store n 0 s l) h .is
 
-  pub transposes : Transposes (tableOf store n 0) (λ u. getD (predecessorRows store n) u [])
+  pub transposes : {rows : List Set} → rows ≡ predecessorRows store n → Transposes (tableOf store n 0) (λ u. getD rows u [])
   unfolding predecessorRows tableOf
-  transposes =
+  transposes {rows} e =
       record {
         step = λ {s} {u} l h.
-            let both = states-in n _ (subst (λ (X : Set). In X s) (getD-tabulate _ maxStates u [] l) h) in
+            let both = states-in n _ (⊆-of-eq (row-of u l) s h) in
             (in-firstStates (in-bound h) (both .0), row-in (both .0) (both .1));
         from = λ {s} {u} h r.
             let l = firstStates-in h in
-            subst (λ (X : Set). In X s) (sym (getD-tabulate _ maxStates u [] (in-bound r))) (in-states n _ (in-bound h) l (in-row l r));
+            ⊆-of-eq (sym (row-of u (in-bound r))) s (in-states n _ (in-bound h) l (in-row l r));
       }
+    where
+      row-of : (u : ℕ) → u < maxStates → getD rows u [] ≡ states n (λ s. member (setAt store (rowAt s)) u)
+      row-of u l = ap (λ (xs : List Set). getD xs u []) e ∙ getD-tabulate _ maxStates u [] l
 
 -- ---- levels
 

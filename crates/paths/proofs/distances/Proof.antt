@@ -1,84 +1,50 @@
+-- `distances`: the layers so far.
+use Prim.Native.Nat.{_-_, _<_}
+use native.Mathlib.Omega.{arith}
+use mathlib.Core.Path.{refl, ap₂, _∙_}
+use borrow.Author.Needs.{needs}
+use Rattle.model.specs.Sets.{difference}
+use Rattle.model.specs.Stores.{tableOf}
+use Rattle.paths.proofs.Layers.{transposes, Layered, layered-start, layered-some, layered-turn, layered-end}
 use Rattle.paths.proofs.distances.Statement.{statement}
 use Rattle.paths.proofs.distances.Tie as tie
-use Rattle.paths.proofs.distances.Reads as reads
-use Rattle.paths.proofs.distances.Lts as lts
-use Rattle.paths.proofs.mark.Reads as mark-reads
-use Rattle.paths.proofs.predecessors.Reads as predecessors-reads
-use Rattle.state_set.proofs.StateSet.difference.Reads as difference-reads
-use Rattle.state_set.proofs.StateSet.is_empty.Reads as is-empty-reads
-use Rattle.state_set.proofs.StateSet.union.Reads as union-reads
-use Rattle.table.proofs.set_at.Reads as set-at-reads
-use Rattle.table.proofs.union_of.Reads as union-of-reads
 
 abbrev Inv-loop : tie.InvT-loop
-Inv-loop store n before distances₀ layer₀ reached₀ d₀ distances layer reached d = ?
+Inv-loop store n before distances₀ layer₀ reached₀ d₀ distances layer reached d =
+    Layered (tableOf store n 0) distances (layer .words) (reached .words) d
 
 abbrev μ-loop : tie.MeasureT-loop
-μ-loop store n before distances₀ layer₀ reached₀ d₀ distances layer reached d = ?
+μ-loop store n before distances₀ layer₀ reached₀ d₀ distances layer reached d = n - d
 
--- src/lib.rt:79:18
-predecessors-requires : tie.Need-predecessors-requires Inv-loop μ-loop
-predecessors-requires c κs = ?
-
--- src/lib.rt:81:9
-set-at-requires : tie.Need-set-at-requires Inv-loop μ-loop
-set-at-requires c κs = ?
-
--- src/lib.rt:84:5
-loop-holds : tie.Need-loop-holds Inv-loop μ-loop
-loop-holds c = ?
-
--- src/lib.rt:84:12
-is-empty-requires : tie.Need-is-empty-requires Inv-loop μ-loop
-is-empty-requires c κs = ?
-
--- src/lib.rt:85:9
-mark-requires : tie.Need-mark-requires Inv-loop μ-loop
-mark-requires c κs = ?
-
--- src/lib.rt:86:17
-union-of-requires : tie.Need-union-of-requires Inv-loop μ-loop
-union-of-requires c κs = ?
-
--- src/lib.rt:86:9
-difference-requires : tie.Need-difference-requires Inv-loop μ-loop
-difference-requires c κs = ?
-
--- src/lib.rt:87:9
-union-requires : tie.Need-union-requires Inv-loop μ-loop
-union-requires c κs = ?
-
--- src/lib.rt:88:9
-add-d : tie.Need-add-d Inv-loop μ-loop
-add-d c = ?
-
--- src/lib.rt:84:5
-loop-less : tie.Need-loop-less Inv-loop μ-loop
-loop-less c = ?
-
--- src/lib.rt:84:5
-loop-again : tie.Need-loop-again Inv-loop μ-loop
-loop-again c = ?
-
--- src/lib.rt:75:1
-returns : tie.Need-returns Inv-loop μ-loop
-returns c = ?
+-- a layer with a state is below n
+below : (c : tie.Then1 Inv-loop μ-loop) → c .before .before .loop .d < c .before .before .before .before .before .before .args .n
+unfolding tableOf
+below c =
+    layered-some (c .before .before .before .before .before .before .pre .formed) (c .before .before .loop .inv) _ (c .before .is-empty .ensures) (c .if1 .taken)
 
 pub distances-spec : {M : Type 1} → statement M
+unfolding tableOf
 distances-spec =
     tie.close
     (tie.spec
     Inv-loop
     μ-loop
-    predecessors-requires
-    set-at-requires
-    loop-holds
-    is-empty-requires
-    mark-requires
-    union-of-requires
-    difference-requires
-    union-requires
-    add-d
-    loop-less
-    loop-again
-    returns)
+    (λ c κs. (c .before .pre .small, c .before .pre .long))
+    (λ c κs. omega (arith, c .before .before .pre .long))
+    (λ c. layered-start (c .before .before .before .pre .formed) (c .set-at .ensures))
+    (λ c κs. search needs)
+    (λ c κs. search needs)
+    (λ c κs. search needs)
+    (λ c κs. search needs)
+    (λ c κs. search needs)
+    (λ c.
+    let turn = c .before .before .before .before .before .before in
+    omega (arith, below turn, turn .before .before .before .before .before .before .pre .small))
+    (λ c. omega (arith, below (c .before .before .before .before .before .before)))
+    (λ c.
+    let turn = c .before .before .before .before .before .before in
+    let entry = turn .before .before .before .before in
+    layered-turn (entry .before .before .pre .formed) (turn .before .before .loop .inv) _ (transposes _ _ (entry .predecessors .ensures))
+    (c .before .difference .ensures ∙ ap₂ difference (c .before .before .union-of .ensures) refl) (below turn)
+    (c .before .before .before .before .mark .ensures) (c .union .ensures))
+    (λ c. layered-end (c .before .before .before .before .before .before .pre .formed) (c .before .before .loop .inv) _ (c .before .is-empty .ensures) (c .if1 .left)))
