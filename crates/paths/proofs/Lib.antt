@@ -3,3 +3,5 @@ pub mod Scans
 pub mod Transposed
 pub mod Layers
 pub mod Walks
+pub mod Nearness
+pub mod Find
