@@ -5,3 +5,5 @@ pub mod Layers
 pub mod Walks
 pub mod Nearness
 pub mod Find
+pub mod Groups
+pub mod Answers
