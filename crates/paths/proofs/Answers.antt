@@ -1,11 +1,13 @@
 -- Laws of the call shortest path: its answer and its buffer in each case.
 --
---   refuse-append                       a ground that holds decides, whatever comes after
---   answer-refused, answer-short        a ground of the store, and ground 21
---   answer-found                        else what find_path found
+--   refuse-append         a ground that holds decides, whatever grounds come after
+--   accepted              none of the shared grounds holds, so the store holds a table
+--   answer-refused        one of the shared grounds holds
+--   answer-short          else ground 21 holds
+--   answer-found          else the answer is what find_path found
 use Prim.Native.Nat.{ℕ, _≤_, _<_}
 use native.Mathlib.Omega.{arith}
-use mathlib.Core.Path.{_≡_, refl, sym, ap, _∙_, subst}
+use mathlib.Core.Path.{_≡_, refl, sym, _∙_}
 use mathlib.Core.Logic.{⊎-elim}
 use mathlib.Core.Bool.{Bool, true, false}
 use mathlib.Core.List.{List, [], _∷_, _++_}
@@ -13,9 +15,9 @@ use borrow.Author.Tests.{ne-eqb, lt-ltb, le-ltb}
 use lib.Dec.{ltb}
 use lib.ListN.{length}
 use Rattle.model.specs.Sets.{maxStates}
-use Rattle.model.specs.Paths.{shortest, hasPath, smallestPath}
+use Rattle.model.specs.Paths.{hasPath}
 use Rattle.model.specs.Stores.{tableOf, refuse, sharedGrounds}
-use Rattle.model.specs.Calls.{overwrite, shortestGrounds, shortestAnswer, shortestBuffer}
+use Rattle.model.specs.Calls.{shortestGrounds, shortestAnswer, shortestBuffer}
 use Rattle.model.proofs.Bounds.{decided}
 use Rattle.model.proofs.Acceptance.{Store, accepted-store, store-accepted}
 use Rattle.paths.specs.Answers.{foundIn, pathWritten, shortestOf}
@@ -23,7 +25,7 @@ use Rattle.paths.specs.declared.Found.{Found}
 use Rattle.paths.specs.declared.Found.the-variants.{Steps, Nothing}
 use Rattle.paths.specs.declared.Shortest.{Shortest}
 use Rattle.paths.specs.declared.Shortest.the-variants.{Path as PathOf, NoPath, Refused}
-use Rattle.paths.proofs.Groups.{shortest-groups, hasPath-groups, smallestPath-groups}
+use Rattle.paths.proofs.Groups.{foundIn-groups, pathWritten-groups}
 
 refuse-append : (xs ys : List (Bool × ℕ)) → (refuse xs ≡ 0 → ⊥) → refuse (xs ++ ys) ≡ refuse xs
 unfolding refuse
@@ -40,13 +42,15 @@ answerOf (Steps d) = PathOf d
 answerOf Nothing = NoPath
 
 module _ (store : List ℕ) (n g : ℕ) (path : List ℕ) where
-  declined : (k : ℕ) → (k ≡ 0 → ⊥) → refuse (shortestGrounds store n g (length path)) ≡ k
-      → (shortestOf (Refused k) ≡ shortestAnswer store n g (length path)) × (path ≡ shortestBuffer store n g path)
+  -- the call answers r and leaves path′
+  abbrev Answers : Shortest → List ℕ → Type 0
+  Answers r path′ = (shortestOf r ≡ shortestAnswer store n g (length path)) × (path′ ≡ shortestBuffer store n g path)
+
+  declined : (k : ℕ) → (k ≡ 0 → ⊥) → refuse (shortestGrounds store n g (length path)) ≡ k → Answers (Refused k) path
   unfolding shortestOf shortestAnswer shortestBuffer
   declined k f e = (rw (e, ne-eqb k 0 f), rw (e, ne-eqb k 0 f))
 
-  pub answer-refused : {k : ℕ} → k ≡ refuse (sharedGrounds store n g) → (k ≡ 0 → ⊥)
-      → (shortestOf (Refused k) ≡ shortestAnswer store n g (length path)) × (path ≡ shortestBuffer store n g path)
+  pub answer-refused : {k : ℕ} → k ≡ refuse (sharedGrounds store n g) → (k ≡ 0 → ⊥) → Answers (Refused k) path
   unfolding shortestGrounds
   answer-refused {k} e f = declined k f (refuse-append (sharedGrounds store n g) _ (λ z. f (e ∙ z)) ∙ sym e)
 
@@ -56,19 +60,18 @@ module _ (store : List ℕ) (n g : ℕ) (path : List ℕ) where
     unfolding shortestGrounds
     grounds = store-accepted store n g _ s
 
-    pub answer-short : length path < maxStates
-        → (shortestOf (Refused 21) ≡ shortestAnswer store n g (length path)) × (path ≡ shortestBuffer store n g path)
+    pub answer-short : length path < maxStates → Answers (Refused 21) path
     unfolding refuse
     answer-short l = declined 21 (λ e. omega arith) (grounds ∙ rw (lt-ltb (length path) maxStates l))
 
     pub answer-found : {found : Found} {path′ : List ℕ} → maxStates ≤ length path
-        → found ≡ foundIn (tableOf store n 0) → path′ ≡ pathWritten (tableOf store n 0) path
-        → (shortestOf (answerOf found) ≡ shortestAnswer store n g (length path)) × (path′ ≡ shortestBuffer store n g path)
+        → found ≡ foundIn (tableOf store n 0) → path′ ≡ pathWritten (tableOf store n 0) path → Answers (answerOf found) path′
     unfolding refuse shortestAnswer shortestBuffer foundIn pathWritten shortestOf
     answer-found l p q =
         let none : refuse (shortestGrounds store n g (length path)) ≡ 0 = grounds ∙ rw (le-ltb (length path) maxStates l) in
+        let answer = p ∙ sym (foundIn-groups store n g) in
+        let buffer = q ∙ sym (pathWritten-groups store n g path) in
         ⊎-elim
-        (λ (h : hasPath (tableOf store n 0) ≡ true).
-        (rw (p, none, hasPath-groups store n g, foundIn, h, shortest-groups store n g), rw (q, none, hasPath-groups store n g, pathWritten, h, smallestPath-groups store n g)))
-        (λ (h : hasPath (tableOf store n 0) ≡ false). (rw (p, none, hasPath-groups store n g, foundIn, h), rw (q, none, hasPath-groups store n g, pathWritten, h)))
-        (decided (hasPath (tableOf store n 0)))
+        (λ (h : hasPath (tableOf store n g) ≡ true). (rw (answer, none, foundIn, h), rw (buffer, none, pathWritten, h)))
+        (λ (h : hasPath (tableOf store n g) ≡ false). (rw (answer, none, foundIn, h), rw (buffer, none, pathWritten, h)))
+        (decided (hasPath (tableOf store n g)))

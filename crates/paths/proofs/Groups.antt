@@ -1,18 +1,21 @@
--- Paths do not read the groups: a store's table has the same paths whatever its g.
+-- Paths do not read the groups: the table of a store has the same paths with g groups as with none.
 --
---   NAME-groups       NAME of the table with g groups is that with none: reaching, distance, shortest, hasPath, walk, smallestPath
---   holds-table       what a call that is not declined gives find_path
+--   NAME-groups       for NAME among reaching, distance, shortest, hasPath, walk, smallestPath, and among foundIn and pathWritten, by which
+--                     find_path is stated: NAME of the table with g groups is that of the table with none
+--   holds-table       what a call that is not declined gives to find_path
 use Prim.Native.Nat.{ℕ, zero, suc}
-use mathlib.Core.Path.{_≡_, refl, ap, _∙_, fun-ext}
+use mathlib.Core.Path.{_≡_, refl, ap, ap₂, _∙_, fun-ext}
 use mathlib.Core.Bool.{Bool, cond}
 use mathlib.Core.List.{List, [], _∷_}
 use lib.Dec.{ltb}
-use Rattle.model.specs.Sets.{Set, member, first, union, meet, meets, states, smallest}
+use Rattle.model.specs.Sets.{Set, first, member, union, meet, meets, states, smallest}
 use Rattle.model.specs.Paths.{reaching, unreachable, distance, shortest, hasPath, walk, smallestPath}
 use Rattle.model.specs.Stores.{tableOf}
-use Rattle.model.proofs.WellFormed.{WellFormed}
+use Rattle.model.specs.Calls.{overwrite}
 use Rattle.model.proofs.Acceptance.{Store, well-formed}
 use Rattle.paths.specs.Search.{HoldsTable}
+use Rattle.paths.specs.Answers.{foundIn, pathWritten}
+use Rattle.paths.specs.declared.Found.the-variants.{Steps, Nothing}
 
 module _ (store : List ℕ) (n g : ℕ) where
   pub reaching-groups : (k : ℕ) → reaching (tableOf store n g) k ≡ reaching (tableOf store n 0) k
@@ -43,6 +46,14 @@ module _ (store : List ℕ) (n g : ℕ) where
   pub smallestPath-groups : smallestPath (tableOf store n g) ≡ smallestPath (tableOf store n 0)
   unfolding smallestPath tableOf
   smallestPath-groups = walk-groups _ _ ∙ ap (λ (d : ℕ). walk (tableOf store n 0) d ((tableOf store n 0) .initial)) shortest-groups
+
+  pub foundIn-groups : foundIn (tableOf store n g) ≡ foundIn (tableOf store n 0)
+  unfolding foundIn
+  foundIn-groups = ap₂ (λ (b : Bool) (d : ℕ). cond b (Steps d) Nothing) hasPath-groups shortest-groups
+
+  pub pathWritten-groups : (path : List ℕ) → pathWritten (tableOf store n g) path ≡ pathWritten (tableOf store n 0) path
+  unfolding pathWritten
+  pathWritten-groups path = ap₂ (λ (b : Bool) (xs : List ℕ). cond b (overwrite xs path) path) hasPath-groups smallestPath-groups
 
   pub holds-table : Store store n g → HoldsTable store n
   unfolding tableOf

@@ -1,10 +1,11 @@
-// Paths to a forbidden state (01, "Path"): the distance of each state, the smallest shortest path, and the call `shortest_path`.
+// Paths to a forbidden state (01, "Path"): the distance of each state, the path that 01 names, and the call shortest path.
 //
-//   join_predecessor, predecessors     the rows of the store, transposed
-//   mark, distances                    the distance of each state, layer by layer from the forbidden states outward
-//   least_distance, smallest_at        a look into the distances: the least of a set's states; its smallest state so near
-//   write_path, find_path              the path, state by state; whether there is one, and it at the front of the buffer
-//   shortest_path                      the call
+//   predecessors, join_predecessor       the rows of the store, transposed: for each state the states that step to it
+//   distances, mark                      the distance of each state, layer by layer from the forbidden states outward
+//   least_distance, smallest_within      the least distance of a set's states; its smallest state within d steps
+//   write_path                           the path, state by state
+//   find_path                            whether there is a path, and the path at the front of a buffer
+//   shortest_path                        the call
 //
 // Functions below the call ask for a store that holds a table; the call asks for nothing.
 ghost use mathlib.Core.Path.{_≡_};
@@ -30,7 +31,7 @@ use table::set_at;
 use table::union_of;
 
 // The distance of a state from which no forbidden state can be reached.
-pub const FAR: u16 = 65535;
+pub const UNREACHABLE: u16 = 65535;
 
 // s joins the predecessors of each of its successors.
 fn join_predecessor(rows: &mut Rows, s: usize, successors: StateSet)
@@ -39,14 +40,13 @@ fn join_predecessor(rows: &mut Rows, s: usize, successors: StateSet)
     let mut rest = successors;
     while !rest.is_empty() {
         let u = rest.smallest();
-        let joined = row_of(rows, u).with(s);
-        let words = joined.words;
+        let words = row_of(rows, u).with(s).words;
         rows[u] = words;
         rest = rest.without(u);
     }
 }
 
-// For each state the states that step to it: the rows of the store, transposed.
+// For each state the states that step to it.
 fn predecessors(store: &[u64], n: usize) -> Rows
     requires { ⌜ (n ≤ maxStates) × (storeWords ≤ length (now store)) ⌝ }
     ensures { λ r. ⌜ r ≡ predecessorRows (now (store .entry)) n ⌝ }
@@ -77,7 +77,7 @@ pub fn distances(store: &[u64], n: usize) -> [u16; MAX_STATES]
     ensures { λ r. ⌜ r ≡ tabulate maxStates (distance (tableOf (now (store .entry)) n 0)) ⌝ }
 {
     let before = predecessors(store, n);
-    let mut distances = [FAR; MAX_STATES];
+    let mut distances = [UNREACHABLE; MAX_STATES];
     let mut layer = set_at(store, FORBIDDEN_AT);
     let mut reached = layer;
     let mut d = 0;
@@ -90,11 +90,11 @@ pub fn distances(store: &[u64], n: usize) -> [u16; MAX_STATES]
     distances
 }
 
-// The least distance of a state of x.
+// The least distance of a state of x, which says how long a shortest path from x is.
 fn least_distance(distances: &[u16; MAX_STATES], x: StateSet) -> u16
     ensures { λ r. ⌜ r ≡ leastBy (now (distances .entry)) (x .words) ⌝ }
 {
-    let mut least = FAR;
+    let mut least = UNREACHABLE;
     let mut rest = x;
     while !rest.is_empty() {
         let s = rest.smallest();
@@ -106,8 +106,8 @@ fn least_distance(distances: &[u16; MAX_STATES], x: StateSet) -> u16
     least
 }
 
-// The smallest state of x at distance d or less.
-fn smallest_at(distances: &[u16; MAX_STATES], x: StateSet, d: u16) -> usize
+// The smallest state of x within d steps of a forbidden one.
+fn smallest_within(distances: &[u16; MAX_STATES], x: StateSet, d: u16) -> usize
     ensures { λ r. ⌜ r ≡ pickBy (now (distances .entry)) d (x .words) ⌝ }
 {
     let mut rest = x;
@@ -134,7 +134,7 @@ fn write_path(
     requires { ⌜ Writable (now store) (now distances) (x .words) d (length (now path)) at ⌝ }
     ensures { λ _. ⌜ now (path .exit) ≡ sets (now (path .entry)) at (walkBy (now (store .entry)) (now (distances .entry)) d (x .words)) ⌝ }
 {
-    let s = smallest_at(distances, x, d);
+    let s = smallest_within(distances, x, d);
     path[at] = s as u8;
     if 0 < d {
         write_path(store, distances, row_at(store, s), d - 1, path, at + 1);
@@ -156,14 +156,14 @@ pub fn find_path(store: &[u64], n: usize, path: &mut [u8]) -> Found
     let distances = distances(store, n);
     let initial = set_at(store, 0);
     let d = least_distance(&distances, initial);
-    if d == FAR {
+    if d == UNREACHABLE {
         return Found::Nothing;
     }
     write_path(store, &distances, initial, d, path, 0);
     Found::Steps(d as usize)
 }
 
-// What the call shortest path answers.
+// What the call shortest path answers: d, none, or why it declines.
 pub enum Shortest {
     Path { steps: usize },
     NoPath,

@@ -1,4 +1,4 @@
--- `smallest_at`: the states passed are farther.
+-- `smallest_within`: the states passed are farther.
 use native.Mathlib.Omega.{arith}
 use mathlib.Core.Path.{sym}
 use borrow.Author.Needs.{needs}
@@ -6,8 +6,8 @@ use Rattle.model.specs.Sets.{size}
 use Rattle.model.proofs.SetLaws.{In, in-bound}
 use Rattle.model.proofs.ImageLaws.{peel-in, peel-size}
 use Rattle.paths.proofs.Scans.{Passed, passed-start, passed-turn, passed-before, passed-end, Farther, pick-none, pick-found}
-use Rattle.paths.proofs.smallest_at.Statement.{statement}
-use Rattle.paths.proofs.smallest_at.Tie as tie
+use Rattle.paths.proofs.smallest_within.Statement.{statement}
+use Rattle.paths.proofs.smallest_within.Tie as tie
 
 abbrev Inv-loop : tie.InvT-loop
 Inv-loop distances d rest₀ rest = Passed (Farther distances d) (rest₀ .words) (rest .words)
@@ -18,8 +18,8 @@ abbrev μ-loop : tie.MeasureT-loop
 least-in : (c : tie.After-smallest Inv-loop μ-loop) → In (c .before .before .before .loop .rest .words) (c .smallest .result)
 least-in c = peel-in _ (c .before .before .is-empty .ensures) (c .before .if1 .taken) (c .smallest .ensures)
 
-pub smallest-at-spec : {M : Type 1} → statement M
-smallest-at-spec =
+pub smallest-within-spec : {M : Type 1} → statement M
+smallest-within-spec =
     tie.close
     (tie.spec
     Inv-loop
