@@ -1,17 +1,17 @@
--- Laws of find_path, from what its calls give: the distances, the initial set, and the least distance d of an initial state.
+-- Laws of find_path.
 --
---   Looked                         what these are
+--   Looked                         what it has looked up: the distances, the initial set, and the least distance d of an initial state
 --   find-none                      no path, where d is `unreachable`
 --   find-writable, find-some       else a path of d steps, which can be written, and then is
-use Prim.Native.Nat.{ℕ, zero, suc, _+_, _≤_, _<_}
+use Prim.Native.Nat.{ℕ, _+_, _≤_, _<_}
 use native.Mathlib.Nat.{zero-add}
 use native.Mathlib.Omega.{arith}
-use mathlib.Core.Path.{_≡_, refl, sym, ap, ap₂, _∙_, subst}
+use mathlib.Core.Path.{_≡_, ap₂, _∙_}
 use mathlib.Core.Logic.{⊎-elim}
-use mathlib.Core.Bool.{Bool, true, false}
-use mathlib.Core.List.{List, _++_}
+use mathlib.Core.Bool.{true, false}
+use mathlib.Core.List.{List}
 use borrow.Author.Tests.{ltb-true}
-use lib.ListN.{length, getD, drop}
+use lib.ListN.{length}
 use lib.Seq.{sets, sets-eq}
 use Rattle.model.specs.Sets.{maxStates, Set, tabulate}
 use Rattle.model.specs.Tables.{Table}

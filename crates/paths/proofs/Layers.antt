@@ -1,16 +1,17 @@
 -- Laws of the layers, for a loop that goes outward from the forbidden states: layer d has the states at distance d.
 --
---   Transposes t f                     f takes each state to its predecessors; transposes: the rows transposed do
---   KnownBelow t d s r                 r is the distance of s, if that is below d
---   at-level                           where a state is at d + j, some state is at d
---   Layered                            the loop's invariant; layered-start, -some, -turn, -end
-use Prim.Native.Nat.{ℕ, zero, suc, _+_, _-_, _≤_, _<_, zero-le}
+--   Transposes t f            f takes each state to its predecessors; transposes: the rows transposed do
+--   at-level                  where a state is at a distance, some state is at each smaller one
+--   KnownBelow t d s r        what r says of the distance of s, as far as the distances below d are known
+--   Layered                   the loop's invariant
+--   layered-start, -some, -turn, -end     it at the start; d is below n where the layer has a state; after a turn; when none is left
+use Prim.Native.Nat.{ℕ, zero, suc, _+_, _≤_, _<_, zero-le}
 use native.Mathlib.Nat.{not-suc-le-zero, le-of-suc-le-suc, eq-or-lt-of-le}
 use native.Mathlib.Numerals.{add-one}
 use native.Mathlib.Omega.{arith}
-use mathlib.Core.Path.{_≡_, refl, sym, ap, _∙_, subst}
+use mathlib.Core.Path.{_≡_, sym, ap, _∙_, subst}
 use mathlib.Core.Logic.{_⊎_, inl, inr, ⊎-elim}
-use mathlib.Core.Bool.{Bool, true, false, not, cond}
+use mathlib.Core.Bool.{Bool, true, false, not}
 use mathlib.Core.List.{List, []}
 use borrow.Author.Tests.{not-false}
 use lib.ListN.{length, getD, replicate, length-replicate, getD-replicate}
@@ -101,17 +102,21 @@ module _ {t : Table} (ok : WellFormed t) where
     layered-some done e n = let w = subset-not layer empty (sym e ∙ not-true done n) in at-lt ok d (so .layer-at (w .0) (w .1))
 
     -- the distances after the layer is marked
+    unmarked : (s : ℕ) → member layer s ≡ false → ((k : ℕ) → k < d → In (reaching t k) s → ⊥) → (k : ℕ) → k < suc d → In (reaching t k) s → ⊥
+    unmarked s e f k l h =
+        ⊎-elim
+        (λ q. clash (so .at-layer s (record { within = subst (λ (i : ℕ). In (reaching t i) s) q h; no-closer = f }) .is) e)
+        (λ b. f k b h)
+        (below-suc l)
+
     marked : (s : ℕ) → s < maxStates → KnownBelow t (suc d) s (getD (mapAt layer (λ _. d) 0 distances) s 0)
     marked s l =
         subst (KnownBelow t (suc d) s) (sym (getD-mapAt _ 0 layer distances s (subst (λ (m : ℕ). s < m) (sym (so .long)) l)))
         (by-cond (KnownBelow t (suc d) s) (member layer s) _ _
         (λ e. inl (omega arith, so .layer-at s (record { is = e })))
-        (λ e.
-        ⊎-elim
-        (λ k. inl (omega (arith, k .0), k .1))
-        (λ k. inr ((λ j m h. ⊎-elim (λ q. clash (so .at-layer s (record { within = subst (λ (i : ℕ). In (reaching t i) s) q h; no-closer = k .0 }) .is) e) (λ b. k .0 j b h) (below-suc m)), k .1))
-        (so .known s l)))
+        (λ e. ⊎-elim (λ k. inl (omega (arith, k .0), k .1)) (λ k. inr (unmarked s e (k .0), k .1)) (so .known s l)))
 
+    -- the next layer: what steps into this one and was not reached
     module _ (f : ℕ → Set) (tr : Transposes t f) {next : Set} (q : next ≡ difference (image maxStates f layer) reached) where
       next-at : (s : ℕ) → In next s → At t s (suc d)
       next-at s h =

@@ -1,27 +1,27 @@
 -- From the array of distances to the model.
 --
---   first-cong, any-cong          tests that agree below the bound
---   distance-near, near-distance  a state is at distance at most k exactly if it is within k steps
---   pickBy-is, leastBy-is         so the state that walkBy picks is the one that walk picks, and the least distance tells whether
---                                 there is a path, and in how many steps
---   walkBy-is                     and the walk is the model's
-use Prim.Native.Nat.{ℕ, zero, suc, _+_, _≤_, _<_, zero-le, suc-le-suc}
+--   first-cong, any-cong             tests that agree below the bound
+--   distance-near, near-distance     a state is at distance at most k exactly if it is within k steps
+--   near-test, pickBy-is             so the state that walkBy picks is the one that walk picks
+--   least-path, least-none           and the least distance of an initial state is that of a shortest path, or none if there is no path
+--   walkBy-is                        walkBy is the model's walk
+use Prim.Native.Nat.{ℕ, zero, suc, _≤_, _<_, zero-le, suc-le-suc}
 use native.Mathlib.Omega.{arith}
-use mathlib.Core.Path.{_≡_, refl, sym, ap, ap₂, _∙_, subst}
-use mathlib.Core.Logic.{_⊎_, inl, inr, ⊎-elim}
+use mathlib.Core.Path.{_≡_, refl, sym, ap, ap₂, _∙_}
+use mathlib.Core.Logic.{⊎-elim}
 use mathlib.Core.Bool.{Bool, true, false, _&&_, _||_, cond}
 use mathlib.Core.List.{List, [], _∷_}
 use borrow.Author.Tests.{ltb-true, ltb-false, le-leb, leb-true}
-use lib.Dec.{leb, ltb}
-use lib.ListN.{length, getD}
-use Rattle.model.specs.Sets.{maxStates, Set, any, first, tabulate, member, meet, meets, smallest, firstStates}
+use lib.Dec.{leb}
+use lib.ListN.{getD}
+use Rattle.model.specs.Sets.{maxStates, Set, any, first, tabulate, member, meet, meets, smallest}
 use Rattle.model.specs.Tables.{Table}
-use Rattle.model.specs.Paths.{reaching, unreachable, distance, shortest, hasPath, walk, smallestPath}
+use Rattle.model.specs.Paths.{reaching, unreachable, distance, shortest, hasPath, walk}
 use Rattle.model.specs.Stores.{rowAt, setAt, tableOf}
-use Rattle.model.proofs.Bounds.{and-true, and-intro, same-test, is-false, clash, lt-or-ge, getD-tabulate, first-is, first-none, first-passes, first-least}
-use Rattle.model.proofs.SetLaws.{In, in-bound, in-meet, meet-in, firstStates-in, meets-in}
+use Rattle.model.proofs.Bounds.{and-true, and-intro, same-test, is-false, lt-or-ge, getD-tabulate, first-is, first-none, first-passes, first-least}
+use Rattle.model.proofs.SetLaws.{In, in-meet, meet-in, firstStates-in, meets-in}
 use Rattle.model.proofs.WellFormed.{WellFormed}
-use Rattle.model.proofs.PathLaws.{At, Nearest, pick, pick-at, at-row, at-lt, reaching-at, reaching-mono, reaching-states, distance-is, distance-unreachable, distance-at, distance-reaching, reaching-distance, shortest-le}
+use Rattle.model.proofs.PathLaws.{Nearest, pick, pick-at, at-row, at-lt, reaching-at, reaching-mono, reaching-states, distance-is, distance-unreachable, distance-reaching, reaching-distance, shortest-le}
 use Rattle.model.proofs.Acceptance.{row-is}
 use Rattle.paths.specs.Search.{leastBy, pickBy, walkBy}
 
@@ -94,14 +94,16 @@ module _ {t : Table} (ok : WellFormed t) (small : t .n ≤ maxStates) where
 
 -- ---- the walk
 
-module _ (store : List ℕ) (n : ℕ) (ok : WellFormed (tableOf store n 0)) (small : n ≤ maxStates) where
-  abbrev t : Table
-  t = tableOf store n 0
+abbrev table : List ℕ → ℕ → Table
+table store n = tableOf store n 0
 
-  pub walkBy-is : (d : ℕ) {X : Set} → d < unreachable → Nearest t X d → walkBy store (tabulate maxStates (distance t)) d X ≡ walk t d X
+module _ (store : List ℕ) (n : ℕ) (ok : WellFormed (table store n)) (small : n ≤ maxStates) where
+  pub walkBy-is : (d : ℕ) {X : Set} → d < unreachable → Nearest (table store n) X d
+      → walkBy store (tabulate maxStates (distance (table store n))) d X ≡ walk (table store n) d X
   unfolding walkBy walk tableOf
   walkBy-is zero {X} l w = ap (λ (x : ℕ). x ∷ []) (pickBy-is ok small X zero l)
   walkBy-is (suc d) {X} l w =
+      let t = table store n in
       let x = pick t (suc d) X in
       let a = pick-at t w .1 in
       let distances = tabulate maxStates (distance t) in

@@ -5,16 +5,16 @@
 --   Least, least-start, -closer, -keep, -end     a loop that looks for the least distance
 use Prim.Native.Nat.{ℕ, _≤_, _<_}
 use native.Mathlib.Omega.{arith}
-use mathlib.Core.Path.{_≡_, refl, sym, ap, _∙_, subst}
+use mathlib.Core.Path.{_≡_, refl, sym, _∙_, subst}
 use mathlib.Core.Logic.{_⊎_, inl, inr, ⊎-elim}
-use mathlib.Core.Bool.{Bool, true, false, not, _&&_}
+use mathlib.Core.Bool.{Bool, false, not, _&&_}
 use mathlib.Core.List.{List}
-use borrow.Author.Tests.{not-false, le-leb, lt-leb, leb-true}
+use borrow.Author.Tests.{not-false, le-leb, leb-true}
 use lib.Dec.{leb}
 use lib.ListN.{getD}
-use Rattle.model.specs.Sets.{maxStates, Set, any, first, member, empty, single, difference, subset, smallest}
+use Rattle.model.specs.Sets.{maxStates, Set, any, member, empty, single, difference, subset, smallest}
 use Rattle.model.specs.Paths.{unreachable}
-use Rattle.model.proofs.Bounds.{and-true, and-intro, is-false, clash, first-is, first-none, any-intro, any-find, no-any}
+use Rattle.model.proofs.Bounds.{and-true, and-intro, is-false, first-is, first-none, any-intro, no-any}
 use Rattle.model.proofs.SetLaws.{In, in-bound, in-or-out, empty-in, single-in, in-difference, difference-in, _⊆_, subset-in, smallest-le}
 use Rattle.paths.specs.Search.{leastBy, pickBy}
 

@@ -2,17 +2,17 @@
 --
 --   states-suc                        one place more adds that state, if it passes
 --   transposed-start, -turn           no row joined, and one more
-use Prim.Native.Nat.{ℕ, zero, suc, _+_, _<_}
+use Prim.Native.Nat.{ℕ, suc, _+_}
 use native.Mathlib.Numerals.{add-one}
 use native.Mathlib.Omega.{arith}
 use mathlib.Core.Path.{_≡_, refl, sym, ap, ap₂, _∙_, subst}
 use mathlib.Core.Logic.{_⊎_, inl, inr, ⊎-elim}
-use mathlib.Core.Bool.{Bool, true, false, cond}
+use mathlib.Core.Bool.{Bool, true, cond}
 use mathlib.Core.List.{List, []}
-use lib.ListN.{length, getD, replicate}
+use lib.ListN.{replicate}
 use Rattle.model.specs.Sets.{WORDS, maxStates, Set, tabulate, number, setOf, member, single, union, states}
 use Rattle.model.specs.Stores.{rowAt, setAt}
-use Rattle.model.proofs.Bounds.{clash, by-cond, below-suc, length-tabulate, getD-tabulate, tabulate-cong}
+use Rattle.model.proofs.Bounds.{clash, by-cond, below-suc, tabulate-cong}
 use Rattle.model.proofs.SetLaws.{setOf-proper, In, in-bound, in-single, single-in, in-union, union-in, in-states, states-in, same-set}
 use Rattle.paths.specs.Search.{mapAt, predecessorRows}
 use Rattle.paths.proofs.MapAt.{mapAt-tabulate}

@@ -1,11 +1,11 @@
--- Laws of walkBy.
+-- Laws of walkBy, for the function that writes it state by state.
 --
---   walkBy-last, walkBy-step         its first state s and, where a step is left, the walk from the successors Y of s
+--   walkBy-last, walkBy-step         the walk is its first state s and, where a step is left, the walk from the successors Y of s
 --   writable-first, writable-rest    where a walk can be written, its first state is one, and the rest of it can be written after that
 use Prim.Native.Nat.{ℕ, zero, suc, _+_, _-_, _≤_, _<_}
 use native.Mathlib.Nat.{not-suc-le-zero}
 use native.Mathlib.Omega.{arith}
-use mathlib.Core.Path.{_≡_, refl, sym, ap, ap₂, _∙_, subst}
+use mathlib.Core.Path.{_≡_, refl, sym, ap, subst}
 use mathlib.Core.List.{List, [], _∷_}
 use lib.ListN.{getD}
 use Rattle.model.specs.Sets.{maxStates, Set}
@@ -22,11 +22,9 @@ module _ (store distances : List ℕ) (X : Set) where
       → walkBy store distances d X ≡ s ∷ walkBy store distances (d - 1) Y
   unfolding walkBy
   walkBy-step zero p q l = absurd (not-suc-le-zero l)
-  walkBy-step (suc d) {s} {Y} p q l =
-      let e : suc d - 1 ≡ d = omega arith in
-      rw (e, q, p)
+  walkBy-step (suc d) p q l = let e : suc d - 1 ≡ d = omega arith in rw (e, q, p)
 
-  pub walkBy-first : (d : ℕ) → getD (walkBy store distances d X) 0 0 ≡ pickBy distances d X
+  walkBy-first : (d : ℕ) → getD (walkBy store distances d X) 0 0 ≡ pickBy distances d X
   unfolding walkBy
   walkBy-first zero = refl
   walkBy-first (suc d) = refl

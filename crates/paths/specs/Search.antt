@@ -1,13 +1,13 @@
 -- The search as the code does it: over the words of a store and an array of distances.
 --
---   HoldsTable store n           a store that holds a well-formed table of n states, which acceptance gives
---   mapAt X f z xs               xs with f applied to each element at a state of X (z is read past the end of xs)
+--   HoldsTable store n           the store holds a well-formed table of n states (an accepted store does); its groups play no part
+--   mapAt X f z xs               xs with f applied to each element at a state of X (z stands for an element past the end, and is never read)
 --   predecessorRows store n      for each state the states below n that step to it: the rows of the store, transposed
 --   leastBy distances X          the least distance of a state of X, or `unreachable`
---   pickBy distances d X         the least state of X at distance at most d, or maxStates if there is none
---   walkBy store distances d X   the walk from X in d steps that takes such a state each time
---
--- That walkBy is the model's walk, where the array holds the distances, is proved in proofs/Walks.antt.
+--   pickBy distances d X         the smallest state of X at distance at most d, or maxStates if there is none
+--   walkBy store distances d X   the walk from X in d steps that takes such a state each time: where the array holds the distances of a
+--                                table, the model's walk (proofs/Nearness.antt)
+--   Writable                     a walk that can be written: each state of it is one, and the buffer has room for all from `at` on
 use Prim.Native.Nat.{ℕ, zero, suc, _+_, _≤_, _<_}
 use mathlib.Core.Bool.{cond, _&&_}
 use mathlib.Core.List.{List, [], _∷_}
@@ -39,7 +39,6 @@ unfoldable pub walkBy : List ℕ → List ℕ → ℕ → Set → List ℕ
 walkBy store distances zero X = pickBy distances zero X ∷ []
 walkBy store distances (suc d) X = let x = pickBy distances (suc d) X in x ∷ walkBy store distances d (setAt store (rowAt x))
 
--- Each state of a walk is one, and the buffer has room for all from `at` on.
 pub record Writable (store distances : List ℕ) (X : Set) (d room at : ℕ) : Type 0 where
   pub long : storeWords ≤ length store
   pub fits : at + d < room

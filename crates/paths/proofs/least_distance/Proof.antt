@@ -1,6 +1,5 @@
 -- `least_distance`: `least` is the least distance of the states passed.
 use native.Mathlib.Omega.{arith}
-use mathlib.Core.Path.{sym, subst}
 use mathlib.Core.Logic.{⊎-elim}
 use borrow.Author.Needs.{needs}
 use Rattle.model.specs.Sets.{size}
