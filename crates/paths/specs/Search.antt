@@ -1,0 +1,45 @@
+-- The search as the code does it: over the words of a store and an array of distances.
+--
+--   HoldsTable store n           the store holds a well-formed table of n states (an accepted store does); its groups play no part
+--   mapAt X f z xs               xs with f applied to each element at a state of X (z stands for an element past the end, and is never read)
+--   predecessorRows store n      for each state the states below n that step to it: the rows of the store, transposed
+--   leastBy distances X          the least distance of a state of X, or `unreachable`
+--   pickBy distances d X         the smallest state of X at distance at most d, or maxStates if there is none
+--   walkBy store distances d X   the walk from X in d steps that takes such a state each time: where the array holds the distances of a
+--                                table, the model's walk (proofs/Nearness.antt)
+--   Writable                     a walk that can be written: each state of it is one, and the buffer has room for all from `at` on
+use Prim.Native.Nat.{ℕ, zero, suc, _+_, _≤_, _<_}
+use mathlib.Core.Bool.{cond, _&&_}
+use mathlib.Core.List.{List, [], _∷_}
+use lib.Dec.{leb}
+use lib.ListN.{length, getD}
+use Rattle.model.specs.Sets.{maxStates, Set, any, first, tabulate, member, states}
+use Rattle.model.specs.Paths.{unreachable}
+use Rattle.model.specs.Stores.{storeWords, rowAt, setAt, tableOf}
+use Rattle.model.proofs.WellFormed.{WellFormed}
+
+pub record HoldsTable (store : List ℕ) (n : ℕ) : Type 0 where
+  pub long : storeWords ≤ length store
+  pub small : n ≤ maxStates
+  pub formed : WellFormed (tableOf store n 0)
+
+unfoldable pub mapAt : {A : Type 0} → Set → (A → A) → A → List A → List A
+mapAt X f z xs = tabulate (length xs) (λ s. let x = getD xs s z in cond (member X s) (f x) x)
+
+unfoldable pub predecessorRows : List ℕ → ℕ → List Set
+predecessorRows store n = tabulate maxStates (λ u. states n (λ s. member (setAt store (rowAt s)) u))
+
+unfoldable pub leastBy : List ℕ → Set → ℕ
+leastBy distances X = first unreachable (λ d. any maxStates (λ s. member X s && leb (getD distances s 0) d))
+
+unfoldable pub pickBy : List ℕ → ℕ → Set → ℕ
+pickBy distances d X = first maxStates (λ s. member X s && leb (getD distances s 0) d)
+
+unfoldable pub walkBy : List ℕ → List ℕ → ℕ → Set → List ℕ
+walkBy store distances zero X = pickBy distances zero X ∷ []
+walkBy store distances (suc d) X = let x = pickBy distances (suc d) X in x ∷ walkBy store distances d (setAt store (rowAt x))
+
+pub record Writable (store distances : List ℕ) (X : Set) (d room at : ℕ) : Type 0 where
+  pub long : storeWords ≤ length store
+  pub fits : at + d < room
+  pub states : (i : ℕ) → i ≤ d → getD (walkBy store distances d X) i 0 < maxStates
