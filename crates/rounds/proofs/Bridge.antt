@@ -14,7 +14,7 @@ use Rattle.model.specs.Sets.{maxStates, Set, member, empty, union, meet, subset
 use Rattle.model.specs.Tables.{post, hold, coverOf, cover}
 use Rattle.model.specs.Rounds.{iterate, forwardStep, forward, backwardStep, backward}
 use Rattle.model.specs.Stores.{rowAt, setAt, tableOf}
-use Rattle.model.proofs.Bounds.{and-true, and-intro, getD-tabulate, tabulate-cong}
+use Rattle.model.proofs.Bounds.{and-true, and-intro, length-tabulate, getD-tabulate, tabulate-cong}
 use Rattle.model.proofs.SetLaws.{setOf-proper, In, in-bound, in-setOf, setOf-in, in-meet, meet-in, firstStates-in, _⊆_, subset-in, in-subset, same-set, empty-in}
 use Rattle.model.proofs.Fixpoints.{iterate-has}
 use Rattle.model.proofs.CoverLaws.{in-hold, hold-in, forwardStep-within, backwardStep-within}
@@ -31,7 +31,8 @@ covers-read n L s h = getD-tabulate (coverOf n L) maxStates s [] h
 pub covers-add : (n : ℕ) (L : List Set) (Z : Set) → narrowed (covers n L) Z ≡ covers n (Z ∷ L)
 unfolding narrowed covers coverOf
 covers-add n L Z =
-    tabulate-cong _ _ maxStates (λ s h. ap (λ (row : Set). cond (member Z s) (meet row Z) row) (getD-tabulate (coverOf n L) maxStates s [] h))
+    rw (length-tabulate (coverOf n L) maxStates)
+    (tabulate-cong _ _ maxStates (λ s h. ap (λ (row : Set). cond (member Z s) (meet row Z) row) (getD-tabulate (coverOf n L) maxStates s [] h)))
 
 -- ---- sets of the table's states
 

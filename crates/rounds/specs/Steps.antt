@@ -6,7 +6,7 @@
 use Prim.Native.Nat.{ℕ}
 use mathlib.Core.Bool.{cond, _&&_}
 use mathlib.Core.List.{List, []}
-use lib.ListN.{getD}
+use lib.ListN.{length, getD}
 use Rattle.model.specs.Sets.{maxStates, Set, member, setOf, union, meet, subset, image, tabulate}
 use Rattle.model.specs.Tables.{coverOf}
 use Rattle.model.specs.Stores.{rowAt, setAt}
@@ -15,7 +15,7 @@ unfoldable pub covers : ℕ → List Set → List Set
 covers n L = tabulate maxStates (coverOf n L)
 
 unfoldable pub narrowed : List Set → Set → List Set
-narrowed rows Z = tabulate maxStates (λ s. let row = getD rows s [] in cond (member Z s) (meet row Z) row)
+narrowed rows Z = tabulate (length rows) (λ s. let row = getD rows s [] in cond (member Z s) (meet row Z) row)
 
 unfoldable pub successorsBy : List ℕ → Set → Set
 successorsBy store X = image maxStates (λ s. setAt store (rowAt s)) X

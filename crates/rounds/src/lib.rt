@@ -1,0 +1,53 @@
+// The rounds (01, "Rounds") and the call `decide`.
+//
+//   no_groups, with_groups, narrow      the cover: a row of words for each state, set up from the groups and narrowed by each new Z
+//   forward_step, forward               R, by its step until nothing changes
+//   kept, backward_step, backward       S, by its step until nothing changes
+//   run                                 the rounds
+//   decide                              the call
+ghost use mathlib.Core.Path.{_≡_};
+ghost use mathlib.Core.List.{[]};
+ghost use Prim.Native.Nat.{_≤_};
+ghost use lib.ListN.{length};
+ghost use Rattle.model.specs.Sets.{maxStates, empty, firstStates};
+ghost use Rattle.model.specs.Rounds.{iterate};
+ghost use Rattle.model.specs.Rounds.{run as run·model};
+ghost use Rattle.model.specs.Stores.{storeWords, maxGroups, tableOf};
+ghost use Rattle.model.specs.Calls.{decideAnswer, decideBuffer};
+ghost use Rattle.rounds.specs.Steps.{covers, narrowed};
+use state_set::StateSet;
+use state_set::WORDS;
+use table::FORBIDDEN_AT;
+use table::MAX_STATES;
+use table::Rows;
+use table::group_at;
+use table::row_at;
+use table::row_of;
+use table::set_at;
+use table::successors;
+use table::union_of;
+
+// ---- the cover
+
+// The cover of each state for the empty list: all n states.
+fn no_groups(n: usize) -> Rows
+    ensures { λ r. ⌜ r ≡ covers n [] ⌝ }
+{
+    let words = StateSet::first_states(n).words;
+    [words; MAX_STATES]
+}
+
+// z is added to the list: the cover of each of its states becomes its meet with z.
+fn narrow(rows: &mut Rows, z: StateSet)
+    ensures { λ _. ⌜ now (rows .exit) ≡ narrowed (now (rows .entry)) (z .words) ⌝ }
+{
+    let mut rest = z;
+    while !rest.is_empty() {
+        let s = rest.smallest();
+        let met = row_of(rows, s).meet(z);
+        let words = met.words;
+        rows[s] = words;
+        rest = rest.without(s);
+    }
+}
+

@@ -1,0 +1,78 @@
+-- Invariants of the loops.
+--
+--   tabulate-const       a list with one element throughout
+--   Narrowing            the loop of `narrow`: the rows of the states taken are met with Z, the others as before
+use Prim.Native.Nat.{ℕ, zero, suc, _≤_, _<_}
+use native.Mathlib.Omega.{arith}
+use mathlib.Core.Path.{_≡_, refl, sym, ap, _∙_, subst}
+use mathlib.Core.Logic.{⊎-elim}
+use mathlib.Core.Bool.{Bool, true, false, cond, not, _&&_}
+use mathlib.Core.List.{List, [], _∷_, _++_}
+use borrow.Author.Tests.{not-false}
+use lib.ListN.{length, getD, set, replicate, length-replicate, getD-replicate, length-set}
+use lib.Seq.{ext-getD, getD-set-same, getD-set-other}
+use Rattle.model.specs.Sets.{maxStates, Set, member, empty, single, meet, difference, subset, tabulate}
+use Rattle.model.proofs.Bounds.{clash, by-cond, length-tabulate, getD-tabulate}
+use Rattle.model.proofs.SetLaws.{In, in-bound, in-or-out, empty-in, in-single, single-in, in-difference, difference-in, _⊆_, subset-in, ⊆-of-eq}
+use Rattle.rounds.specs.Steps.{narrowed}
+
+pub tabulate-const : {A : Type 0} (n : ℕ) (x : A) → replicate n x ≡ tabulate n (λ i. x)
+tabulate-const n x =
+    ext-getD x (replicate n x) (tabulate n (λ i. x)) (length-replicate n x ∙ sym (length-tabulate (λ i. x) n))
+    (λ i h.
+    let l : i < n = subst (λ (m : ℕ). i < m) (length-replicate n x) h in
+    getD-replicate n i x x l ∙ sym (getD-tabulate (λ i. x) n i x l))
+
+-- ---- `narrow`
+
+-- the rows of the states of Z that are taken are met with Z, all others are as they were
+pub record Narrowing (old : List Set) (Z : Set) (rows : List Set) (rest : Set) : Type 0 where
+  pub long : length rows ≡ length old
+  pub left : rest ⊆ Z
+  pub met : (s : ℕ) → s < length old → In Z s → (In rest s → ⊥) → getD rows s [] ≡ meet (getD old s []) Z
+  pub same : (s : ℕ) → (In Z s → In rest s) → getD rows s [] ≡ getD old s []
+
+module _ (old : List Set) (Z : Set) where
+  pub narrow-start : Narrowing old Z old Z
+  narrow-start = record { long = refl; left = λ s h. h; met = λ s l h out. absurd (out h); same = λ s f. refl }
+
+  pub narrow-turn : {rows : List Set} {rest rest′ row : Set} {x : ℕ} → In rest x → row ≡ meet (getD rows x []) Z
+      → rest′ ≡ difference rest (single x) → Narrowing old Z rows rest → Narrowing old Z (set rows x row) rest′
+  narrow-turn {rows} {rest} {rest′} {row} {x} i p q so =
+      record {
+        long = length-set rows x row ∙ so .long;
+        left = λ s h. so .left s (left s h .0);
+        met = λ s l h out.
+            ⊎-elim
+            (λ k. subst (λ (y : ℕ). y < length old → getD (set rows x row) y [] ≡ meet (getD old y []) Z) (sym (single-in k)) taken l)
+            (λ o. getD-set-other rows x s row [] (λ e. o (here s e)) ∙ so .met s l h (λ r. out (⊆-of-eq (sym q) s (in-difference r o))))
+            (in-or-out (single x) s);
+        same = λ s f.
+            getD-set-other rows x s row [] (λ e. left s (f (subst (In Z) (sym e) (so .left x i))) .1 (here s e))
+            ∙ so .same s (λ h. left s (f h) .0);
+      }
+    where
+      left : (s : ℕ) → In rest′ s → In rest s × (In (single x) s → ⊥)
+      left s h = difference-in (⊆-of-eq q s h)
+
+      here : (s : ℕ) → s ≡ x → In (single x) s
+      here s e = subst (In (single x)) (sym e) (in-single (in-bound i))
+
+      taken : x < length old → getD (set rows x row) x [] ≡ meet (getD old x []) Z
+      taken l =
+          getD-set-same rows x row [] (subst (λ (m : ℕ). x < m) (sym (so .long)) l) ∙ p ∙ ap (λ (Y : Set). meet Y Z) (so .same x (λ h. i))
+
+  pub narrow-end : {rows : List Set} {rest : Set} (done : Bool) → done ≡ subset rest empty → not done ≡ false → Narrowing old Z rows rest
+      → rows ≡ narrowed old Z
+  unfolding narrowed
+  narrow-end {rows} {rest} done e n so =
+      ext-getD [] rows _ (so .long ∙ sym (length-tabulate _ (length old)))
+      (λ s h. let l = subst (λ (m : ℕ). s < m) (so .long) h in row-is s l ∙ sym (getD-tabulate _ (length old) s [] l))
+    where
+      none : (s : ℕ) → In rest s → ⊥
+      none s h = empty-in (subset-in (sym e ∙ not-false done n) s h)
+
+      row-is : (s : ℕ) → s < length old → getD rows s [] ≡ cond (member Z s) (meet (getD old s []) Z) (getD old s [])
+      row-is s l =
+          by-cond (λ (Y : Set). getD rows s [] ≡ Y) (member Z s) _ _ (λ t. so .met s l (record { is = t }) (none s))
+          (λ f. so .same s (λ h. absurd (clash (h .is) f)))
