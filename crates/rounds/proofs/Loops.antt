@@ -2,19 +2,21 @@
 --
 --   tabulate-const       a list with one element throughout
 --   Narrowing            the loop of `narrow`: the rows of the states taken are met with Z, the others as before
-use Prim.Native.Nat.{ℕ, zero, suc, _≤_, _<_}
+use Prim.Native.Nat.{ℕ, zero, suc, _-_, _≤_, _<_}
+use native.Mathlib.Nat.{le-refl, le-of-eq}
 use native.Mathlib.Omega.{arith}
-use mathlib.Core.Path.{_≡_, refl, sym, ap, _∙_, subst}
+use mathlib.Core.Path.{_≡_, refl, sym, ap, ap₂, _∙_, subst}
 use mathlib.Core.Logic.{⊎-elim}
 use mathlib.Core.Bool.{Bool, true, false, cond, not, _&&_}
 use mathlib.Core.List.{List, [], _∷_, _++_}
 use borrow.Author.Tests.{not-false}
-use lib.ListN.{length, getD, set, replicate, length-replicate, getD-replicate, length-set}
-use lib.Seq.{ext-getD, getD-set-same, getD-set-other}
+use lib.ListN.{length, getD, set, drop, replicate, length-replicate, getD-replicate, length-set, drop-of-length-le}
+use lib.Seq.{ext-getD, getD-set-same, getD-set-other, drop-cons}
 use Rattle.model.specs.Sets.{maxStates, Set, member, empty, single, meet, difference, subset, tabulate}
 use Rattle.model.proofs.Bounds.{clash, by-cond, length-tabulate, getD-tabulate}
 use Rattle.model.proofs.SetLaws.{In, in-bound, in-or-out, empty-in, in-single, single-in, in-difference, difference-in, _⊆_, subset-in, ⊆-of-eq}
-use Rattle.rounds.specs.Steps.{narrowed}
+use Rattle.rounds.specs.Steps.{covers, narrowed}
+use Rattle.rounds.proofs.Bridge.{covers-add}
 
 pub tabulate-const : {A : Type 0} (n : ℕ) (x : A) → replicate n x ≡ tabulate n (λ i. x)
 tabulate-const n x =
@@ -76,3 +78,36 @@ module _ (old : List Set) (Z : Set) where
       row-is s l =
           by-cond (λ (Y : Set). getD rows s [] ≡ Y) (member Z s) _ _ (λ t. so .met s l (record { is = t }) (none s))
           (λ f. so .same s (λ h. absurd (clash (h .is) f)))
+
+-- ---- `with_groups`
+
+-- of the g sets f 0, f 1, .., those from f j on are listed
+pub record Listing (n g : ℕ) (f : ℕ → Set) (rows : List Set) (j : ℕ) : Type 0 where
+  pub within : j ≤ g
+  pub rows-are : rows ≡ covers n (drop j (tabulate g f))
+
+module _ (n g : ℕ) (f : ℕ → Set) where
+  pub list-start : {rows : List Set} → rows ≡ covers n [] → Listing n g f rows g
+  list-start e =
+      record {
+        within = le-refl g;
+        rows-are = e ∙ ap (covers n) (sym (drop-of-length-le (tabulate g f) (le-of-eq (length-tabulate f g))));
+      }
+
+  pub list-turn : {rows rows′ : List Set} {Z : Set} (j : ℕ) → 0 < j → Z ≡ f (j - 1) → rows′ ≡ narrowed rows Z → Listing n g f rows j
+      → Listing n g f rows′ (j - 1)
+  list-turn {Z = Z} j h z e so =
+      let l : j - 1 < g = omega (arith, so .within) in
+      let k : suc (j - 1) ≡ j = omega arith in
+      let first = drop-cons (tabulate g f) (j - 1) [] (subst (λ (m : ℕ). j - 1 < m) (sym (length-tabulate f g)) l) in
+      record {
+        within = omega arith;
+        rows-are =
+            e
+            ∙ ap (λ (X : List Set). narrowed X Z) (so .rows-are)
+            ∙ covers-add n (drop j (tabulate g f)) Z
+            ∙ ap (covers n) (ap₂ {C = List Set} (λ X i. X ∷ drop i (tabulate g f)) (z ∙ sym (getD-tabulate f g (j - 1) [] l)) (sym k) ∙ sym first);
+      }
+
+  pub list-end : {rows : List Set} {j : ℕ} → j ≤ 0 → Listing n g f rows j → rows ≡ covers n (tabulate g f)
+  list-end {j = j} h so = let e : j ≡ 0 = omega arith in so .rows-are ∙ ap (λ (i : ℕ). covers n (drop i (tabulate g f))) e

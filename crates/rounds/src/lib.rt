@@ -51,3 +51,17 @@ fn narrow(rows: &mut Rows, z: StateSet)
     }
 }
 
+// The cover for the table's groups, which are added from the last to the first.
+fn with_groups(store: &[u64], n: usize, g: usize) -> Rows
+    requires { ⌜ (g ≤ maxGroups) × (storeWords ≤ length (now store)) ⌝ }
+    ensures { λ r. ⌜ r ≡ covers n ((tableOf (now (store .entry)) n g) .groups) ⌝ }
+{
+    let mut rows = no_groups(n);
+    let mut j = g;
+    while 0 < j {
+        j -= 1;
+        narrow(&mut rows, group_at(store, j));
+    }
+    rows
+}
+
