@@ -4,6 +4,7 @@
 --   covers-read                  a row is the cover of its state
 --   coverBy-is, successorsBy-is, keptBy-is      for sets of the table's states, the model's cover, post, and meet with hold
 --   iterate-cong                 steps that agree on a kind of set that they keep iterate alike
+--   forwardBy-proper, backwardBy-proper     what the steps give is a proper set
 --   forward-is, backward-is      R and S
 use Prim.Native.Nat.{ℕ, zero, suc, _<_}
 use mathlib.Core.Path.{_≡_, refl, sym, ap, _∙_, subst}
@@ -15,9 +16,9 @@ use Rattle.model.specs.Tables.{post, hold, coverOf, cover}
 use Rattle.model.specs.Rounds.{iterate, forwardStep, forward, backwardStep, backward}
 use Rattle.model.specs.Stores.{rowAt, setAt, tableOf}
 use Rattle.model.proofs.Bounds.{and-true, and-intro, length-tabulate, getD-tabulate, tabulate-cong}
-use Rattle.model.proofs.SetLaws.{setOf-proper, In, in-bound, in-setOf, setOf-in, in-meet, meet-in, firstStates-in, _⊆_, subset-in, in-subset, same-set, empty-in}
+use Rattle.model.proofs.SetLaws.{Proper, setOf-proper, In, in-bound, in-setOf, setOf-in, in-meet, meet-in, firstStates-in, _⊆_, subset-in, in-subset, same-set, empty-in}
 use Rattle.model.proofs.Fixpoints.{iterate-has}
-use Rattle.model.proofs.CoverLaws.{in-hold, hold-in, forwardStep-within, backwardStep-within}
+use Rattle.model.proofs.CoverLaws.{image-proper, in-hold, hold-in, forwardStep-within, backwardStep-within}
 use Rattle.model.proofs.Acceptance.{row-is}
 use Rattle.model.proofs.ImageLaws.{image-bound, image-cong}
 use Rattle.rounds.specs.Steps.{covers, narrowed, successorsBy, coverBy, forwardBy, keptBy, backwardBy}
@@ -63,6 +64,15 @@ module _ (store : List ℕ) (n g : ℕ) where
       row-at s m = row-is store n g s (firstStates-in (i s m))
 
 -- ---- R and S
+
+module _ (store : List ℕ) (rows : List Set) where
+  pub forwardBy-proper : (initial Z X : Set) → Proper (forwardBy store rows initial Z X)
+  unfolding forwardBy coverBy
+  forwardBy-proper initial Z X = image-proper maxStates _ _
+
+  pub backwardBy-proper : (R X : Set) → Proper (backwardBy store rows R X)
+  unfolding backwardBy coverBy
+  backwardBy-proper R X = image-proper maxStates _ _
 
 pub iterate-cong : (P : Set → Type 0) (f g : Set → Set) (x : Set) → P x → ((X : Set) → P X → f X ≡ g X) → ((X : Set) → P (g X)) → (k : ℕ)
     → iterate f x k ≡ iterate g x k

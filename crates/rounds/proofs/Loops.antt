@@ -2,8 +2,9 @@
 --
 --   tabulate-const       a list with one element throughout
 --   Narrowing            the loop of `narrow`: the rows of the states taken are met with Z, the others as before
-use Prim.Native.Nat.{ℕ, zero, suc, _-_, _≤_, _<_}
-use native.Mathlib.Nat.{le-refl, le-of-eq}
+use Prim.Native.Nat.{ℕ, zero, suc, _+_, _-_, _≤_, _<_, zero-le}
+use native.Mathlib.Nat.{le-refl, le-of-eq, le-antisymm}
+use native.Mathlib.Numerals.{add-one}
 use native.Mathlib.Omega.{arith}
 use mathlib.Core.Path.{_≡_, refl, sym, ap, ap₂, _∙_, subst}
 use mathlib.Core.Logic.{⊎-elim}
@@ -12,9 +13,13 @@ use mathlib.Core.List.{List, [], _∷_, _++_}
 use borrow.Author.Tests.{not-false}
 use lib.ListN.{length, getD, set, drop, replicate, length-replicate, getD-replicate, length-set, drop-of-length-le}
 use lib.Seq.{ext-getD, getD-set-same, getD-set-other, drop-cons}
-use Rattle.model.specs.Sets.{maxStates, Set, member, empty, single, meet, difference, subset, tabulate}
-use Rattle.model.proofs.Bounds.{clash, by-cond, length-tabulate, getD-tabulate}
-use Rattle.model.proofs.SetLaws.{In, in-bound, in-or-out, empty-in, in-single, single-in, in-difference, difference-in, _⊆_, subset-in, ⊆-of-eq}
+use Rattle.model.specs.Sets.{maxStates, Set, member, setOf, empty, single, union, meet, difference, subset, same, image, tabulate}
+use Rattle.model.specs.Rounds.{iterate}
+use Rattle.model.proofs.Bounds.{and-true, and-intro, clash, by-cond, length-tabulate, getD-tabulate}
+use Rattle.model.proofs.SetLaws.{Proper, setOf-proper, In, in-bound, in-setOf, setOf-in, in-or-out, empty-in, in-single, single-in, in-difference, difference-in, _⊆_, subset-in, ⊆-of-eq, same-set, same-eq, in-image, image-in}
+use Rattle.model.proofs.Fixpoints.{iterate-suc, iterate-has, iterate-still}
+use Rattle.model.proofs.CoverLaws.{image-proper}
+use Rattle.model.proofs.ImageLaws.{union-empty}
 use Rattle.rounds.specs.Steps.{covers, narrowed}
 use Rattle.rounds.proofs.Bridge.{covers-add}
 
@@ -111,3 +116,61 @@ module _ (n g : ℕ) (f : ℕ → Set) where
 
   pub list-end : {rows : List Set} {j : ℕ} → j ≤ 0 → Listing n g f rows j → rows ≡ covers n (tabulate g f)
   list-end {j = j} h so = let e : j ≡ 0 = omega arith in so .rows-are ∙ ap (λ (i : ℕ). covers n (drop i (tabulate g f))) e
+
+-- ---- `kept`
+
+-- what a state gives to the states that pass p: itself, or nothing
+unfoldable pub passed : (ℕ → Bool) → ℕ → Set
+passed p s = cond (p s) (single s) empty
+
+pub image-passed : (p : ℕ → Bool) (X : Set) → image maxStates (passed p) X ≡ setOf (λ s. member X s && p s)
+unfolding passed
+image-passed p X =
+    same-set _ _ (image-proper maxStates (passed p) X) (setOf-proper _)
+    (λ s h. let w = image-in (passed p) X maxStates h in there s (w .0) (w .2) (w .3))
+    (λ s h.
+    let both = and-true (member X s) (p s) (setOf-in _ h) in
+    in-image (passed p) X maxStates (in-bound h) (record { is = both .0 })
+    (subst (λ (b : Bool). In (cond b (single s) empty) s) (sym (both .1)) (in-single (in-bound h))))
+  where
+    there : (s x : ℕ) → In X x → In (passed p x) s → In (setOf (λ s. member X s && p s)) s
+    there s x i =
+        by-cond (λ (Y : Set). In Y s → In (setOf (λ s. member X s && p s)) s) (p x) _ _
+        (λ e h. in-setOf _ (in-bound h) (subst (λ (y : ℕ). (member X y && p y) ≡ true) (sym (single-in h)) (and-intro (member X x) (p x) (i .is) e)))
+        (λ e h. absurd (empty-in h))
+
+-- a state that passes is added, one that does not is passed over
+module _ (p : ℕ → Bool) (out : Set) {out′ : Set} (x : ℕ) where
+  pub passed-take : p x ≡ true → out′ ≡ union out (single x) → out′ ≡ union out (passed p x)
+  unfolding passed
+  passed-take e q = rw e q
+
+  pub passed-skip : Proper out → p x ≡ false → out′ ≡ out → out′ ≡ union out (passed p x)
+  unfolding passed
+  passed-skip proper e q = rw e (q ∙ sym (union-empty out proper))
+
+-- ---- `forward` and `backward`
+
+-- X is what k steps of n give
+pub record Iterating (f : Set → Set) (x : Set) (n : ℕ) (X : Set) (k : ℕ) : Type 0 where
+  pub within : k ≤ n
+  pub is : X ≡ iterate f x k
+
+module _ (f : Set → Set) (x : Set) (n : ℕ) where
+  pub iterate-start : {X : Set} → X ≡ x → Iterating f x n X 0
+  unfolding iterate
+  iterate-start e = record { within = zero-le; is = e }
+
+  pub iterate-turn : {X Y : Set} {k : ℕ} → k < n → Y ≡ f X → Iterating f x n X k → Iterating f x n Y (k + 1)
+  iterate-turn {k = k} h e so = record { within = omega arith; is = rw (add-one, iterate-suc) (e ∙ ap f (so .is)) }
+
+  -- a step that changes nothing ends the loop early
+  pub iterate-stop : Proper x → ((X : Set) → Proper (f X)) → {X Y : Set} {k : ℕ} → same Y X ≡ true → Y ≡ f X → Iterating f x n X k
+      → X ≡ iterate f x n
+  iterate-stop p q {X} {Y} {k} s e so =
+      let proper : Proper X = subst Proper (sym (so .is)) (iterate-has Proper f x p (λ X h. q X) k) in
+      let still : f X ≡ X = sym e ∙ same-eq (subst Proper (sym e) (q X)) proper s in
+      so .is ∙ sym (iterate-still f x k n (subst (λ (X : Set). f X ≡ X) (so .is) still) (so .within))
+
+  pub iterate-end : {X : Set} {k : ℕ} → n ≤ k → Iterating f x n X k → X ≡ iterate f x n
+  iterate-end h so = so .is ∙ ap (iterate f x) (le-antisymm (so .within) h)

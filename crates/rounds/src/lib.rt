@@ -14,7 +14,7 @@ ghost use Rattle.model.specs.Rounds.{iterate};
 ghost use Rattle.model.specs.Rounds.{run as run·model};
 ghost use Rattle.model.specs.Stores.{storeWords, maxGroups, tableOf};
 ghost use Rattle.model.specs.Calls.{decideAnswer, decideBuffer};
-ghost use Rattle.rounds.specs.Steps.{covers, narrowed};
+ghost use Rattle.rounds.specs.Steps.{covers, narrowed, forwardBy, keptBy, backwardBy};
 use state_set::StateSet;
 use state_set::WORDS;
 use table::FORBIDDEN_AT;
@@ -63,5 +63,72 @@ fn with_groups(store: &[u64], n: usize, g: usize) -> Rows
         narrow(&mut rows, group_at(store, j));
     }
     rows
+}
+
+// ---- R
+
+// cover(z meet (initial union post(x)))
+fn forward_step(store: &[u64], rows: &Rows, initial: StateSet, z: StateSet, x: StateSet) -> StateSet
+    requires { ⌜ storeWords ≤ length (now store) ⌝ }
+    ensures { λ r. ⌜ r .words ≡ forwardBy (now (store .entry)) (now (rows .entry)) (initial .words) (z .words) (x .words) ⌝ }
+{
+    union_of(rows, z.meet(initial.union(successors(store, x))))
+}
+
+fn forward(store: &[u64], n: usize, rows: &Rows, initial: StateSet, z: StateSet) -> StateSet
+    requires { ⌜ storeWords ≤ length (now store) ⌝ }
+    ensures { λ r. ⌜ r .words ≡ iterate (forwardBy (now (store .entry)) (now (rows .entry)) (initial .words) (z .words)) empty n ⌝ }
+{
+    let mut x = StateSet::empty();
+    for _ in 0..n {
+        let y = forward_step(store, rows, initial, z, x);
+        if y.equals(x) {
+            return x;
+        }
+        x = y;
+    }
+    x
+}
+
+// ---- S
+
+// The states of x whose every successor is in y.
+fn kept(store: &[u64], x: StateSet, y: StateSet) -> StateSet
+    requires { ⌜ storeWords ≤ length (now store) ⌝ }
+    ensures { λ r. ⌜ r .words ≡ keptBy (now (store .entry)) (x .words) (y .words) ⌝ }
+{
+    let mut kept = StateSet::empty();
+    let mut rest = x;
+    while !rest.is_empty() {
+        let s = rest.smallest();
+        if row_at(store, s).is_subset(y) {
+            kept = kept.with(s);
+        }
+        rest = rest.without(s);
+    }
+    kept
+}
+
+// cover(r meet hold(x))
+fn backward_step(store: &[u64], rows: &Rows, r: StateSet, x: StateSet) -> StateSet
+    requires { ⌜ storeWords ≤ length (now store) ⌝ }
+    ensures { λ s. ⌜ s .words ≡ backwardBy (now (store .entry)) (now (rows .entry)) (r .words) (x .words) ⌝ }
+{
+    union_of(rows, kept(store, r, x))
+}
+
+fn backward(store: &[u64], n: usize, rows: &Rows, r: StateSet) -> StateSet
+    requires { ⌜ storeWords ≤ length (now store) ⌝ }
+    ensures { λ s. ⌜ s .words ≡ iterate (backwardBy (now (store .entry)) (now (rows .entry)) (r .words)) (firstStates n) n ⌝ }
+{
+    let mut x = StateSet::first_states(n);
+    for _ in 0..n {
+        let y = backward_step(store, rows, r, x);
+        if y.equals(x) {
+            return x;
+        }
+        x = y;
+    }
+    x
 }
 
