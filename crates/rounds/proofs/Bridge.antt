@@ -2,6 +2,7 @@
 --
 --   covers-none, covers-add      the rows for the empty list, and after a set is added
 --   covers-read                  a row is the cover of its state
+--   notForbidden-is              all states without the forbidden ones
 --   coverBy-is, successorsBy-is, keptBy-is      for sets of the table's states, the model's cover, post, and meet with hold
 --   iterate-cong                 steps that agree on a kind of set that they keep iterate alike
 --   forwardBy-proper, backwardBy-proper     what the steps give is a proper set
@@ -11,14 +12,14 @@ use mathlib.Core.Path.{_≡_, refl, sym, ap, _∙_, subst}
 use mathlib.Core.Bool.{cond}
 use mathlib.Core.List.{List, [], _∷_}
 use lib.ListN.{getD}
-use Rattle.model.specs.Sets.{maxStates, Set, member, empty, union, meet, subset, firstStates}
-use Rattle.model.specs.Tables.{post, hold, coverOf, cover}
+use Rattle.model.specs.Sets.{maxStates, Set, member, empty, union, meet, difference, subset, states, firstStates}
+use Rattle.model.specs.Tables.{post, hold, coverOf, cover, notForbidden}
 use Rattle.model.specs.Rounds.{iterate, forwardStep, forward, backwardStep, backward}
 use Rattle.model.specs.Stores.{rowAt, setAt, tableOf}
-use Rattle.model.proofs.Bounds.{and-true, and-intro, length-tabulate, getD-tabulate, tabulate-cong}
-use Rattle.model.proofs.SetLaws.{Proper, setOf-proper, In, in-bound, in-setOf, setOf-in, in-meet, meet-in, firstStates-in, _⊆_, subset-in, in-subset, same-set, empty-in}
+use Rattle.model.proofs.Bounds.{and-true, and-intro, is-false, clash, length-tabulate, getD-tabulate, tabulate-cong}
+use Rattle.model.proofs.SetLaws.{Proper, setOf-proper, In, in-bound, in-setOf, setOf-in, in-meet, meet-in, in-difference, difference-in, firstStates-in, _⊆_, subset-in, in-subset, same-set, empty-in}
 use Rattle.model.proofs.Fixpoints.{iterate-has}
-use Rattle.model.proofs.CoverLaws.{image-proper, in-hold, hold-in, forwardStep-within, backwardStep-within}
+use Rattle.model.proofs.CoverLaws.{image-proper, in-notForbidden, notForbidden-in, notForbidden-within, in-hold, hold-in, forwardStep-within, backwardStep-within}
 use Rattle.model.proofs.Acceptance.{row-is}
 use Rattle.model.proofs.ImageLaws.{image-bound, image-cong}
 use Rattle.rounds.specs.Steps.{covers, narrowed, successorsBy, coverBy, forwardBy, keptBy, backwardBy}
@@ -36,6 +37,13 @@ covers-add n L Z =
     (tabulate-cong _ _ maxStates (λ s h. ap (λ (row : Set). cond (member Z s) (meet row Z) row) (getD-tabulate (coverOf n L) maxStates s [] h)))
 
 -- ---- sets of the table's states
+
+pub notForbidden-is : (n : ℕ) (F : Set) → difference (firstStates n) F ≡ notForbidden n F
+unfolding difference notForbidden states
+notForbidden-is n F =
+    same-set _ _ (setOf-proper _) (setOf-proper _)
+    (λ s h. let both = difference-in h in in-notForbidden n F (both .0) (is-false (member F s) (λ e. both .1 (record { is = e }))))
+    (λ s h. in-difference (notForbidden-within n F s h) (λ k. clash (k .is) (notForbidden-in n F h)))
 
 module _ (store : List ℕ) (n g : ℕ) where
   pub successorsBy-is : (X : Set) → X ⊆ firstStates n → successorsBy store X ≡ post n ((tableOf store n g) .row) X

@@ -9,12 +9,14 @@ ghost use mathlib.Core.Path.{_≡_};
 ghost use mathlib.Core.List.{[]};
 ghost use Prim.Native.Nat.{_≤_};
 ghost use lib.ListN.{length};
-ghost use Rattle.model.specs.Sets.{maxStates, empty, firstStates};
+ghost use Rattle.model.specs.Sets.{empty, union, subset, firstStates};
+ghost use Rattle.model.specs.Tables.{notForbidden};
 ghost use Rattle.model.specs.Rounds.{iterate};
 ghost use Rattle.model.specs.Rounds.{run as run·model};
-ghost use Rattle.model.specs.Stores.{storeWords, maxGroups, tableOf};
+ghost use Rattle.model.specs.Stores.{storeWords, maxGroups, forbiddenAt, setAt, tableOf};
 ghost use Rattle.model.specs.Calls.{decideAnswer, decideBuffer};
-ghost use Rattle.rounds.specs.Steps.{covers, narrowed, forwardBy, keptBy, backwardBy};
+ghost use Rattle.rounds.specs.Steps.{covers, narrowed, successorsBy, forwardBy, keptBy, backwardBy};
+ghost use Rattle.rounds.specs.Answers.{outcomeOf, invariantOf};
 use state_set::StateSet;
 use state_set::WORDS;
 use table::FORBIDDEN_AT;
@@ -132,3 +134,60 @@ fn backward(store: &[u64], n: usize, rows: &Rows, r: StateSet) -> StateSet
     x
 }
 
+// ---- the rounds
+
+// How the rounds end, with the count of refinements.
+pub enum Ending {
+    Safe(usize),
+    Unsafe(usize),
+    Undecided(usize),
+}
+
+// The ending, with R beside it where that is safe and the empty set where it is not.
+pub struct Ended {
+    pub ending: Ending,
+    pub invariant: StateSet,
+}
+
+// Z of the first round: the states of the table that are not forbidden.
+fn not_forbidden(store: &[u64], n: usize) -> StateSet
+    requires { ⌜ storeWords ≤ length (now store) ⌝ }
+    ensures { λ r. ⌜ r .words ≡ notForbidden n (setAt (now (store .entry)) forbiddenAt) ⌝ }
+{
+    StateSet::first_states(n).difference(set_at(store, FORBIDDEN_AT))
+}
+
+// Step 2's test: initial union post(r) lies inside z.
+fn stays_inside(store: &[u64], initial: StateSet, z: StateSet, r: StateSet) -> bool
+    requires { ⌜ storeWords ≤ length (now store) ⌝ }
+    ensures { λ b. ⌜ b ≡ subset (union (initial .words) (successorsBy (now (store .entry)) (r .words))) (z .words) ⌝ }
+{
+    initial.union(successors(store, r)).is_subset(z)
+}
+
+// The rounds, from 0 on, till one of them says safe or unsafe or the allowance is used.
+fn run(store: &[u64], n: usize, g: usize, allowance: usize) -> Ended
+    requires { ⌜ (g ≤ maxGroups) × (storeWords ≤ length (now store)) ⌝ }
+    ensures { λ r. ⌜ (outcomeOf r ≡ run·model (tableOf (now (store .entry)) n g) allowance) × (r .invariant .words ≡ invariantOf (outcomeOf r)) ⌝ }
+{
+    let initial = set_at(store, 0);
+    let mut z = not_forbidden(store, n);
+    let mut rows = with_groups(store, n, g);
+    let mut i = 0;
+    loop {
+        narrow(&mut rows, z);
+        let r = forward(store, n, &rows, initial, z);
+        if stays_inside(store, initial, z, r) {
+            return Ended { ending: Ending::Safe(i), invariant: r };
+        }
+        let s = backward(store, n, &rows, r);
+        if !initial.is_subset(s) {
+            return Ended { ending: Ending::Unsafe(i), invariant: StateSet::empty() };
+        }
+        if i == allowance {
+            return Ended { ending: Ending::Undecided(i), invariant: StateSet::empty() };
+        }
+        z = kept(store, s, s);
+        i += 1;
+    }
+}
