@@ -1,15 +1,18 @@
--- Invariants of the loops.
+-- The loops of the cover and of R and S: the invariant of each, where it starts, a turn, and what it gives at the end.
 --
---   tabulate-const       a list with one element throughout
---   Narrowing            the loop of `narrow`: the rows of the states taken are met with Z, the others as before
-use Prim.Native.Nat.{ℕ, zero, suc, _+_, _-_, _≤_, _<_, zero-le}
+--   tabulate-const                  a list with one element throughout
+--   Narrowing, narrow-*             `narrow`: the rows of the states taken are met with Z
+--   Listing, list-*                 `with_groups`: the rows are the covers for the sets listed so far
+--   passed, image-passed            `kept`: the states of a set that pass a test, as an image; passed-take, passed-skip: one more state of it
+--   Iterating, iterate-*            `forward` and `backward`: as many steps as turns, or fewer if one changes nothing
+use Prim.Native.Nat.{ℕ, suc, _+_, _-_, _≤_, _<_, zero-le}
 use native.Mathlib.Nat.{le-refl, le-of-eq, le-antisymm}
 use native.Mathlib.Numerals.{add-one}
 use native.Mathlib.Omega.{arith}
 use mathlib.Core.Path.{_≡_, refl, sym, ap, ap₂, _∙_, subst}
 use mathlib.Core.Logic.{⊎-elim}
 use mathlib.Core.Bool.{Bool, true, false, cond, not, _&&_}
-use mathlib.Core.List.{List, [], _∷_, _++_}
+use mathlib.Core.List.{List, [], _∷_}
 use borrow.Author.Tests.{not-false}
 use lib.ListN.{length, getD, set, drop, replicate, length-replicate, getD-replicate, length-set, drop-of-length-le}
 use lib.Seq.{ext-getD, getD-set-same, getD-set-other, drop-cons}

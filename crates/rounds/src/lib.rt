@@ -11,14 +11,11 @@ ghost use Prim.Native.Nat.{_≤_};
 ghost use lib.ListN.{length};
 ghost use Rattle.model.specs.Sets.{empty, union, subset, firstStates};
 ghost use Rattle.model.specs.Tables.{notForbidden};
-ghost use Rattle.model.specs.Rounds.{iterate};
-ghost use Rattle.model.specs.Rounds.{run as run·model};
+ghost use Rattle.model.specs.Rounds.{iterate, run as run·model};
 ghost use Rattle.model.specs.Stores.{storeWords, maxGroups, forbiddenAt, setAt, tableOf};
-ghost use Rattle.model.specs.Calls.{decideAnswer, decideBuffer};
 ghost use Rattle.rounds.specs.Steps.{covers, narrowed, successorsBy, forwardBy, keptBy, backwardBy};
 ghost use Rattle.rounds.specs.Answers.{outcomeOf, invariantOf};
 use state_set::StateSet;
-use state_set::WORDS;
 use table::FORBIDDEN_AT;
 use table::MAX_STATES;
 use table::Rows;
@@ -178,14 +175,23 @@ fn run(store: &[u64], n: usize, g: usize, allowance: usize) -> Ended
         narrow(&mut rows, z);
         let r = forward(store, n, &rows, initial, z);
         if stays_inside(store, initial, z, r) {
-            return Ended { ending: Ending::Safe(i), invariant: r };
+            return Ended {
+                ending: Ending::Safe(i),
+                invariant: r,
+            };
         }
         let s = backward(store, n, &rows, r);
         if !initial.is_subset(s) {
-            return Ended { ending: Ending::Unsafe(i), invariant: StateSet::empty() };
+            return Ended {
+                ending: Ending::Unsafe(i),
+                invariant: StateSet::empty(),
+            };
         }
         if i == allowance {
-            return Ended { ending: Ending::Undecided(i), invariant: StateSet::empty() };
+            return Ended {
+                ending: Ending::Undecided(i),
+                invariant: StateSet::empty(),
+            };
         }
         z = kept(store, s, s);
         i += 1;

@@ -1,12 +1,11 @@
 -- `kept`: what is kept, with what passes of what is left, is what passes of all.
-use mathlib.Core.Path.{sym, ap, _∙_, subst}
+use mathlib.Core.Path.{_∙_}
 use mathlib.Core.Logic.{⊎-elim}
-use mathlib.Core.Bool.{Bool}
 use borrow.Author.Needs.{needs}
-use Rattle.model.specs.Sets.{Set, union, subset, single, empty, size}
+use Rattle.model.specs.Sets.{subset, size}
 use Rattle.model.specs.Stores.{rowAt, setAt}
 use Rattle.model.proofs.SetLaws.{In, in-bound}
-use Rattle.model.proofs.ImageLaws.{union-empty, peel-in, peel-size, Peeling, peel-start, peel-turn, peel-end}
+use Rattle.model.proofs.ImageLaws.{peel-in, peel-size, Peeling, peel-start, peel-turn, peel-end}
 use Rattle.rounds.specs.Steps.{keptBy}
 use Rattle.rounds.proofs.Loops.{passed, image-passed, passed-take, passed-skip}
 use Rattle.rounds.proofs.kept.Statement.{statement}
