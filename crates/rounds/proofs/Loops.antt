@@ -46,9 +46,9 @@ module _ (old : List Set) (Z : Set) where
   pub narrow-start : Narrowing old Z old Z
   narrow-start = record { long = refl; left = λ s h. h; met = λ s l h out. absurd (out h); same = λ s f. refl }
 
-  pub narrow-turn : {rows : List Set} {rest rest′ row : Set} {x : ℕ} → In rest x → row ≡ meet (getD rows x []) Z
-      → rest′ ≡ difference rest (single x) → Narrowing old Z rows rest → Narrowing old Z (set rows x row) rest′
-  narrow-turn {rows} {rest} {rest′} {row} {x} i p q so =
+  pub narrow-turn : {rows : List Set} {rest rest′ now row : Set} {x : ℕ} → In rest x → now ≡ getD rows x []
+      → row ≡ meet now Z → rest′ ≡ difference rest (single x) → Narrowing old Z rows rest → Narrowing old Z (set rows x row) rest′
+  narrow-turn {rows} {rest} {rest′} {now} {row} {x} i p m q so =
       record {
         long = length-set rows x row ∙ so .long;
         left = λ s h. so .left s (left s h .0);
@@ -70,7 +70,7 @@ module _ (old : List Set) (Z : Set) where
 
       taken : x < length old → getD (set rows x row) x [] ≡ meet (getD old x []) Z
       taken l =
-          getD-set-same rows x row [] (subst (λ (m : ℕ). x < m) (sym (so .long)) l) ∙ p ∙ ap (λ (Y : Set). meet Y Z) (so .same x (λ h. i))
+          getD-set-same rows x row [] (subst (λ (m : ℕ). x < m) (sym (so .long)) l) ∙ m ∙ ap (λ (Y : Set). meet Y Z) (p ∙ so .same x (λ h. i))
 
   pub narrow-end : {rows : List Set} {rest : Set} (done : Bool) → done ≡ subset rest empty → not done ≡ false → Narrowing old Z rows rest
       → rows ≡ narrowed old Z

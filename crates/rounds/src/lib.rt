@@ -2,17 +2,18 @@
 //
 //   no_groups, with_groups, narrow      the cover: a row of words for each state, set up from the groups and narrowed by each new Z
 //   forward_step, forward               R, by its step until nothing changes
-//   kept, backward_step, backward       S, by its step until nothing changes
+//   is_held, kept                       hold
+//   backward_step, backward             S, by its step until nothing changes
 //   run                                 the rounds
 //   decide                              the call
 ghost use mathlib.Core.Path.{_≡_};
 ghost use mathlib.Core.List.{[]};
-ghost use Prim.Native.Nat.{_≤_};
+ghost use Prim.Native.Nat.{_≤_, _<_};
 ghost use lib.ListN.{length};
-ghost use Rattle.model.specs.Sets.{empty, union, subset, firstStates};
+ghost use Rattle.model.specs.Sets.{maxStates, empty, union, subset, firstStates};
 ghost use Rattle.model.specs.Tables.{notForbidden};
 ghost use Rattle.model.specs.Rounds.{iterate, run as run·model};
-ghost use Rattle.model.specs.Stores.{storeWords, maxGroups, forbiddenAt, setAt, tableOf};
+ghost use Rattle.model.specs.Stores.{storeWords, maxGroups, forbiddenAt, rowAt, setAt, tableOf};
 ghost use Rattle.rounds.specs.Steps.{covers, narrowed, successorsBy, forwardBy, keptBy, backwardBy};
 ghost use Rattle.rounds.specs.Answers.{outcomeOf, invariantOf};
 use state_set::StateSet;
@@ -91,7 +92,15 @@ fn forward(store: &[u64], n: usize, rows: &Rows, initial: StateSet, z: StateSet)
 
 // ---- S
 
-// The states of x whose every successor is in y.
+// s is in hold(y): its every successor is in y.
+fn is_held(store: &[u64], s: usize, y: StateSet) -> bool
+    requires { ⌜ (s < maxStates) × (storeWords ≤ length (now store)) ⌝ }
+    ensures { λ b. ⌜ b ≡ subset (setAt (now (store .entry)) (rowAt s)) (y .words) ⌝ }
+{
+    row_at(store, s).is_subset(y)
+}
+
+// x meet hold(y)
 fn kept(store: &[u64], x: StateSet, y: StateSet) -> StateSet
     requires { ⌜ storeWords ≤ length (now store) ⌝ }
     ensures { λ r. ⌜ r .words ≡ keptBy (now (store .entry)) (x .words) (y .words) ⌝ }
@@ -100,7 +109,7 @@ fn kept(store: &[u64], x: StateSet, y: StateSet) -> StateSet
     let mut rest = x;
     while !rest.is_empty() {
         let s = rest.smallest();
-        if row_at(store, s).is_subset(y) {
+        if is_held(store, s, y) {
             kept = kept.with(s);
         }
         rest = rest.without(s);

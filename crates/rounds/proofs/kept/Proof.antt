@@ -1,5 +1,5 @@
 -- `kept`: what is kept, with what passes of what is left, is what passes of all.
-use mathlib.Core.Path.{_∙_}
+use mathlib.Core.Path.{sym, ap, _∙_}
 use mathlib.Core.Logic.{⊎-elim}
 use borrow.Author.Needs.{needs}
 use Rattle.model.specs.Sets.{subset, size}
@@ -36,11 +36,14 @@ kept-spec =
     (λ c κs. (in-bound (taken c), search needs))
     (λ c κs. search needs)
     (λ c κs. search needs)
-    (λ c κs. search needs)
-    (λ c. peel-size _ (taken (c .before .before .before .before)) (c .without .ensures))
+    (λ c. peel-size _ (taken (c .before .before .before)) (c .without .ensures))
     (λ c.
-    let turn = c .before .before .before .before .before .before .before in
-    peel-turn _ _ (taken (c .before .before .before .before))
-    (⊎-elim (λ w. passed-take _ _ _ (cc) (cc)) (λ w. passed-skip _ _ _ (turn .loop .inv .proper) (cc) (cc)) (c .before .if2 .came))
-    (c .without .ensures) (turn .loop .inv))
+    let d = c .before .before in
+    let so = d .before .before .before .before .loop .inv in
+    peel-turn _ _ (taken (d .before))
+    (⊎-elim
+    (λ w. passed-take _ _ _ (sym (d .is-held .ensures) ∙ w .0 .taken) (ap (λ x. x .words) (w .2) ∙ w .1 .ensures))
+    (λ w. passed-skip _ _ _ (so .proper) (sym (d .is-held .ensures) ∙ w .0 .left) (ap (λ x. x .words) (w .1)))
+    (c .before .if2 .came))
+    (c .without .ensures) so)
     (λ c. peel-end _ _ _ (c .before .is-empty .ensures) (c .if1 .left) (c .before .before .loop .inv) ∙ image-passed _ _))

@@ -35,6 +35,6 @@ narrow-spec =
     (λ c. peel-size _ (taken (c .before .before .before .before .before)) (c .without .ensures))
     (λ c.
     narrow-turn _ _ (taken (c .before .before .before .before .before))
-    (cc) (c .without .ensures)
+    (c .before .before .before .row-of .ensures) (c .before .before .meet .ensures) (c .without .ensures)
     (c .before .before .before .before .before .before .before .before .loop .inv))
     (λ c. narrow-end _ _ _ (c .before .is-empty .ensures) (c .if1 .left) (c .before .before .loop .inv)))
