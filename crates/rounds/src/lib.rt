@@ -13,7 +13,8 @@ ghost use lib.ListN.{length};
 ghost use Rattle.model.specs.Sets.{maxStates, empty, union, subset, firstStates};
 ghost use Rattle.model.specs.Tables.{notForbidden};
 ghost use Rattle.model.specs.Rounds.{iterate, run as run·model};
-ghost use Rattle.model.specs.Stores.{storeWords, maxGroups, forbiddenAt, rowAt, setAt, tableOf};
+ghost use Rattle.model.specs.Stores.{storeWords, maxGroups, forbiddenAt, rowAt, setAt, tableOf, refuse};
+ghost use Rattle.model.specs.Calls.{decideGrounds};
 ghost use Rattle.rounds.specs.Steps.{covers, narrowed, successorsBy, forwardBy, keptBy, backwardBy};
 ghost use Rattle.rounds.specs.Answers.{outcomeOf, invariantOf};
 use state_set::StateSet;
@@ -21,6 +22,7 @@ use table::FORBIDDEN_AT;
 use table::MAX_STATES;
 use table::Rows;
 use table::group_at;
+use table::refusal;
 use table::row_at;
 use table::row_of;
 use table::set_at;
@@ -205,4 +207,26 @@ fn run(store: &[u64], n: usize, g: usize, allowance: usize) -> Ended
         z = kept(store, s, s);
         i += 1;
     }
+}
+
+// ---- the call
+
+// As many refinements as there can be states.
+pub const MAX_ALLOWANCE: usize = MAX_STATES;
+
+// Why a check is declined, or 0.
+fn decide_refusal(store: &[u64], n: usize, g: usize, allowance: usize, room: usize) -> u8
+    ensures { λ r. ⌜ r ≡ refuse (decideGrounds (now (store .entry)) n g allowance room) ⌝ }
+{
+    let shared = refusal(store, n, g);
+    if shared != 0 {
+        return shared;
+    }
+    if MAX_ALLOWANCE < allowance {
+        return 20;
+    }
+    if room < MAX_STATES {
+        return 21;
+    }
+    0
 }
