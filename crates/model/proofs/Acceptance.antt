@@ -6,21 +6,22 @@
 --   Check, check-of        the same with grounds 20 and 21, of an accepted check
 use Prim.Native.Nat.{ℕ, _≤_, _<_}
 use native.Mathlib.Omega.{arith}
-use mathlib.Core.Path.{_≡_, refl, sym, ap, _∙_, subst}
+use mathlib.Core.Path.{_≡_, refl, sym, ap, subst}
 use mathlib.Core.Logic.{⊎-elim}
-use mathlib.Core.Bool.{Bool, true, false, cond, _||_, true≢false}
+use mathlib.Core.Bool.{Bool, true, false, cond}
 use mathlib.Core.List.{List, [], _∷_, _++_}
-use borrow.Author.Tests.{lt-ltb, ltb-false, le-ltb, le-leb, eqb-true, eqb-false, ne-eqb}
-use lib.Dec.{eqb, leb, ltb, lit<}
+use borrow.Author.Tests.{ltb-false, le-ltb, eqb-true, eqb-false, ne-eqb}
+use lib.Dec.{eqb, ltb, lit<}
 use lib.ListN.{length}
-use Rattle.model.specs.Sets.{maxStates, Set, member, firstStates}
+use Rattle.model.specs.Sets.{maxStates, Set, firstStates}
 use Rattle.model.specs.Tables.{Table}
 use Rattle.model.specs.Stores.{maxGroups, storeWords, forbiddenAt, rowAt, setAt, tableOf, refuse, beyond, malformed, badStates, sharedGrounds}
 use Rattle.model.specs.Calls.{release, decideGrounds, decisionOf, declined, decideAnswer}
 use Rattle.model.specs.Rounds.{Outcome, run}
 use Rattle.model.specs.Promises.{Accepted}
-use Rattle.model.proofs.Bounds.{and-intro, decided, clash, any-none, lt-or-ge}
-use Rattle.model.proofs.SetLaws.{in-bound, in-states, _⊆_}
+use Rattle.model.proofs.Bounds.{or-false, decided}
+use Rattle.model.proofs.SetLaws.{in-bound, in-firstStates, _⊆_}
+use Rattle.model.proofs.StoreLaws.{beyond-below, malformed-clean, row-is}
 use Rattle.model.proofs.WellFormed.{WellFormed}
 
 -- ---- tests that do not hold
@@ -28,18 +29,6 @@ use Rattle.model.proofs.WellFormed.{WellFormed}
 pub cond-zero : (b : Bool) (k r : ℕ) → 0 < k → cond b k r ≡ 0 → (b ≡ false) × (r ≡ 0)
 cond-zero true k r h e = absurd (omega arith)
 cond-zero false k r h e = (refl, e)
-
-pub or-false : (a b : Bool) → (a || b) ≡ false → (a ≡ false) × (b ≡ false)
-or-false true b e = absurd (true≢false e)
-or-false false b e = (refl, e)
-
--- a set with no state from n up holds states of the table
-not-beyond : (n : ℕ) (X : Set) → beyond n X ≡ false → X ⊆ firstStates n
-unfolding beyond firstStates
-not-beyond n X e s h =
-    in-states n _ (in-bound h)
-    (⊎-elim (λ l. l) (λ l. absurd (clash (and-intro (leb n s) (member X s) (le-leb n s l) (h .is)) (any-none _ maxStates e s (in-bound h)))) (lt-or-ge s n))
-    refl
 
 -- ---- a store
 
@@ -82,26 +71,18 @@ unfolding refuse badStates
 store-accepted store n g later s =
     rw (le-ltb (length store) storeWords (s .long), ne-eqb n 0 (not-zero n (s .some)), le-ltb maxStates n (s .small), le-ltb maxGroups g (s .few), s .clean)
 
--- a state of the table has its row in the store
-pub row-is : (store : List ℕ) (n g s : ℕ) → s < n → (tableOf store n g) .row s ≡ setAt store (rowAt s)
-unfolding tableOf
-row-is store n g s h = rw (lt-ltb s n h)
-
 pub well-formed : (store : List ℕ) (n g : ℕ) → Store store n g → WellFormed (tableOf store n g)
-unfolding malformed tableOf
+unfolding tableOf
 well-formed store n g s =
-    let a = or-false _ _ (s .clean) in
-    let b = or-false _ _ (a .0) in
-    let c = or-false _ _ (b .0) in
-    let d = or-false _ _ (c .0) in
-    let e = or-false _ _ (d .0) in
+    let c = malformed-clean store n g (s .clean) in
     record {
-      initial = not-beyond n (setAt store 0) (e .0);
-      forbidden = not-beyond n (setAt store forbiddenAt) (e .1);
-      rows = λ x h.
-          subst (λ (X : Set). X ⊆ firstStates n) (sym (row-is store n g x h))
-          (not-beyond n (setAt store (rowAt x)) (any-none (λ y. beyond n (setAt store (rowAt y))) n (c .1) x h));
+      initial = inside (setAt store 0) (c .initial);
+      forbidden = inside (setAt store forbiddenAt) (c .forbidden);
+      rows = λ x h. subst (λ (X : Set). X ⊆ firstStates n) (sym (row-is store n g x h)) (inside (setAt store (rowAt x)) (c .row x h));
     }
+  where
+    inside : (X : Set) → beyond n X ≡ false → X ⊆ firstStates n
+    inside X e x h = in-firstStates (in-bound h) (beyond-below n X e x h)
 
 -- ---- an accepted check
 

@@ -1,11 +1,11 @@
--- Laws of tests below a bound, and of lists made by `tab`.
+-- Laws of tests below a bound, and of lists made by `tabulate`.
 --
 --   and-true, and-intro, or-true, or-intro     Boolean connectives as facts
 --   any-find, any-intro, any-none              some number below the bound passes; none does; any-start, -turn, -end: a loop that looks for one
 --   all-at, all-intro, all-not                 each passes; one that does not
 --   first-le, first-passes, first-least        `first` is the least that passes, else the bound; first-is, first-none: so it is that one;
 --                                              first-found, first-before: what passes at the bound, or anywhere, tells of it
---   length-tab, getD-tab, tab-cong             a list by its elements
+--   length-tabulate, getD-tabulate, tabulate-cong             a list by its elements
 use Prim.Native.Nat.{ℕ, zero, suc, _+_, _≤_, _<_, zero-le, suc-le-suc}
 use native.Mathlib.Nat.{le-of-suc-le-suc, not-suc-le-zero, eq-or-lt-of-le, le-antisymm}
 use native.Mathlib.Decide.{decLt}
@@ -36,6 +36,10 @@ or-true false b e = inr e
 pub or-intro : (a b : Bool) → (a ≡ true) ⊎ (b ≡ true) → (a || b) ≡ true
 or-intro true b h = refl
 or-intro false b h = ⊎-elim (λ p. absurd (false≢true p)) (λ q. q) h
+
+pub or-false : (a b : Bool) → (a || b) ≡ false → (a ≡ false) × (b ≡ false)
+or-false true b e = absurd (true≢false e)
+or-false false b e = (refl, e)
 
 pub not-true : (a : Bool) → not a ≡ true → a ≡ false
 not-true true e = absurd (false≢true e)

@@ -1,10 +1,10 @@
 -- Laws of counting: the length of a list of picked numbers, and the number of states in a set.
 --
---   picked-le, picked-lt           where what passes p passes q, p picks at most as many as q; fewer, if a number passes q alone
---   picked-bound                   where only numbers below n pass, at most n are picked
+--   filter-le, filter-lt           where what passes p passes q, p picks at most as many as q; fewer, if a number passes q alone
+--   filter-bound                   where only numbers below n pass, at most n are picked
 --   size-le, size-lt               a set inside another has at most its size; strictly inside, fewer
 --   all-or-fewer                   a set inside another is all of it, or has fewer members
---   size-bound, size-pos           a set of n states has at most n members; one with a member has at least one
+--   size-bound, size-pos           a set of n states has at most n members; one with a member has at least one; size-most: any set
 use Prim.Native.Nat.{ℕ, zero, suc, _+_, _≤_, _<_}
 use native.Mathlib.Nat.{not-suc-le-zero}
 use native.Mathlib.Omega.{arith}
@@ -84,3 +84,7 @@ size-bound {X} {n} f = filter-bound (member X) n (λ k e. states-in n _ (f k (re
 
 pub size-pos : {X : Set} {s : ℕ} → In X s → 0 < size X
 size-pos {X} {s} h = let l : size empty < size X = size-lt (λ k e. absurd (empty-in e)) h (λ e. empty-in e) in omega arith
+
+pub size-most : (X : Set) → size X ≤ maxStates
+unfolding size members
+size-most X = filter-bound (member X) maxStates (λ k e. in-bound (record { is = e })) maxStates .0

@@ -1,6 +1,6 @@
 -- Laws of post, hold and covers: each by its members, and a cover as a closure.
 --
---   in-allowed, allowed-in             the states not forbidden; allowed-within: they are states of the table
+--   in-notForbidden, notForbidden-in             the states not forbidden; allowed-within: they are states of the table
 --   image-mono, image-proper           an image grows with the set, and is proper; image-inside: it is where all of its parts are
 --   in-post, post-in, post-mono        post by its members
 --   in-hold, hold-in, hold-mono        hold by its members; hold-within: they are states of the table

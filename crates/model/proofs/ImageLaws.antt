@@ -1,20 +1,20 @@
 -- Laws of images for loops that take a set apart, one state after the other.
 --
 --   image-none          the image of a set without states is empty
+--   image-union         the image of a union
 --   image-peel          the image of a set is what one of its states gives, joined to the image of the rest
---   image-top           the image of a set of states below n does not depend on the bound, from n up
+--   image-bound           the image of a set of states below n does not depend on the bound, from n up
 --   image-cong          the image reads f at the set's states only
 --   peel-in, peel-size                  a loop that takes a set apart from its least state up: that state is in it, and what is left is smaller
---   Peeling, peel-start, -turn, -end    its invariant: what is joined so far, with the image of what is left, is the whole
+--   Joining, join-turn, join-end        a loop that joins an image: what is joined so far, with the image of what is left, is the goal
 --   union-assoc, union-empty            union is associative, and the empty set adds nothing
 use Prim.Native.Nat.{ℕ, _<_}
 use mathlib.Core.Path.{_≡_, sym, ap, ap₂, _∙_, subst}
 use mathlib.Core.Logic.{inl, inr, ⊎-elim}
-use mathlib.Core.Bool.{Bool, true, false, not}
-use borrow.Author.Tests.{not-false}
+use mathlib.Core.Bool.{Bool, true, not}
 use Rattle.model.specs.Sets.{maxStates, Set, empty, single, union, difference, subset, firstStates, image, size, smallest}
 use Rattle.model.proofs.Bounds.{not-true}
-use Rattle.model.proofs.SetLaws.{Proper, setOf-proper, In, in-bound, in-or-out, empty-in, in-single, single-in, firstStates-in, in-union, union-in, in-difference, difference-in, _⊆_, subset-in, subset-not, same-set, smallest-in, in-image, image-in}
+use Rattle.model.proofs.SetLaws.{Proper, setOf-proper, In, in-bound, in-or-out, empty-in, in-single, single-in, firstStates-in, in-union, union-in, in-difference, difference-in, _⊆_, subset-in, in-subset, subset-not, same-set, smallest-in, in-image, image-in}
 use Rattle.model.proofs.Counting.{size-lt}
 use Rattle.model.proofs.CoverLaws.{image-proper}
 
@@ -63,6 +63,19 @@ module _ (n : ℕ) (f : ℕ → Set) where
       together : (s : ℕ) → (y : ℕ) × (y < n) × In (difference X (single x)) y × In (f y) s → In (image n f X) s
       together s w = in-image f X n (w .1) (difference-in (w .2) .0) (w .3)
 
+  pub image-union : (X Y : Set) → image n f (union X Y) ≡ union (image n f X) (image n f Y)
+  unfolding union
+  image-union X Y =
+      same-set _ _ (image-proper n f (union X Y)) (setOf-proper _)
+      (λ s h.
+      let w = image-in f (union X Y) n h in
+      in-union (⊎-elim (λ x. inl (in-image f X n (w .1) x (w .3))) (λ y. inr (in-image f Y n (w .1) y (w .3))) (union-in (w .2))))
+      (λ s h.
+      ⊎-elim
+      (λ x. let w = image-in f X n x in in-image f (union X Y) n (w .1) (in-union (inl (w .2))) (w .3))
+      (λ y. let w = image-in f Y n y in in-image f (union X Y) n (w .1) (in-union (inr (w .2))) (w .3))
+      (union-in h))
+
   pub image-cong : (g : ℕ → Set) (X : Set) → ((x : ℕ) → x < n → In X x → f x ≡ g x) → image n f X ≡ image n g X
   image-cong g X e =
       same-set _ _ (image-proper n f X) (image-proper n g X)
@@ -87,27 +100,16 @@ peel-size {rest} {x} rest′ i e =
     subst (λ (Y : Set). size Y < size rest) (sym e)
     (size-lt (λ s h. difference-in h .0) i (λ h. difference-in h .1 (in-single (in-bound i))))
 
--- what is joined so far, `out`, with the image of what is left, is the image of X
-pub record Peeling (f : ℕ → Set) (X out rest : Set) : Type 0 where
+-- what is joined so far, `out`, with the image of what is left, is the goal
+pub record Joining (f : ℕ → Set) (goal out rest : Set) : Type 0 where
   pub proper : Proper out
-  pub whole : union out (image maxStates f rest) ≡ image maxStates f X
+  pub whole : union out (image maxStates f rest) ≡ goal
 
-module _ (f : ℕ → Set) (X : Set) where
-  pub peel-start : {out : Set} → out ≡ empty → Peeling f X out X
-  unfolding empty
-  peel-start e =
-      record {
-        proper = subst Proper (sym e) (setOf-proper _);
-        whole =
-            ap (λ (Y : Set). union Y (image maxStates f X)) e
-            ∙ union-comm empty (image maxStates f X)
-            ∙ union-empty (image maxStates f X) (image-proper maxStates f X);
-      }
-
-  pub peel-turn : {out rest out′ rest′ : Set} {x : ℕ} → In rest x → out′ ≡ union out (f x) → rest′ ≡ difference rest (single x)
-      → Peeling f X out rest → Peeling f X out′ rest′
+module _ (f : ℕ → Set) (goal : Set) where
+  pub join-turn : {out rest out′ rest′ : Set} {x : ℕ} → In rest x → out′ ≡ union out (f x) → rest′ ≡ difference rest (single x)
+      → Joining f goal out rest → Joining f goal out′ rest′
   unfolding union
-  peel-turn {out} {rest} {x = x} i p q so =
+  join-turn {out} {rest} {x = x} i p q so =
       record {
         proper = subst Proper (sym p) (setOf-proper _);
         whole =
@@ -117,6 +119,6 @@ module _ (f : ℕ → Set) (X : Set) where
             ∙ so .whole;
       }
 
-  pub peel-end : {out rest : Set} (done : Bool) → done ≡ subset rest empty → not done ≡ false → Peeling f X out rest → out ≡ image maxStates f X
-  peel-end {out} {rest} done e n so =
-      sym (union-empty out (so .proper)) ∙ ap (union out) (sym (image-none maxStates f rest (sym e ∙ not-false done n))) ∙ so .whole
+  pub join-end : {out rest : Set} → rest ≡ empty → Joining f goal out rest → out ≡ goal
+  join-end {out} e so =
+      sym (union-empty out (so .proper)) ∙ ap (union out) (sym (ap (image maxStates f) e ∙ image-none maxStates f empty (in-subset (λ s h. h)))) ∙ so .whole

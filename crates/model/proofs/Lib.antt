@@ -2,9 +2,16 @@ pub mod Bounds
 pub mod SetLaws
 pub mod Counting
 pub mod Fixpoints
-pub mod WellFormed
 pub mod CoverLaws
 pub mod ImageLaws
+pub mod WellFormed
 pub mod RoundLaws
 pub mod PathLaws
+pub mod ListLaws
+pub mod StoreLaws
+pub mod FileLaws
+pub mod CallLaws
+pub mod RoundTrips
 pub mod Acceptance
+pub mod Kept
+pub mod Ranges

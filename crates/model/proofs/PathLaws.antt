@@ -1,8 +1,8 @@
 -- Laws of paths (specs/Paths.antt): near as a breadth-first search from the forbidden states, the path that walk finds, distances.
 --
---   near-suc, near-mono                what is near stays near
---   in-near, near-in                   a state is within k + 1 steps exactly if it, or a successor, is within k
---   near-leads, leads-near             from a state within k steps at most k more lead to a forbidden one, and back
+--   reaching-suc, reaching-mono                what is near stays near
+--   in-reaching, reaching-in                   a state is within k + 1 steps exactly if it, or a successor, is within k
+--   reaching-leads, leads-reaching             from a state within k steps at most k more lead to a forbidden one, and back
 --   At t s k                           s is k steps from a forbidden state and no fewer; near-at, at-unique: there is one such k
 --   Nearest t X d                      so near are the nearest states of X; nearest-at: each of those
 --   at-row                             the row of a state at k + 1 is nearest at k
@@ -14,8 +14,8 @@
 --   path-of, has-path                  there is a path exactly if hasPath says so
 --   smallest-is, smallest-below        smallestPath is the path that 01 names; its states are below n
 --   distance-is, distance-at           the distance of s is k exactly if s is at k
---   distance-far, far-distance         it is far exactly if s is never near
---   near-distance, distance-near       it is at most k exactly if s is within k steps
+--   distance-unreachable, unreachable-distance         it is far exactly if s is never near
+--   reaching-distance, distance-reaching       it is at most k exactly if s is within k steps
 --   pick-distance                      pick by distances: the least state of X whose distance is at most d
 use Prim.Native.Nat.{ℕ, zero, suc, _≤_, _<_, zero-le, suc-le-suc}
 use native.Mathlib.Nat.{le-refl, le-of-suc-le-suc, not-suc-le-zero, eq-or-lt-of-le}
@@ -289,7 +289,7 @@ module _ (t : Table) where
         (λ c. absurd (c .0 k l h))
         (distance-cases s)
 
-    -- no more states than a set can hold: `far` is no distance
+    -- no more states than a set can hold: `unreachable` is no distance
     module _ (small : t .n ≤ maxStates) where
       pub distance-at : distance t s ≡ k → At t s k
       distance-at e = ⊎-elim (λ c. rw e at (c .1)) (λ c. absurd (omega arith)) (distance-cases s)

@@ -5,7 +5,7 @@
 --   round-facts, round-is              each round has them, and is as 01 says
 --   in-next-Z, next-Z-in               Z of the next round by its members: S ∩ hold S
 --   in-eliminated, eliminated-in       W of the next round of elimination by its members
---   eliminated-allowed, -closed        Wj holds allowed states only; no step leaves Wb
+--   eliminated-notForbidden, -closed        Wj holds allowed states only; no step leaves Wb
 --   Z-eliminated                       Zi ⊆ Wi
 --   steps-stay, initial-S              for a set W of allowed states that no step leaves: post(Ri) ∩ W ⊆ Zi, and Init ⊆ W gives Init ⊆ Si
 --   backward-stops                     round b says safe or unsafe
@@ -13,7 +13,7 @@
 --   count-backward                     the count is at most b
 --   undecided-count, undecided-short   undecided comes after an allowance all used up, and that was below b
 --   larger-run                         a larger allowance never changes a verdict given
---   eliminated-far, eliminated-leads   a state of Wj has no way of j steps or fewer to a forbidden state; a state not in Wj has a way
+--   eliminated-unreachable, eliminated-leads   a state of Wj has no way of j steps or fewer to a forbidden state; a state not in Wj has a way
 --   count-path, unsafe-long            every path has at least as many steps as the count
 --   unsafe-path                        where the rounds say unsafe there is a path
 --   invariant-no-path                  an invariant rules out every path

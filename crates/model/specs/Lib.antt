@@ -6,3 +6,4 @@ pub mod Stores
 pub mod Files
 pub mod Calls
 pub mod Promises
+pub mod RoundTrip

@@ -20,7 +20,7 @@ use Rattle.model.proofs.Bounds.{and-true, and-intro, is-false, clash, length-ta
 use Rattle.model.proofs.SetLaws.{Proper, setOf-proper, In, in-bound, in-setOf, setOf-in, in-meet, meet-in, in-difference, difference-in, firstStates-in, _⊆_, subset-in, in-subset, same-set, empty-in}
 use Rattle.model.proofs.Fixpoints.{iterate-has}
 use Rattle.model.proofs.CoverLaws.{image-proper, in-notForbidden, notForbidden-in, notForbidden-within, in-hold, hold-in, forwardStep-within, backwardStep-within}
-use Rattle.model.proofs.Acceptance.{row-is}
+use Rattle.model.proofs.StoreLaws.{row-is}
 use Rattle.model.proofs.ImageLaws.{image-bound, image-cong}
 use Rattle.rounds.specs.Steps.{covers, narrowed, successorsBy, coverBy, forwardBy, keptBy, backwardBy}
 

@@ -4,15 +4,17 @@
 --   bit-not                    the bits of `!` at k digits
 --   one-shl                    `1 << k` is a power of two
 --   bit-zero, bit-power        the bits of 0, and of a power of two
---   ones-picked                `count_ones` is how many places have a bit
+--   ones-filter                `count_ones` is how many places have a bit
 --   trailing-first             `trailing_zeros` is the first place that has one
 --   first-bit                  there is one, unless the number is 0
+--   bit-lowest                 `x & (x - 1)` has the bits of x but the lowest
 use Prim.Native.Nat.{ℕ, zero, suc, _+_, _-_, _*_, _/_, _%_, _^_, _<_}
 use native.Mathlib.Nat.{not-suc-le-zero, le-of-suc-le-suc, pow-suc, div-one, zero-div, mod-one, mod-lt, add-zero, add-suc, one-mul}
 use native.Mathlib.Numerals.{one-add}
 use native.Mathlib.Omega.{arith}
 use mathlib.Core.Path.{_≡_, refl, sym, ap, ap₂, _∙_}
-use mathlib.Core.Logic.{⊎-elim}
+use mathlib.Core.Logic.{_⊎_, inl, inr, ⊎-elim}
+use borrow.Author.Tests.{eqb-true, eqb-false}
 use mathlib.Core.Bool.{Bool, true, false, not, _&&_, _||_, cond}
 use mathlib.Core.List.{[], _∷_}
 use lib.Dec.{eqb, eqb·zero-suc, eqb·suc-zero, eqb·suc-suc}
@@ -21,7 +23,7 @@ use lib.ListN.{length, length-append}
 use lib.Bits.{bitAnd, bitOr, and-shr, or-shr, and-mod, or-mod}
 use lib.Count.{ones, ones-cat, under, trailingZeros}
 use Rattle.model.specs.Sets.{first, filter, bit}
-use Rattle.model.proofs.Bounds.{first-least, lt-or-ge}
+use Rattle.model.proofs.Bounds.{decided, first-least, lt-or-ge}
 use Rattle.model.proofs.SetLaws.{shift-bit, bits-eq}
 
 -- what holds of 0 and of 1 holds of any digit
@@ -124,3 +126,51 @@ first-bit k x h some =
     ⊎-elim (λ l. l)
     (λ none. absurd (some (bits-eq k x 0 h (pow-pos k) (λ i l. first-least (bit x) k i (omega arith) ∙ sym (bit-zero i)))))
     (lt-or-ge (first k (bit x)) k)
+
+-- ---- the lowest bit taken out
+
+odd-or-even : (x : ℕ) → (x % 2 ≡ 1) ⊎ (x % 2 ≡ 0)
+odd-or-even x = ⊎-elim (λ e. inl (eqb-true (x % 2) 1 e)) (λ e. inr (even (eqb-false (x % 2) 1 e))) (decided (eqb (x % 2) 1))
+  where
+    even : (x % 2 ≡ 1 → ⊥) → x % 2 ≡ 0
+    even f = omega arith
+
+bit-low : (y d : ℕ) → y % 2 ≡ d → bit y zero ≡ eqb d 1
+unfolding bit
+bit-low y d e = ap (λ (n : ℕ). eqb n 1) (ap (λ (n : ℕ). n % 2) (div-one y) ∙ e)
+
+and-self-true : (a : Bool) → (a && a) ≡ (a && true)
+and-self-true true = refl
+and-self-true false = refl
+
+trailing-odd : (k x : ℕ) → x % 2 ≡ 1 → trailingZeros (suc k) x ≡ 0
+unfolding trailingZeros
+trailing-odd k x e = ap (λ (d : ℕ). under d (trailingZeros k (x / 2))) e
+
+trailing-even : (k x : ℕ) → x % 2 ≡ 0 → trailingZeros (suc k) x ≡ suc (trailingZeros k (x / 2))
+unfolding trailingZeros
+trailing-even k x e = ap (λ (d : ℕ). under d (trailingZeros k (x / 2))) e
+
+-- of the bits of x, x − 1 has all but the lowest
+lowest-out : (k x i : ℕ) → 0 < x → x < 2 ^ k → (bit x i && bit (x - 1) i) ≡ (bit x i && not (eqb i (trailingZeros k x)))
+lowest-out zero x i h l = absurd (omega arith)
+lowest-out (suc k) x zero h l =
+    ⊎-elim
+    (λ odd. rw (bit-low x 1 odd, bit-low (x - 1) 0 (omega arith), trailing-odd k x odd))
+    (λ even. rw (bit-low x 0 even))
+    (odd-or-even x)
+lowest-out (suc k) x (suc i) h l =
+    ⊎-elim
+    (λ odd.
+    let same : (x - 1) / 2 ≡ x / 2 = omega arith in
+    rw (shift-bit x i, shift-bit (x - 1) i, same, trailing-odd k x odd, eqb·suc-zero i) (and-self-true (bit (x / 2) i)))
+    (λ even.
+    let half : (x - 1) / 2 ≡ x / 2 - 1 = omega arith in
+    let some : 0 < x / 2 = omega arith in
+    let small : x / 2 < 2 ^ k = omega (arith, pow-suc 2 k) in
+    rw (shift-bit x i, shift-bit (x - 1) i, half, trailing-even k x even, eqb·suc-suc i (trailingZeros k (x / 2)))
+    (lowest-out k (x / 2) i some small))
+    (odd-or-even x)
+
+pub bit-lowest : (x i : ℕ) → 0 < x → x < 2 ^ 64 → bit (bitAnd x (x - 1)) i ≡ (bit x i && not (eqb i (trailingZeros 64 x)))
+bit-lowest x i h l = bit-and x (x - 1) i ∙ lowest-out 64 x i h l

@@ -2,3 +2,4 @@ pub mod Bits
 pub mod Words
 pub mod Tests
 pub mod Counts
+pub mod WordSets

@@ -10,7 +10,8 @@ ghost use mathlib.Core.Path.{_≡_};
 ghost use Prim.Native.Nat.{_+_, _*_, _≤_, _<_};
 ghost use lib.ListN.{length, getD};
 ghost use mathlib.Core.List.{[]};
-ghost use Rattle.model.specs.Sets.{WORDS, maxStates, any, image};
+ghost use Rattle.model.specs.Sets.{WORDS, maxStates, any, union, image};
+ghost use Rattle.state_set.specs.WordSets.{wordSet};
 ghost use Rattle.model.specs.Stores.{storeWords, maxGroups, groupAt, rowAt, setAt, beyond, nonZero, malformed, refuse, sharedGrounds};
 use state_set::StateSet;
 use state_set::WORDS;
@@ -54,17 +55,29 @@ pub fn row_at(store: &[u64], s: usize) -> StateSet
     set_at(store, ROWS_AT + WORDS * s)
 }
 
-// All successors of states in x, which is taken apart from its least state up.
+// The successors of the states that `bits` has in word w, joined to `found`.
+fn join_successors(store: &[u64], w: usize, bits: u64, found: StateSet) -> StateSet
+    requires { ⌜ (w < WORDS) × (storeWords ≤ length (now store)) ⌝ }
+    ensures { λ r. ⌜ r .words ≡ union (found .words) (image maxStates (λ s. setAt (now (store .entry)) (rowAt s)) (wordSet w bits)) ⌝ }
+{
+    let mut joined = found;
+    let mut rest = bits;
+    while rest != 0 {
+        let s = 64 * w + u64::trailing_zeros(rest) as usize;
+        joined = joined.union(row_at(store, s));
+        rest &= rest - 1;
+    }
+    joined
+}
+
+// All successors of states in x.
 pub fn successors(store: &[u64], x: StateSet) -> StateSet
     requires { ⌜ storeWords ≤ length (now store) ⌝ }
     ensures { λ r. ⌜ r .words ≡ image maxStates (λ s. setAt (now (store .entry)) (rowAt s)) (x .words) ⌝ }
 {
     let mut found = StateSet::empty();
-    let mut rest = x;
-    while !rest.is_empty() {
-        let s = rest.smallest();
-        found = found.union(row_at(store, s));
-        rest = rest.without(s);
+    for w in 0..WORDS {
+        found = join_successors(store, w, x.words[w], found);
     }
     found
 }
@@ -80,16 +93,28 @@ pub fn row_of(rows: &Rows, s: usize) -> StateSet
     StateSet { words }
 }
 
+// The rows of the states that `bits` has in word w, joined to `found`.
+fn join_rows(rows: &Rows, w: usize, bits: u64, found: StateSet) -> StateSet
+    requires { ⌜ w < WORDS ⌝ }
+    ensures { λ r. ⌜ r .words ≡ union (found .words) (image maxStates (λ s. getD (now (rows .entry)) s []) (wordSet w bits)) ⌝ }
+{
+    let mut joined = found;
+    let mut rest = bits;
+    while rest != 0 {
+        let s = 64 * w + u64::trailing_zeros(rest) as usize;
+        joined = joined.union(row_of(rows, s));
+        rest &= rest - 1;
+    }
+    joined
+}
+
 // The union of the rows of the states of x.
 pub fn union_of(rows: &Rows, x: StateSet) -> StateSet
     ensures { λ r. ⌜ r .words ≡ image maxStates (λ s. getD (now (rows .entry)) s []) (x .words) ⌝ }
 {
     let mut found = StateSet::empty();
-    let mut rest = x;
-    while !rest.is_empty() {
-        let s = rest.smallest();
-        found = found.union(row_of(rows, s));
-        rest = rest.without(s);
+    for w in 0..WORDS {
+        found = join_rows(rows, w, x.words[w], found);
     }
     found
 }

@@ -1,0 +1,295 @@
+-- The promises are kept: the laws of covers, rounds and paths, carried to the calls' own answers.
+--
+--   operations              post, hold and covers by their members
+--   front                   the path at the front of a buffer, read back
+--   bufferFor               the path buffer that belongs to an answer
+--   outcome-*               a promise for each outcome of the rounds
+--   table-words             a table lies in the first words of its store
+--   path-answer             the call shortest path
+--   promises, untouched     all of specs/Promises
+use Prim.Native.Nat.{ℕ, suc, _+_, _≤_, _<_}
+use native.Mathlib.Omega.{arith}
+use mathlib.Core.Path.{_≡_, refl, sym, ap, _∙_, subst, fun-ext}
+use mathlib.Core.Logic.{inl, inr, ⊎-elim}
+use mathlib.Core.Bool.{Bool, true, false, cond}
+use mathlib.Core.List.{List}
+use borrow.Author.Tests.{ltb-true, eqb-true, ne-eqb}
+use lib.Dec.{eqb, ltb, lit≤}
+use lib.ListN.{length, take, drop, take-append-drop}
+use lib.Seq.{take-at, length-take-le}
+use Rattle.model.specs.Sets.{WORDS, maxStates, Set, member, empty}
+use Rattle.model.specs.Tables.{Table, coverOf, cover}
+use Rattle.model.specs.Rounds.{Outcome, safe, unsafe, undecided, run, backwardNumber}
+use Rattle.model.specs.Paths.{isPath, shortest, hasPath, smallestPath}
+use Rattle.model.specs.Stores.{maxGroups, storeWords, forbiddenAt, groupAt, rowAt, setAt, tableOf, refuse}
+use Rattle.model.specs.Calls.{overwrite, Decision, release, decideGrounds, decisionOf, declined, decideAnswer, decideBuffer, Shortest, shortestGrounds, shortestAnswer, shortestBuffer, readRefusal, readBuffer, writeAnswer, writeBuffer}
+use Rattle.model.specs.Promises.{Operations, IsSmallest, Carries, Demand2, Demand3, SameAnswer, PathAnswer, Accepted, Promises, Untouched}
+use Rattle.model.proofs.Bounds.{decided, by-cond, clash, tabulate-cong}
+use Rattle.model.proofs.SetLaws.{In, in-image, image-in, in-firstStates, firstStates-in}
+use Rattle.model.proofs.Fixpoints.{backward-is}
+use Rattle.model.proofs.WellFormed.{WellFormed}
+use Rattle.model.proofs.CoverLaws.{in-post, post-in, in-hold, hold-in, hold-within, in-coverOf, coverOf-in, coverOf-within, cover-add-in, cover-add-out}
+use Rattle.model.proofs.RoundLaws.{round-first, round-next, round-is, first-stop, countOf, count-backward, undecided-count, undecided-short, larger-run, safe-invariant, safe-no-path, unsafe-long, unsafe-path}
+use Rattle.model.proofs.PathLaws.{has-path, path-of, smallest-is, length-smallest}
+use Rattle.model.proofs.ListLaws.{part-front}
+use Rattle.model.proofs.CallLaws.{read-refusal}
+use Rattle.model.proofs.Acceptance.{accepted-store, well-formed, Check, check-of}
+
+-- ---- the operations
+
+operations : (n : ℕ) (row : ℕ → Set) (L : List Set) (X : Set) → Operations n row L X
+unfolding cover
+operations n row L X =
+    record {
+      post-members = λ u. (
+        λ e. let w = post-in n row (fact e) in (w .0, w .1, w .2 .is, w .3 .is),
+        λ w. in-post n row (w .1) (fact (w .2)) (fact (w .3)) .is,
+      );
+      hold-members = λ s b. (
+        λ e. (firstStates-in (hold-within n row X s (fact e)), λ u r. hold-in n row (fact e) u (fact r) .is),
+        λ w. in-hold n row (in-firstStates b (w .0)) (λ u r. fact (w .1 u (r .is))) .is,
+      );
+      coverOf-members = λ s u b. (
+        λ e. (firstStates-in (coverOf-within n L s u (fact e)), λ Z m z. coverOf-in n L (fact e) Z m (fact z) .is),
+        λ w. in-coverOf n L (in-firstStates b (w .0)) (λ Z m z. fact (w .1 Z m (z .is))) .is,
+      );
+      cover-members = λ u. (
+        λ e. let w = image-in (coverOf n L) X n (fact e) in (w .0, w .1, w .2 .is, w .3 .is),
+        λ w. in-image (coverOf n L) X n (w .1) (fact (w .2)) (fact (w .3)) .is,
+      );
+      add-in = λ Z s. cover-add-in n Z L s;
+      add-out = λ Z s. cover-add-out n Z L s;
+    }
+  where
+    fact : {Y : Set} {s : ℕ} → member Y s ≡ true → In Y s
+    fact e = record { is = e }
+
+-- ---- one answer
+
+-- the path at the front of a buffer, read back
+front : (t : Table) (path : List ℕ) → take (suc (shortest t)) (overwrite (smallestPath t) path) ≡ smallestPath t
+unfolding overwrite
+front t path = take-at (smallestPath t) _ (suc (shortest t)) (length-smallest t)
+
+abbrev bufferFor : Table → Decision → List ℕ → List ℕ
+bufferFor t a path = cond (eqb (a .verdict) 1) (overwrite (smallestPath t) path) path
+
+module _ (t : Table) (allowance : ℕ) where
+  outcome-carries : (path : List ℕ) (o : Outcome) → run t allowance ≡ o → Carries t allowance (decisionOf t o) path (bufferFor t (decisionOf t o) path)
+  unfolding decisionOf
+  outcome-carries path (safe i X) q =
+      record { with-safe = λ e. (refl, refl, refl); with-unsafe = λ e. absurd (omega arith); with-undecided = λ e. absurd (omega arith) }
+  outcome-carries path (unsafe i) q =
+      record {
+        with-safe = λ e. absurd (omega arith);
+        with-unsafe = λ e. (refl, refl, length-smallest t, refl);
+        with-undecided = λ e. absurd (omega arith);
+      }
+  outcome-carries path (undecided i) q =
+      record {
+        with-safe = λ e. absurd (omega arith);
+        with-unsafe = λ e. absurd (omega arith);
+        with-undecided = λ e. (refl, refl, refl, undecided-count t allowance q, refl);
+      }
+
+  outcome-2 : WellFormed t → t .n ≤ allowance → (path : List ℕ) (o : Outcome) → run t allowance ≡ o
+      → Demand2 t (decisionOf t o) (bufferFor t (decisionOf t o) path)
+  unfolding decisionOf
+  outcome-2 w h path (safe i X) q =
+      record {
+        decided = inl refl;
+        unsafe-path = λ e. absurd (omega arith);
+        path-unsafe = λ xs e. absurd (safe-no-path t allowance q xs e);
+        smallest-path = λ e. absurd (omega arith);
+        invariant = λ e. safe-invariant t allowance q;
+      }
+  outcome-2 w h path (unsafe i) q =
+      let found = unsafe-path t w allowance q in
+      record {
+        decided = inr refl;
+        unsafe-path = λ e. found;
+        path-unsafe = λ xs e. refl;
+        smallest-path = λ e. subst (IsSmallest t) (sym (front t path)) (smallest-is w (has-path w (found .0) (found .1)));
+        invariant = λ e. absurd (omega arith);
+      }
+  outcome-2 w h path (undecided i) q = absurd (omega (arith, undecided-short t allowance q, backward-is t .bounded))
+
+  decision-count : (o : Outcome) → (decisionOf t o) .count ≡ countOf o
+  unfolding decisionOf
+  decision-count (safe i X) = refl
+  decision-count (unsafe i) = refl
+  decision-count (undecided i) = refl
+
+  outcome-3 : (o : Outcome) → run t allowance ≡ o → Demand3 t allowance (decisionOf t o)
+  unfolding decisionOf
+  outcome-3 o q =
+      record {
+        count-backward = subst (λ (k : ℕ). k ≤ backwardNumber t) (ap countOf q ∙ sym (decision-count o)) (count-backward t allowance);
+        count-path = long o q;
+        enough = short o q;
+      }
+    where
+      long : (r : Outcome) → run t allowance ≡ r → (decisionOf t r) .verdict ≡ 1 → (xs : List ℕ) → isPath t xs ≡ true → (decisionOf t r) .count < length xs
+      long (safe i X) p e = absurd (omega arith)
+      long (unsafe i) p e = unsafe-long t allowance p
+      long (undecided i) p e = absurd (omega arith)
+
+      short : (r : Outcome) → run t allowance ≡ r → backwardNumber t ≤ allowance → (decisionOf t r) .verdict ≡ 2 → ⊥
+      short (safe i X) p h e = omega arith
+      short (unsafe i) p h e = omega arith
+      short (undecided i) p h e = omega (arith, undecided-short t allowance p)
+
+-- ---- two answers
+
+-- the same outcome, in two buffers
+outcome-same : (t : Table) (o : Outcome) (p q : List ℕ) → SameAnswer (decisionOf t o) (decisionOf t o) (bufferFor t (decisionOf t o) p) (bufferFor t (decisionOf t o) q)
+unfolding decisionOf
+outcome-same t o p q =
+    record { verdict = refl; count = refl; invariant = refl; size = refl; steps = refl; states = states o }
+  where
+    states : (r : Outcome) → (decisionOf t r) .verdict ≡ 1
+        → take (suc ((decisionOf t r) .steps)) (bufferFor t (decisionOf t r) p) ≡ take (suc ((decisionOf t r) .steps)) (bufferFor t (decisionOf t r) q)
+    states (safe i X) e = absurd (omega arith)
+    states (unsafe i) e = front t p ∙ sym (front t q)
+    states (undecided i) e = absurd (omega arith)
+
+larger-answer : (t : Table) (a b : Decision) (x y : ℕ) (p q : List ℕ) → a ≡ decisionOf t (run t x) → b ≡ decisionOf t (run t y) → x ≤ y
+    → (a .verdict ≡ 2 → ⊥) → SameAnswer a b (bufferFor t a p) (bufferFor t b q)
+unfolding decisionOf
+larger-answer t a b x y p q ea eb h d =
+    let same = larger-run t x y h (λ i e. d (ap (λ (c : Decision). c .verdict) (ea ∙ ap (decisionOf t) e))) in
+    subst (λ (c : Decision). SameAnswer a c (bufferFor t a p) (bufferFor t c q)) (sym (eb ∙ ap (decisionOf t) same))
+    (subst (λ (c : Decision). SameAnswer c (decisionOf t (run t x)) (bufferFor t c p) (bufferFor t (decisionOf t (run t x)) q)) (sym ea)
+    (outcome-same t (run t x) p q))
+
+-- and of one table, found in two stores
+larger-stores : (t u : Table) → t ≡ u → (a b : Decision) (x y : ℕ) (p q : List ℕ) → a ≡ decisionOf t (run t x) → b ≡ decisionOf u (run u y) → x ≤ y
+    → (a .verdict ≡ 2 → ⊥) → SameAnswer a b (bufferFor t a p) (bufferFor u b q)
+larger-stores t u e a b x y p q ea eb h d =
+    subst (λ (v : Table). SameAnswer a b (bufferFor t a p) (bufferFor v b q)) e
+    (larger-answer t a b x y p q ea (eb ∙ ap (λ (v : Table). decisionOf v (run v y)) (sym e)) h d)
+
+-- ---- a table lies in the first words of its store
+
+module _ (store other : List ℕ) (long : storeWords ≤ length store) (long′ : storeWords ≤ length other) (e : take storeWords store ≡ take storeWords other) where
+  front-part : (xs : List ℕ) (at : ℕ) → storeWords ≤ length xs → at + WORDS ≤ storeWords → setAt xs at ≡ setAt (take storeWords xs) at
+  unfolding setAt
+  front-part xs at l h =
+      ap (λ (ys : List ℕ). take WORDS (drop at ys)) (sym (take-append-drop storeWords xs))
+      ∙ part-front (take storeWords xs) (drop storeWords xs) at WORDS (omega (arith, length-take-le storeWords xs l))
+
+  same-set-at : (at : ℕ) → at + WORDS ≤ storeWords → setAt store at ≡ setAt other at
+  same-set-at at h = front-part store at long h ∙ ap (λ (xs : List ℕ). setAt xs at) e ∙ sym (front-part other at long′ h)
+
+  table-words : (n g : ℕ) → n ≤ maxStates → g ≤ maxGroups → tableOf store n g ≡ tableOf other n g
+  unfolding tableOf
+  table-words n g small few = λ i.
+      record {
+        n = n;
+        initial = same-set-at 0 (lit≤ tt) i;
+        forbidden = same-set-at forbiddenAt (lit≤ tt) i;
+        groups = tabulate-cong _ _ g (λ j h. same-set-at (groupAt j) (omega arith)) i;
+        row = fun-ext same-row i;
+      }
+    where
+      same-row : (s : ℕ) → cond (ltb s n) (setAt store (rowAt s)) empty ≡ cond (ltb s n) (setAt other (rowAt s)) empty
+      same-row s = ⊎-elim (λ q. rw q (same-set-at (rowAt s) (omega (arith, ltb-true s n q)))) (λ q. rw q) (decided (ltb s n))
+
+-- ---- the call shortest path
+
+abbrev pathFound : Table → Bool → Shortest
+pathFound t b = cond b (record { refusal = 0; found = 1; steps = shortest t }) (record { refusal = 0; found = 0; steps = 0 })
+
+path-found : (t : Table) → WellFormed t → (path : List ℕ) (b : Bool) → hasPath t ≡ b
+    → PathAnswer t (pathFound t b) path (cond (eqb ((pathFound t b) .found) 1) (overwrite (smallestPath t) path) path)
+path-found t w path true h =
+    record {
+      found-or-none = inr refl;
+      found-path = (λ e. (smallestPath t, path-of t h), λ xs. refl);
+      with-path = λ e. (smallest-is w h, length-smallest t, refl);
+      without-path = λ e. absurd (omega arith);
+    }
+path-found t w path false h =
+    record {
+      found-or-none = inl refl;
+      found-path = (λ e. absurd (omega arith), λ xs. absurd (clash (has-path w (xs .0) (xs .1)) h));
+      with-path = λ e. absurd (omega arith);
+      without-path = λ e. (refl, refl);
+    }
+
+path-answer : (store : List ℕ) (n g : ℕ) (path : List ℕ) → (shortestAnswer store n g (length path)) .refusal ≡ 0
+    → PathAnswer (tableOf store n g) (shortestAnswer store n g (length path)) path (shortestBuffer store n g path)
+unfolding shortestAnswer shortestBuffer shortestGrounds
+path-answer store n g path e =
+    let t = tableOf store n g in
+    let k = refuse (shortestGrounds store n g (length path)) in
+    let none : k ≡ 0 =
+    ⊎-elim (λ q. eqb-true k 0 q) (λ q. subst (λ (b : Bool). (cond b (pathFound t (hasPath t)) (record { refusal = k; found = 0; steps = 0 })) .refusal ≡ 0) q e)
+    (decided (eqb k 0)) in
+    subst (λ (a : Shortest). PathAnswer t a path (cond (eqb (a .found) 1) (overwrite (smallestPath t) path) path))
+    (sym (ap (λ (m : ℕ). cond (eqb m 0) (pathFound t (hasPath t)) (record { refusal = m; found = 0; steps = 0 })) none))
+    (path-found t (well-formed store n g (accepted-store store n g _ none .0)) path (hasPath t) refl)
+
+-- ---- the promises
+
+-- an accepted check
+module _ (store : List ℕ) (n g allowance : ℕ) (path : List ℕ) (ok : Accepted store n g allowance (length path)) where
+  check : Check store n g allowance (length path)
+  check = check-of store n g allowance (length path) ok
+
+  -- what holds of the rounds' decision holds of the answer
+  of-answer : (P : Decision → Type 0) → P (decisionOf (tableOf store n g) (run (tableOf store n g) allowance)) → P (decideAnswer store n g allowance (length path))
+  of-answer P h = subst P (sym (check .answer)) h
+
+pub promises : Promises
+unfolding decideBuffer tableOf
+promises =
+    record {
+      operations = operations;
+      first-round = round-first;
+      next-round = round-next;
+      each-round = round-is;
+      first-stop = first-stop;
+      backward-number = backward-is;
+      demand3 = λ t allowance. outcome-3 t allowance _ refl;
+      answer = λ store n g allowance path ok. check store n g allowance path ok .answer;
+      carries = λ store n g allowance path ok.
+          let t = tableOf store n g in
+          of-answer store n g allowance path ok (λ a. Carries t allowance a path (bufferFor t a path)) (outcome-carries t allowance path _ refl);
+      demand2 = λ store n g path ok.
+          let t = tableOf store n g in
+          let held = check store n g release path ok .held in
+          of-answer store n g release path ok (λ a. Demand2 t a (bufferFor t a path)) (outcome-2 t release (well-formed store n g held) (held .small) path _ refl);
+      larger = λ store other n g allowance more p q ok ok′ same.
+          let c = check store n g allowance p ok in
+          let c′ = check other n g more q ok′ in
+          let tables = table-words store other (c .held .long) (c′ .held .long) same n g (c .held .small) (c .held .few) in
+          larger-stores (tableOf store n g) (tableOf other n g) tables _ _ allowance more p q (c .answer) (c′ .answer);
+      shortest-path = path-answer;
+    }
+
+-- ---- what a call that declines leaves
+
+not-refused : (t : Table) (o : Outcome) → (decisionOf t o) .refusal ≡ 0
+unfolding decisionOf
+not-refused t (safe i X) = refl
+not-refused t (unsafe i) = refl
+not-refused t (undecided i) = refl
+
+pub untouched : Untouched
+unfolding decideAnswer decideBuffer declined shortestAnswer shortestBuffer readBuffer writeBuffer
+untouched =
+    record {
+      decide = λ store n g allowance path.
+          by-cond (λ (a : Decision). (a .refusal ≡ 0 → ⊥) → bufferFor (tableOf store n g) a path ≡ path)
+          (eqb (refuse (decideGrounds store n g allowance (length path))) 0) _ _
+          (λ q f. absurd (f (not-refused (tableOf store n g) (run (tableOf store n g) allowance)))) (λ q f. refl);
+      shortest-path = λ store n g path.
+          by-cond (λ (a : Shortest). (a .refusal ≡ 0 → ⊥) → cond (eqb (a .found) 1) (overwrite (smallestPath (tableOf store n g)) path) path ≡ path)
+          (eqb (refuse (shortestGrounds store n g (length path))) 0) _ _
+          (by-cond (λ (a : Shortest). eqb (refuse (shortestGrounds store n g (length path))) 0 ≡ true → (a .refusal ≡ 0 → ⊥) → cond (eqb (a .found) 1) (overwrite (smallestPath (tableOf store n g)) path) path ≡ path)
+          (hasPath (tableOf store n g)) _ _ (λ h q f. absurd (f refl)) (λ h q f. refl))
+          (λ q f. refl);
+      read = λ input store f. rw (ne-eqb (readRefusal input (length store)) 0 (λ e. f (read-refusal input (length store) ∙ e)));
+      write = λ store n g output f. rw (ne-eqb ((writeAnswer store n g (length output)) .refusal) 0 f);
+    }

@@ -1,0 +1,266 @@
+-- Laws of lists in parts, of buffers written over, and of refusals.
+--
+--   part-front, part-behind                   a part of two lists joined: within the first, behind it
+--   getD-behind, getD-past                    an element behind the first of two lists; past the end
+--   div-below, mod-below                      a place in n lists of w elements: its list and its place there
+--   Wide n w f                                the lists f 0, .., f (n − 1) have w elements each
+--   length-concat, part-concat                such lists joined: the length, and one of them as a part
+--   getD-concat, getD-concat-at               an element by its list and its place there, and by its place in all
+--   tabulate-next, concat-next                     one more, for a loop; joined-cong: the same lists joined
+--   concat-parts                              the parts of a list joined
+--   length-overwrite, take-overwrite          a buffer written over: its length and its front
+--   overwrite-front, overwrite-behind         its elements
+--   overwrite-append, overwrite-more          written over in two parts, the second where the buffer is lent from there on
+--   overwrite-set                             one element more
+--   orElse-none, orElse-fault, orElse-clear   `cond (eqb e 0) later e`: the fault e, or a later one where e is 0
+--   refuse-none, refuse-skip, refuse-take     no ground is left; one that does not hold; one that does
+--   Clear, numbered                           no ground of a list holds; none of its numbers is 0
+--   refuse-clear, clear-refuse                nothing is refused exactly if no ground holds
+--   refuse-append                             the grounds of two lists
+--   firstFault-clear, clear-firstFault        there is no fault exactly if no place has one
+--   firstFault-next, firstFault-stop          a loop goes on past a place, or returns its fault
+use Prim.Native.Nat.{ℕ, zero, suc, _+_, _*_, _-_, _/_, _%_, _≤_, _<_}
+use native.Mathlib.Nat.{not-suc-le-zero, zero-mul, mul-zero, mul-suc, mul-comm, mul-le-mul-left, le-of-eq, div-add-mod, div-lt-iff-lt-mul, mod-lt, eq-zero-or-pos}
+use native.Mathlib.Numerals.{add-one}
+use native.Mathlib.Omega.{arith}
+use mathlib.Core.Path.{_≡_, refl, sym, ap, ap₂, _∙_, subst}
+use mathlib.Core.Logic.{⊎-elim}
+use mathlib.Core.Bool.{Bool, true, false, not, _&&_, cond}
+use mathlib.Core.List.{List, [], _∷_, _++_, append-assoc}
+use borrow.Author.Tests.{eqb-true, eqb-false}
+use lib.Dec.{eqb}
+use lib.ListN.{set, length, getD, take, drop, length-append, length-drop, List·getD-append, List·getD-eq-default}
+use lib.Seq.{take-all, take-at, drop-at, take-append-le, drop-append-le, getD-append-add, getD-take, getD-drop, drop-drop, take-add, drop-cons, set-at}
+use Rattle.model.specs.Sets.{tabulate}
+use Rattle.model.specs.Stores.{concat, refuse}
+use Rattle.model.specs.Calls.{overwrite, firstFault}
+use Rattle.model.proofs.Bounds.{and-true, not-true, by-cond, decided, below-suc}
+
+-- ---- the part of w elements from `at` on
+
+module _ (xs ys : List ℕ) where
+  pub part-front : (at w : ℕ) → at + w ≤ length xs → take w (drop at (xs ++ ys)) ≡ take w (drop at xs)
+  part-front at w h =
+      ap (take w) (drop-append-le at xs ys (omega arith))
+      ∙ take-append-le w (drop at xs) ys (omega (arith, length-drop at xs))
+
+  pub part-behind : (n at w : ℕ) → length xs ≡ n → take w (drop (n + at) (xs ++ ys)) ≡ take w (drop at ys)
+  part-behind n at w e = ap (λ zs. take w zs) (sym (drop-drop at n (xs ++ ys)) ∙ ap (drop at) (drop-at xs ys n e))
+
+pub getD-behind : (xs ys : List ℕ) (n i d : ℕ) → length xs ≡ n → getD (xs ++ ys) (n + i) d ≡ getD ys i d
+getD-behind xs ys n i d e = ap (λ (m : ℕ). getD (xs ++ ys) (m + i) d) (sym e) ∙ getD-append-add xs ys i d
+
+pub getD-past : {A : Type 0} (xs : List A) (i : ℕ) (d : A) → length xs ≤ i → getD xs i d ≡ d
+getD-past xs i d h = List·getD-eq-default xs d {n = i} h
+
+-- ---- lists joined
+
+-- a place in n lists of w elements, by its list and its place there
+module _ (w n i : ℕ) (h : i < w * n) where
+  wide-enough : 0 < w
+  wide-enough =
+      ⊎-elim (λ e. absurd (not-suc-le-zero (subst (λ (m : ℕ). i < m) (ap (λ (v : ℕ). v * n) e ∙ zero-mul n) h))) (λ l. l) (eq-zero-or-pos w)
+
+  pub div-below : i / w < n
+  div-below = div-lt-iff-lt-mul wide-enough .1 (subst (λ (m : ℕ). i < m) (mul-comm w n) h)
+
+  pub mod-below : i % w < w
+  mod-below = mod-lt i wide-enough
+
+abbrev pub Wide : ℕ → ℕ → (ℕ → List ℕ) → Type 0
+Wide n w f = (k : ℕ) → k < n → length (f k) ≡ w
+
+module _ (f : ℕ → List ℕ) (w : ℕ) where
+  pub length-concat : (n : ℕ) → Wide n w f → length (concat n f) ≡ w * n
+  unfolding concat
+  length-concat zero wide = sym (mul-zero w)
+  length-concat (suc n) wide =
+      length-append (concat n f) (f n)
+      ∙ ap₂ (λ (a b : ℕ). a + b) (length-concat n (λ k h. wide k (omega arith))) (wide n (omega arith))
+      ∙ sym (mul-suc w n)
+
+  pub part-concat : (n k : ℕ) → Wide n w f → k < n → take w (drop (w * k) (concat n f)) ≡ f k
+  unfolding concat
+  part-concat zero k wide h = absurd (not-suc-le-zero h)
+  part-concat (suc n) k wide h =
+      let rest : Wide n w f = λ j l. wide j (omega arith) in
+      let long = length-concat n rest in
+      ⊎-elim
+      (λ e.
+      ap (take w) (drop-at (concat n f) (f n) (w * k) (long ∙ ap (λ (j : ℕ). w * j) (sym e)))
+      ∙ take-all w (f n) (le-of-eq (wide n (omega arith)))
+      ∙ ap f (sym e))
+      (λ l.
+      part-front (concat n f) (f n) (w * k) w (omega (arith, mul-le-mul-left w l, mul-suc w k))
+      ∙ part-concat n k rest l)
+      (below-suc h)
+
+  pub getD-concat : (n k i d : ℕ) → Wide n w f → k < n → i < w → getD (concat n f) (w * k + i) d ≡ getD (f k) i d
+  getD-concat n k i d wide h l =
+      sym (getD-drop (w * k) (concat n f) i d)
+      ∙ sym (getD-take w (drop (w * k) (concat n f)) i d l)
+      ∙ ap (λ (xs : List ℕ). getD xs i d) (part-concat n k wide h)
+
+  pub getD-concat-at : (n i d : ℕ) → Wide n w f → i < w * n → getD (concat n f) i d ≡ getD (f (i / w)) (i % w) d
+  getD-concat-at n i d wide h =
+      ap (λ (j : ℕ). getD (concat n f) j d) (sym (div-add-mod i w))
+      ∙ getD-concat n (i / w) (i % w) d wide (div-below w n i h) (mod-below w n i h)
+
+pub tabulate-next : {A : Type 0} (f : ℕ → A) (n : ℕ) → tabulate (n + 1) f ≡ tabulate n f ++ (f n ∷ [])
+unfolding tabulate
+tabulate-next f n = ap (λ (m : ℕ). tabulate m f) (add-one n)
+
+pub concat-next : (f : ℕ → List ℕ) (n : ℕ) → concat (n + 1) f ≡ concat n f ++ f n
+unfolding concat
+concat-next f n = ap (λ (m : ℕ). concat m f) (add-one n)
+
+pub concat-cong : (f g : ℕ → List ℕ) (n : ℕ) → ((k : ℕ) → k < n → f k ≡ g k) → concat n f ≡ concat n g
+unfolding concat
+concat-cong f g zero e = refl
+concat-cong f g (suc n) e = ap₂ (λ xs ys. xs ++ ys) (concat-cong f g n (λ k h. e k (omega arith))) (e n (omega arith))
+
+-- the n parts of w elements from `at` on
+pub concat-parts : (xs : List ℕ) (at w n : ℕ) → concat n (λ k. take w (drop (at + w * k) xs)) ≡ take (w * n) (drop at xs)
+unfolding concat
+concat-parts xs at w zero = ap (λ (m : ℕ). take m (drop at xs)) (sym (mul-zero w))
+concat-parts xs at w (suc n) =
+    ap₂ (λ ys zs. ys ++ zs) (concat-parts xs at w n) (ap (take w) (sym (drop-drop (w * n) at xs)))
+    ∙ sym (take-add (w * n) w (drop at xs))
+    ∙ ap (λ (m : ℕ). take m (drop at xs)) (sym (mul-suc w n))
+
+-- ---- a buffer written over
+
+module _ (xs old : List ℕ) where
+  pub length-overwrite : length xs ≤ length old → length (overwrite xs old) ≡ length old
+  unfolding overwrite
+  length-overwrite h = length-append xs (drop (length xs) old) ∙ omega (arith, length-drop (length xs) old)
+
+  pub take-overwrite : (n : ℕ) → length xs ≡ n → take n (overwrite xs old) ≡ xs
+  unfolding overwrite
+  take-overwrite n e = take-at xs (drop (length xs) old) n e
+
+  pub overwrite-front : (i d : ℕ) → i < length xs → getD (overwrite xs old) i d ≡ getD xs i d
+  unfolding overwrite
+  overwrite-front i d h = List·getD-append xs (drop (length xs) old) d i h
+
+  pub overwrite-behind : (i d : ℕ) → length xs ≤ i → getD (overwrite xs old) i d ≡ getD old i d
+  unfolding overwrite
+  overwrite-behind i d h =
+      let split : length xs + (i - length xs) ≡ i = omega arith in
+      ap (λ (j : ℕ). getD (xs ++ drop (length xs) old) j d) (sym split)
+      ∙ getD-append-add xs (drop (length xs) old) (i - length xs) d
+      ∙ getD-drop (length xs) old (i - length xs) d
+      ∙ ap (λ (j : ℕ). getD old j d) split
+
+  pub overwrite-append : (ys : List ℕ) → overwrite (xs ++ ys) old ≡ xs ++ overwrite ys (drop (length xs) old)
+  unfolding overwrite
+  overwrite-append ys =
+      append-assoc xs ys (drop (length (xs ++ ys)) old)
+      ∙ ap (λ zs. xs ++ (ys ++ zs)) (ap (λ (m : ℕ). drop m old) (length-append xs ys) ∙ sym (drop-drop (length ys) (length xs) old))
+
+  -- a buffer lent from where xs end on, and written over there
+  pub overwrite-more : (ys : List ℕ) (n : ℕ) → length xs ≡ n → take n (overwrite xs old) ++ overwrite ys (drop n (overwrite xs old)) ≡ overwrite (xs ++ ys) old
+  unfolding overwrite
+  overwrite-more ys n e =
+      ap₂ (λ front rest. front ++ overwrite ys rest) (take-overwrite n e) (drop-at xs (drop (length xs) old) n e)
+      ∙ sym (overwrite-append ys)
+
+  -- one element more
+  pub overwrite-set : (x n : ℕ) → length xs ≡ n → n < length old → set (overwrite xs old) n x ≡ overwrite (xs ++ (x ∷ [])) old
+  unfolding overwrite
+  overwrite-set x n e h =
+      let rest : drop (length xs) old ≡ getD old (length xs) 0 ∷ drop (suc (length xs)) old = drop-cons old (length xs) 0 (omega arith) in
+      ap (λ zs. set (xs ++ zs) n x) rest
+      ∙ set-at xs (getD old (length xs) 0) (drop (suc (length xs)) old) x n e
+      ∙ sym (overwrite-append (x ∷ []) ∙ ap (λ zs. xs ++ overwrite (x ∷ []) zs) rest)
+
+-- ---- one fault, else a later one
+
+module _ (e later : ℕ) where
+  pub orElse-none : e ≡ 0 → cond (eqb e 0) later e ≡ later
+  orElse-none p = by-cond (λ (r : ℕ). r ≡ later) (eqb e 0) later e (λ q. refl) (λ q. absurd (eqb-false e 0 q p))
+
+  pub orElse-fault : (e ≡ 0 → ⊥) → cond (eqb e 0) later e ≡ e
+  orElse-fault f = by-cond (λ (r : ℕ). r ≡ e) (eqb e 0) later e (λ q. absurd (f (eqb-true e 0 q))) (λ q. refl)
+
+  pub orElse-clear : cond (eqb e 0) later e ≡ 0 → (e ≡ 0) × (later ≡ 0)
+  orElse-clear =
+      by-cond (λ (r : ℕ). r ≡ 0 → (e ≡ 0) × (later ≡ 0)) (eqb e 0) later e
+      (λ q p. (eqb-true e 0 q, p)) (λ q p. absurd (eqb-false e 0 q p))
+
+-- ---- grounds of refusal
+
+pub refuse-none : refuse [] ≡ 0
+unfolding refuse
+refuse-none = refl
+
+module _ (b : Bool) (k : ℕ) (later : List (Bool × ℕ)) where
+  pub refuse-skip : b ≡ false → refuse ((b, k) ∷ later) ≡ refuse later
+  unfolding refuse
+  refuse-skip e = rw e
+
+  pub refuse-take : b ≡ true → refuse ((b, k) ∷ later) ≡ k
+  unfolding refuse
+  refuse-take e = rw e
+
+abbrev pub Clear : List (Bool × ℕ) → Type 0
+Clear [] = Unit {0}
+Clear (ground ∷ later) = (ground .0 ≡ false) × Clear later
+
+abbrev pub numbered : List (Bool × ℕ) → Bool
+numbered [] = true
+numbered (ground ∷ later) = not (eqb (ground .1) 0) && numbered later
+
+pub refuse-clear : (grounds : List (Bool × ℕ)) → numbered grounds ≡ true → refuse grounds ≡ 0 → Clear grounds
+unfolding refuse
+refuse-clear [] m = λ e. tt
+refuse-clear (ground ∷ later) m =
+    let parts = and-true (not (eqb (ground .1) 0)) (numbered later) m in
+    by-cond (λ (r : ℕ). r ≡ 0 → Clear (ground ∷ later)) (ground .0) (ground .1) (refuse later)
+    (λ t e. absurd (eqb-false (ground .1) 0 (not-true (eqb (ground .1) 0) (parts .0)) e))
+    (λ t e. (t, refuse-clear later (parts .1) e))
+
+pub clear-refuse : (grounds : List (Bool × ℕ)) → Clear grounds → refuse grounds ≡ 0
+unfolding refuse
+clear-refuse [] c = refl
+clear-refuse (ground ∷ later) c = rw (c .0) (clear-refuse later (c .1))
+
+pub refuse-append : (xs ys : List (Bool × ℕ)) → numbered xs ≡ true → refuse (xs ++ ys) ≡ cond (eqb (refuse xs) 0) (refuse ys) (refuse xs)
+unfolding refuse
+refuse-append [] ys m = refl
+refuse-append (ground ∷ later) ys m =
+    let parts = and-true (not (eqb (ground .1) 0)) (numbered later) m in
+    ⊎-elim
+    (λ t. rw t (sym (orElse-fault (ground .1) (refuse ys) (eqb-false (ground .1) 0 (not-true (eqb (ground .1) 0) (parts .0))))))
+    (λ t. rw t (refuse-append later ys (parts .1)))
+    (decided (ground .0))
+
+-- ---- the first fault
+
+module _ (f : ℕ → ℕ) where
+  pub firstFault-clear : (m : ℕ) → firstFault m f ≡ 0 → (k : ℕ) → k < m → f k ≡ 0
+  unfolding firstFault
+  firstFault-clear zero e k h = absurd (not-suc-le-zero h)
+  firstFault-clear (suc m) e k h =
+      let parts = orElse-clear (firstFault m f) (f m) e in
+      ⊎-elim (λ q. ap f q ∙ parts .1) (λ l. firstFault-clear m (parts .0) k l) (below-suc h)
+
+  pub clear-firstFault : (m : ℕ) → ((k : ℕ) → k < m → f k ≡ 0) → firstFault m f ≡ 0
+  unfolding firstFault
+  clear-firstFault zero c = refl
+  clear-firstFault (suc m) c = orElse-none _ _ (clear-firstFault m (λ k h. c k (omega arith))) ∙ c m (omega arith)
+
+  pub firstFault-next : (k : ℕ) → firstFault k f ≡ 0 → firstFault (k + 1) f ≡ f k
+  unfolding firstFault
+  firstFault-next k e = ap (λ (j : ℕ). firstFault j f) (add-one k) ∙ orElse-none (firstFault k f) (f k) e
+
+  pub firstFault-stop : (m k : ℕ) → k < m → firstFault k f ≡ 0 → (f k ≡ 0 → ⊥) → firstFault m f ≡ f k
+  unfolding firstFault
+  firstFault-stop zero k h e x = absurd (not-suc-le-zero h)
+  firstFault-stop (suc m) k h e x =
+      ⊎-elim
+      (λ q. orElse-none _ _ (ap (λ (j : ℕ). firstFault j f) (sym q) ∙ e) ∙ ap f (sym q))
+      (λ l.
+      let found = firstFault-stop m k l e x in
+      orElse-fault _ _ (λ z. x (sym found ∙ z)) ∙ found)
+      (below-suc h)

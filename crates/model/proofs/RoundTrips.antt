@@ -1,0 +1,276 @@
+-- The proof of the round trips (specs/RoundTrip.antt).
+--
+--   Storable t g, readable-file     a table that a file can hold; read takes its file, and finds its n, g and sets (read-n, read-g, read-set)
+--   storable, read-holds            an accepted store holds such a table, and also holds the table that is read from its file
+--   write-read                      so a table that is written is read again
+--   contents-table, file-table      a table that was read has the contents and the file that it was read from
+--   laid, filled-writable           laid out in a store it is accepted by write, and file-filled: has that file
+--   read-write                      so an input that is read is written again
+--   round-trips                     both
+use Prim.Native.Nat.{ℕ, _+_, _*_, _/_, _^_, _≤_, _<_}
+use native.Mathlib.Nat.{mul-le-mul}
+use native.Mathlib.Omega.{arith}
+use mathlib.Core.Path.{_≡_, refl, sym, ap, ap₂, _∙_, subst}
+use mathlib.Core.Logic.{⊎-elim}
+use mathlib.Core.Bool.{false}
+use mathlib.Core.List.{List, [], _++_}
+use borrow.Author.Tests.{ltb-true, ltb-false}
+use lib.Dec.{ltb}
+use lib.ListN.{length, getD, take}
+use Rattle.model.specs.Sets.{WORDS, maxStates, Set, tabulate, member, number, empty}
+use Rattle.model.specs.Tables.{Table}
+use Rattle.model.specs.Stores.{maxGroups, forbiddenAt, groupAt, rowAt, storeWords, setAt, tableOf, concat, layout, beyond, badStates}
+use Rattle.model.specs.Files.{le16, le16At, setWidth, sets, contents, contentLength, blocksFor, fileLength, checkOf, blockOf, fileOf, part, contentsOf, setNumber, tableIn}
+use Rattle.model.specs.Calls.{overwrite, TableRead, Written, maxFile, readBuffer, writeBuffer}
+use Rattle.model.specs.RoundTrip.{Bounded, WriteRead, ReadWrite, RoundTrips}
+use Rattle.model.proofs.Bounds.{by-cond, lt-or-ge, length-tabulate, getD-tabulate}
+use Rattle.model.proofs.SetLaws.{In}
+use Rattle.model.proofs.ListLaws.{getD-past, concat-cong, length-overwrite, take-overwrite}
+use Rattle.model.proofs.FileLaws.{pairAt-two, setIn-proper, tableIn-row, number-setIn, setIn-is, sets-group, sets-row, sets-each, length-contents, contents-header, contents-set, header-pairs, by-content, IsBlock, block-unique, block-number, block-check, is-block, blockOf-is, length-fileOf, part-fileOf, fileOf-cong, length-part, part-bounded, concat-part, length-contentsOf, getD-contentsOf, contentsOf-bounded, contentsOf-fileOf}
+use Rattle.model.proofs.StoreLaws.{setAt-proper, row-is, empty-proper, setAt-empty, Holds, holds-layout, Laid, length-layout, overwrite-holds, holds-sets, Within, beyond-below, below-beyond, holds-clean}
+use Rattle.model.proofs.CallLaws.{states-le, Writable, write-refusal, writable, write-answer, write-buffer, Readable, read-refusal, readable, read-answer, read-buffer}
+
+-- ---- the file of a table, read
+
+record Storable (t : Table) (g : ℕ) : Type 0 where
+  many : length (t .groups) ≡ g
+  states : badStates (t .n) ≡ false
+  groups : g ≤ maxGroups
+  within : (k : ℕ) → k < 2 + g + t .n → Within (t .n) (getD (sets t) k [])
+
+-- no file is longer than the largest
+file-short : (n g : ℕ) → n ≤ maxStates → g ≤ maxGroups → fileLength n g ≤ maxFile
+file-short n g states groups =
+    let width : setWidth n ≤ setWidth maxStates = omega arith in
+    let many : 2 + g + n ≤ 2 + maxGroups + maxStates = omega arith in
+    omega (arith, mul-le-mul width many)
+
+module _ (t : Table) (g : ℕ) (ok : Storable t g) where
+  read-n : le16At (contentsOf (fileOf t)) 0 ≡ t .n
+  read-n =
+      pairAt-two (contentsOf (fileOf t)) 0 (t .n) (omega (arith, states-le (t .n) (ok .states)))
+      (contentsOf-fileOf t 0 ∙ contents-header t (ok .many) 0 (omega arith))
+      (contentsOf-fileOf t 1 ∙ contents-header t (ok .many) 1 (omega arith))
+
+  read-g : le16At (contentsOf (fileOf t)) 2 ≡ g
+  read-g =
+      pairAt-two (contentsOf (fileOf t)) 2 g (omega (arith, ok .groups))
+      (contentsOf-fileOf t 2 ∙ contents-header t (ok .many) 2 (omega arith))
+      (contentsOf-fileOf t 3 ∙ contents-header t (ok .many) 3 (omega arith))
+
+  read-set : (k : ℕ) → k < 2 + g + t .n → setNumber (contentsOf (fileOf t)) (t .n) k ≡ getD (sets t) k []
+  unfolding setNumber
+  read-set k h =
+      let w = setWidth (t .n) in
+      setIn-is (contentsOf (fileOf t)) w (4 + w * k) (getD (sets t) k []) (ok .within k h .proper)
+      (λ s l. omega (arith, ok .within k h .below s l))
+      (λ j l. contentsOf-fileOf t (4 + w * k + j) ∙ contents-set t (ok .many) k j h l)
+
+  readable-file : (room : ℕ) → storeWords ≤ room → Readable (fileOf t) room (t .n) g
+  readable-file room h =
+      let long = length-fileOf t (ok .many) in
+      let short = file-short (t .n) g (states-le (t .n) (ok .states)) (ok .groups) in
+      let block : (k : ℕ) → k < length (fileOf t) / 512 → part (fileOf t) k ≡ blockOf (contents t) k = λ k l. part-fileOf t (ok .many) k (omega arith) in
+      record {
+        fits = h;
+        some = λ e. omega arith;
+        whole = omega arith;
+        short = omega arith;
+        number = λ k l. ap (λ b. le16At b 0) (block k l) ∙ block-number (blockOf-is (contents t) k) (omega arith);
+        check = λ k l. ap (λ b. le16At b 510) (block k l) ∙ block-check (blockOf-is (contents t) k) ∙ ap checkOf (sym (block k l));
+        n-is = read-n;
+        g-is = read-g;
+        states = ok .states;
+        groups = ok .groups;
+        blocks = omega arith;
+        within = λ k l. below-beyond (t .n) _ (λ s i. ok .within k l .below s (subst (λ (X : Set). In X s) (read-set k l) i));
+        filler = λ i a b. contentsOf-fileOf t i ∙ getD-past (contents t) i 0 (omega (arith, length-contents t (ok .many)));
+      }
+
+-- ---- write, then read
+
+module _ (store : List ℕ) (n g room : ℕ) (words : Bounded (2 ^ 64) store) (w : Writable store n g room) where
+  storable : Storable (tableOf store n g) g
+  unfolding tableOf
+  storable =
+      let states = states-le n (w .states) in
+      let set : (at : ℕ) → at + WORDS ≤ storeWords → beyond n (setAt store at) ≡ false → Within n (setAt store at) =
+      λ at h e. record { proper = setAt-proper store at (omega (arith, w .long)) words; below = beyond-below n (setAt store at) e } in
+      record {
+        many = length-tabulate _ g;
+        states = w .states;
+        groups = w .groups;
+        within =
+            sets-each (tableOf store n g) (length-tabulate _ g) (λ k X. Within n X)
+            (set 0 (omega arith) (w .clean .initial))
+            (set forbiddenAt (omega arith) (w .clean .forbidden))
+            (λ j h. rw (getD-tabulate (λ i. setAt store (groupAt i)) g j [] h) (set (groupAt j) (omega (arith, w .groups)) (w .clean .group j h)))
+            (λ s h. subst (Within n) (sym (row-is store n g s h)) (set (rowAt s) (omega arith) (w .clean .row s h)));
+      }
+
+  -- contents that have the sets of the store are those of a table that the store holds
+  read-holds : (bytes : List ℕ) → ((k : ℕ) → k < 2 + g + n → setNumber bytes n k ≡ getD (sets (tableOf store n g)) k []) → Holds store (tableIn bytes n g)
+  unfolding tableOf tableIn sets
+  read-holds bytes e =
+      let states = states-le n (w .states) in
+      let t = tableOf store n g in
+      let group : ℕ → Set = λ i. setNumber bytes n (2 + i) in
+      record {
+        initial = sym (e 0 (omega arith));
+        forbidden = sym (e 1 (omega arith));
+        group = λ j h. ⊎-elim
+            (λ l. sym (getD-tabulate group g j empty l ∙ e (2 + j) (omega arith) ∙ sets-group t (length-tabulate _ g) j l ∙ getD-tabulate _ g j [] l))
+            (λ l.
+            setAt-empty store (groupAt j) (omega (arith, w .long)) (λ v x. w .clean .no-group (groupAt j + v) (omega arith) (omega arith))
+            ∙ sym (getD-past (tabulate g group) j empty (omega (arith, length-tabulate group g))))
+            (lt-or-ge j g);
+        row = λ s h. by-cond (λ (X : Set). setAt store (rowAt s) ≡ X) (ltb s n) _ empty
+            (λ q.
+            let l = ltb-true s n q in
+            sym (tableIn-row bytes n g s l ∙ e (2 + g + s) (omega arith) ∙ sets-row t (length-tabulate _ g) s l ∙ row-is store n g s l))
+            (λ q.
+            let l = ltb-false s n q in
+            setAt-empty store (rowAt s) (omega (arith, w .long)) (λ v x. w .clean .no-row (rowAt s + v) (omega arith) (omega arith)));
+      }
+
+module _ (store : List ℕ) (n g : ℕ) (out other : List ℕ) (words : Bounded (2 ^ 64) store) (w : Writable store n g (length out)) where
+  file-is : take (fileLength n g) (writeBuffer store n g out) ≡ fileOf (tableOf store n g)
+  unfolding tableOf
+  file-is =
+      ap (take (fileLength n g)) (write-buffer store n g out w)
+      ∙ take-overwrite (fileOf (tableOf store n g)) out (fileLength n g) (length-fileOf (tableOf store n g) (length-tabulate _ g))
+
+  write-read : storeWords ≤ length other → WriteRead store n g (take (fileLength n g) (writeBuffer store n g out)) other
+  unfolding tableOf
+  write-read h =
+      let t = tableOf store n g in
+      let ok = storable store n g (length out) words w in
+      let r = readable-file t g ok (length other) h in
+      let held = read-holds store n g (length out) words w (contentsOf (fileOf t)) (read-set t g ok) in
+      subst (λ (file : List ℕ). WriteRead store n g file other) (sym file-is)
+      (record {
+        answer = read-answer (fileOf t) (length other) n g r;
+        buffer = read-buffer (fileOf t) other n g r ∙ ap (λ xs. overwrite xs other) (holds-layout store _ held);
+      })
+
+-- ---- read, then write
+
+module _ (input : List ℕ) (room n g : ℕ) (u : Bounded 256 input) (r : Readable input room n g) where
+  abbrev table : Table
+  table = tableIn (contentsOf input) n g
+
+  many-groups : length (table .groups) ≡ g
+  unfolding tableIn
+  many-groups = length-tabulate _ g
+
+  sets-table : (k : ℕ) → k < 2 + g + n → getD (sets table) k [] ≡ setNumber (contentsOf input) n k
+  unfolding tableIn
+  sets-table =
+      sets-each table many-groups (λ k X. X ≡ setNumber (contentsOf input) n k) refl refl
+      (λ j h. getD-tabulate (λ i. setNumber (contentsOf input) n (2 + i)) g j [] h) (λ s h. tableIn-row (contentsOf input) n g s h)
+
+  contents-table : (i : ℕ) → getD (contents table) i 0 ≡ getD (contentsOf input) i 0
+  unfolding tableIn setNumber
+  contents-table i =
+      let bytes = contentsOf input in
+      let w = setWidth n in
+      let small = contentsOf-bounded input u in
+      let fits : 8 * w ≤ maxStates = omega (arith, states-le n (r .states)) in
+      ⊎-elim
+      (by-content (λ j. getD (contents table) j 0 ≡ getD bytes j 0) w (2 + g + n)
+      (λ j h.
+      contents-header table many-groups j h
+      ∙ ap₂ (λ (a b : ℕ). getD (le16 a ++ le16 b) j 0) (sym (r .n-is)) (sym (r .g-is))
+      ∙ header-pairs bytes small j h)
+      (λ k j h l.
+      contents-set table many-groups k j h l
+      ∙ ap (λ (X : Set). number (member X) (8 * j) 8) (sets-table k h)
+      ∙ number-setIn bytes w (4 + w * k) fits small j l)
+      i)
+      (λ h.
+      getD-past (contents table) i 0 (omega (arith, length-contents table many-groups))
+      ∙ sym (⊎-elim (r .filler i h) (λ l. getD-past bytes i 0 (omega (arith, length-contentsOf input))) (lt-or-ge i (508 * (length input / 512)))))
+      (lt-or-ge i (contentLength n g))
+
+  part-is : (k : ℕ) → k < length input / 512 → IsBlock (contents table) k (part input k)
+  part-is k h =
+      is-block (contents table) k (part input k) (length-part input k h) (part-bounded input k u) (r .number k h) (r .check k h)
+      (λ i l. sym (getD-contentsOf input k i h l) ∙ sym (contents-table (508 * k + i)))
+
+  file-table : fileOf table ≡ input
+  unfolding fileOf tableIn
+  file-table =
+      ap (λ (m : ℕ). concat m (blockOf (contents table))) (ap (λ (l : ℕ). blocksFor l) (length-contents table many-groups) ∙ sym (r .blocks))
+      ∙ concat-cong _ _ (length input / 512) (λ k h. block-unique (blockOf-is (contents table) k) (part-is k h))
+      ∙ concat-part input (r .whole)
+
+  laid : Laid table
+  unfolding tableIn setNumber
+  laid =
+      let w = setWidth n in
+      let bytes = contentsOf input in
+      record {
+        initial = (setIn-proper bytes w (4 + w * 0)) .long;
+        forbidden = (setIn-proper bytes w (4 + w * 1)) .long;
+        group = λ j. ⊎-elim
+            (λ h. ap length (getD-tabulate (λ i. setNumber bytes n (2 + i)) g j empty h) ∙ (setIn-proper bytes w (4 + w * (2 + j))) .long)
+            (λ h. ap length (getD-past (table .groups) j empty (omega (arith, many-groups))) ∙ empty-proper .long)
+            (lt-or-ge j g);
+        row = λ s.
+            by-cond (λ (X : Set). length X ≡ WORDS) (ltb s n) _ empty (λ q. (setIn-proper bytes w (4 + w * (2 + g + s))) .long) (λ q. empty-proper .long);
+      }
+
+module _ (input store : List ℕ) (n g : ℕ) (u : Bounded 256 input) (r : Readable input (length store) n g) where
+  abbrev filled : List ℕ
+  filled = overwrite (layout (tableIn (contentsOf input) n g)) store
+
+  filled-holds : Holds filled (tableIn (contentsOf input) n g)
+  filled-holds = overwrite-holds (tableIn (contentsOf input) n g) (laid input (length store) n g u r) store
+
+  filled-writable : (room : ℕ) → length input ≤ room → Writable filled n g room
+  unfolding tableIn
+  filled-writable room h =
+      let t = tableIn (contentsOf input) n g in
+      let size = length-layout t (laid input (length store) n g u r) in
+      record {
+        long = omega (arith, length-overwrite (layout t) store (omega (arith, r .fits)), r .fits);
+        states = r .states;
+        groups = r .groups;
+        clean =
+            holds-clean filled t filled-holds (length-tabulate _ g) (r .groups) (states-le n (r .states))
+            (λ k l. ap (beyond n) (sets-table input (length store) n g u r k l) ∙ r .within k l);
+        fits = omega (arith, r .blocks);
+      }
+
+  file-filled : fileOf (tableOf filled n g) ≡ input
+  unfolding tableOf tableIn
+  file-filled =
+      let t = tableIn (contentsOf input) n g in
+      fileOf-cong (tableOf filled n g) t refl (length-tabulate _ g ∙ sym (length-tabulate _ g))
+      (holds-sets filled t filled-holds (length-tabulate _ g) (r .groups) (states-le n (r .states)))
+      ∙ file-table input (length store) n g u r
+
+  read-write : (out : List ℕ) → length input ≤ length out → ReadWrite (readBuffer input store) n g input out
+  read-write out h =
+      let w = filled-writable (length out) h in
+      let size : fileLength n g ≡ length input = omega (arith, r .blocks, r .whole) in
+      subst (λ (xs : List ℕ). ReadWrite xs n g input out) (sym (read-buffer input store n g r))
+      (record {
+        answer = write-answer filled n g (length out) w ∙ ap (λ (l : ℕ). record { refusal = 0; length = l }) size;
+        buffer = write-buffer filled n g out w ∙ ap (λ xs. overwrite xs out) file-filled;
+      })
+
+-- ---- both
+
+pub round-trips : RoundTrips
+round-trips =
+    record {
+      write-read = λ store n g out other words h e.
+          let w = writable store n g (length out) (sym (write-refusal store n g (length out)) ∙ e) in
+          subst (λ (a : Written). WriteRead store n g (take (a .length) (writeBuffer store n g out)) other) (sym (write-answer store n g (length out) w))
+          (write-read store n g out other words w h);
+      read-write = λ input store out u h e.
+          let r = readable input (length store) (sym (read-refusal input (length store)) ∙ e) in
+          subst (λ (a : TableRead). ReadWrite (readBuffer input store) (a .n) (a .g) input out) (sym (read-answer input (length store) _ _ r))
+          (read-write input store _ _ u r out h);
+    }

@@ -1,0 +1,37 @@
+-- The round trips of read and write, as statements about what the calls return and leave in their buffers. The proofs stand in proofs/.
+--
+--   Bounded b xs     each number of xs is below b: a buffer of bytes is Bounded 256, a store Bounded (2 ^ 64) (past its end a list reads 0)
+--   WriteRead        the file of a store, read into another one, gives back n, g and the words of the table
+--   ReadWrite        the table of an input, written, gives back the length and every byte
+--   RoundTrips       both, of every call that is not declined
+use Prim.Native.Nat.{ℕ, _^_, _≤_, _<_}
+use mathlib.Core.Path.{_≡_}
+use mathlib.Core.List.{List}
+use lib.ListN.{length, getD, take}
+use Rattle.model.specs.Stores.{storeWords}
+use Rattle.model.specs.Calls.{overwrite, readAnswer, readBuffer, writeAnswer, writeBuffer}
+
+abbrev pub Bounded : ℕ → List ℕ → Type 0
+Bounded b xs = (i : ℕ) → getD xs i 0 < b
+
+-- A file that write made of a store, n and g, read into another store.
+pub record WriteRead (store : List ℕ) (n g : ℕ) (file other : List ℕ) : Type 0 where
+  pub answer : readAnswer file (length other) ≡ record { refusal = 0; n = n; g = g }
+  pub buffer : readBuffer file other ≡ overwrite (take storeWords store) other
+
+-- A store, n and g that read made of an input, written to an output.
+pub record ReadWrite (store : List ℕ) (n g : ℕ) (input out : List ℕ) : Type 0 where
+  pub answer : writeAnswer store n g (length out) ≡ record { refusal = 0; length = length input }
+  pub buffer : writeBuffer store n g out ≡ overwrite input out
+
+pub record RoundTrips : Type 0 where
+  pub write-read : (store : List ℕ) (n g : ℕ) (out other : List ℕ)
+      → Bounded (2 ^ 64) store
+      → storeWords ≤ length other
+      → (writeAnswer store n g (length out)) .refusal ≡ 0
+      → WriteRead store n g (take ((writeAnswer store n g (length out)) .length) (writeBuffer store n g out)) other
+  pub read-write : (input store out : List ℕ)
+      → Bounded 256 input
+      → length input ≤ length out
+      → (readAnswer input (length store)) .refusal ≡ 0
+      → ReadWrite (readBuffer input store) ((readAnswer input (length store)) .n) ((readAnswer input (length store)) .g) input out

@@ -1,0 +1,4 @@
+pub mod Putting
+pub mod Turns
+pub mod Decimals
+pub mod Worked

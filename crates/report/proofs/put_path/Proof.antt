@@ -1,0 +1,53 @@
+-- `report::put_path` meets its contract. After i turns the first i states are put.
+use Prim.Native.Nat.{_-_, _*_, _≤_, _<_}
+use native.Mathlib.Omega.{arith}
+use mathlib.Core.Path.{_≡_}
+use borrow.Author.Needs.{needs}
+use lib.ListN.{length, take}
+use Rattle.report.specs.Text.{spaced}
+use Rattle.report.specs.Put.{Put}
+use Rattle.report.proofs.Putting.{put-none, put-then, put-most}
+use Rattle.report.proofs.Turns.{take-more, spaced-append}
+use Rattle.report.proofs.put_path.Statement.{statement}
+use Rattle.report.proofs.put_path.Tie as tie
+
+abbrev Inv-loop : tie.InvT-loop
+Inv-loop path count at out₀ end₀ i₀ out end i = (i ≤ count) × Put (4 * i) (spaced (take i path)) at out₀ end out
+
+abbrev μ-loop : tie.MeasureT-loop
+μ-loop path count at out₀ end₀ i₀ out end i = count - i
+
+loop-holds : tie.Need-loop-holds Inv-loop μ-loop
+unfolding spaced
+loop-holds c = (omega arith, put-none _ _)
+
+loop-again : tie.Need-loop-again Inv-loop μ-loop
+loop-again c =
+    let call = c .before .before in
+    let turn = call .before .before .before in
+    let more : turn .before .loop .i < length (turn .before .before .before .before .args .path .now) = omega arith in (
+      omega arith,
+      rw (take-more, spaced-append) (put-most (omega arith) (put-then (turn .before .loop .inv .1) (call .put-spaced .ensures))),
+    )
+
+returns : tie.Need-returns Inv-loop μ-loop
+returns c =
+    let at = c .before .loop in
+    let all : at .i ≡ c .before .before .before .before .args .count = omega arith in
+    rw (← all) (at .inv .1)
+
+pub put-path-spec : {M : Type 1} → statement M
+put-path-spec =
+    tie.close
+    (tie.spec
+    Inv-loop
+    μ-loop
+    loop-holds
+    (λ c. omega arith)
+    (λ c. omega (arith, c .shared-slice-known2 .given (c .before .before .loop .i)))
+    (λ c κs. omega (arith, c .before .shared-slice-known2 .given (c .before .before .before .loop .i)))
+    (λ c. omega arith)
+    (λ c. omega arith)
+    loop-again
+    (λ c. search needs)
+    returns)

@@ -1,0 +1,127 @@
+-- Loops that go through a set word by word, and through the bits of a word from the lowest up.
+--
+--   in-wordSet, wordSet-in          membership in the states of a word
+--   word-lowest, word-rest          the lowest bit of a word that is not 0 is a state of it; without it, `x & (x - 1)` is left
+--   word-less                       which is a smaller number
+--   word-none                       the word 0 has no states
+--   words-none, words-more, words-all   the words before the first, one more, all of them
+use Prim.Native.Nat.{ℕ, zero, suc, _+_, _-_, _*_, _/_, _%_, _^_, _≤_, _<_}
+use native.Mathlib.Omega.{arith}
+use mathlib.Core.Path.{_≡_, refl, sym, ap, _∙_, subst}
+use mathlib.Core.Logic.{inl, inr, ⊎-elim}
+use mathlib.Core.Bool.{Bool, true, false, not, _&&_}
+use borrow.Author.Tests.{eqb-true, eqb-false, eq-eqb, ne-eqb, ltb-true, lt-ltb}
+use lib.Dec.{eqb, ltb}
+use lib.Bits.{bitAnd, and-le-r}
+use lib.Count.{trailingZeros}
+use lib.ListN.{getD}
+use Rattle.model.specs.Sets.{WORDS, maxStates, Set, bit, member, setOf, empty, single, union, difference, first}
+use Rattle.model.proofs.Bounds.{and-true, and-intro, not-true, clash, first-passes, lt-or-ge}
+use Rattle.model.proofs.SetLaws.{Proper, setOf-proper, In, in-bound, in-setOf, setOf-in, empty-in, in-single, single-in, in-union, union-in, in-difference, difference-in, member-at, same-set}
+use Rattle.state_set.specs.WordSets.{wordSet, wordsBelow}
+use Rattle.state_set.proofs.Bits.{bit-zero, trailing-first, first-bit, bit-lowest}
+
+-- ---- the states of a word
+
+pub in-wordSet : (w x : ℕ) {s : ℕ} → s < maxStates → s / 64 ≡ w → bit x (s % 64) ≡ true → In (wordSet w x) s
+unfolding wordSet
+in-wordSet w x {s} h e b = in-setOf _ h (and-intro (eqb (s / 64) w) (bit x (s % 64)) (eq-eqb (s / 64) w e) b)
+
+pub wordSet-in : (w x : ℕ) {s : ℕ} → In (wordSet w x) s → (s / 64 ≡ w) × (bit x (s % 64) ≡ true)
+unfolding wordSet
+wordSet-in w x {s} h =
+    let both = and-true (eqb (s / 64) w) (bit x (s % 64)) (setOf-in _ h) in
+    (eqb-true (s / 64) w (both .0), both .1)
+
+module _ (w x : ℕ) (word : w < WORDS) (fits : x < 2 ^ 64) (some : x ≡ 0 → ⊥) where
+  low-lt : trailingZeros 64 x < 64
+  low-lt = subst (λ (k : ℕ). k < 64) (sym (trailing-first 64 x)) (first-bit 64 x fits some)
+
+  pub word-lowest : In (wordSet w x) (64 * w + trailingZeros 64 x)
+  word-lowest =
+      let l = low-lt in
+      let place : (64 * w + trailingZeros 64 x) % 64 ≡ trailingZeros 64 x = omega arith in
+      in-wordSet w x (omega arith) (omega arith)
+      (ap (bit x) (place ∙ trailing-first 64 x) ∙ first-passes (bit x) 64 (first-bit 64 x fits some))
+
+  pub word-rest : wordSet w (bitAnd x (x - 1)) ≡ difference (wordSet w x) (single (64 * w + trailingZeros 64 x))
+  unfolding wordSet difference
+  word-rest =
+      same-set _ _ (setOf-proper _) (setOf-proper _)
+      (λ s h.
+      let at = wordSet-in w (bitAnd x (x - 1)) h in
+      let both = and-true (bit x (s % 64)) _ (sym (bit-lowest x (s % 64) (omega arith) fits) ∙ at .1) in
+      in-difference (in-wordSet w x (in-bound h) (at .0) (both .0)) (λ k. apart s (at .0) (single-in k) (not-true _ (both .1))))
+      (λ s h.
+      let parts = difference-in h in
+      let at = wordSet-in w x (parts .0) in
+      in-wordSet w (bitAnd x (x - 1)) (in-bound h) (at .0)
+      (bit-lowest x (s % 64) (omega arith) fits
+      ∙ and-intro (bit x (s % 64)) _ (at .1) (ap not (ne-eqb (s % 64) (trailingZeros 64 x) (λ e. parts .1 (is-low s (in-bound h) (at .0) e))))))
+    where
+      apart : (s : ℕ) → s / 64 ≡ w → s ≡ 64 * w + trailingZeros 64 x → eqb (s % 64) (trailingZeros 64 x) ≡ false → ⊥
+      apart s a e f = eqb-false (s % 64) (trailingZeros 64 x) f (omega (arith, low-lt))
+
+      is-low : (s : ℕ) → s < maxStates → s / 64 ≡ w → s % 64 ≡ trailingZeros 64 x → In (single (64 * w + trailingZeros 64 x)) s
+      is-low s b a e =
+          let q : s ≡ 64 * w + trailingZeros 64 x = omega arith in
+          subst (λ (y : ℕ). In (single y) s) q (in-single b)
+
+pub word-less : (x : ℕ) → (x ≡ 0 → ⊥) → bitAnd x (x - 1) < x
+word-less x some = omega (arith, and-le-r x (x - 1))
+
+pub word-none : (w : ℕ) → wordSet w 0 ≡ empty
+unfolding empty wordSet
+word-none w =
+    same-set _ _ (setOf-proper _) (setOf-proper _) (λ s h. absurd (clash (wordSet-in w 0 h .1) (bit-zero (s % 64)))) (λ s h. absurd (empty-in h))
+
+-- ---- the words one after the other
+
+in-words : (w : ℕ) (X : Set) {s : ℕ} → s / 64 < w → In X s → In (wordsBelow w X) s
+unfolding wordsBelow
+in-words w X {s} l h = in-setOf _ (in-bound h) (and-intro (ltb (s / 64) w) (member X s) (lt-ltb (s / 64) w l) (h .is))
+
+words-in : (w : ℕ) (X : Set) {s : ℕ} → In (wordsBelow w X) s → (s / 64 < w) × In X s
+unfolding wordsBelow
+words-in w X {s} h =
+    let both = and-true (ltb (s / 64) w) (member X s) (setOf-in _ h) in
+    (ltb-true (s / 64) w (both .0), record { is = both .1 })
+
+-- a state by its word and its place there
+word-member : (X : Set) (w s : ℕ) → w < WORDS → s / 64 ≡ w → member X s ≡ bit (getD X w 0) (s % 64)
+word-member X w s h e =
+    let split : s ≡ 64 * w + s % 64 = omega arith in
+    ap (member X) split ∙ member-at X w (s % 64) h (omega arith)
+
+pub words-none : (X : Set) → wordsBelow 0 X ≡ empty
+unfolding wordsBelow empty
+words-none X =
+    same-set _ _ (setOf-proper _) (setOf-proper _) (λ s h. absurd (no-word s (words-in 0 X h .0))) (λ s h. absurd (empty-in h))
+  where
+    no-word : (s : ℕ) → s / 64 < 0 → ⊥
+    no-word s l = omega arith
+
+pub words-more : (w : ℕ) (X : Set) → w < WORDS → wordsBelow (w + 1) X ≡ union (wordsBelow w X) (wordSet w (getD X w 0))
+unfolding wordsBelow union
+words-more w X h =
+    same-set _ _ (setOf-proper _) (setOf-proper _)
+    (λ s m.
+    let at = words-in (w + 1) X m in
+    in-union
+    (⊎-elim (λ l. inl (in-words w X l (at .1)))
+    (λ g.
+    let here : s / 64 ≡ w = omega (arith, at .0) in
+    inr (in-wordSet w (getD X w 0) (in-bound m) here (sym (word-member X w s h here) ∙ at .1 .is)))
+    (lt-or-ge (s / 64) w)))
+    (λ s m.
+    ⊎-elim
+    (λ l. let at = words-in w X l in in-words (w + 1) X (omega (arith, at .0)) (at .1))
+    (λ r.
+    let at = wordSet-in w (getD X w 0) r in
+    in-words (w + 1) X (omega (arith, at .0)) (record { is = word-member X w s h (at .0) ∙ at .1 }))
+    (union-in m))
+
+pub words-all : (w : ℕ) (X : Set) → Proper X → WORDS ≤ w → wordsBelow w X ≡ X
+unfolding wordsBelow
+words-all w X p h =
+    same-set _ _ (setOf-proper _) p (λ s m. words-in w X m .1) (λ s m. in-words w X (omega (arith, in-bound m)) m)

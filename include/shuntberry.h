@@ -1,0 +1,150 @@
+/*
+ * Shuntberry: is a forbidden state of a dialogue table reachable, and by which steps?
+ *
+ * Four calls: decide, shortest path, read and write. Link target/staticlib/libshuntberry.a, which
+ * `rt staticlib shuntberry` makes. Nothing is allocated, nothing is kept between calls, and no call
+ * fails other than by a refusal number: each may be made from several threads at once.
+ *
+ * A TABLE has n states, numbered 0 to n - 1, with n from 1 to 256, and g groups, with g from 0 to 64.
+ * A SET of states is four words: state s is the bit of value 2^(s % 64) in word s / 64.
+ * A STORE is at least SHUNTBERRY_STORE_WORDS words: the initial set, the forbidden set, 64 groups,
+ * and for each of 256 states the set of its successors (the offsets are below). The words of groups
+ * from g up and of rows from n up are 0. Words past the first 1,288 are neither read nor written.
+ *
+ * Each buffer is a pointer and the number of its elements. As with any C buffer, the pointer must be
+ * valid for that many elements, aligned for its type and not null (also where the length is 0), and
+ * a buffer that a call writes must not overlap another one of that call. Beyond that a call may be
+ * given anything: what it does not accept, it refuses.
+ *
+ * A REFUSED call has a refusal number in `refusal`, 0 in all other fields, and every buffer is as it
+ * was before. Where several grounds apply, the smallest number is given; for 12 and 13 the blocks are
+ * taken in order, 12 before 13 in each.
+ */
+#ifndef SHUNTBERRY_H
+#define SHUNTBERRY_H
+
+#include <stddef.h>
+#include <stdint.h>
+
+#ifdef __cplusplus
+extern "C" {
+#endif
+
+/* ---- Sizes ---- */
+
+#define SHUNTBERRY_MAX_STATES 256    /* the greatest n */
+#define SHUNTBERRY_MAX_GROUPS 64     /* the greatest g */
+#define SHUNTBERRY_MAX_ALLOWANCE 256 /* the greatest allowance, and that of a release check */
+#define SHUNTBERRY_SET_WORDS 4       /* words of a set */
+#define SHUNTBERRY_STORE_WORDS 1288  /* the least length of a store, in words */
+#define SHUNTBERRY_PATH_BYTES 256    /* the least length of a path buffer, in bytes */
+#define SHUNTBERRY_BLOCK_BYTES 512   /* a file is whole blocks of this many bytes */
+#define SHUNTBERRY_FILE_BYTES 10752  /* the length of the largest file, 21 blocks */
+
+/* ---- Where the sets stand in a store, as the index of their first word ---- */
+
+#define SHUNTBERRY_INITIAL 0                /* the initial set */
+#define SHUNTBERRY_FORBIDDEN 4              /* the forbidden set */
+#define SHUNTBERRY_GROUP(j) (8 + 4 * (j))   /* group j */
+#define SHUNTBERRY_ROW(s) (264 + 4 * (s))   /* the successors of state s */
+
+/* ---- Refusal numbers ---- */
+
+#define SHUNTBERRY_ACCEPTED 0           /* the call was not refused */
+#define SHUNTBERRY_STORE_SHORT 10       /* the store has under 1,288 words (all calls) */
+#define SHUNTBERRY_INPUT_LENGTH 11      /* the input's length is 0, no multiple of 512, or over 10,752 (read) */
+#define SHUNTBERRY_BLOCK_NUMBER 12      /* block k does not hold the number k (read) */
+#define SHUNTBERRY_BLOCK_CHECK 13       /* a block's stored check is not its check (read) */
+#define SHUNTBERRY_STATES 14            /* n is 0 or over 256 (all calls) */
+#define SHUNTBERRY_GROUPS 15            /* g is over 64 (all calls) */
+#define SHUNTBERRY_BLOCK_COUNT 16       /* the file has too few or too many blocks for its n and g (read) */
+#define SHUNTBERRY_STRAY_BIT 17         /* a set holds a state from n up, or a word of an unused group or row is not 0 (all calls) */
+#define SHUNTBERRY_FILLER 18            /* a byte past the contents is not 0 (read) */
+#define SHUNTBERRY_OUTPUT_SHORT 19      /* the output is shorter than the file (write) */
+#define SHUNTBERRY_ALLOWANCE 20         /* the allowance is over 256 (decide) */
+#define SHUNTBERRY_PATH_SHORT 21        /* the path buffer has under 256 bytes (decide, shortest path) */
+
+/* ---- Verdicts ---- */
+
+#define SHUNTBERRY_SAFE 0      /* no forbidden state can be reached from an initial one */
+#define SHUNTBERRY_UNSAFE 1    /* one can: the path buffer holds how */
+#define SHUNTBERRY_UNDECIDED 2 /* the allowance was used up before either was known */
+
+/* ---- The calls ---- */
+
+/* What shuntberry_decide answers. */
+struct shuntberry_decision {
+    uint64_t invariant[4]; /* if safe, a set with the initial states, the successors of each of its states, and no forbidden state; else empty */
+    uint32_t refusal;      /* 0, or the number of the refusal */
+    uint32_t verdict;      /* SHUNTBERRY_SAFE, SHUNTBERRY_UNSAFE or SHUNTBERRY_UNDECIDED */
+    uint32_t count;        /* the number of refinements made */
+    uint32_t size;         /* the number of states in the invariant */
+    uint32_t steps;        /* if unsafe, the number of steps of the path; else 0 */
+    uint32_t reserved;     /* 0 */
+};
+
+/*
+ * Decides by rounds of forward and backward fixpoints, with at most `allowance` refinements between
+ * them. With 256 the answer is never undecided.
+ *
+ * If unsafe, steps + 1 bytes at the front of `path` are the states of a shortest path from an initial
+ * to a forbidden state, of all such paths the one with the smallest first state, then the smallest
+ * second, and so on; no other byte is touched. If safe or undecided, nothing is written.
+ * The store is never changed.
+ *
+ * Refuses with 10, 14, 15, 17, 20 or 21.
+ */
+struct shuntberry_decision shuntberry_decide(const uint64_t *store, size_t store_len, size_t n, size_t g,
+                                             size_t allowance, uint8_t *path, size_t path_len);
+
+/* What shuntberry_shortest_path answers. */
+struct shuntberry_shortest {
+    uint32_t refusal; /* 0, or the number of the refusal */
+    uint32_t found;   /* 1 if there is a path, else 0 */
+    uint32_t steps;   /* the number of its steps, 0 if there is none */
+};
+
+/*
+ * Finds the path that shuntberry_decide gives, without the rounds: steps + 1 bytes at the front of
+ * `path`, no other byte touched. If there is no path, nothing is written. The store is never changed.
+ *
+ * Refuses with 10, 14, 15, 17 or 21.
+ */
+struct shuntberry_shortest shuntberry_shortest_path(const uint64_t *store, size_t store_len, size_t n, size_t g,
+                                                    uint8_t *path, size_t path_len);
+
+/* What shuntberry_read answers. */
+struct shuntberry_table {
+    uint32_t refusal; /* 0, or the number of the refusal */
+    uint32_t n;       /* the table's number of states */
+    uint32_t g;       /* the table's number of groups */
+};
+
+/*
+ * Reads a block file into the first 1,288 words of `store`; no other word is touched. The input is
+ * never changed.
+ *
+ * Refuses with 10, 11, 12, 13, 14, 15, 16, 17 (of set bytes only) or 18.
+ */
+struct shuntberry_table shuntberry_read(const uint8_t *input, size_t input_len, uint64_t *store, size_t store_len);
+
+/* What shuntberry_write answers. */
+struct shuntberry_file {
+    uint32_t refusal; /* 0, or the number of the refusal */
+    uint32_t length;  /* the length of the file in bytes, a multiple of 512 */
+};
+
+/*
+ * Writes the table as a block file at the front of `output`, and no other byte. An output of
+ * SHUNTBERRY_FILE_BYTES is always long enough. The store is never changed.
+ *
+ * Refuses with 10, 14, 15, 17 or 19.
+ */
+struct shuntberry_file shuntberry_write(const uint64_t *store, size_t store_len, size_t n, size_t g, uint8_t *output,
+                                        size_t output_len);
+
+#ifdef __cplusplus
+}
+#endif
+
+#endif

@@ -1,0 +1,57 @@
+//! The refusals of decide, shortest path and write, in document 01's order, and of read's store.
+
+use crate::blocks::{BLOCK, CONTENT, contents_length};
+use crate::table::{MAX_GROUPS, MAX_STATES, STORE_WORDS};
+
+pub const PATH_BYTES: usize = 256;
+pub const MAX_ALLOWANCE: usize = 256;
+
+pub fn decide(
+    store: &[u64],
+    n: usize,
+    g: usize,
+    allowance: usize,
+    path_len: usize,
+) -> Result<(), u32> {
+    table(store, n, g)?;
+    refuse_if(allowance > MAX_ALLOWANCE, 20)?;
+    refuse_if(path_len < PATH_BYTES, 21)
+}
+
+pub fn shortest_path(store: &[u64], n: usize, g: usize, path_len: usize) -> Result<(), u32> {
+    table(store, n, g)?;
+    refuse_if(path_len < PATH_BYTES, 21)
+}
+
+pub fn write(store: &[u64], n: usize, g: usize, output_len: usize) -> Result<(), u32> {
+    table(store, n, g)?;
+    let length = contents_length(n, g).div_ceil(CONTENT) * BLOCK;
+    refuse_if(output_len < length, 19)
+}
+
+/// The store that read is to fill.
+pub fn read_store(store_len: usize) -> Result<(), u32> {
+    refuse_if(store_len < STORE_WORDS, 10)
+}
+
+/// What all but read ask of a store with n and g.
+fn table(store: &[u64], n: usize, g: usize) -> Result<(), u32> {
+    refuse_if(store.len() < STORE_WORDS, 10)?;
+    refuse_if(n == 0 || n > MAX_STATES, 14)?;
+    refuse_if(g > MAX_GROUPS, 15)?;
+    let has = |at: usize, state: usize| store[at + state / 64] & (1 << (state % 64)) != 0;
+    let past_n = |at: usize| (n..256).any(|state| has(at, state));
+    let not_empty = |at: usize| store[at..at + 4].iter().any(|&word| word != 0);
+    let groups = (0..64).map(|j| (j < g, 8 + 4 * j));
+    let rows = (0..256).map(|s| (s < n, 264 + 4 * s));
+    let stray = [(true, 0), (true, 4)]
+        .into_iter()
+        .chain(groups)
+        .chain(rows)
+        .any(|(used, at)| if used { past_n(at) } else { not_empty(at) });
+    refuse_if(stray, 17)
+}
+
+fn refuse_if(ground: bool, number: u32) -> Result<(), u32> {
+    if ground { Err(number) } else { Ok(()) }
+}

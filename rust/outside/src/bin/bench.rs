@@ -1,0 +1,286 @@
+//! The benchmark: the library's four calls beside the optimised peer, in one run.
+//!
+//!     bench [--peer] [--repetitions R] [--only WORDS]
+//!
+//! In each repetition the library and the peers go through a family's tables in turn, in changing
+//! order; a ratio is of two times of one repetition. Printed are the median times of a call, and the
+//! median ratios with the range that holds 80 % of them. `--peer` measures the peer against itself,
+//! which shows the noise; `--only` takes the rows that have the words in their call and family.
+
+use std::hint::black_box;
+use std::process::ExitCode;
+use std::time::Instant;
+
+use shuntberry_outside::blocks;
+use shuntberry_outside::calls::Calls;
+use shuntberry_outside::families::{self, Family};
+use shuntberry_outside::generate::Random;
+use shuntberry_outside::peer::{Looks, Peer};
+use shuntberry_outside::table::{STORE_WORDS, Table};
+
+const SEED: u64 = 1;
+const REPETITIONS: usize = 41;
+/// The least time that a measurement takes, in nanoseconds.
+const LEAST: f64 = 1e6;
+
+/// One call on one table, with the buffers it needs.
+struct Case {
+    store: Vec<u64>,
+    file: Vec<u8>,
+    n: usize,
+    g: usize,
+}
+
+impl Case {
+    fn of(table: &Table) -> Case {
+        Case {
+            store: table.to_store(),
+            file: blocks::encode(table),
+            n: table.n,
+            g: table.g(),
+        }
+    }
+}
+
+#[derive(Clone, Copy, PartialEq, Eq)]
+enum Call {
+    Decide,
+    ShortestPath,
+    Read,
+    Write,
+}
+
+impl Call {
+    fn name(self) -> &'static str {
+        match self {
+            Call::Decide => "decide",
+            Call::ShortestPath => "shortest path",
+            Call::Read => "read",
+            Call::Write => "write",
+        }
+    }
+
+    /// Makes the call on each case.
+    fn run(self, library: &dyn Calls, cases: &[Case], buffers: &mut Buffers) {
+        for case in cases {
+            let Case { store, file, n, g } = black_box(case);
+            match self {
+                Call::Decide => {
+                    black_box(library.decide(store, *n, *g, 256, &mut buffers.path));
+                }
+                Call::ShortestPath => {
+                    black_box(library.shortest_path(store, *n, *g, &mut buffers.path));
+                }
+                Call::Read => {
+                    black_box(library.read(file, &mut buffers.store));
+                }
+                Call::Write => {
+                    black_box(library.write(store, *n, *g, &mut buffers.file));
+                }
+            }
+        }
+    }
+}
+
+struct Buffers {
+    path: [u8; 256],
+    store: [u64; STORE_WORDS],
+    file: [u8; blocks::LARGEST],
+}
+
+impl Buffers {
+    fn new() -> Buffers {
+        Buffers {
+            path: [0; 256],
+            store: [0; STORE_WORDS],
+            file: [0; blocks::LARGEST],
+        }
+    }
+}
+
+fn main() -> ExitCode {
+    let Some(options) = options() else {
+        eprintln!("usage: bench [--peer] [--repetitions R] [--only WORDS]");
+        return ExitCode::from(2);
+    };
+    let Some(subject) = subject(options.peer) else {
+        eprintln!("bench: built without the library; only --peer can be measured");
+        return ExitCode::from(2);
+    };
+    println!(
+        "{}, {} repetitions, seed {SEED}. Times are medians in microseconds for one call; \
+         in brackets the range of 80 % of the ratios.\n",
+        processor(),
+        options.repetitions
+    );
+    println!(
+        "| call | family | {} | peer | ratio | quick peer | ratio |",
+        subject.name()
+    );
+    println!("|---|---|--:|--:|--:|--:|--:|");
+    let mut random = Random::new(SEED);
+    let decide = families::for_decide(&mut random);
+    let shortest_path = families::for_shortest_path(&mut random);
+    let files = families::for_files(&mut random);
+    for (call, families) in [
+        (Call::Decide, &decide),
+        (Call::ShortestPath, &shortest_path),
+        (Call::Read, &files),
+        (Call::Write, &files),
+    ] {
+        for family in families {
+            let row = format!("{} | {}", call.name(), family.name);
+            if !row.contains(&options.only) {
+                continue;
+            }
+            match measure(subject, call, family, options.repetitions) {
+                Ok(figures) => println!("| {row} | {figures} |"),
+                Err(fault) => {
+                    eprintln!("bench: {row}: {fault}");
+                    return ExitCode::FAILURE;
+                }
+            }
+        }
+    }
+    ExitCode::SUCCESS
+}
+
+struct Options {
+    peer: bool,
+    repetitions: usize,
+    only: String,
+}
+
+fn options() -> Option<Options> {
+    let mut options = Options {
+        peer: false,
+        repetitions: REPETITIONS,
+        only: String::new(),
+    };
+    let mut words = std::env::args().skip(1);
+    while let Some(word) = words.next() {
+        match word.as_str() {
+            "--peer" => options.peer = true,
+            "--repetitions" => {
+                options.repetitions = words.next()?.parse().ok().filter(|&r| r > 0)?;
+            }
+            "--only" => options.only = words.next()?,
+            _ => return None,
+        }
+    }
+    Some(options)
+}
+
+fn subject(peer_only: bool) -> Option<&'static dyn Calls> {
+    if peer_only {
+        return Some(&Peer(Looks::Whole));
+    }
+    #[cfg(feature = "library")]
+    return Some(&shuntberry_outside::calls::Linked);
+    #[cfg(not(feature = "library"))]
+    None
+}
+
+fn processor() -> String {
+    let about = std::fs::read_to_string("/proc/cpuinfo").unwrap_or_default();
+    let model = about
+        .lines()
+        .find_map(|line| line.strip_prefix("model name"));
+    model.map_or("Unknown processor".to_string(), |model| {
+        model.trim_start_matches([' ', '\t', ':']).to_string()
+    })
+}
+
+/// Measures a call on a family: the figures of its row.
+fn measure(
+    subject: &dyn Calls,
+    call: Call,
+    family: &Family,
+    repetitions: usize,
+) -> Result<String, String> {
+    let libraries: [&dyn Calls; 3] = [subject, &Peer(Looks::Whole), &Peer(Looks::New)];
+    // The two peers differ in decide only.
+    let count = if call == Call::Decide { 3 } else { 2 };
+    let libraries = &libraries[..count];
+    let cases: Vec<Case> = family.tables.iter().map(Case::of).collect();
+    agree(libraries, call, &cases)?;
+
+    let mut buffers = Buffers::new();
+    let mut time = |library: &dyn Calls, rounds: usize| {
+        let start = Instant::now();
+        for _ in 0..rounds {
+            call.run(library, &cases, &mut buffers);
+        }
+        start.elapsed().as_nanos() as f64 / rounds as f64
+    };
+    let once = time(libraries[1], 3);
+    let rounds = (LEAST / once).ceil() as usize;
+    let mut times = vec![Vec::new(); count];
+    for repetition in 0..repetitions {
+        for place in 0..count {
+            let which = (repetition + place) % count;
+            times[which].push(time(libraries[which], rounds));
+        }
+    }
+
+    let per_call = |which: usize| median(&times[which]) / cases.len() as f64 / 1000.0;
+    let ratio = |which: usize| {
+        let pairs = times[0].iter().zip(&times[which]);
+        let ratios: Vec<f64> = pairs.map(|(subject, peer)| subject / peer).collect();
+        let (low, high) = (quantile(&ratios, 0.1), quantile(&ratios, 0.9));
+        format!("{:.2} ({low:.2}–{high:.2})", median(&ratios))
+    };
+    let beside = |which: usize| format!("{:.2} | {}", per_call(which), ratio(which));
+    let quick = if count == 3 {
+        beside(2)
+    } else {
+        "|".to_string()
+    };
+    Ok(format!("{:.2} | {} | {quick}", per_call(0), beside(1)))
+}
+
+/// That all answer the same, with the same in their buffers.
+fn agree(libraries: &[&dyn Calls], call: Call, cases: &[Case]) -> Result<(), String> {
+    for case in cases {
+        let answers: Vec<(String, Vec<u8>, Vec<u64>)> = libraries
+            .iter()
+            .map(|library| {
+                let (store, n, g) = (&case.store, case.n, case.g);
+                let mut buffers = Buffers::new();
+                match call {
+                    Call::Decide => {
+                        let answer = library.decide(store, n, g, 256, &mut buffers.path);
+                        (format!("{answer:?}"), buffers.path.to_vec(), Vec::new())
+                    }
+                    Call::ShortestPath => {
+                        let answer = library.shortest_path(store, n, g, &mut buffers.path);
+                        (format!("{answer:?}"), buffers.path.to_vec(), Vec::new())
+                    }
+                    Call::Read => {
+                        let answer = library.read(&case.file, &mut buffers.store);
+                        (format!("{answer:?}"), Vec::new(), buffers.store.to_vec())
+                    }
+                    Call::Write => {
+                        let answer = library.write(store, n, g, &mut buffers.file);
+                        (format!("{answer:?}"), buffers.file.to_vec(), Vec::new())
+                    }
+                }
+            })
+            .collect();
+        if answers.iter().any(|answer| *answer != answers[0]) {
+            let said: Vec<&String> = answers.iter().map(|(answer, ..)| answer).collect();
+            return Err(format!("answers differ: {said:?}"));
+        }
+    }
+    Ok(())
+}
+
+fn median(values: &[f64]) -> f64 {
+    quantile(values, 0.5)
+}
+
+fn quantile(values: &[f64], part: f64) -> f64 {
+    let mut sorted = values.to_vec();
+    sorted.sort_by(f64::total_cmp);
+    sorted[((sorted.len() - 1) as f64 * part).round() as usize]
+}

@@ -1,0 +1,207 @@
+//! The outside tests: tables and files at random, and those of document 01, through the library's four
+//! calls, held to implementations that share nothing with it.
+//!
+//!     outside [--peer] [--seed S] [--count N] [--case I]
+//!
+//! `--peer` tests the optimised peer in the library's place; `--case I` repeats one case of a run.
+
+use std::collections::BTreeMap;
+use std::process::ExitCode;
+use std::sync::Mutex;
+use std::sync::atomic::{AtomicU64, Ordering};
+use std::time::Instant;
+
+use shuntberry_outside::calls::Calls;
+use shuntberry_outside::examine::{self, Outcome, Tally};
+use shuntberry_outside::generate::Random;
+use shuntberry_outside::peer::{Looks, Peer};
+
+const SEED: u64 = 20_260_401;
+const COUNT: u64 = 40_000;
+const THREADS: usize = 2;
+/// Failures that are printed before the run is given up.
+const FAILURES: usize = 5;
+
+struct Options {
+    peer: bool,
+    seed: u64,
+    count: u64,
+    case: Option<u64>,
+}
+
+fn main() -> ExitCode {
+    let options = match options() {
+        Ok(options) => options,
+        Err(fault) => {
+            eprintln!("outside: {fault}");
+            eprintln!("usage: outside [--peer] [--seed S] [--count N] [--case I]");
+            return ExitCode::from(2);
+        }
+    };
+    let libraries = match libraries(options.peer) {
+        Ok(libraries) => libraries,
+        Err(fault) => {
+            eprintln!("outside: {fault}");
+            return ExitCode::from(2);
+        }
+    };
+    let names: Vec<&str> = libraries.iter().map(|library| library.name()).collect();
+    println!(
+        "outside: testing {}, seed {}, {} tables and files",
+        names.join(" and "),
+        options.seed,
+        options.count
+    );
+    let (tally, failures, elapsed) = run(&libraries, &options);
+    print_tally(&tally);
+    for failure in &failures {
+        println!("FAILED {failure}");
+    }
+    let unearned = if options.case.is_none() {
+        unearned_refusals(&tally)
+    } else {
+        Vec::new()
+    };
+    for what in &unearned {
+        println!("FAILED no case earned a {what}");
+    }
+    if failures.is_empty() && unearned.is_empty() {
+        println!("outside: all as expected, in {elapsed:.1} s");
+        ExitCode::SUCCESS
+    } else {
+        println!("outside: FAILED, after {elapsed:.1} s");
+        ExitCode::FAILURE
+    }
+}
+
+fn options() -> Result<Options, String> {
+    let mut options = Options {
+        peer: false,
+        seed: SEED,
+        count: COUNT,
+        case: None,
+    };
+    let mut words = std::env::args().skip(1);
+    while let Some(word) = words.next() {
+        let mut number = || -> Result<u64, String> {
+            let value = words.next().ok_or(format!("{word} needs a number"))?;
+            value.parse().map_err(|_| format!("{value} is no number"))
+        };
+        match word.as_str() {
+            "--peer" => options.peer = true,
+            "--seed" => options.seed = number()?,
+            "--count" => options.count = number()?,
+            "--case" => options.case = Some(number()?),
+            _ => return Err(format!("{word} is no option")),
+        }
+    }
+    Ok(options)
+}
+
+fn libraries(peer: bool) -> Result<Vec<&'static dyn Calls>, String> {
+    if peer {
+        return Ok(vec![&Peer(Looks::Whole), &Peer(Looks::New)]);
+    }
+    #[cfg(feature = "library")]
+    {
+        use shuntberry_outside::calls::{Linked, Wrapped};
+        Ok(vec![&Linked, &Wrapped])
+    }
+    #[cfg(not(feature = "library"))]
+    Err("built without the library; only --peer can be tested".to_string())
+}
+
+/// Runs the named tables, then the random cases on a few threads. Each case has a seed of its own, so
+/// the threads change nothing.
+fn run(libraries: &[&dyn Calls], options: &Options) -> (Tally, Vec<String>, f64) {
+    let start = Instant::now();
+    let tally = Mutex::new(Tally::default());
+    let failures = Mutex::new(Vec::new());
+    let next = AtomicU64::new(options.case.unwrap_or(0));
+    let end = options.case.map_or(options.count, |case| case + 1);
+
+    if options.case.is_none() {
+        let mut random = Random::new(options.seed);
+        let mut tally = tally.lock().expect("no thread yet");
+        if let Err(fault) = examine::named_tables(libraries, &mut random, &mut tally) {
+            failures.lock().expect("no thread yet").push(fault);
+        }
+    }
+    std::thread::scope(|scope| {
+        for _ in 0..THREADS {
+            scope.spawn(|| {
+                let mut own = Tally::default();
+                loop {
+                    let case = next.fetch_add(1, Ordering::Relaxed);
+                    if case >= end {
+                        break;
+                    }
+                    if let Err(fault) = random_case(libraries, options.seed, case, &mut own) {
+                        let mut failures = failures.lock().expect("no thread panics");
+                        failures.push(format!("--seed {} --case {case}: {fault}", options.seed));
+                        if failures.len() >= FAILURES {
+                            next.store(end, Ordering::Relaxed);
+                        }
+                    }
+                }
+                tally.lock().expect("no thread panics").add(own);
+            });
+        }
+    });
+    let tally = tally.into_inner().expect("threads have ended");
+    let failures = failures.into_inner().expect("threads have ended");
+    (tally, failures, start.elapsed().as_secs_f64())
+}
+
+/// Two tables for each file.
+fn random_case(libraries: &[&dyn Calls], seed: u64, case: u64, tally: &mut Tally) -> Outcome {
+    let mut random = Random::for_case(seed, case);
+    if case % 3 == 2 {
+        examine::random_file(libraries, &mut random, tally)
+    } else {
+        examine::random_table(libraries, &mut random, tally)
+    }
+}
+
+/// A line for each thing that was counted, with its kinds in the order of their numbers, or, where
+/// there are many, with how many of them came up.
+fn print_tally(tally: &Tally) {
+    let mut lines: BTreeMap<&str, Vec<(&String, &usize)>> = BTreeMap::new();
+    for ((thing, kind), count) in &tally.0 {
+        lines.entry(thing).or_default().push((kind, count));
+    }
+    for (thing, mut kinds) in lines {
+        kinds.sort_by_key(|(kind, _)| kind.parse::<u32>().unwrap_or(0));
+        let line = if let [(first, times), .., (last, _)] = kinds[..]
+            && kinds.len() > 16
+        {
+            let different = kinds.len();
+            format!("{different} different, from {first} ({times} times) to {last}")
+        } else {
+            let counted = kinds
+                .iter()
+                .map(|(kind, times)| format!("{kind} × {times}"));
+            counted.collect::<Vec<String>>().join(", ")
+        };
+        println!("  {thing}: {line}");
+    }
+}
+
+/// Refusals of document 01's table that no case earned.
+fn unearned_refusals(tally: &Tally) -> Vec<String> {
+    let table: [(&str, &[u32]); 4] = [
+        ("refusal by decide", &[10, 14, 15, 17, 20, 21]),
+        ("refusal by shortest path", &[10, 14, 15, 17, 21]),
+        ("refusal by read", &[10, 11, 12, 13, 14, 15, 16, 17, 18]),
+        ("refusal by write", &[10, 14, 15, 17, 19]),
+    ];
+    let mut unearned = Vec::new();
+    for (call, numbers) in table {
+        for number in numbers {
+            if !tally.0.contains_key(&(call, number.to_string())) {
+                unearned.push(format!("{call} {number}"));
+            }
+        }
+    }
+    unearned
+}

@@ -1,0 +1,208 @@
+//! The four calls as a trait, so that one test serves the library as it is linked for C, the safe
+//! wrapper around it, and the peer.
+
+/// What decide answers; the fields are those of `shuntberry_decision`.
+#[derive(Clone, Copy, Debug, Default, PartialEq, Eq)]
+pub struct Decision {
+    pub invariant: [u64; 4],
+    pub refusal: u32,
+    pub verdict: u32,
+    pub count: u32,
+    pub size: u32,
+    pub steps: u32,
+    pub reserved: u32,
+}
+
+/// What shortest path answers.
+#[derive(Clone, Copy, Debug, Default, PartialEq, Eq)]
+pub struct Shortest {
+    pub refusal: u32,
+    pub found: u32,
+    pub steps: u32,
+}
+
+/// What read answers.
+#[derive(Clone, Copy, Debug, Default, PartialEq, Eq)]
+pub struct TableRead {
+    pub refusal: u32,
+    pub n: u32,
+    pub g: u32,
+}
+
+/// What write answers.
+#[derive(Clone, Copy, Debug, Default, PartialEq, Eq)]
+pub struct Written {
+    pub refusal: u32,
+    pub length: u32,
+}
+
+pub const SAFE: u32 = 0;
+pub const UNSAFE: u32 = 1;
+pub const UNDECIDED: u32 = 2;
+
+pub trait Calls: Sync {
+    fn name(&self) -> &'static str;
+    fn decide(
+        &self,
+        store: &[u64],
+        n: usize,
+        g: usize,
+        allowance: usize,
+        path: &mut [u8],
+    ) -> Decision;
+    fn shortest_path(&self, store: &[u64], n: usize, g: usize, path: &mut [u8]) -> Shortest;
+    fn read(&self, input: &[u8], store: &mut [u64]) -> TableRead;
+    fn write(&self, store: &[u64], n: usize, g: usize, output: &mut [u8]) -> Written;
+}
+
+#[cfg(feature = "library")]
+pub use linked::{Linked, Wrapped};
+
+#[cfg(feature = "library")]
+mod linked {
+    use super::{Calls, Decision, SAFE, Shortest, TableRead, UNDECIDED, UNSAFE, Written};
+    use shuntberry::{Refused, Verdict, raw};
+
+    /// The library, by its exports for C.
+    pub struct Linked;
+
+    // SAFETY of the calls: each pointer and length are those of a slice.
+    impl Calls for Linked {
+        fn name(&self) -> &'static str {
+            "library"
+        }
+
+        fn decide(
+            &self,
+            store: &[u64],
+            n: usize,
+            g: usize,
+            allowance: usize,
+            path: &mut [u8],
+        ) -> Decision {
+            let (words, length) = (store.as_ptr(), store.len());
+            let (bytes, room) = (path.as_mut_ptr(), path.len());
+            let answer =
+                unsafe { raw::shuntberry_decide(words, length, n, g, allowance, bytes, room) };
+            Decision {
+                invariant: answer.invariant,
+                refusal: answer.refusal,
+                verdict: answer.verdict,
+                count: answer.count,
+                size: answer.size,
+                steps: answer.steps,
+                reserved: answer.reserved,
+            }
+        }
+
+        fn shortest_path(&self, store: &[u64], n: usize, g: usize, path: &mut [u8]) -> Shortest {
+            let (words, length) = (store.as_ptr(), store.len());
+            let (bytes, room) = (path.as_mut_ptr(), path.len());
+            let answer = unsafe { raw::shuntberry_shortest_path(words, length, n, g, bytes, room) };
+            Shortest {
+                refusal: answer.refusal,
+                found: answer.found,
+                steps: answer.steps,
+            }
+        }
+
+        fn read(&self, input: &[u8], store: &mut [u64]) -> TableRead {
+            let (bytes, length) = (input.as_ptr(), input.len());
+            let (words, room) = (store.as_mut_ptr(), store.len());
+            let answer = unsafe { raw::shuntberry_read(bytes, length, words, room) };
+            TableRead {
+                refusal: answer.refusal,
+                n: answer.n,
+                g: answer.g,
+            }
+        }
+
+        fn write(&self, store: &[u64], n: usize, g: usize, output: &mut [u8]) -> Written {
+            let (words, length) = (store.as_ptr(), store.len());
+            let (bytes, room) = (output.as_mut_ptr(), output.len());
+            let answer = unsafe { raw::shuntberry_write(words, length, n, g, bytes, room) };
+            Written {
+                refusal: answer.refusal,
+                length: answer.length,
+            }
+        }
+    }
+
+    /// The library, by the safe wrapper: its answers laid out as the fields they come from.
+    pub struct Wrapped;
+
+    impl Calls for Wrapped {
+        fn name(&self) -> &'static str {
+            "wrapper"
+        }
+
+        fn decide(
+            &self,
+            store: &[u64],
+            n: usize,
+            g: usize,
+            allowance: usize,
+            path: &mut [u8],
+        ) -> Decision {
+            let none = Decision::default();
+            match shuntberry::decide(store, n, g, allowance, path) {
+                Err(Refused(refusal)) => Decision { refusal, ..none },
+                Ok(Verdict::Safe { count, invariant }) => Decision {
+                    verdict: SAFE,
+                    count,
+                    invariant: invariant.0,
+                    size: invariant.states().count() as u32,
+                    ..none
+                },
+                Ok(Verdict::Unsafe { count, path }) => Decision {
+                    verdict: UNSAFE,
+                    count,
+                    steps: path.len() as u32 - 1,
+                    ..none
+                },
+                Ok(Verdict::Undecided { count }) => Decision {
+                    verdict: UNDECIDED,
+                    count,
+                    ..none
+                },
+            }
+        }
+
+        fn shortest_path(&self, store: &[u64], n: usize, g: usize, path: &mut [u8]) -> Shortest {
+            let none = Shortest::default();
+            match shuntberry::shortest_path(store, n, g, path) {
+                Err(Refused(refusal)) => Shortest { refusal, ..none },
+                Ok(None) => none,
+                Ok(Some(path)) => Shortest {
+                    found: 1,
+                    steps: path.len() as u32 - 1,
+                    ..none
+                },
+            }
+        }
+
+        fn read(&self, input: &[u8], store: &mut [u64]) -> TableRead {
+            match shuntberry::read(input, store) {
+                Err(Refused(refusal)) => TableRead {
+                    refusal,
+                    ..TableRead::default()
+                },
+                Ok(table) => TableRead {
+                    refusal: 0,
+                    n: table.n as u32,
+                    g: table.g as u32,
+                },
+            }
+        }
+
+        fn write(&self, store: &[u64], n: usize, g: usize, output: &mut [u8]) -> Written {
+            match shuntberry::write(store, n, g, output) {
+                Err(Refused(refusal)) => Written { refusal, length: 0 },
+                Ok(file) => Written {
+                    refusal: 0,
+                    length: file.len() as u32,
+                },
+            }
+        }
+    }
+}

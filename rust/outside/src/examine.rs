@@ -1,0 +1,600 @@
+//! The tests: one table or one file at a time, held to what the plain implementations expect.
+//!
+//! Each examination makes its calls with buffers between guards, compares every field of the answer
+//! and every element of every buffer, and says in words what differs.
+
+use std::collections::BTreeMap;
+use std::fmt::Debug;
+
+use crate::blocks::{self, BLOCK, CONTENT};
+use crate::buffer::Lent;
+use crate::calls::{Calls, Decision, SAFE, Shortest, TableRead, UNDECIDED, UNSAFE, Written};
+use crate::damage::{self, DAMAGES, Damage};
+use crate::expected::{self, Expected, Judged};
+use crate::generate::{Kind, Random};
+use crate::named;
+use crate::rounds::{self, Rounds};
+use crate::search;
+use crate::table::{STORE_WORDS, Table, set_where};
+
+pub type Outcome = Result<(), String>;
+
+/// Up to this size the plain implementations are themselves held to trying everything.
+const SMALL: usize = 6;
+
+/// How often each kind of a thing came up, so that a reader sees what was tested.
+#[derive(Default)]
+pub struct Tally(pub BTreeMap<(&'static str, String), usize>);
+
+impl Tally {
+    fn count(&mut self, thing: &'static str, kind: impl ToString) {
+        *self.0.entry((thing, kind.to_string())).or_default() += 1;
+    }
+
+    pub fn add(&mut self, other: Tally) {
+        for (what, count) in other.0 {
+            *self.0.entry(what).or_default() += count;
+        }
+    }
+}
+
+// ---- One call, with all its buffers compared
+
+fn same<T: PartialEq + Debug>(what: &str, answer: T, expected: T) -> Outcome {
+    if answer == expected {
+        Ok(())
+    } else {
+        Err(format!("{what} answered {answer:?}, expected {expected:?}"))
+    }
+}
+
+fn decide(
+    library: &dyn Calls,
+    store: &[u64],
+    (n, g, allowance): (usize, usize, usize),
+    path: &[u8],
+    expected: &Expected<Decision, u8>,
+) -> Outcome {
+    let what = format!("{}'s decide({n}, {g}, {allowance})", library.name());
+    let (store, mut path) = (Lent::new(store), Lent::new(path));
+    let answer = library.decide(store.shared(), n, g, allowance, path.mutable());
+    same(&what, answer, expected.answer)?;
+    path.holds(&format!("path after {what}"), &expected.front)?;
+    store.holds(&format!("store after {what}"), &[])
+}
+
+fn shortest_path(
+    library: &dyn Calls,
+    store: &[u64],
+    (n, g): (usize, usize),
+    path: &[u8],
+    expected: &Expected<Shortest, u8>,
+) -> Outcome {
+    let what = format!("{}'s shortest path({n}, {g})", library.name());
+    let (store, mut path) = (Lent::new(store), Lent::new(path));
+    let answer = library.shortest_path(store.shared(), n, g, path.mutable());
+    same(&what, answer, expected.answer)?;
+    path.holds(&format!("path after {what}"), &expected.front)?;
+    store.holds(&format!("store after {what}"), &[])
+}
+
+fn read(
+    library: &dyn Calls,
+    input: &[u8],
+    store: &[u64],
+    expected: &Expected<TableRead, u64>,
+) -> Outcome {
+    let what = format!("{}'s read", library.name());
+    let (input, mut store) = (Lent::new(input), Lent::new(store));
+    let answer = library.read(input.shared(), store.mutable());
+    same(&what, answer, expected.answer)?;
+    store.holds(&format!("store after {what}"), &expected.front)?;
+    input.holds(&format!("input after {what}"), &[])
+}
+
+fn write(
+    library: &dyn Calls,
+    store: &[u64],
+    (n, g): (usize, usize),
+    output: &[u8],
+    expected: &Expected<Written, u8>,
+) -> Outcome {
+    let what = format!("{}'s write({n}, {g})", library.name());
+    let (store, mut output) = (Lent::new(store), Lent::new(output));
+    let answer = library.write(store.shared(), n, g, output.mutable());
+    same(&what, answer, expected.answer)?;
+    output.holds(&format!("output after {what}"), &expected.front)?;
+    store.holds(&format!("store after {what}"), &[])
+}
+
+fn ensure(holds: bool, what: impl FnOnce() -> String) -> Outcome {
+    if holds { Ok(()) } else { Err(what()) }
+}
+
+// ---- A table
+
+/// A random table through all four calls, then with spoiled arguments.
+pub fn random_table(libraries: &[&dyn Calls], random: &mut Random, tally: &mut Tally) -> Outcome {
+    let kind = Kind::random(random);
+    let table = kind.table(random);
+    tally.count("kind of steps", format!("{:?}", kind.steps));
+    tally.count("kind of ends", format!("{:?}", kind.ends));
+    tally.count("kind of groups", format!("{:?}", kind.groups));
+    accepted_table(libraries, &table, random, tally)
+        .and_then(|()| spoiled_arguments(libraries, &table, random, tally))
+        .map_err(|fault| format!("{kind:?}: {fault}"))
+}
+
+/// The four calls on a table, with demands 2 and 3 and both round trips.
+pub fn accepted_table(
+    libraries: &[&dyn Calls],
+    table: &Table,
+    random: &mut Random,
+    tally: &mut Tally,
+) -> Outcome {
+    let (n, g) = (table.n, table.g());
+    let mut store = table.to_store();
+    let beyond = random.pick(&[0, 0, 1, 7]);
+    store.extend(random.words(beyond));
+    let mut judged = Judged::new(table);
+    let backward = rounds::backward_number(table);
+
+    // The answers that are expected with each allowance, held to demands 2 and 3.
+    let mut allowances = vec![
+        0,
+        1,
+        backward.saturating_sub(1),
+        backward,
+        backward + 1,
+        256,
+    ];
+    allowances.sort();
+    allowances.dedup();
+    let expected: Vec<(usize, Expected<Decision, u8>)> = allowances
+        .iter()
+        .filter(|&&allowance| allowance <= 256)
+        .map(|&allowance| (allowance, judged.decide(allowance)))
+        .collect();
+    demand_2(table, &judged, &expected)?;
+    demand_3(&judged, &expected, backward)?;
+    if n <= SMALL {
+        try_everything(table, &judged)?;
+    }
+    tally.count("states", n);
+    tally.count("groups", g);
+    tally.count("backward number", backward);
+    for (allowance, Expected { answer, .. }) in &expected {
+        let verdict = ["safe", "unsafe", "undecided"][answer.verdict as usize];
+        tally.count("verdict", verdict);
+        if *allowance == 256 {
+            tally.count("refinements", answer.count);
+        }
+        if answer.verdict == UNSAFE {
+            tally.count("steps of the path", answer.steps);
+        }
+    }
+
+    for library in libraries {
+        for (allowance, expected) in &expected {
+            let room = random.pick(&[256, 256, 257, 300]);
+            let path = random.bytes(room);
+            decide(*library, &store, (n, g, *allowance), &path, expected)?;
+        }
+        let path = random.bytes(256 + beyond);
+        let shortest = judged.shortest_path();
+        shortest_path(*library, &store, (n, g), &path, &shortest)?;
+        round_trips(*library, &store, (n, g), &judged.write(), random)?;
+    }
+    Ok(())
+}
+
+/// Demand 2: the verdict is unsafe just where a depth-first search, which knows no rounds, finds a
+/// forbidden state; a safe set is an invariant; a path is one.
+fn demand_2(
+    table: &Table,
+    judged: &Judged,
+    answers: &[(usize, Expected<Decision, u8>)],
+) -> Outcome {
+    let reachable = search::reaches_forbidden(table);
+    ensure(judged.path.is_some() == reachable, || {
+        "the two searches differ".to_string()
+    })?;
+    for (allowance, Expected { answer, front }) in answers {
+        let path: Vec<usize> = front.iter().map(|&state| state.into()).collect();
+        let invariant = set_where(table.n, |s| answer.invariant[s / 64] >> (s % 64) & 1 == 1);
+        let holds = match answer.verdict {
+            SAFE => !reachable && rounds::is_invariant(table, &invariant),
+            UNSAFE => reachable && search::is_path(table, &path),
+            _ => answer.count as usize == *allowance,
+        };
+        ensure(holds, || {
+            format!("demand 2 fails with allowance {allowance}")
+        })?;
+    }
+    Ok(())
+}
+
+/// Demand 3: the count is at most the backward number, and for unsafe at most the length of any path;
+/// an allowance of at least the backward number is never undecided; a larger allowance never changes
+/// a verdict that was given.
+fn demand_3(
+    judged: &Judged,
+    answers: &[(usize, Expected<Decision, u8>)],
+    backward: usize,
+) -> Outcome {
+    let fails = |sentence: &str| Err(format!("demand 3 fails: {sentence}"));
+    for (allowance, Expected { answer, .. }) in answers {
+        if answer.count as usize > backward {
+            return fails("count over the backward number");
+        }
+        let steps = judged.path.as_ref().map_or(0, |path| path.len() - 1);
+        if answer.verdict == UNSAFE && answer.count as usize > steps {
+            return fails("count over the length of a path");
+        }
+        if answer.verdict == UNDECIDED && *allowance >= backward {
+            return fails("undecided with the backward number allowed");
+        }
+    }
+    for pair in answers.windows(2) {
+        let ((_, smaller), (_, larger)) = (&pair[0], &pair[1]);
+        if smaller.answer.verdict != UNDECIDED
+            && (smaller.answer != larger.answer || smaller.front != larger.front)
+        {
+            return fails("a larger allowance changes the answer");
+        }
+    }
+    Ok(())
+}
+
+/// The plain implementations against trying all sets and all sequences of states.
+fn try_everything(table: &Table, judged: &Judged) -> Outcome {
+    ensure(judged.path == search::first_path_of_all(table), || {
+        "the path is not the first of all".to_string()
+    })?;
+    let mut rounds = Rounds::new(table);
+    rounds.decide(256);
+    ensure(rounds::extremes_hold(&rounds), || {
+        "R is not the least or S not the greatest".to_string()
+    })
+}
+
+/// What is written is the expected file and reads back as the store; what is read from the file is
+/// written again as the file. With an output that is just long enough, longer, and one byte short.
+fn round_trips(
+    library: &dyn Calls,
+    store: &[u64],
+    (n, g): (usize, usize),
+    expected: &Expected<Written, u8>,
+    random: &mut Random,
+) -> Outcome {
+    let file = &expected.front;
+    let room = file.len() + random.pick(&[0, 0, 1, 512]);
+    let output = random.bytes(room);
+    write(library, store, (n, g), &output, expected)?;
+    let short = Expected {
+        answer: Written {
+            refusal: 19,
+            length: 0,
+        },
+        front: Vec::new(),
+    };
+    let output = &output[..file.len() - 1];
+    write(library, store, (n, g), output, &short)?;
+
+    let mut written = random.bytes(file.len());
+    library.write(store, n, g, &mut written);
+    let room = STORE_WORDS + random.pick(&[0, 0, 1, 9]);
+    let mut filled = random.words(room);
+    read(library, &written, &filled, &expected::read(file, room))?;
+    let answer = library.read(&written, &mut filled);
+    same(
+        "read of what was written",
+        (answer.n, answer.g),
+        (n as u32, g as u32),
+    )?;
+    ensure(filled[..STORE_WORDS] == store[..STORE_WORDS], || {
+        "what was written reads back as another table".to_string()
+    })?;
+    let output = random.bytes(file.len());
+    write(library, &filled, (n, g), &output, expected)
+}
+
+// ---- Refusals of arguments
+
+/// What can be wrong with the arguments of decide, shortest path and write.
+#[derive(Clone, Copy, Debug)]
+enum Fault {
+    StoreShort,
+    States,
+    Groups,
+    StrayBit,
+    UnusedGroup,
+    UnusedRow,
+    Allowance,
+    PathShort,
+    OutputShort,
+    /// One state or group more or fewer than the store was made for.
+    OtherSize,
+}
+
+const FAULTS: [Fault; 10] = [
+    Fault::StoreShort,
+    Fault::States,
+    Fault::Groups,
+    Fault::StrayBit,
+    Fault::UnusedGroup,
+    Fault::UnusedRow,
+    Fault::Allowance,
+    Fault::PathShort,
+    Fault::OutputShort,
+    Fault::OtherSize,
+];
+
+/// A number past 32 bits, which must not be taken for its low half.
+const WIDE: usize = (1 << 32) + 1;
+
+struct Arguments {
+    store: Vec<u64>,
+    n: usize,
+    g: usize,
+    allowance: usize,
+    path_len: usize,
+    output_len: usize,
+}
+
+impl Arguments {
+    fn of(table: &Table, random: &mut Random) -> Arguments {
+        let (n, g) = (table.n, table.g());
+        Arguments {
+            store: table.to_store(),
+            n,
+            g,
+            allowance: random.pick(&[0, 1, 256]),
+            path_len: 256,
+            output_len: blocks::contents_length(n, g).div_ceil(CONTENT) * BLOCK,
+        }
+    }
+
+    fn spoil(&mut self, fault: Fault, random: &mut Random) {
+        match fault {
+            Fault::StoreShort => {
+                let length = match random.below(3) {
+                    0 => 0,
+                    1 => random.below(STORE_WORDS),
+                    _ => STORE_WORDS - 1,
+                };
+                self.store.truncate(length);
+            }
+            Fault::States => self.n = random.pick(&[0, 257, WIDE, usize::MAX]),
+            Fault::Groups => self.g = random.pick(&[65, WIDE, usize::MAX]),
+            Fault::StrayBit if self.n < 256 && self.g <= 64 => {
+                let last = random.pick(&[self.n, 255]);
+                let state = random.within(self.n, last);
+                let at = match random.below(2 + self.g + self.n) {
+                    set if set < 2 + self.g => 4 * set,
+                    set => 264 + 4 * (set - 2 - self.g),
+                };
+                self.put(at + state / 64, state % 64);
+            }
+            Fault::UnusedGroup if self.g < 64 => {
+                let at = random.within(8 + 4 * self.g, 263);
+                self.put(at, random.below(64));
+            }
+            Fault::UnusedRow if self.n < 256 => {
+                let at = random.within(264 + 4 * self.n, STORE_WORDS - 1);
+                self.put(at, random.below(64));
+            }
+            Fault::StrayBit | Fault::UnusedGroup | Fault::UnusedRow => {}
+            Fault::Allowance => self.allowance = random.pick(&[257, WIDE, usize::MAX]),
+            Fault::PathShort => self.path_len = random.pick(&[0, 255]),
+            Fault::OutputShort => {
+                self.output_len = random.pick(&[0, self.output_len.saturating_sub(1)]);
+            }
+            Fault::OtherSize => match random.below(4) {
+                0 => self.n = self.n.wrapping_add(1),
+                1 => self.n = self.n.wrapping_sub(1),
+                2 => self.g = self.g.wrapping_add(1),
+                _ => self.g = self.g.wrapping_sub(1),
+            },
+        }
+    }
+
+    /// Sets a bit of a word, if the store still has it.
+    fn put(&mut self, at: usize, bit: usize) {
+        if let Some(word) = self.store.get_mut(at) {
+            *word |= 1 << bit;
+        }
+    }
+}
+
+/// Decide, shortest path and write with one to three faults in their arguments.
+fn spoiled_arguments(
+    libraries: &[&dyn Calls],
+    table: &Table,
+    random: &mut Random,
+    tally: &mut Tally,
+) -> Outcome {
+    let mut arguments = Arguments::of(table, random);
+    let faults: Vec<Fault> = (0..random.within(1, 3))
+        .map(|_| random.pick(&FAULTS))
+        .collect();
+    for &fault in &faults {
+        arguments.spoil(fault, random);
+    }
+    let Arguments {
+        store,
+        n,
+        g,
+        allowance,
+        path_len,
+        output_len,
+    } = arguments;
+    let path = random.bytes(path_len);
+    let output = random.bytes(output_len);
+    let decision = expected::decide(&store, n, g, allowance, path_len);
+    let shortest = expected::shortest_path(&store, n, g, path_len);
+    let written = expected::write(&store, n, g, output_len);
+    tally.count("refusal by decide", decision.answer.refusal);
+    tally.count("refusal by shortest path", shortest.answer.refusal);
+    tally.count("refusal by write", written.answer.refusal);
+    for library in libraries {
+        decide(*library, &store, (n, g, allowance), &path, &decision)
+            .and_then(|()| shortest_path(*library, &store, (n, g), &path, &shortest))
+            .and_then(|()| write(*library, &store, (n, g), &output, &written))
+            .map_err(|fault| format!("{faults:?}: {fault}"))?;
+    }
+    Ok(())
+}
+
+// ---- A file
+
+/// A random file, whole, damaged in one way or in several, or of random bytes.
+pub fn random_file(libraries: &[&dyn Calls], random: &mut Random, tally: &mut Tally) -> Outcome {
+    let kind = Kind::random(random);
+    let table = kind.table(random);
+    let applicable: Vec<Damage> = DAMAGES
+        .into_iter()
+        .filter(|damage| damage.applies_to(&table))
+        .collect();
+    let damages: Vec<Damage> = (0..random.pick(&[0, 1, 1, 1, 2, 3]))
+        .map(|_| random.pick(&applicable))
+        .collect();
+    let mut file = damage::damaged(&table, &damages, random);
+    let random_bytes = random.once_in(40);
+    if random_bytes {
+        let length = random.pick(&[512, 1024, 10_752]);
+        file = random.bytes(length);
+    }
+    let room = match random.below(8) {
+        0 => random.pick(&[0, STORE_WORDS - 1]),
+        1 => STORE_WORDS + 5,
+        _ => STORE_WORDS,
+    };
+    let expected = expected::read(&file, room);
+    let fault = |fault: String| format!("{kind:?} with {damages:?}: {fault}");
+
+    // Of a whole file and of most single damages the answer is known beforehand.
+    let known = match damages[..] {
+        [] => Some(0),
+        [damage] => damage.refusal(),
+        _ => None,
+    };
+    if let Some(known) = known.filter(|_| room >= STORE_WORDS && !random_bytes) {
+        same("the plain decoder", expected.answer.refusal, known).map_err(fault)?;
+    }
+    tally.count("refusal by read", expected.answer.refusal);
+    let store = random.words(room);
+    for library in libraries {
+        read(*library, &file, &store, &expected).map_err(fault)?;
+    }
+    Ok(())
+}
+
+// ---- The tables of document 01, and its edges
+
+/// A to H and the ninth table, with the figures of the texts, and the edges that 01 names.
+pub fn named_tables(libraries: &[&dyn Calls], random: &mut Random, tally: &mut Tally) -> Outcome {
+    for named in named::decided() {
+        let fault = |fault: String| format!("table {}: {fault}", named.name);
+        let expected = Judged::new(&named.table).decide(named.allowance);
+        same("the plain rounds", expected.answer, named.decision).map_err(fault)?;
+        same("the plain path", &expected.front[..], named.path).map_err(fault)?;
+        if let Some(number) = named.backward {
+            let backward = rounds::backward_number(&named.table);
+            same("the backward number", backward, number).map_err(fault)?;
+        }
+        let (n, g) = (named.table.n, named.table.g());
+        let typed = Expected {
+            answer: named.decision,
+            front: named.path.to_vec(),
+        };
+        let store = named.table.to_store();
+        for library in libraries {
+            let path = random.bytes(256);
+            decide(*library, &store, (n, g, named.allowance), &path, &typed).map_err(fault)?;
+        }
+        accepted_table(libraries, &named.table, random, tally).map_err(fault)?;
+    }
+    named_files(libraries, random, tally)?;
+    edges(libraries, random, tally)
+}
+
+/// The figures of 01 about files: E's bytes and check, H's lengths.
+fn named_files(libraries: &[&dyn Calls], random: &mut Random, tally: &mut Tally) -> Outcome {
+    let mut e_file = [0; BLOCK];
+    e_file[..named::E_FRONT.len()].copy_from_slice(&named::E_FRONT);
+    e_file[510..].copy_from_slice(&named::E_CHECK);
+    let typed = Expected {
+        answer: Written {
+            refusal: 0,
+            length: 512,
+        },
+        front: e_file.to_vec(),
+    };
+    for library in libraries {
+        let output = random.bytes(600);
+        write(*library, &named::e().to_store(), (3, 0), &output, &typed)?;
+    }
+    for (groups, contents, length) in [(&[][..], 508, 512), (&[&[0, 60][..]][..], 516, 1024)] {
+        let table = named::h(groups);
+        same("L of H", blocks::contents(&table).len(), contents)?;
+        same("the length of H", blocks::encode(&table).len(), length)?;
+        accepted_table(libraries, &table, random, tally)?;
+    }
+    // G's check is 3. Stored as 3 + 65,521 it is the same modulo the prime, and still another number.
+    let mut unreduced = blocks::encode(&named::g());
+    same("the check of G", blocks::check(&unreduced), 3)?;
+    unreduced[510..].copy_from_slice(&blocks::two_bytes(3 + 65_521));
+    refused_file(libraries, &unreduced, 13, random)
+}
+
+/// That a file is refused with a number.
+fn refused_file(
+    libraries: &[&dyn Calls],
+    file: &[u8],
+    number: u32,
+    random: &mut Random,
+) -> Outcome {
+    let expected = expected::read(file, STORE_WORDS);
+    same("the plain decoder", expected.answer.refusal, number)?;
+    let store = random.words(STORE_WORDS);
+    libraries
+        .iter()
+        .try_for_each(|library| read(*library, file, &store, &expected))
+}
+
+/// n 256 and 257, g 64 and 65, allowance 256 and 257, store 1,287 and 1,288, path buffer 255 and 256.
+fn edges(libraries: &[&dyn Calls], random: &mut Random, tally: &mut Tally) -> Outcome {
+    let corridor: Vec<(usize, usize)> = (1..256).map(|s| (s - 1, s)).collect();
+    let singletons: Vec<[usize; 1]> = (0..64).map(|s| [4 * s]).collect();
+    let singletons: Vec<&[usize]> = singletons.iter().map(|group| &group[..]).collect();
+    let largest = Table::of(256, &[0], &[255], &singletons, &corridor);
+    accepted_table(libraries, &largest, random, tally)?;
+    accepted_table(
+        libraries,
+        &Table::of(256, &[0], &[255], &[], &corridor),
+        random,
+        tally,
+    )?;
+
+    let store = largest.to_store();
+    for (refusal, length, n, g, allowance, room) in [
+        (0, 1288, 256, 64, 256, 256),
+        (10, 1287, 257, 65, 257, 255),
+        (14, 1288, 257, 65, 257, 255),
+        (15, 1288, 256, 65, 257, 255),
+        (17, 1288, 255, 64, 257, 255),
+        (17, 1288, 256, 63, 257, 255),
+        (20, 1288, 256, 64, 257, 255),
+        (21, 1288, 256, 64, 256, 255),
+    ] {
+        let store = &store[..length];
+        let expected = expected::decide(store, n, g, allowance, room);
+        same("the plain acceptance", expected.answer.refusal, refusal)?;
+        for library in libraries {
+            let path = random.bytes(room);
+            decide(*library, store, (n, g, allowance), &path, &expected)?;
+        }
+    }
+    Ok(())
+}

@@ -1,0 +1,148 @@
+//! What the four calls must answer, and what they must leave in the buffer they write, put together
+//! from the plain implementations.
+
+use crate::accept;
+use crate::blocks;
+use crate::calls::{Decision, SAFE, Shortest, TableRead, UNDECIDED, UNSAFE, Written};
+use crate::rounds::{Outcome, Rounds};
+use crate::search;
+use crate::table::{Table, words};
+
+/// An answer, and the front of the written buffer; what lies past the front stays.
+pub struct Expected<A, T> {
+    pub answer: A,
+    pub front: Vec<T>,
+}
+
+/// A table with what decide is expected to say of it.
+pub struct Judged<'t> {
+    pub table: &'t Table,
+    pub rounds: Rounds<'t>,
+    pub path: Option<Vec<usize>>,
+}
+
+impl<'t> Judged<'t> {
+    pub fn new(table: &'t Table) -> Judged<'t> {
+        Judged {
+            table,
+            rounds: Rounds::new(table),
+            path: search::smallest_shortest_path(table),
+        }
+    }
+
+    /// Decide on an accepted store.
+    pub fn decide(&mut self, allowance: usize) -> Expected<Decision, u8> {
+        let (outcome, count) = self.rounds.decide(allowance);
+        let mut answer = Decision {
+            count: count as u32,
+            ..Decision::default()
+        };
+        let mut front = Vec::new();
+        match outcome {
+            Outcome::Safe { invariant } => {
+                answer.verdict = SAFE;
+                answer.size = invariant.iter().filter(|&&held| held).count() as u32;
+                answer.invariant = words(&invariant);
+            }
+            Outcome::Unsafe => {
+                answer.verdict = UNSAFE;
+                front = path_bytes(self.path.as_deref().expect("unsafe, so there is a path"));
+                answer.steps = front.len() as u32 - 1;
+            }
+            Outcome::Undecided => answer.verdict = UNDECIDED,
+        }
+        Expected { answer, front }
+    }
+
+    /// Shortest path on an accepted store.
+    pub fn shortest_path(&self) -> Expected<Shortest, u8> {
+        let front = self.path.as_deref().map(path_bytes).unwrap_or_default();
+        let answer = Shortest {
+            refusal: 0,
+            found: self.path.is_some() as u32,
+            steps: front.len().saturating_sub(1) as u32,
+        };
+        Expected { answer, front }
+    }
+
+    /// Write on an accepted store, with output enough.
+    pub fn write(&self) -> Expected<Written, u8> {
+        let front = blocks::encode(self.table);
+        let answer = Written {
+            refusal: 0,
+            length: front.len() as u32,
+        };
+        Expected { answer, front }
+    }
+}
+
+/// Decide on any arguments.
+pub fn decide(
+    store: &[u64],
+    n: usize,
+    g: usize,
+    allowance: usize,
+    path_len: usize,
+) -> Expected<Decision, u8> {
+    match accept::decide(store, n, g, allowance, path_len) {
+        Ok(()) => Judged::new(&Table::from_store(store, n, g)).decide(allowance),
+        Err(refusal) => Expected {
+            answer: Decision {
+                refusal,
+                ..Decision::default()
+            },
+            front: Vec::new(),
+        },
+    }
+}
+
+/// Shortest path on any arguments.
+pub fn shortest_path(store: &[u64], n: usize, g: usize, path_len: usize) -> Expected<Shortest, u8> {
+    match accept::shortest_path(store, n, g, path_len) {
+        Ok(()) => Judged::new(&Table::from_store(store, n, g)).shortest_path(),
+        Err(refusal) => Expected {
+            answer: Shortest {
+                refusal,
+                ..Shortest::default()
+            },
+            front: Vec::new(),
+        },
+    }
+}
+
+/// Write on any arguments.
+pub fn write(store: &[u64], n: usize, g: usize, output_len: usize) -> Expected<Written, u8> {
+    match accept::write(store, n, g, output_len) {
+        Ok(()) => Judged::new(&Table::from_store(store, n, g)).write(),
+        Err(refusal) => Expected {
+            answer: Written { refusal, length: 0 },
+            front: Vec::new(),
+        },
+    }
+}
+
+/// Read on any arguments.
+pub fn read(input: &[u8], store_len: usize) -> Expected<TableRead, u64> {
+    let read = accept::read_store(store_len).and_then(|()| blocks::decode(input));
+    match read {
+        Ok(table) => Expected {
+            answer: TableRead {
+                refusal: 0,
+                n: table.n as u32,
+                g: table.g() as u32,
+            },
+            front: table.to_store(),
+        },
+        Err(refusal) => Expected {
+            answer: TableRead {
+                refusal,
+                ..TableRead::default()
+            },
+            front: Vec::new(),
+        },
+    }
+}
+
+fn path_bytes(path: &[usize]) -> Vec<u8> {
+    path.iter().map(|&state| state as u8).collect()
+}

@@ -1,0 +1,162 @@
+//! Tables to measure on: each family is a few tables of one kind, all of one size.
+
+use crate::generate::{Random, Steps, add_fan_out, rows};
+use crate::table::{Set, Table, set_where};
+
+pub struct Family {
+    pub name: String,
+    pub tables: Vec<Table>,
+}
+
+/// Tables of a family that is drawn at random.
+const TABLES: usize = 16;
+
+fn family(name: impl Into<String>, tables: Vec<Table>) -> Family {
+    Family {
+        name: name.into(),
+        tables,
+    }
+}
+
+/// For decide: the families of the issue on decide, then growth.
+pub fn for_decide(random: &mut Random) -> Vec<Family> {
+    let mut families = vec![
+        family("corridor of 256", vec![corridor(256)]),
+        family("fan-out 2", some(|| fan_out(256, 2, 0, random))),
+        family("fan-out 4", some(|| fan_out(256, 4, 0, random))),
+        family("fan-out 16", some(|| fan_out(256, 16, 0, random))),
+        family("64 random groups", some(|| fan_out(256, 4, 64, random))),
+        family("dense rows", some(|| dense(256, random))),
+        family("many looks forward", vec![many_looks_forward()]),
+        family("many looks backward", vec![many_looks_backward(15, 15)]),
+    ];
+    for n in [32, 64, 128, 256] {
+        let tables = some(|| fan_out(n, 4, 0, random));
+        families.push(family(format!("growth, fan-out 4, {n}"), tables));
+    }
+    for n in [32, 64, 128, 256] {
+        families.push(family(format!("growth, corridor, {n}"), vec![corridor(n)]));
+    }
+    families
+}
+
+/// For shortest path.
+pub fn for_shortest_path(random: &mut Random) -> Vec<Family> {
+    let mut families = vec![
+        family("fan-out 2", some(|| fan_out(256, 2, 0, random))),
+        family("fan-out 4", some(|| fan_out(256, 4, 0, random))),
+        family("fan-out 16", some(|| fan_out(256, 16, 0, random))),
+        family("dense rows", some(|| dense(256, random))),
+        family("layers", some(|| layers(256, random))),
+        family("no path", some(|| no_path(256, random))),
+    ];
+    for n in [32, 64, 128, 256] {
+        families.push(family(format!("growth, corridor, {n}"), vec![corridor(n)]));
+    }
+    families
+}
+
+/// For read and write: one block, either side of the first block's end, and up to the largest file.
+pub fn for_files(random: &mut Random) -> Vec<Family> {
+    [
+        (3, 0),
+        (61, 0),
+        (61, 1),
+        (128, 0),
+        (256, 0),
+        (255, 64),
+        (256, 64),
+    ]
+    .into_iter()
+    .map(|(n, g)| {
+        let tables = some(|| fan_out(n, 4, g, random));
+        family(format!("{n} states, {g} groups"), tables)
+    })
+    .collect()
+}
+
+fn some(mut table: impl FnMut() -> Table) -> Vec<Table> {
+    (0..TABLES).map(|_| table()).collect()
+}
+
+/// From state 0 to the forbidden last state, with no groups.
+fn with_rows(rows: Vec<Set>) -> Table {
+    let n = rows.len();
+    Table {
+        n,
+        initial: set_where(n, |s| s == 0),
+        forbidden: set_where(n, |s| s == n - 1),
+        groups: Vec::new(),
+        rows,
+    }
+}
+
+fn corridor(n: usize) -> Table {
+    with_rows((0..n).map(|s| set_where(n, |t| t == s + 1)).collect())
+}
+
+fn fan_out(n: usize, fan_out: usize, groups: usize, random: &mut Random) -> Table {
+    let mut rows = vec![vec![false; n]; n];
+    add_fan_out(&mut rows, fan_out, random);
+    let mut group = || (0..n).map(|_| random.once_in(2)).collect();
+    Table {
+        groups: (0..groups).map(|_| group()).collect(),
+        ..with_rows(rows)
+    }
+}
+
+fn dense(n: usize, random: &mut Random) -> Table {
+    with_rows(rows(Steps::Dense, n, random))
+}
+
+fn layers(n: usize, random: &mut Random) -> Table {
+    with_rows(rows(Steps::Layers, n, random))
+}
+
+/// The forbidden state has no predecessor but itself.
+fn no_path(n: usize, random: &mut Random) -> Table {
+    let mut table = fan_out(n, 4, 0, random);
+    for row in &mut table.rows {
+        row[n - 1] = false;
+    }
+    table.rows[n - 1][n - 1] = true;
+    table
+}
+
+/// Groups by the bits of a state's number: the cover of each of these states is the state alone.
+fn exact_groups(n: usize, exact: impl Fn(usize) -> bool) -> Vec<Set> {
+    (0..8)
+        .flat_map(|bit| [0, 1].map(|value| (bit, value)))
+        .map(|(bit, value)| set_where(n, |s| exact(s) && s >> bit & 1 == value))
+        .collect()
+}
+
+/// A corridor whose first half has exact covers, so that each round reaches its states one look at a
+/// time, and whose second half has none, so that each round eliminates one state.
+fn many_looks_forward() -> Table {
+    Table {
+        groups: exact_groups(256, |s| s < 128),
+        ..corridor(256)
+    }
+}
+
+/// State 0 stays; `ticks` states beside it share its group and lead to the forbidden state, so that
+/// each round eliminates one. The one before it leads on to it also by a chain of `length` states with
+/// exact covers, which S then loses one look at a time.
+fn many_looks_backward(ticks: usize, length: usize) -> Table {
+    let n = 2 + ticks * (length + 1);
+    let tick = |k: usize| 1 + k;
+    let chain = |k: usize, j: usize| 1 + ticks + length * k + j;
+    let forbidden = n - 1;
+    let mut steps = vec![(0, 0), (tick(ticks - 1), forbidden)];
+    for k in 1..ticks {
+        steps.push((tick(k - 1), tick(k)));
+        steps.push((tick(k - 1), chain(k, 0)));
+        steps.extend((1..length).map(|j| (chain(k, j - 1), chain(k, j))));
+        steps.push((chain(k, length - 1), tick(k)));
+    }
+    let mut table = Table::of(n, &[0], &[forbidden], &[], &steps);
+    table.groups = exact_groups(n, |s| s > ticks);
+    table.groups.push(set_where(n, |s| s <= ticks));
+    table
+}

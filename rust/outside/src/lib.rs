@@ -1,0 +1,33 @@
+//! Implementations of document 01 that share nothing with the proved library, to test it from outside
+//! and to measure it against.
+//!
+//! The tests hold a library (`calls`) to what `expected` says. That rests on plain implementations,
+//! each written from 01's text and without use of the others:
+//!
+//! - `rounds`: the rounds and backward elimination, as 01 writes them, on lists of booleans;
+//! - `search`: a depth-first search for the verdict, a breadth-first one for the smallest path, and
+//!   all sequences of states in order, for small tables;
+//! - `blocks`: block files, to and from bytes;
+//! - `accept`: refusals of a store and of the other arguments, in order.
+//!
+//! `peer` is an optimised implementation of the four calls on four-word sets: what the library is
+//! measured against, and a library that the tests themselves can be tested with.
+//!
+//! `table` is what all of them speak of, `named` the tables of 01 with its figures typed in,
+//! `generate` makes tables at random, `families` those to measure on, `damage` files that earn refusals,
+//! `buffer` lent buffers with guards, and `examine` is the tests.
+
+pub mod accept;
+pub mod blocks;
+pub mod buffer;
+pub mod calls;
+pub mod damage;
+pub mod examine;
+pub mod expected;
+pub mod families;
+pub mod generate;
+pub mod named;
+pub mod peer;
+pub mod rounds;
+pub mod search;
+pub mod table;

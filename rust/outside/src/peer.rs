@@ -1,0 +1,516 @@
+//! An optimised implementation of the four calls, on sets of four words, with nothing allocated: what
+//! the library is measured against. It uses nothing else of this package but the answers' types.
+//!
+//! The rounds are those of document 01. Their fixpoints are worked out in one of two ways:
+//! - `Looks::Whole` repeats the step on the whole set until nothing changes;
+//! - `Looks::New` looks again only at what can have changed.
+
+use crate::calls::{Calls, Decision, SAFE, Shortest, TableRead, UNDECIDED, UNSAFE, Written};
+
+#[derive(Clone, Copy, Debug, PartialEq, Eq)]
+pub enum Looks {
+    Whole,
+    New,
+}
+
+/// The peer as a library.
+pub struct Peer(pub Looks);
+
+const STORE_WORDS: usize = 1288;
+const MAX_STATES: usize = 256;
+const MAX_GROUPS: usize = 64;
+const MAX_ALLOWANCE: usize = 256;
+const PATH_BYTES: usize = 256;
+const BLOCK: usize = 512;
+const CONTENT: usize = 508;
+const MAX_BLOCKS: usize = 21;
+
+/// Room for the contents of the largest file, and for a whole set past them.
+const CONTENTS_ROOM: usize = MAX_BLOCKS * CONTENT + 32;
+
+// ---- Sets
+
+#[derive(Clone, Copy, PartialEq, Eq)]
+struct Set([u64; 4]);
+
+impl Set {
+    const EMPTY: Set = Set([0; 4]);
+
+    fn below(n: usize) -> Set {
+        Set(std::array::from_fn(|w| match n.saturating_sub(64 * w) {
+            0 => 0,
+            bits @ 1..64 => (1 << bits) - 1,
+            _ => u64::MAX,
+        }))
+    }
+
+    fn union(self, other: Set) -> Set {
+        Set(std::array::from_fn(|w| self.0[w] | other.0[w]))
+    }
+
+    fn meet(self, other: Set) -> Set {
+        Set(std::array::from_fn(|w| self.0[w] & other.0[w]))
+    }
+
+    fn minus(self, other: Set) -> Set {
+        Set(std::array::from_fn(|w| self.0[w] & !other.0[w]))
+    }
+
+    fn is_empty(self) -> bool {
+        self.0[0] | self.0[1] | self.0[2] | self.0[3] == 0
+    }
+
+    fn inside(self, other: Set) -> bool {
+        self.minus(other).is_empty()
+    }
+
+    fn size(self) -> u32 {
+        self.0.iter().map(|word| word.count_ones()).sum()
+    }
+
+    fn insert(&mut self, state: usize) {
+        self.0[state / 64] |= 1 << (state % 64);
+    }
+
+    /// The smallest state, or 256.
+    fn first(self) -> usize {
+        (0..4)
+            .find(|&w| self.0[w] != 0)
+            .map_or(256, |w| 64 * w + self.0[w].trailing_zeros() as usize)
+    }
+
+    /// Calls `f` on each state, rising.
+    #[inline(always)]
+    fn each(self, mut f: impl FnMut(usize)) {
+        for w in 0..4 {
+            let mut left = self.0[w];
+            while left != 0 {
+                f(64 * w + left.trailing_zeros() as usize);
+                left &= left - 1;
+            }
+        }
+    }
+
+    /// The states that pass the test.
+    #[inline(always)]
+    fn filter(self, test: impl Fn(usize) -> bool) -> Set {
+        let mut kept = Set::EMPTY;
+        self.each(|state| {
+            if test(state) {
+                kept.insert(state);
+            }
+        });
+        kept
+    }
+
+    /// The union of the sets that stand at the set's states.
+    #[inline(always)]
+    fn gather(self, sets: &[[u64; 4]; 256]) -> Set {
+        let mut all = Set::EMPTY;
+        self.each(|state| all = all.union(Set(sets[state])));
+        all
+    }
+}
+
+// ---- The store
+
+/// The sets of an accepted store.
+struct Table<'s> {
+    n: usize,
+    initial: Set,
+    forbidden: Set,
+    groups: &'s [[u64; 4]],
+    rows: &'s [[u64; 4]; 256],
+}
+
+impl<'s> Table<'s> {
+    /// The table in a store, or the refusal 10, 14, 15 or 17.
+    fn accept(store: &'s [u64], n: usize, g: usize) -> Result<Table<'s>, u32> {
+        let Some(store) = store.first_chunk::<STORE_WORDS>() else {
+            return Err(10);
+        };
+        if n == 0 || n > MAX_STATES {
+            return Err(14);
+        }
+        if g > MAX_GROUPS {
+            return Err(15);
+        }
+        let (sets, _) = store.as_chunks::<4>();
+        let (fixed, rest) = sets.split_at(2);
+        let (groups, rows) = rest.split_at(MAX_GROUPS);
+        let (used, unused) = groups.split_at(g);
+        let (used_rows, unused_rows) = rows.split_at(n);
+        let any = |sets: &[[u64; 4]]| {
+            sets.iter()
+                .fold(Set::EMPTY, |all, &set| all.union(Set(set)))
+        };
+        let held = any(fixed).union(any(used)).union(any(used_rows));
+        let idle = any(unused).union(any(unused_rows));
+        if !held.inside(Set::below(n)) || !idle.is_empty() {
+            return Err(17);
+        }
+        Ok(Table {
+            n,
+            initial: Set(fixed[0]),
+            forbidden: Set(fixed[1]),
+            groups: used,
+            rows: rows.try_into().expect("256 rows"),
+        })
+    }
+
+    fn post(&self, x: Set) -> Set {
+        x.gather(self.rows)
+    }
+
+    /// The states of a set whose every successor is in x.
+    fn holding(&self, among: Set, x: Set) -> Set {
+        among.filter(|state| Set(self.rows[state]).inside(x))
+    }
+}
+
+// ---- The rounds
+
+type Covers = [[u64; 4]; 256];
+
+fn narrow(covers: &mut Covers, z: Set) {
+    z.each(|state| covers[state] = Set(covers[state]).meet(z).0);
+}
+
+/// R, and Init union post(R).
+fn forward(table: &Table, covers: &Covers, z: Set, looks: Looks) -> (Set, Set) {
+    let mut r = Set::EMPTY;
+    let mut reached = table.initial;
+    match looks {
+        Looks::Whole => loop {
+            let next = reached.meet(z).gather(covers);
+            if next == r {
+                return (r, reached);
+            }
+            r = next;
+            reached = table.initial.union(table.post(r));
+        },
+        // A state in R has its cover in R too, so only states outside R can bring new ones.
+        Looks::New => {
+            let mut fresh = reached.meet(z);
+            loop {
+                let joined = fresh.gather(covers).minus(r);
+                if joined.is_empty() {
+                    return (r, reached);
+                }
+                r = r.union(joined);
+                let further = table.post(joined);
+                reached = reached.union(further);
+                fresh = further.meet(z).minus(r);
+            }
+        }
+    }
+}
+
+/// S, and S meet hold(S).
+fn backward(table: &Table, covers: &Covers, r: Set, looks: Looks) -> (Set, Set) {
+    match looks {
+        Looks::Whole => {
+            let mut s = Set::below(table.n);
+            loop {
+                let next = table.holding(r, s).gather(covers);
+                if next == s {
+                    return (s, table.holding(s, s));
+                }
+                s = next;
+            }
+        }
+        // S lies inside R, which is a cover, and a state that once stepped out of S stays out.
+        Looks::New => {
+            let mut s = r;
+            let mut staying = r;
+            loop {
+                let next = table.holding(staying, s);
+                if next == staying {
+                    return (s, staying);
+                }
+                staying = next;
+                s = staying.gather(covers);
+            }
+        }
+    }
+}
+
+/// Verdict, count and invariant.
+fn rounds(table: &Table, allowance: usize, looks: Looks) -> (u32, usize, Set) {
+    let mut covers = [Set::below(table.n).0; 256];
+    for &group in table.groups {
+        narrow(&mut covers, Set(group));
+    }
+    let mut z = Set::below(table.n).minus(table.forbidden);
+    let mut count = 0;
+    loop {
+        narrow(&mut covers, z);
+        let (r, reached) = forward(table, &covers, z, looks);
+        if reached.inside(z) {
+            return (SAFE, count, r);
+        }
+        let (s, next) = backward(table, &covers, r, looks);
+        if !table.initial.inside(s) {
+            return (UNSAFE, count, Set::EMPTY);
+        }
+        if count == allowance {
+            return (UNDECIDED, count, Set::EMPTY);
+        }
+        z = next;
+        count += 1;
+    }
+}
+
+// ---- The path
+
+/// Writes the smallest of the shortest paths and returns its number of steps, if there is one.
+///
+/// The layers are the states at each distance from the initial ones; cut down to those that lead on to
+/// the next layer, back from the first that meets the forbidden set, they hold the shortest paths and
+/// nothing else.
+fn write_path(table: &Table, path: &mut [u8]) -> Option<usize> {
+    let mut layers = [Set::EMPTY; MAX_STATES];
+    let mut layer = table.initial;
+    let mut seen = layer;
+    let mut steps = 0;
+    loop {
+        if layer.is_empty() {
+            return None;
+        }
+        let last = layer.meet(table.forbidden);
+        if !last.is_empty() {
+            layers[steps] = last;
+            break;
+        }
+        layers[steps] = layer;
+        layer = table.post(layer).minus(seen);
+        seen = seen.union(layer);
+        steps += 1;
+    }
+    for k in (0..steps).rev() {
+        let next = layers[k + 1];
+        layers[k] = layers[k].filter(|state| !Set(table.rows[state]).meet(next).is_empty());
+    }
+    let mut choices = layers[0];
+    for k in 0..=steps {
+        let state = choices.first();
+        path[k] = state as u8;
+        if k < steps {
+            choices = Set(table.rows[state]).meet(layers[k + 1]);
+        }
+    }
+    Some(steps)
+}
+
+// ---- Files
+
+fn blocks_needed(n: usize, g: usize) -> (usize, usize) {
+    let length = 4 + n.div_ceil(8) * (2 + g + n);
+    (length, length.div_ceil(CONTENT))
+}
+
+fn check_of(block: &[u8]) -> u16 {
+    let sum: u32 = block[..510]
+        .iter()
+        .zip(1..)
+        .map(|(&byte, place)| place * byte as u32)
+        .sum();
+    (sum % 65_521) as u16
+}
+
+fn u16_at(bytes: &[u8], at: usize) -> usize {
+    u16::from_le_bytes([bytes[at], bytes[at + 1]]) as usize
+}
+
+/// n and g of a file, with its contents joined in `joined`, or the refusal 11 to 18.
+fn open(input: &[u8], joined: &mut [u8; CONTENTS_ROOM]) -> Result<(usize, usize), u32> {
+    let (blocks, rest) = input.as_chunks::<BLOCK>();
+    if blocks.is_empty() || !rest.is_empty() || blocks.len() > MAX_BLOCKS {
+        return Err(11);
+    }
+    for (k, block) in blocks.iter().enumerate() {
+        if u16_at(block, 0) != k {
+            return Err(12);
+        }
+        if u16_at(block, 510) != check_of(block) as usize {
+            return Err(13);
+        }
+        joined[CONTENT * k..][..CONTENT].copy_from_slice(&block[2..510]);
+    }
+    let n = u16_at(joined, 0);
+    let g = u16_at(joined, 2);
+    if n == 0 || n > MAX_STATES {
+        return Err(14);
+    }
+    if g > MAX_GROUPS {
+        return Err(15);
+    }
+    let (length, needed) = blocks_needed(n, g);
+    if blocks.len() != needed {
+        return Err(16);
+    }
+    let width = n.div_ceil(8);
+    let past_n = !(0xffu8 >> (8 * width - n));
+    if joined[4..length]
+        .chunks_exact(width)
+        .any(|set| set[width - 1] & past_n != 0)
+    {
+        return Err(17);
+    }
+    if joined[length..CONTENT * needed]
+        .iter()
+        .any(|&byte| byte != 0)
+    {
+        return Err(18);
+    }
+    Ok((n, g))
+}
+
+/// The set at `at` in the contents of a table of n states.
+fn load(joined: &[u8], at: usize, all: Set) -> [u64; 4] {
+    let (words, _) = joined[at..at + 32].as_chunks::<8>();
+    let set = Set(std::array::from_fn(|w| u64::from_le_bytes(words[w])));
+    set.meet(all).0
+}
+
+// ---- The calls
+
+impl Calls for Peer {
+    fn name(&self) -> &'static str {
+        match self.0 {
+            Looks::Whole => "peer",
+            Looks::New => "quick peer",
+        }
+    }
+
+    fn decide(
+        &self,
+        store: &[u64],
+        n: usize,
+        g: usize,
+        allowance: usize,
+        path: &mut [u8],
+    ) -> Decision {
+        let none = Decision::default();
+        let table = match Table::accept(store, n, g) {
+            Err(refusal) => return Decision { refusal, ..none },
+            Ok(_) if allowance > MAX_ALLOWANCE => {
+                return Decision {
+                    refusal: 20,
+                    ..none
+                };
+            }
+            Ok(_) if path.len() < PATH_BYTES => {
+                return Decision {
+                    refusal: 21,
+                    ..none
+                };
+            }
+            Ok(table) => table,
+        };
+        let (verdict, count, invariant) = rounds(&table, allowance, self.0);
+        let steps = match verdict {
+            UNSAFE => write_path(&table, path).unwrap_or(0),
+            _ => 0,
+        };
+        Decision {
+            verdict,
+            count: count as u32,
+            invariant: invariant.0,
+            size: invariant.size(),
+            steps: steps as u32,
+            ..none
+        }
+    }
+
+    fn shortest_path(&self, store: &[u64], n: usize, g: usize, path: &mut [u8]) -> Shortest {
+        let none = Shortest::default();
+        let table = match Table::accept(store, n, g) {
+            Err(refusal) => return Shortest { refusal, ..none },
+            Ok(_) if path.len() < PATH_BYTES => {
+                return Shortest {
+                    refusal: 21,
+                    ..none
+                };
+            }
+            Ok(table) => table,
+        };
+        match write_path(&table, path) {
+            None => none,
+            Some(steps) => Shortest {
+                found: 1,
+                steps: steps as u32,
+                ..none
+            },
+        }
+    }
+
+    fn read(&self, input: &[u8], store: &mut [u64]) -> TableRead {
+        let none = TableRead::default();
+        let Some(store) = store.first_chunk_mut::<STORE_WORDS>() else {
+            return TableRead {
+                refusal: 10,
+                ..none
+            };
+        };
+        let mut joined = [0; CONTENTS_ROOM];
+        let (n, g) = match open(input, &mut joined) {
+            Err(refusal) => return TableRead { refusal, ..none },
+            Ok(sizes) => sizes,
+        };
+        let (all, width) = (Set::below(n), n.div_ceil(8));
+        let (sets, _) = store.as_chunks_mut::<4>();
+        let (groups, rows) = sets.split_at_mut(2 + MAX_GROUPS);
+        let (used, unused) = groups.split_at_mut(2 + g);
+        let (used_rows, unused_rows) = rows.split_at_mut(n);
+        for (i, set) in used.iter_mut().chain(used_rows).enumerate() {
+            *set = load(&joined, 4 + width * i, all);
+        }
+        unused.fill([0; 4]);
+        unused_rows.fill([0; 4]);
+        TableRead {
+            n: n as u32,
+            g: g as u32,
+            ..none
+        }
+    }
+
+    fn write(&self, store: &[u64], n: usize, g: usize, output: &mut [u8]) -> Written {
+        let table = match Table::accept(store, n, g) {
+            Err(refusal) => return Written { refusal, length: 0 },
+            Ok(table) => table,
+        };
+        let (_, needed) = blocks_needed(n, g);
+        let Some(output) = output.get_mut(..BLOCK * needed) else {
+            return Written {
+                refusal: 19,
+                length: 0,
+            };
+        };
+        let mut joined = [0; CONTENTS_ROOM];
+        joined[0..2].copy_from_slice(&(n as u16).to_le_bytes());
+        joined[2..4].copy_from_slice(&(g as u16).to_le_bytes());
+        // Each set is laid down whole; the bytes of it past its width are 0, and the next set's place.
+        let sets = [table.initial.0, table.forbidden.0];
+        let sets = sets
+            .iter()
+            .chain(table.groups)
+            .chain(&table.rows[..table.n]);
+        for (i, set) in sets.enumerate() {
+            let at = 4 + n.div_ceil(8) * i;
+            for (bytes, word) in joined[at..at + 32].chunks_exact_mut(8).zip(set) {
+                bytes.copy_from_slice(&word.to_le_bytes());
+            }
+        }
+        for (k, block) in output.chunks_exact_mut(BLOCK).enumerate() {
+            block[0..2].copy_from_slice(&(k as u16).to_le_bytes());
+            block[2..510].copy_from_slice(&joined[CONTENT * k..][..CONTENT]);
+            let check = check_of(block);
+            block[510..512].copy_from_slice(&check.to_le_bytes());
+        }
+        Written {
+            refusal: 0,
+            length: output.len() as u32,
+        }
+    }
+}

@@ -1,0 +1,295 @@
+//! Is a forbidden state of a dialogue table reachable, and by which steps?
+//!
+//! A safe wrapper around the proved library: [`decide`], [`shortest_path`], [`read`] and [`write()`],
+//! with slices in and enums out. No input makes a call panic: what the library does not accept, it
+//! refuses with a number ([`Refused`]), and every buffer is then as it was before.
+//!
+//! A table has `n` states, numbered 0 to `n` − 1 ([`MAX_STATES`] at most), and `g` groups
+//! ([`MAX_GROUPS`] at most). It stands in a store of at least [`STORE_WORDS`] words of 64 bits, as
+//! sets of four words each: the initial set at [`INITIAL`], the forbidden set at [`FORBIDDEN`], group
+//! j at [`group`]`(j)`, the successors of state s at [`row`]`(s)`. All other words among the first
+//! 1,288 are 0; words past them are neither read nor written.
+//!
+//! ```
+//! use shuntberry::{FORBIDDEN, INITIAL, MAX_ALLOWANCE, PATH_BYTES, STORE_WORDS, Verdict, decide, row};
+//!
+//! // Three states; 0 is initial, 2 is forbidden; steps 0 → 0 and 1 → 2.
+//! let mut store = [0; STORE_WORDS];
+//! store[INITIAL] = 1 << 0;
+//! store[FORBIDDEN] = 1 << 2;
+//! store[row(0)] = 1 << 0;
+//! store[row(1)] = 1 << 2;
+//!
+//! let mut path = [0; PATH_BYTES];
+//! let Verdict::Safe { count, invariant } = decide(&store, 3, 0, MAX_ALLOWANCE, &mut path)? else {
+//!     panic!("2 cannot be reached");
+//! };
+//! assert_eq!(count, 1);
+//! assert!(invariant.states().eq([0]));
+//!
+//! // With a step 0 → 1 it can.
+//! store[row(0)] |= 1 << 1;
+//! let verdict = decide(&store, 3, 0, MAX_ALLOWANCE, &mut path)?;
+//! assert!(matches!(verdict, Verdict::Unsafe { path: [0, 1, 2], .. }));
+//!
+//! // A table of 300 states is refused.
+//! let refused = decide(&store, 300, 0, MAX_ALLOWANCE, &mut path).unwrap_err();
+//! assert_eq!(refused.to_string(), "refused 14: n is 0 or over 256");
+//! # Ok::<(), shuntberry::Refused>(())
+//! ```
+
+pub mod raw;
+
+use std::error::Error;
+use std::fmt;
+
+/// The greatest number of states.
+pub const MAX_STATES: usize = 256;
+/// The greatest number of groups.
+pub const MAX_GROUPS: usize = 64;
+/// The greatest allowance, and that of a release check: with it no verdict is undecided.
+pub const MAX_ALLOWANCE: usize = 256;
+/// The least length of a store, in words.
+pub const STORE_WORDS: usize = 1288;
+/// The least length of a path buffer.
+pub const PATH_BYTES: usize = 256;
+/// The length of the largest file: 21 blocks of 512 bytes.
+pub const FILE_BYTES: usize = 10_752;
+
+/// Where the initial set begins in a store.
+pub const INITIAL: usize = 0;
+/// Where the forbidden set begins in a store.
+pub const FORBIDDEN: usize = 4;
+
+/// Where group `j` begins in a store.
+pub const fn group(j: usize) -> usize {
+    j.saturating_mul(4).saturating_add(8)
+}
+
+/// Where the successors of state `s` begin in a store.
+pub const fn row(s: usize) -> usize {
+    s.saturating_mul(4).saturating_add(264)
+}
+
+/// A set of states: state s is the bit of value 2^(s mod 64) in word s / 64.
+#[derive(Clone, Copy, Debug, Default, PartialEq, Eq, Hash)]
+pub struct StateSet(pub [u64; 4]);
+
+impl StateSet {
+    /// Whether the state is in the set.
+    pub fn contains(self, state: usize) -> bool {
+        self.0
+            .get(state / 64)
+            .is_some_and(|word| word >> (state % 64) & 1 == 1)
+    }
+
+    /// The states in the set, rising.
+    pub fn states(self) -> impl Iterator<Item = usize> {
+        (0..MAX_STATES).filter(move |&state| self.contains(state))
+    }
+}
+
+/// What [`decide`] found. `count` is the number of refinements that were made.
+#[derive(Clone, Copy, Debug, PartialEq, Eq)]
+pub enum Verdict<'p> {
+    /// No forbidden state can be reached from an initial one.
+    Safe {
+        /// The number of refinements.
+        count: u32,
+        /// A set with the initial states, the successors of each of its states, and no forbidden
+        /// state.
+        invariant: StateSet,
+    },
+    /// A forbidden state can be reached.
+    Unsafe {
+        /// The number of refinements.
+        count: u32,
+        /// The smallest of the shortest paths from an initial to a forbidden state: the front of the
+        /// path buffer.
+        path: &'p [u8],
+    },
+    /// The allowance was used up before either was known.
+    Undecided {
+        /// The number of refinements.
+        count: u32,
+    },
+}
+
+/// What [`read`] found: the size of the table that now stands in the store.
+#[derive(Clone, Copy, Debug, PartialEq, Eq)]
+pub struct TableRead {
+    /// The number of states.
+    pub n: usize,
+    /// The number of groups.
+    pub g: usize,
+}
+
+/// A refused call, by document 01's number. Every buffer is as before the call.
+#[derive(Clone, Copy, Debug, PartialEq, Eq, Hash)]
+pub struct Refused(pub u32);
+
+impl Refused {
+    /// The ground on which the call was refused.
+    pub fn message(self) -> &'static str {
+        match self.0 {
+            10 => "the store has under 1,288 words",
+            11 => "the input's length is 0, no multiple of 512, or over 10,752",
+            12 => "a block does not hold its own number",
+            13 => "a block's stored check is not its check",
+            14 => "n is 0 or over 256",
+            15 => "g is over 64",
+            16 => "the number of blocks is not that of a file with this n and g",
+            17 => "a set holds a state from n up, or a word of an unused group or row is not 0",
+            18 => "a filler byte is not 0",
+            19 => "the output is shorter than the file",
+            20 => "the allowance is over 256",
+            21 => "the path buffer has under 256 bytes",
+            _ => "no ground that this version of the wrapper knows",
+        }
+    }
+}
+
+impl fmt::Display for Refused {
+    fn fmt(&self, out: &mut fmt::Formatter<'_>) -> fmt::Result {
+        write!(out, "refused {}: {}", self.0, self.message())
+    }
+}
+
+impl Error for Refused {}
+
+/// Decides whether a forbidden state can be reached, with at most `allowance` refinements.
+///
+/// If unsafe, the path stands at the front of `path`, and no other byte of it is touched; if safe or
+/// undecided, none is. Refused with 10, 14, 15, 17, 20 or 21.
+pub fn decide<'p>(
+    store: &[u64],
+    n: usize,
+    g: usize,
+    allowance: usize,
+    path: &'p mut [u8],
+) -> Result<Verdict<'p>, Refused> {
+    // SAFETY: each pointer and length are those of a slice, and the one that is written is borrowed
+    // mutably, so it overlaps no other.
+    let decision = unsafe {
+        raw::shuntberry_decide(
+            store.as_ptr(),
+            store.len(),
+            n,
+            g,
+            allowance,
+            path.as_mut_ptr(),
+            path.len(),
+        )
+    };
+    accepted(decision.refusal)?;
+    let count = decision.count;
+    Ok(match decision.verdict {
+        0 => Verdict::Safe {
+            count,
+            invariant: StateSet(decision.invariant),
+        },
+        1 => Verdict::Unsafe {
+            count,
+            path: states_of_path(path, decision.steps),
+        },
+        _ => Verdict::Undecided { count },
+    })
+}
+
+/// The smallest of the shortest paths from an initial to a forbidden state, at the front of `path`;
+/// no other byte of it is touched, and none if there is no path.
+///
+/// Refused with 10, 14, 15, 17 or 21.
+pub fn shortest_path<'p>(
+    store: &[u64],
+    n: usize,
+    g: usize,
+    path: &'p mut [u8],
+) -> Result<Option<&'p [u8]>, Refused> {
+    // SAFETY: as in `decide`.
+    let shortest = unsafe {
+        raw::shuntberry_shortest_path(
+            store.as_ptr(),
+            store.len(),
+            n,
+            g,
+            path.as_mut_ptr(),
+            path.len(),
+        )
+    };
+    accepted(shortest.refusal)?;
+    Ok((shortest.found != 0).then(|| states_of_path(path, shortest.steps)))
+}
+
+/// Reads a block file into the first [`STORE_WORDS`] words of `store`; no other word is touched.
+///
+/// Refused with 10, 11, 12, 13, 14, 15, 16, 17 or 18.
+pub fn read(input: &[u8], store: &mut [u64]) -> Result<TableRead, Refused> {
+    // SAFETY: as in `decide`.
+    let table = unsafe {
+        raw::shuntberry_read(input.as_ptr(), input.len(), store.as_mut_ptr(), store.len())
+    };
+    accepted(table.refusal)?;
+    Ok(TableRead {
+        n: table.n as usize,
+        g: table.g as usize,
+    })
+}
+
+/// Writes the table as a block file at the front of `output` and returns the file; no other byte of
+/// `output` is touched. An output of [`FILE_BYTES`] is always long enough.
+///
+/// Refused with 10, 14, 15, 17 or 19.
+///
+/// ```
+/// use shuntberry::{FILE_BYTES, STORE_WORDS, TableRead, read, write};
+///
+/// let mut store = [0; STORE_WORDS];
+/// store[shuntberry::row(1)] = 0b101; // steps 1 → 0 and 1 → 2
+/// let mut output = [0; FILE_BYTES];
+/// let file = write(&store, 3, 0, &mut output)?;
+/// assert_eq!(file.len(), 512);
+///
+/// let mut copy = [0; STORE_WORDS];
+/// assert_eq!(read(file, &mut copy)?, TableRead { n: 3, g: 0 });
+/// assert_eq!(copy, store);
+/// # Ok::<(), shuntberry::Refused>(())
+/// ```
+pub fn write<'o>(
+    store: &[u64],
+    n: usize,
+    g: usize,
+    output: &'o mut [u8],
+) -> Result<&'o [u8], Refused> {
+    // SAFETY: as in `decide`.
+    let file = unsafe {
+        raw::shuntberry_write(
+            store.as_ptr(),
+            store.len(),
+            n,
+            g,
+            output.as_mut_ptr(),
+            output.len(),
+        )
+    };
+    accepted(file.refusal)?;
+    Ok(front(output, file.length as usize))
+}
+
+/// The refusal of a call, if its number is one.
+fn accepted(refusal: u32) -> Result<(), Refused> {
+    match refusal {
+        0 => Ok(()),
+        number => Err(Refused(number)),
+    }
+}
+
+/// The `steps` + 1 states of a path at the front of its buffer.
+fn states_of_path(path: &[u8], steps: u32) -> &[u8] {
+    front(path, (steps as usize).saturating_add(1))
+}
+
+/// The first `length` bytes; all of them if there are fewer, which the library's contract excludes.
+fn front(bytes: &[u8], length: usize) -> &[u8] {
+    bytes.get(..length).unwrap_or(bytes)
+}

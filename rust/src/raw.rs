@@ -1,0 +1,76 @@
+//! The four calls as the library exports them for C; `include/shuntberry.h` has a comment for each
+//! function and field.
+
+#![allow(missing_docs)]
+
+#[repr(C)]
+#[derive(Clone, Copy, Debug, PartialEq, Eq)]
+pub struct Decision {
+    pub invariant: [u64; 4],
+    pub refusal: u32,
+    pub verdict: u32,
+    pub count: u32,
+    pub size: u32,
+    pub steps: u32,
+    pub reserved: u32,
+}
+
+#[repr(C)]
+#[derive(Clone, Copy, Debug, PartialEq, Eq)]
+pub struct Shortest {
+    pub refusal: u32,
+    pub found: u32,
+    pub steps: u32,
+}
+
+#[repr(C)]
+#[derive(Clone, Copy, Debug, PartialEq, Eq)]
+pub struct Table {
+    pub refusal: u32,
+    pub n: u32,
+    pub g: u32,
+}
+
+#[repr(C)]
+#[derive(Clone, Copy, Debug, PartialEq, Eq)]
+pub struct File {
+    pub refusal: u32,
+    pub length: u32,
+}
+
+unsafe extern "C" {
+    pub fn shuntberry_decide(
+        store: *const u64,
+        store_len: usize,
+        n: usize,
+        g: usize,
+        allowance: usize,
+        path: *mut u8,
+        path_len: usize,
+    ) -> Decision;
+
+    pub fn shuntberry_shortest_path(
+        store: *const u64,
+        store_len: usize,
+        n: usize,
+        g: usize,
+        path: *mut u8,
+        path_len: usize,
+    ) -> Shortest;
+
+    pub fn shuntberry_read(
+        input: *const u8,
+        input_len: usize,
+        store: *mut u64,
+        store_len: usize,
+    ) -> Table;
+
+    pub fn shuntberry_write(
+        store: *const u64,
+        store_len: usize,
+        n: usize,
+        g: usize,
+        output: *mut u8,
+        output_len: usize,
+    ) -> File;
+}

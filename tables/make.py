@@ -1,0 +1,240 @@
+#!/usr/bin/env python3
+"""Makes the files of this folder from document 01's text alone; shares no code with the library.
+
+NAME.table is a block file, NAME.expected what `check` prints for it. The answers are worked out by the
+rounds as 01 writes them, on Python's sets; for tables A to G they are held to the figures typed below.
+
+    python3 tables/make.py            writes the files anew
+    python3 tables/make.py --check    writes nothing, and fails if a file differs
+"""
+
+import sys
+from dataclasses import dataclass, field
+from itertools import count
+from pathlib import Path
+
+ALLOWANCE = 256
+BLOCK, CONTENT = 512, 508
+PRIME = 65_521
+
+
+@dataclass
+class Table:
+    n: int
+    initial: set
+    forbidden: set
+    steps: set  # pairs (a, b) for a -> b
+    groups: list = field(default_factory=list)
+
+    def states(self):
+        return set(range(self.n))
+
+    def row(self, state):
+        return {b for a, b in self.steps if a == state}
+
+
+# ---- The rounds
+
+def fixpoint(step, start):
+    """Where repeating a step from a set comes to rest."""
+    while (after := step(start)) != start:
+        start = after
+    return start
+
+
+def decide(table):
+    """Verdict, count and invariant of the rounds with allowance 256."""
+    rows = {s: table.row(s) for s in table.states()}
+    post = lambda x: {t for s in x for t in rows[s]}
+    hold = lambda x: {s for s in rows if rows[s] <= x}
+    z = table.states() - table.forbidden
+    listed = table.groups + [z]
+    for i in count():
+        spots = {s: set.intersection(table.states(), *(y for y in listed if s in y)) for s in rows}
+        cover = lambda x: {t for s in x for t in spots[s]}
+        r = fixpoint(lambda x: cover(z & (table.initial | post(x))), set())
+        if table.initial | post(r) <= z:
+            return "safe", i, r
+        s = fixpoint(lambda x: cover(r & hold(x)), table.states())
+        if not table.initial <= s:
+            return "unsafe", i, set()
+        if i == ALLOWANCE:
+            return "undecided", i, set()
+        z = s & hold(s)
+        listed.append(z)
+
+
+def shortest_path(table):
+    """The smallest of the shortest paths: the least path to each state that a level reaches first."""
+    level, seen = {s: [s] for s in table.initial}, set()
+    while level:
+        found = [path for s, path in level.items() if s in table.forbidden]
+        if found:
+            return min(found)
+        seen |= set(level)
+        longer = [path + [t] for path in level.values() for t in table.row(path[-1]) - seen]
+        level = {path[-1]: path for path in sorted(longer, reverse=True)}
+    return None
+
+
+# ---- Block files
+
+def set_bytes(states, n):
+    return bytes(sum(1 << s % 8 for s in states if s // 8 == b) for b in range((n + 7) // 8))
+
+
+def two(number):
+    return number.to_bytes(2, "little")
+
+
+def contents(table):
+    sets = [table.initial, table.forbidden, *table.groups, *map(table.row, range(table.n))]
+    return two(table.n) + two(len(table.groups)) + b"".join(set_bytes(s, table.n) for s in sets)
+
+
+def check(block):
+    return sum((i + 1) * byte for i, byte in enumerate(block[:510])) % PRIME
+
+
+def sealed(number, content):
+    body = two(number) + content.ljust(CONTENT, b"\0")
+    return body + two(check(body))
+
+
+def blocks(content):
+    return [sealed(k, content[CONTENT * k:CONTENT * (k + 1)]) for k in range(-(-len(content) // CONTENT))]
+
+
+def encode(table):
+    return b"".join(blocks(contents(table)))
+
+
+# ---- What `check` prints
+
+def listing(states):
+    return " ".join(map(str, states)) or "none"
+
+
+def printed(table):
+    verdict, i, invariant = decide(table)
+    path = shortest_path(table)
+    assert (verdict == "unsafe") == (path is not None)
+    lines = [f"states {table.n} groups {len(table.groups)}", f"{verdict} refinements {i}"]
+    if verdict == "safe":
+        lines.append(f"invariant {len(invariant)}: {listing(sorted(invariant))}")
+    else:
+        lines.append(f"path {listing(path)}")
+    return "".join(line + "\n" for line in lines)
+
+
+# ---- The tables of 01, with its figures typed from its text
+
+A = Table(3, {0}, {2}, {(0, 1), (1, 0), (2, 2)})
+B = Table(5, {0}, {3}, {(0, 1), (1, 2), (2, 3), (4, 4)})
+D = Table(5, {0}, {3}, B.steps, [{0}, {1}, {2}])
+E = Table(3, {0}, {2}, {(0, 0), (1, 2)})
+F = Table(1, {0}, {0}, set())
+G = Table(1, set(), set(), set())
+
+# C differs from B only in its allowance, which a file does not hold.
+TYPED = {
+    "a": (A, "states 3 groups 0\nsafe refinements 0\ninvariant 2: 0 1\n"),
+    "b": (B, "states 5 groups 0\nunsafe refinements 3\npath 0 1 2 3\n"),
+    "c": (B, "states 5 groups 0\nunsafe refinements 3\npath 0 1 2 3\n"),
+    "d": (D, "states 5 groups 3\nunsafe refinements 0\npath 0 1 2 3\n"),
+    "e": (E, "states 3 groups 0\nsafe refinements 1\ninvariant 1: 0\n"),
+    "f": (F, "states 1 groups 0\nunsafe refinements 0\npath 0\n"),
+    "g": (G, "states 1 groups 0\nsafe refinements 0\ninvariant 0: none\n"),
+    # The ninth table of the design: its count is 2 where a new Z replaces the list.
+    "ninth": (
+        Table(4, {0}, {2}, {(0, 0), (0, 1), (1, 3), (2, 3), (3, 0), (3, 2)}, [{0}]),
+        "states 4 groups 1\nunsafe refinements 1\npath 0 1 3 2\n",
+    ),
+}
+
+# H: 0 to 40 circle, 41 to 59 lead to the forbidden 60 and are not reached. A group of the
+# reachable states spares all refinements.
+H_STEPS = {(s, s + 1) for s in range(60) if s != 40} | {(40, 20), (60, 60)}
+H = Table(61, {0}, {60}, H_STEPS)
+H1 = Table(61, {0}, {60}, H_STEPS, [set(range(41))])
+
+# The largest file: 256 states and 64 groups of four, a corridor with steps back.
+LARGEST = Table(
+    256, {0, 1}, {255},
+    {(s, s + 1) for s in range(255)} | {(s, s * 7 % 256) for s in range(256)},
+    [{s for s in range(256) if s // 4 == j} for j in range(64)],
+)
+
+COMPUTED = {"h": H, "h1": H1, "largest": LARGEST}
+
+
+# ---- Files that earn a refusal
+
+def with_byte(data, at, value):
+    return data[:at] + bytes([value]) + data[at + 1:]
+
+
+def refused():
+    e, h1 = encode(E), encode(H1)
+    content = contents(E)
+    corrupt = with_byte(h1, 100, h1[100] ^ 1)
+    return {
+        "empty": (b"", 11),
+        "short": (e[:-1], 11),
+        "long": (encode(LARGEST) + bytes(1), 11),
+        "too-many-blocks": (encode(LARGEST) + sealed(21, b""), 11),
+        "bad-number": (with_byte(e, 0, 1), 12),
+        "bad-number-high-byte": (sealed(256, content), 12),
+        "bad-number-second-block": (h1[:BLOCK] + sealed(0, h1[BLOCK + 2:-2]), 12),
+        "bad-check": (with_byte(e, 510, 98), 13),
+        "bad-check-high-byte": (with_byte(e, 511, 1), 13),
+        "bad-check-then-bad-number": (corrupt[:BLOCK] + with_byte(h1, BLOCK, 7)[BLOCK:], 13),
+        "no-states": (sealed(0, two(0) + content[2:]), 14),
+        "too-many-states": (sealed(0, two(257) + content[2:]), 14),
+        "too-many-states-and-groups": (sealed(0, two(257) + two(65)), 14),
+        "too-many-groups": (sealed(0, two(3) + two(65) + content[4:]), 15),
+        "block-missing": (h1[:BLOCK], 16),
+        "block-extra": (e + sealed(1, b""), 16),
+        "state-past-n": (sealed(0, with_byte(content, 4, 0x09)), 17),
+        "state-past-n-in-a-row": (sealed(0, with_byte(content, 8, 0x80)), 17),
+        "filler": (sealed(0, content.ljust(CONTENT - 1, b"\0") + b"\1"), 18),
+        "filler-and-state-past-n": (sealed(0, with_byte(content, 4, 0x09) + b"\1"), 17),
+    }
+
+
+def checked_figures():
+    """01's figures about the files themselves."""
+    assert contents(E).hex(" ") == "03 00 00 00 01 04 01 04 00"
+    assert check(encode(E)) == 97
+    assert len(contents(H)) == 508 and len(encode(H)) == BLOCK
+    assert len(contents(H1)) == 516 and len(encode(H1)) == 2 * BLOCK
+    assert len(encode(LARGEST)) == 21 * BLOCK == 10_752
+
+
+def files():
+    for name, (table, text) in TYPED.items():
+        assert printed(table) == text, name
+        yield f"{name}.table", encode(table)
+        yield f"{name}.expected", text.encode()
+    for name, table in COMPUTED.items():
+        yield f"{name}.table", encode(table)
+        yield f"{name}.expected", printed(table).encode()
+    for name, (data, number) in refused().items():
+        yield f"{name}.table", data
+        yield f"{name}.expected", f"refused {number}\n".encode()
+
+
+def main():
+    checked_figures()
+    folder = Path(__file__).parent
+    made = dict(files())
+    if "--check" in sys.argv[1:]:
+        kept = {p.name: p.read_bytes() for p in folder.iterdir() if p.suffix in (".table", ".expected")}
+        wrong = sorted(name for name in made | kept if made.get(name) != kept.get(name))
+        sys.exit(f"differ: {' '.join(wrong)}" if wrong else 0)
+    for name, data in made.items():
+        (folder / name).write_bytes(data)
+
+
+if __name__ == "__main__":
+    main()
