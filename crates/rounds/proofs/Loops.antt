@@ -16,14 +16,18 @@ use mathlib.Core.List.{List, [], _∷_}
 use borrow.Author.Tests.{not-false}
 use lib.ListN.{length, getD, set, drop, replicate, length-replicate, getD-replicate, length-set, drop-of-length-le}
 use lib.Seq.{ext-getD, getD-set-same, getD-set-other, drop-cons}
-use Rattle.model.specs.Sets.{maxStates, Set, member, setOf, empty, single, union, meet, difference, subset, same, image, tabulate}
+use Rattle.model.specs.Sets.{WORDS, maxStates, Set, member, setOf, empty, single, union, meet, difference, subset, same, image, tabulate}
 use Rattle.model.specs.Rounds.{iterate}
+use Rattle.model.specs.Stores.{rowAt, setAt}
+use Rattle.state_set.specs.WordSets.{wordSet, wordsBelow}
 use Rattle.model.proofs.Bounds.{and-true, and-intro, clash, by-cond, length-tabulate, getD-tabulate}
 use Rattle.model.proofs.SetLaws.{Proper, setOf-proper, In, in-bound, in-setOf, setOf-in, in-or-out, empty-in, in-single, single-in, in-difference, difference-in, _⊆_, subset-in, ⊆-of-eq, same-set, same-eq, in-image, image-in}
 use Rattle.model.proofs.Fixpoints.{iterate-suc, iterate-has, iterate-still}
 use Rattle.model.proofs.CoverLaws.{image-proper}
 use Rattle.model.proofs.ImageLaws.{union-empty}
-use Rattle.rounds.specs.Steps.{covers, narrowed}
+use Rattle.state_set.proofs.WordSets.{words-all}
+use Rattle.table.proofs.Laws.{join-start, join-word}
+use Rattle.rounds.specs.Steps.{covers, narrowed, keptBy}
 use Rattle.rounds.proofs.Bridge.{covers-add}
 
 pub tabulate-const : {A : Type 0} (n : ℕ) (x : A) → replicate n x ≡ tabulate n (λ i. x)
@@ -151,6 +155,25 @@ module _ (p : ℕ → Bool) (out : Set) {out′ : Set} (x : ℕ) where
   pub passed-skip : Proper out → p x ≡ false → out′ ≡ out → out′ ≡ union out (passed p x)
   unfolding passed
   passed-skip proper e q = rw e (q ∙ sym (union-empty out proper))
+
+module _ (store : List ℕ) (Y : Set) where
+  -- what a state gives to `keptBy`
+  abbrev pub held : ℕ → Set
+  held = passed (λ s. subset (setAt store (rowAt s)) Y)
+
+  pub kept-is : (X : Set) → image maxStates held X ≡ keptBy store X Y
+  unfolding keptBy
+  kept-is X = image-passed _ X
+
+  pub kept-start : (X : Set) → keptBy store (wordsBelow 0 X) Y ≡ empty
+  kept-start X = sym (kept-is _) ∙ join-start held X
+
+  pub kept-word : (X : Set) {out out′ : Set} (w : ℕ) → w < WORDS → out ≡ keptBy store (wordsBelow w X) Y
+      → out′ ≡ union out (keptBy store (wordSet w (getD X w 0)) Y) → out′ ≡ keptBy store (wordsBelow (w + 1) X) Y
+  kept-word X w h e q = join-word held X w h (e ∙ sym (kept-is _)) (q ∙ ap (union _) (sym (kept-is _))) ∙ kept-is _
+
+  pub kept-all : (X : Set) (w : ℕ) → Proper X → WORDS ≤ w → keptBy store (wordsBelow w X) Y ≡ keptBy store X Y
+  kept-all X w p h = ap (λ (Z : Set). keptBy store Z Y) (words-all w X p h)
 
 -- ---- `forward` and `backward`
 

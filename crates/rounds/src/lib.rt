@@ -2,7 +2,7 @@
 //
 //   no_groups, with_groups, narrow      the cover: a row of words for each state, set up from the groups and narrowed by each new Z
 //   forward_step, forward               R, by its step until nothing changes
-//   is_held, kept                       hold
+//   is_held, keep_word, kept            hold
 //   backward_step, backward             S, by its step until nothing changes
 //   run                                 the rounds
 //   decide                              the call
@@ -10,7 +10,8 @@ ghost use mathlib.Core.Path.{_≡_};
 ghost use mathlib.Core.List.{[]};
 ghost use Prim.Native.Nat.{_≤_, _<_};
 ghost use lib.ListN.{length};
-ghost use Rattle.model.specs.Sets.{maxStates, empty, union, subset, firstStates};
+ghost use Rattle.model.specs.Sets.{WORDS, maxStates, empty, union, subset, firstStates};
+ghost use Rattle.state_set.specs.WordSets.{wordSet};
 ghost use Rattle.model.specs.Tables.{notForbidden};
 ghost use Rattle.model.specs.Rounds.{iterate, run as run·model};
 ghost use Rattle.model.specs.Stores.{storeWords, maxGroups, forbiddenAt, rowAt, setAt, tableOf, refuse};
@@ -18,6 +19,7 @@ ghost use Rattle.model.specs.Calls.{decideGrounds};
 ghost use Rattle.rounds.specs.Steps.{covers, narrowed, successorsBy, forwardBy, keptBy, backwardBy};
 ghost use Rattle.rounds.specs.Answers.{outcomeOf, invariantOf};
 use state_set::StateSet;
+use state_set::WORDS;
 use table::FORBIDDEN_AT;
 use table::MAX_STATES;
 use table::Rows;
@@ -102,19 +104,31 @@ fn is_held(store: &[u64], s: usize, y: StateSet) -> bool
     row_at(store, s).is_subset(y)
 }
 
+// The states that `bits` has in word w and that are in hold(y), joined to `found`.
+fn keep_word(store: &[u64], w: usize, bits: u64, y: StateSet, found: StateSet) -> StateSet
+    requires { ⌜ (w < WORDS) × (storeWords ≤ length (now store)) ⌝ }
+    ensures { λ r. ⌜ r .words ≡ union (found .words) (keptBy (now (store .entry)) (wordSet w bits) (y .words)) ⌝ }
+{
+    let mut kept = found;
+    let mut rest = bits;
+    while rest != 0 {
+        let s = 64 * w + u64::trailing_zeros(rest) as usize;
+        if is_held(store, s, y) {
+            kept = kept.with(s);
+        }
+        rest &= rest - 1;
+    }
+    kept
+}
+
 // x meet hold(y)
 fn kept(store: &[u64], x: StateSet, y: StateSet) -> StateSet
     requires { ⌜ storeWords ≤ length (now store) ⌝ }
     ensures { λ r. ⌜ r .words ≡ keptBy (now (store .entry)) (x .words) (y .words) ⌝ }
 {
     let mut kept = StateSet::empty();
-    let mut rest = x;
-    while !rest.is_empty() {
-        let s = rest.smallest();
-        if is_held(store, s, y) {
-            kept = kept.with(s);
-        }
-        rest = rest.without(s);
+    for w in 0..WORDS {
+        kept = keep_word(store, w, x.words[w], y, kept);
     }
     kept
 }
