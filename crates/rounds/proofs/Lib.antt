@@ -1,0 +1,4 @@
+pub mod Bridge
+pub mod Loops
+pub mod Running
+pub mod Deciding

@@ -1,0 +1,14 @@
+-- `is_held`: one call in the other.
+use mathlib.Core.Path.{ap, _∙_}
+use borrow.Author.Needs.{needs}
+use Rattle.model.specs.Sets.{Set, subset}
+use Rattle.rounds.proofs.is_held.Statement.{statement}
+use Rattle.rounds.proofs.is_held.Tie as tie
+
+pub is-held-spec : {M : Type 1} → statement M
+is-held-spec =
+    tie.close
+    (tie.spec
+    (λ c κs. search needs)
+    (λ c κs. search needs)
+    (λ c. c .is-subset .ensures ∙ ap (λ (X : Set). subset X (c .before .before .before .args .y .words)) (c .before .row-at .ensures)))

@@ -1,0 +1,17 @@
+-- `not_forbidden`: all states without the forbidden ones.
+use mathlib.Core.Path.{ap₂, _∙_}
+use borrow.Author.Needs.{needs}
+use Rattle.model.specs.Sets.{difference}
+use Rattle.rounds.proofs.Bridge.{notForbidden-is}
+use Rattle.rounds.proofs.not_forbidden.Statement.{statement}
+use Rattle.rounds.proofs.not_forbidden.Tie as tie
+
+pub not-forbidden-spec : {M : Type 1} → statement M
+not-forbidden-spec =
+    tie.close
+    (tie.spec
+    (λ c κs. search needs)
+    (λ c κs. search needs)
+    (λ c κs. search needs)
+    (λ c.
+    c .difference .ensures ∙ ap₂ difference (c .before .before .first-states .ensures) (c .before .set-at .ensures) ∙ notForbidden-is _ _))

@@ -1,0 +1,246 @@
+// The rounds (01, "Rounds") and the call `decide`.
+//
+//   no_groups, with_groups, narrow      the cover: a row of words for each state, set up from the groups and narrowed by each new Z
+//   forward_step, forward               R, by its step until nothing changes
+//   is_held, keep_word, kept            hold
+//   backward_step, backward             S, by its step until nothing changes
+//   run                                 the rounds
+//   decide                              the call
+ghost use mathlib.Core.Path.{_≡_};
+ghost use mathlib.Core.List.{[]};
+ghost use Prim.Native.Nat.{_≤_, _<_};
+ghost use lib.ListN.{length};
+ghost use Rattle.model.specs.Sets.{WORDS, maxStates, empty, union, subset, firstStates};
+ghost use Rattle.state_set.specs.WordSets.{wordSet};
+ghost use Rattle.model.specs.Tables.{notForbidden};
+ghost use Rattle.model.specs.Rounds.{iterate, run as run·model};
+ghost use Rattle.model.specs.Stores.{storeWords, maxGroups, forbiddenAt, rowAt, setAt, tableOf, refuse};
+ghost use Rattle.model.specs.Calls.{decideGrounds};
+ghost use Rattle.rounds.specs.Steps.{covers, narrowed, successorsBy, forwardBy, keptBy, backwardBy};
+ghost use Rattle.rounds.specs.Answers.{outcomeOf, invariantOf};
+use state_set::StateSet;
+use state_set::WORDS;
+use table::FORBIDDEN_AT;
+use table::MAX_STATES;
+use table::Rows;
+use table::group_at;
+use table::refusal;
+use table::row_at;
+use table::row_of;
+use table::set_at;
+use table::successors;
+use table::union_of;
+
+// ---- the cover
+
+// The cover of each state for the empty list: all n states.
+fn no_groups(n: usize) -> Rows
+    ensures { λ r. ⌜ r ≡ covers n [] ⌝ }
+{
+    let words = StateSet::first_states(n).words;
+    [words; MAX_STATES]
+}
+
+// z is added to the list: the cover of each of its states becomes its meet with z.
+fn narrow(rows: &mut Rows, z: StateSet)
+    ensures { λ _. ⌜ now (rows .exit) ≡ narrowed (now (rows .entry)) (z .words) ⌝ }
+{
+    let mut rest = z;
+    while !rest.is_empty() {
+        let s = rest.smallest();
+        let met = row_of(rows, s).meet(z);
+        let words = met.words;
+        rows[s] = words;
+        rest = rest.without(s);
+    }
+}
+
+// The cover for the table's groups, which are added from the last to the first.
+fn with_groups(store: &[u64], n: usize, g: usize) -> Rows
+    requires { ⌜ (g ≤ maxGroups) × (storeWords ≤ length (now store)) ⌝ }
+    ensures { λ r. ⌜ r ≡ covers n ((tableOf (now (store .entry)) n g) .groups) ⌝ }
+{
+    let mut rows = no_groups(n);
+    let mut j = g;
+    while 0 < j {
+        j -= 1;
+        narrow(&mut rows, group_at(store, j));
+    }
+    rows
+}
+
+// ---- R
+
+// cover(z meet (initial union post(x)))
+fn forward_step(store: &[u64], rows: &Rows, initial: StateSet, z: StateSet, x: StateSet) -> StateSet
+    requires { ⌜ storeWords ≤ length (now store) ⌝ }
+    ensures { λ r. ⌜ r .words ≡ forwardBy (now (store .entry)) (now (rows .entry)) (initial .words) (z .words) (x .words) ⌝ }
+{
+    union_of(rows, z.meet(initial.union(successors(store, x))))
+}
+
+fn forward(store: &[u64], n: usize, rows: &Rows, initial: StateSet, z: StateSet) -> StateSet
+    requires { ⌜ storeWords ≤ length (now store) ⌝ }
+    ensures { λ r. ⌜ r .words ≡ iterate (forwardBy (now (store .entry)) (now (rows .entry)) (initial .words) (z .words)) empty n ⌝ }
+{
+    let mut x = StateSet::empty();
+    for _ in 0..n {
+        let y = forward_step(store, rows, initial, z, x);
+        if y.equals(x) {
+            return x;
+        }
+        x = y;
+    }
+    x
+}
+
+// ---- S
+
+// s is in hold(y): its every successor is in y.
+fn is_held(store: &[u64], s: usize, y: StateSet) -> bool
+    requires { ⌜ (s < maxStates) × (storeWords ≤ length (now store)) ⌝ }
+    ensures { λ b. ⌜ b ≡ subset (setAt (now (store .entry)) (rowAt s)) (y .words) ⌝ }
+{
+    row_at(store, s).is_subset(y)
+}
+
+// The states that `bits` has in word w and that are in hold(y), joined to `found`.
+fn keep_word(store: &[u64], w: usize, bits: u64, y: StateSet, found: StateSet) -> StateSet
+    requires { ⌜ (w < WORDS) × (storeWords ≤ length (now store)) ⌝ }
+    ensures { λ r. ⌜ r .words ≡ union (found .words) (keptBy (now (store .entry)) (wordSet w bits) (y .words)) ⌝ }
+{
+    let mut kept = found;
+    let mut rest = bits;
+    while rest != 0 {
+        let s = 64 * w + u64::trailing_zeros(rest) as usize;
+        if is_held(store, s, y) {
+            kept = kept.with(s);
+        }
+        rest &= rest - 1;
+    }
+    kept
+}
+
+// x meet hold(y)
+fn kept(store: &[u64], x: StateSet, y: StateSet) -> StateSet
+    requires { ⌜ storeWords ≤ length (now store) ⌝ }
+    ensures { λ r. ⌜ r .words ≡ keptBy (now (store .entry)) (x .words) (y .words) ⌝ }
+{
+    let mut kept = StateSet::empty();
+    for w in 0..WORDS {
+        kept = keep_word(store, w, x.words[w], y, kept);
+    }
+    kept
+}
+
+// cover(r meet hold(x))
+fn backward_step(store: &[u64], rows: &Rows, r: StateSet, x: StateSet) -> StateSet
+    requires { ⌜ storeWords ≤ length (now store) ⌝ }
+    ensures { λ s. ⌜ s .words ≡ backwardBy (now (store .entry)) (now (rows .entry)) (r .words) (x .words) ⌝ }
+{
+    union_of(rows, kept(store, r, x))
+}
+
+fn backward(store: &[u64], n: usize, rows: &Rows, r: StateSet) -> StateSet
+    requires { ⌜ storeWords ≤ length (now store) ⌝ }
+    ensures { λ s. ⌜ s .words ≡ iterate (backwardBy (now (store .entry)) (now (rows .entry)) (r .words)) (firstStates n) n ⌝ }
+{
+    let mut x = StateSet::first_states(n);
+    for _ in 0..n {
+        let y = backward_step(store, rows, r, x);
+        if y.equals(x) {
+            return x;
+        }
+        x = y;
+    }
+    x
+}
+
+// ---- the rounds
+
+// How the rounds end, with the count of refinements.
+pub enum Ending {
+    Safe(usize),
+    Unsafe(usize),
+    Undecided(usize),
+}
+
+// The ending, with R beside it where that is safe and the empty set where it is not.
+pub struct Ended {
+    pub ending: Ending,
+    pub invariant: StateSet,
+}
+
+// Z of the first round: the states of the table that are not forbidden.
+fn not_forbidden(store: &[u64], n: usize) -> StateSet
+    requires { ⌜ storeWords ≤ length (now store) ⌝ }
+    ensures { λ r. ⌜ r .words ≡ notForbidden n (setAt (now (store .entry)) forbiddenAt) ⌝ }
+{
+    StateSet::first_states(n).difference(set_at(store, FORBIDDEN_AT))
+}
+
+// Step 2's test: initial union post(r) lies inside z.
+fn stays_inside(store: &[u64], initial: StateSet, z: StateSet, r: StateSet) -> bool
+    requires { ⌜ storeWords ≤ length (now store) ⌝ }
+    ensures { λ b. ⌜ b ≡ subset (union (initial .words) (successorsBy (now (store .entry)) (r .words))) (z .words) ⌝ }
+{
+    initial.union(successors(store, r)).is_subset(z)
+}
+
+// The rounds, from 0 on, till one of them says safe or unsafe or the allowance is used.
+fn run(store: &[u64], n: usize, g: usize, allowance: usize) -> Ended
+    requires { ⌜ (g ≤ maxGroups) × (storeWords ≤ length (now store)) ⌝ }
+    ensures { λ r. ⌜ (outcomeOf r ≡ run·model (tableOf (now (store .entry)) n g) allowance) × (r .invariant .words ≡ invariantOf (outcomeOf r)) ⌝ }
+{
+    let initial = set_at(store, 0);
+    let mut z = not_forbidden(store, n);
+    let mut rows = with_groups(store, n, g);
+    let mut i = 0;
+    loop {
+        narrow(&mut rows, z);
+        let r = forward(store, n, &rows, initial, z);
+        if stays_inside(store, initial, z, r) {
+            return Ended {
+                ending: Ending::Safe(i),
+                invariant: r,
+            };
+        }
+        let s = backward(store, n, &rows, r);
+        if !initial.is_subset(s) {
+            return Ended {
+                ending: Ending::Unsafe(i),
+                invariant: StateSet::empty(),
+            };
+        }
+        if i == allowance {
+            return Ended {
+                ending: Ending::Undecided(i),
+                invariant: StateSet::empty(),
+            };
+        }
+        z = kept(store, s, s);
+        i += 1;
+    }
+}
+
+// ---- the call
+
+// As many refinements as there can be states.
+pub const MAX_ALLOWANCE: usize = MAX_STATES;
+
+// Why a check is declined, or 0.
+fn decide_refusal(store: &[u64], n: usize, g: usize, allowance: usize, room: usize) -> u8
+    ensures { λ r. ⌜ r ≡ refuse (decideGrounds (now (store .entry)) n g allowance room) ⌝ }
+{
+    let shared = refusal(store, n, g);
+    if shared != 0 {
+        return shared;
+    }
+    if MAX_ALLOWANCE < allowance {
+        return 20;
+    }
+    if room < MAX_STATES {
+        return 21;
+    }
+    0
+}
