@@ -230,3 +230,18 @@ fn decide_refusal(store: &[u64], n: usize, g: usize, allowance: usize, room: usi
     }
     0
 }
+
+// 01's verdicts, each with its count of refinements: safe with the number of states of the invariant, unsafe with the steps of the path.
+// `Refused` has the number of the ground on which the call is declined.
+pub enum Verdict {
+    Safe { count: usize, size: usize },
+    Unsafe { count: usize, steps: usize },
+    Undecided { count: usize },
+    Refused(u8),
+}
+
+// The verdict, with the invariant beside it where that is safe and the empty set where it is not.
+pub struct Decision {
+    pub verdict: Verdict,
+    pub invariant: StateSet,
+}
