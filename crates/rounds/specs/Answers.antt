@@ -3,9 +3,12 @@
 --   outcomeOf r       how the rounds ended, as the model's outcome
 --   invariantOf o     the invariant that goes with an outcome: R where it is safe, and the empty set where it is not
 --   answerOf r        what decide answers, in 01's numbers for each of its cases
+use Prim.Native.Nat.{ℕ}
 use Rattle.model.specs.Sets.{Set, empty}
 use Rattle.model.specs.Rounds.{Outcome, safe, unsafe, undecided}
 use Rattle.model.specs.Calls.{Decision as Answer}
+use Rattle.paths.specs.declared.Found.{Found}
+use Rattle.paths.specs.declared.Found.the-variants.{Steps, Nothing}
 use Rattle.rounds.specs.declared.Ending.{Ending}
 use Rattle.rounds.specs.declared.Ending.the-variants.{Safe as EndsSafe, Unsafe as EndsUnsafe, Undecided as EndsUndecided}
 use Rattle.rounds.specs.declared.Ended.{Ended}
@@ -25,6 +28,11 @@ abbrev pub invariantOf : Outcome → Set
 invariantOf (safe i R) = R
 invariantOf (unsafe i) = empty
 invariantOf (undecided i) = empty
+
+-- the steps of the path that find_path found, or 0
+abbrev pub stepsIn : Found → ℕ
+stepsIn (Steps d) = d
+stepsIn Nothing = 0
 
 abbrev pub answersWith : Verdict → Set → Answer
 answersWith (Safe i k) R = record { refusal = 0; verdict = 0; count = i; invariant = R; size = k; steps = 0 }

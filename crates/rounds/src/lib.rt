@@ -14,9 +14,11 @@ ghost use Rattle.model.specs.Sets.{maxStates, empty, union, subset, firstStates
 ghost use Rattle.model.specs.Tables.{notForbidden};
 ghost use Rattle.model.specs.Rounds.{iterate, run as run·model};
 ghost use Rattle.model.specs.Stores.{storeWords, maxGroups, forbiddenAt, rowAt, setAt, tableOf, refuse};
-ghost use Rattle.model.specs.Calls.{decideGrounds};
+ghost use Rattle.model.specs.Calls.{decideGrounds, decideAnswer, decideBuffer};
 ghost use Rattle.rounds.specs.Steps.{covers, narrowed, successorsBy, forwardBy, keptBy, backwardBy};
-ghost use Rattle.rounds.specs.Answers.{outcomeOf, invariantOf};
+ghost use Rattle.rounds.specs.Answers.{outcomeOf, invariantOf, answerOf, stepsIn};
+use paths::Found;
+use paths::find_path;
 use state_set::StateSet;
 use table::FORBIDDEN_AT;
 use table::MAX_STATES;
@@ -244,4 +246,50 @@ pub enum Verdict {
 pub struct Decision {
     pub verdict: Verdict,
     pub invariant: StateSet,
+}
+
+// The steps of the path that was found, or 0.
+fn steps_of(found: Found) -> usize
+    ensures { λ d. ⌜ d ≡ stepsIn found ⌝ }
+{
+    match found {
+        Found::Steps(steps) => steps,
+        Found::Nothing => 0,
+    }
+}
+
+pub fn decide(store: &[u64], n: usize, g: usize, allowance: usize, path: &mut [u8]) -> Decision
+    ensures { λ r. ⌜ (answerOf r ≡ decideAnswer (now (store .entry)) n g allowance (length (now (path .entry))))
+        × (now (path .exit) ≡ decideBuffer (now (store .entry)) n g allowance (now (path .entry))) ⌝ }
+{
+    let refused = decide_refusal(store, n, g, allowance, path.len());
+    if refused != 0 {
+        return Decision {
+            verdict: Verdict::Refused(refused),
+            invariant: StateSet::empty(),
+        };
+    }
+    let ended = run(store, n, g, allowance);
+    let ending = ended.ending;
+    let invariant = ended.invariant;
+    match ending {
+        Ending::Safe(count) => Decision {
+            verdict: Verdict::Safe {
+                count,
+                size: invariant.count(),
+            },
+            invariant,
+        },
+        Ending::Unsafe(count) => Decision {
+            verdict: Verdict::Unsafe {
+                count,
+                steps: steps_of(find_path(store, n, path)),
+            },
+            invariant,
+        },
+        Ending::Undecided(count) => Decision {
+            verdict: Verdict::Undecided { count },
+            invariant,
+        },
+    }
 }
