@@ -2,21 +2,43 @@
 --
 --   outcomeOf r       how the rounds ended, as the model's outcome
 --   invariantOf o     the invariant that goes with an outcome: R where it is safe, and the empty set where it is not
+--   answerOf r        what decide answers, in 01's numbers for each of its cases
+use Prim.Native.Nat.{ℕ}
 use Rattle.model.specs.Sets.{Set, empty}
 use Rattle.model.specs.Rounds.{Outcome, safe, unsafe, undecided}
+use Rattle.model.specs.Calls.{Decision as Answer}
+use Rattle.paths.specs.declared.Found.{Found}
+use Rattle.paths.specs.declared.Found.the-variants.{Steps, Nothing}
 use Rattle.rounds.specs.declared.Ending.{Ending}
-use Rattle.rounds.specs.declared.Ending.the-variants.{Safe, Unsafe, Undecided}
+use Rattle.rounds.specs.declared.Ending.the-variants.{Safe as EndsSafe, Unsafe as EndsUnsafe, Undecided as EndsUndecided}
 use Rattle.rounds.specs.declared.Ended.{Ended}
+use Rattle.rounds.specs.declared.Verdict.{Verdict}
+use Rattle.rounds.specs.declared.Verdict.the-variants.{Safe, Unsafe, Undecided, Refused}
+use Rattle.rounds.specs.declared.Decision.{Decision}
 
-abbrev pub withInvariant : Ending → Set → Outcome
-withInvariant (Safe i) R = safe i R
-withInvariant (Unsafe i) R = unsafe i
-withInvariant (Undecided i) R = undecided i
+abbrev pub endsWith : Ending → Set → Outcome
+endsWith (EndsSafe i) R = safe i R
+endsWith (EndsUnsafe i) R = unsafe i
+endsWith (EndsUndecided i) R = undecided i
 
 abbrev pub outcomeOf : Ended → Outcome
-outcomeOf r = withInvariant (r .ending) (r .invariant .words)
+outcomeOf r = endsWith (r .ending) (r .invariant .words)
 
 abbrev pub invariantOf : Outcome → Set
 invariantOf (safe i R) = R
 invariantOf (unsafe i) = empty
 invariantOf (undecided i) = empty
+
+-- the steps of the path that find_path found, or 0
+abbrev pub stepsIn : Found → ℕ
+stepsIn (Steps d) = d
+stepsIn Nothing = 0
+
+abbrev pub answersWith : Verdict → Set → Answer
+answersWith (Safe i k) R = record { refusal = 0; verdict = 0; count = i; invariant = R; size = k; steps = 0 }
+answersWith (Unsafe i d) R = record { refusal = 0; verdict = 1; count = i; invariant = R; size = 0; steps = d }
+answersWith (Undecided i) R = record { refusal = 0; verdict = 2; count = i; invariant = R; size = 0; steps = 0 }
+answersWith (Refused k) R = record { refusal = k; verdict = 0; count = 0; invariant = R; size = 0; steps = 0 }
+
+abbrev pub answerOf : Decision → Answer
+answerOf r = answersWith (r .verdict) (r .invariant .words)

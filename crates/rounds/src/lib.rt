@@ -15,9 +15,11 @@ ghost use Rattle.state_set.specs.WordSets.{wordSet};
 ghost use Rattle.model.specs.Tables.{notForbidden};
 ghost use Rattle.model.specs.Rounds.{iterate, run as run·model};
 ghost use Rattle.model.specs.Stores.{storeWords, maxGroups, forbiddenAt, rowAt, setAt, tableOf, refuse};
-ghost use Rattle.model.specs.Calls.{decideGrounds};
+ghost use Rattle.model.specs.Calls.{decideGrounds, decideAnswer, decideBuffer};
 ghost use Rattle.rounds.specs.Steps.{covers, narrowed, successorsBy, forwardBy, keptBy, backwardBy};
-ghost use Rattle.rounds.specs.Answers.{outcomeOf, invariantOf};
+ghost use Rattle.rounds.specs.Answers.{outcomeOf, invariantOf, answerOf, stepsIn};
+use paths::Found;
+use paths::find_path;
 use state_set::StateSet;
 use state_set::WORDS;
 use table::FORBIDDEN_AT;
@@ -243,4 +245,65 @@ fn decide_refusal(store: &[u64], n: usize, g: usize, allowance: usize, room: usi
         return 21;
     }
     0
+}
+
+// 01's verdicts, each with its count of refinements: safe with the number of states of the invariant, unsafe with the steps of the path.
+// `Refused` has the number of the ground on which the call is declined.
+pub enum Verdict {
+    Safe { count: usize, size: usize },
+    Unsafe { count: usize, steps: usize },
+    Undecided { count: usize },
+    Refused(u8),
+}
+
+// The verdict, with the invariant beside it where that is safe and the empty set where it is not.
+pub struct Decision {
+    pub verdict: Verdict,
+    pub invariant: StateSet,
+}
+
+// The steps of the path that was found, or 0.
+fn steps_of(found: Found) -> usize
+    ensures { λ d. ⌜ d ≡ stepsIn found ⌝ }
+{
+    match found {
+        Found::Steps(steps) => steps,
+        Found::Nothing => 0,
+    }
+}
+
+pub fn decide(store: &[u64], n: usize, g: usize, allowance: usize, path: &mut [u8]) -> Decision
+    ensures { λ r. ⌜ (answerOf r ≡ decideAnswer (now (store .entry)) n g allowance (length (now (path .entry))))
+        × (now (path .exit) ≡ decideBuffer (now (store .entry)) n g allowance (now (path .entry))) ⌝ }
+{
+    let refused = decide_refusal(store, n, g, allowance, path.len());
+    if refused != 0 {
+        return Decision {
+            verdict: Verdict::Refused(refused),
+            invariant: StateSet::empty(),
+        };
+    }
+    let ended = run(store, n, g, allowance);
+    let ending = ended.ending;
+    let invariant = ended.invariant;
+    match ending {
+        Ending::Safe(count) => Decision {
+            verdict: Verdict::Safe {
+                count,
+                size: invariant.count(),
+            },
+            invariant,
+        },
+        Ending::Unsafe(count) => Decision {
+            verdict: Verdict::Unsafe {
+                count,
+                steps: steps_of(find_path(store, n, path)),
+            },
+            invariant,
+        },
+        Ending::Undecided(count) => Decision {
+            verdict: Verdict::Undecided { count },
+            invariant,
+        },
+    }
 }
