@@ -24,7 +24,7 @@ use Rattle.model.proofs.Bounds.{clash, not-true, by-cond, below-suc, lt-or-ge, 
 use Rattle.model.proofs.SetLaws.{In, in-bound, in-or-out, empty-in, in-union, union-in, in-difference, difference-in, in-states, states-in, in-firstStates, firstStates-in, _⊆_, ⊆-of-eq, subset-in, subset-not, in-image, image-in, meets-in}
 use Rattle.model.proofs.WellFormed.{WellFormed}
 use Rattle.model.proofs.PathLaws.{At, reaching-suc, reaching-mono, reaching-at, in-reaching, nearest-at, at-row, at-lt, reaching-states, distance-is, distance-unreachable}
-use Rattle.model.proofs.Acceptance.{row-is}
+use Rattle.model.proofs.StoreLaws.{row-is}
 use Rattle.paths.specs.Search.{mapAt, predecessorRows}
 use Rattle.paths.proofs.MapAt.{length-mapAt, getD-mapAt}
 

@@ -22,7 +22,7 @@ use Rattle.model.proofs.Bounds.{and-true, and-intro, same-test, is-false, lt-or
 use Rattle.model.proofs.SetLaws.{In, in-meet, meet-in, firstStates-in, meets-in}
 use Rattle.model.proofs.WellFormed.{WellFormed}
 use Rattle.model.proofs.PathLaws.{Nearest, pick, pick-at, at-row, at-lt, reaching-at, reaching-mono, reaching-states, distance-is, distance-unreachable, distance-reaching, reaching-distance, shortest-le}
-use Rattle.model.proofs.Acceptance.{row-is}
+use Rattle.model.proofs.StoreLaws.{row-is}
 use Rattle.paths.specs.Search.{leastBy, pickBy, walkBy}
 
 first-cong : (p q : ℕ → Bool) (n : ℕ) → ((k : ℕ) → k < n → p k ≡ q k) → first n p ≡ first n q
