@@ -22,7 +22,7 @@ use Rattle.model.proofs.Fixpoints.{iterate-has}
 use Rattle.model.proofs.CoverLaws.{image-proper, in-notForbidden, notForbidden-in, notForbidden-within, in-hold, hold-in, forwardStep-within, backwardStep-within}
 use Rattle.model.proofs.StoreLaws.{row-is}
 use Rattle.model.proofs.ImageLaws.{image-bound, image-cong}
-use Rattle.rounds.specs.Steps.{covers, narrowed, successorsBy, coverBy, forwardBy, keptBy, backwardBy}
+use Rattle.rounds.specs.Steps.{covers, narrowedAt, narrowed, successorsBy, coverBy, forwardBy, keptBy, backwardBy}
 
 -- ---- the cover
 
@@ -31,7 +31,7 @@ unfolding covers
 covers-read n L s h = getD-tabulate (coverOf n L) maxStates s [] h
 
 pub covers-add : (n : ℕ) (L : List Set) (Z : Set) → narrowed (covers n L) Z ≡ covers n (Z ∷ L)
-unfolding narrowed covers coverOf
+unfolding narrowed narrowedAt covers coverOf
 covers-add n L Z =
     rw (length-tabulate (coverOf n L) maxStates)
     (tabulate-cong _ _ maxStates (λ s h. ap (λ (row : Set). cond (member Z s) (meet row Z) row) (getD-tabulate (coverOf n L) maxStates s [] h)))

@@ -10,24 +10,23 @@ use native.Mathlib.Nat.{le-refl, le-of-eq, le-antisymm}
 use native.Mathlib.Numerals.{add-one}
 use native.Mathlib.Omega.{arith}
 use mathlib.Core.Path.{_≡_, refl, sym, ap, ap₂, _∙_, subst}
-use mathlib.Core.Logic.{⊎-elim}
-use mathlib.Core.Bool.{Bool, true, false, cond, not, _&&_}
+use mathlib.Core.Logic.{_⊎_, inl, inr, ⊎-elim}
+use mathlib.Core.Bool.{Bool, true, false, cond, _&&_, _||_}
 use mathlib.Core.List.{List, [], _∷_}
-use borrow.Author.Tests.{not-false}
 use lib.ListN.{length, getD, set, drop, replicate, length-replicate, getD-replicate, length-set, drop-of-length-le}
 use lib.Seq.{ext-getD, getD-set-same, getD-set-other, drop-cons}
 use Rattle.model.specs.Sets.{WORDS, maxStates, Set, member, setOf, empty, single, union, meet, difference, subset, same, image, tabulate}
 use Rattle.model.specs.Rounds.{iterate}
 use Rattle.model.specs.Stores.{rowAt, setAt}
 use Rattle.state_set.specs.WordSets.{wordSet, wordsBelow}
-use Rattle.model.proofs.Bounds.{and-true, and-intro, clash, by-cond, length-tabulate, getD-tabulate}
-use Rattle.model.proofs.SetLaws.{Proper, setOf-proper, In, in-bound, in-setOf, setOf-in, in-or-out, empty-in, in-single, single-in, in-difference, difference-in, _⊆_, subset-in, ⊆-of-eq, same-set, same-eq, in-image, image-in}
+use Rattle.model.proofs.Bounds.{and-true, and-intro, or-true, or-intro, clash, same-test, by-cond, length-tabulate, getD-tabulate}
+use Rattle.model.proofs.SetLaws.{Proper, setOf-proper, In, in-bound, in-setOf, setOf-in, in-or-out, empty-in, in-single, single-in, in-union, union-in, in-meet, meet-in, in-difference, difference-in, _⊆_, same-set, same-eq, in-image, image-in}
 use Rattle.model.proofs.Fixpoints.{iterate-suc, iterate-has, iterate-still}
 use Rattle.model.proofs.CoverLaws.{image-proper}
 use Rattle.model.proofs.ImageLaws.{union-empty}
-use Rattle.state_set.proofs.WordSets.{words-all}
+use Rattle.state_set.proofs.WordSets.{words-none, words-more, words-all}
 use Rattle.table.proofs.Laws.{join-start, join-word}
-use Rattle.rounds.specs.Steps.{covers, narrowed, keptBy}
+use Rattle.rounds.specs.Steps.{covers, narrowedAt, narrowed, keptBy}
 use Rattle.rounds.proofs.Bridge.{covers-add}
 
 pub tabulate-const : {A : Type 0} (n : ℕ) (x : A) → replicate n x ≡ tabulate n (λ i. x)
@@ -39,57 +38,92 @@ tabulate-const n x =
 
 -- ---- `narrow`
 
--- the rows of the states of Z that are taken are met with Z, all others are as they were
-pub record Narrowing (old : List Set) (Z : Set) (rows : List Set) (rest : Set) : Type 0 where
-  pub long : length rows ≡ length old
-  pub left : rest ⊆ Z
-  pub met : (s : ℕ) → s < length old → In Z s → (In rest s → ⊥) → getD rows s [] ≡ meet (getD old s []) Z
-  pub same : (s : ℕ) → (In Z s → In rest s) → getD rows s [] ≡ getD old s []
+meet-twice : (X Z : Set) → meet (meet X Z) Z ≡ meet X Z
+unfolding meet
+meet-twice X Z =
+    same-set _ _ (setOf-proper _) (setOf-proper _) (λ s h. meet-in h .0) (λ s h. in-meet h (meet-in h .1))
 
-module _ (old : List Set) (Z : Set) where
-  pub narrow-start : Narrowing old Z old Z
-  narrow-start = record { long = refl; left = λ s h. h; met = λ s l h out. absurd (out h); same = λ s f. refl }
+module _ (rows : List Set) (Z P : Set) where
+  abbrev narrowed-row : ℕ → Set
+  narrowed-row s = cond (member P s) (meet (getD rows s []) Z) (getD rows s [])
 
-  pub narrow-turn : {rows : List Set} {rest rest′ now row : Set} {x : ℕ} → In rest x → now ≡ getD rows x []
-      → row ≡ meet now Z → rest′ ≡ difference rest (single x) → Narrowing old Z rows rest → Narrowing old Z (set rows x row) rest′
-  narrow-turn {rows} {rest} {rest′} {now} {row} {x} i p m q so =
-      record {
-        long = length-set rows x row ∙ so .long;
-        left = λ s h. so .left s (left s h .0);
-        met = λ s l h out.
-            ⊎-elim
-            (λ k. subst (λ (y : ℕ). y < length old → getD (set rows x row) y [] ≡ meet (getD old y []) Z) (sym (single-in k)) taken l)
-            (λ o. getD-set-other rows x s row [] (λ e. o (here s e)) ∙ so .met s l h (λ r. out (⊆-of-eq (sym q) s (in-difference r o))))
-            (in-or-out (single x) s);
-        same = λ s f.
-            getD-set-other rows x s row [] (λ e. left s (f (subst (In Z) (sym e) (so .left x i))) .1 (here s e))
-            ∙ so .same s (λ h. left s (f h) .0);
-      }
+  narrowed-long : length (narrowedAt rows Z P) ≡ length rows
+  unfolding narrowedAt
+  narrowed-long = length-tabulate _ (length rows)
+
+  narrowed-read : {s : ℕ} → s < length rows → getD (narrowedAt rows Z P) s [] ≡ narrowed-row s
+  unfolding narrowedAt
+  narrowed-read {s} l = getD-tabulate _ (length rows) s [] l
+
+  narrowed-by : (rows′ : List Set) → length rows′ ≡ length rows → ((s : ℕ) → s < length rows → getD rows′ s [] ≡ narrowed-row s)
+      → rows′ ≡ narrowedAt rows Z P
+  narrowed-by rows′ long same =
+      ext-getD [] rows′ _ (long ∙ sym narrowed-long) (λ s h. let l = subst (λ (m : ℕ). s < m) long h in same s l ∙ sym (narrowed-read l))
+
+module _ (rows : List Set) (Z : Set) where
+  pub narrow-none : rows ≡ narrowedAt rows Z empty
+  narrow-none =
+      narrowed-by rows Z empty rows refl
+      (λ s l. by-cond (λ (Y : Set). getD rows s [] ≡ Y) (member empty s) _ _ (λ t. absurd (empty-in (record { is = t }))) (λ f. refl))
+
+  narrow-one : (x : ℕ) → x < maxStates → (row : Set) → row ≡ meet (getD rows x []) Z → set rows x row ≡ narrowedAt rows Z (single x)
+  narrow-one x b row e =
+      narrowed-by rows Z (single x) (set rows x row) (length-set rows x row)
+      (λ s l. by-cond (λ (Y : Set). getD (set rows x row) s [] ≡ Y) (member (single x) s) _ _ (λ t. here s (record { is = t }) l) (λ f. there s f))
     where
-      left : (s : ℕ) → In rest′ s → In rest s × (In (single x) s → ⊥)
-      left s h = difference-in (⊆-of-eq q s h)
+      here : (s : ℕ) → In (single x) s → s < length rows → getD (set rows x row) s [] ≡ meet (getD rows s []) Z
+      here s h l =
+          subst (λ (y : ℕ). getD (set rows x row) y [] ≡ meet (getD rows y []) Z) (sym (single-in h))
+          (getD-set-same rows x row [] (subst (λ (y : ℕ). y < length rows) (single-in h) l) ∙ e)
 
-      here : (s : ℕ) → s ≡ x → In (single x) s
-      here s e = subst (In (single x)) (sym e) (in-single (in-bound i))
+      there : (s : ℕ) → member (single x) s ≡ false → getD (set rows x row) s [] ≡ getD rows s []
+      there s f = getD-set-other rows x s row [] (λ q. clash (subst (In (single x)) (sym q) (in-single b) .is) f)
 
-      taken : x < length old → getD (set rows x row) x [] ≡ meet (getD old x []) Z
-      taken l =
-          getD-set-same rows x row [] (subst (λ (m : ℕ). x < m) (sym (so .long)) l) ∙ m ∙ ap (λ (Y : Set). meet Y Z) (p ∙ so .same x (λ h. i))
+  -- first those of A and then those of B: those of P, which has the states of both
+  narrow-parts : (A B P : Set) → A ⊆ P → B ⊆ P → ((s : ℕ) → In P s → In A s ⊎ In B s)
+      → narrowedAt (narrowedAt rows Z A) Z B ≡ narrowedAt rows Z P
+  narrow-parts A B P a b ab =
+      narrowed-by rows Z P _ (narrowed-long (narrowedAt rows Z A) Z B ∙ narrowed-long rows Z A)
+      (λ s l.
+      narrowed-read (narrowedAt rows Z A) Z B (subst (λ (m : ℕ). s < m) (sym (narrowed-long rows Z A)) l)
+      ∙ ap (λ (row : Set). cond (member B s) (meet row Z) row) (narrowed-read rows Z A l)
+      ∙ twice (member A s) (member B s) (getD rows s [])
+      ∙ ap (λ (p : Bool). cond p (meet (getD rows s []) Z) (getD rows s [])) (sym (parts s)))
+    where
+      parts : (s : ℕ) → member P s ≡ (member A s || member B s)
+      parts s =
+          same-test (member P s) (member A s || member B s)
+          (λ t. or-intro (member A s) (member B s) (⊎-elim (λ h. inl (h .is)) (λ h. inr (h .is)) (ab s (record { is = t }))))
+          (λ t. ⊎-elim (λ h. a s (record { is = h }) .is) (λ h. b s (record { is = h }) .is) (or-true (member A s) (member B s) t))
 
-  pub narrow-end : {rows : List Set} {rest : Set} (done : Bool) → done ≡ subset rest empty → not done ≡ false → Narrowing old Z rows rest
-      → rows ≡ narrowed old Z
+      twice : (p q : Bool) (row : Set) → cond q (meet (cond p (meet row Z) row) Z) (cond p (meet row Z) row) ≡ cond (p || q) (meet row Z) row
+      twice true true row = meet-twice row Z
+      twice true false row = refl
+      twice false true row = refl
+      twice false false row = refl
+
+  -- in a turn of `narrow_word`, where x is one of the states left, what is left to do leads to the same rows
+  pub narrow-turn : {rest rest′ now row : Set} {x : ℕ} → In rest x → now ≡ getD rows x [] → row ≡ meet now Z → rest′ ≡ difference rest (single x)
+      → narrowedAt (set rows x row) Z rest′ ≡ narrowedAt rows Z rest
+  narrow-turn {rest} {row = row} {x} i p m q =
+      ap₂ (λ (R : List Set) (Q : Set). narrowedAt R Z Q) (narrow-one x (in-bound i) row (m ∙ ap (λ (Y : Set). meet Y Z) p)) q
+      ∙ narrow-parts (single x) (difference rest (single x)) rest (λ s h. subst (In rest) (sym (single-in h)) i) (λ s h. difference-in h .0)
+      (λ s h. ⊎-elim inl (λ o. inr (in-difference h o)) (in-or-out (single x) s))
+
+  pub narrow-start : rows ≡ narrowedAt rows Z (wordsBelow 0 Z)
+  narrow-start = narrow-none ∙ ap (narrowedAt rows Z) (sym (words-none Z))
+
+  pub narrow-word : {rows′ rows″ : List Set} (w : ℕ) → w < WORDS → rows′ ≡ narrowedAt rows Z (wordsBelow w Z)
+      → rows″ ≡ narrowedAt rows′ Z (wordSet w (getD Z w 0)) → rows″ ≡ narrowedAt rows Z (wordsBelow (w + 1) Z)
+  narrow-word w h e q =
+      q
+      ∙ ap (λ (R : List Set). narrowedAt R Z (wordSet w (getD Z w 0))) e
+      ∙ narrow-parts _ _ _ (λ s k. in-union (inl k)) (λ s k. in-union (inr k)) (λ s k. union-in k)
+      ∙ ap (narrowedAt rows Z) (sym (words-more w Z h))
+
+  pub narrow-all : (w : ℕ) → Proper Z → WORDS ≤ w → narrowedAt rows Z (wordsBelow w Z) ≡ narrowed rows Z
   unfolding narrowed
-  narrow-end {rows} {rest} done e n so =
-      ext-getD [] rows _ (so .long ∙ sym (length-tabulate _ (length old)))
-      (λ s h. let l = subst (λ (m : ℕ). s < m) (so .long) h in row-is s l ∙ sym (getD-tabulate _ (length old) s [] l))
-    where
-      none : (s : ℕ) → In rest s → ⊥
-      none s h = empty-in (subset-in (sym e ∙ not-false done n) s h)
-
-      row-is : (s : ℕ) → s < length old → getD rows s [] ≡ cond (member Z s) (meet (getD old s []) Z) (getD old s [])
-      row-is s l =
-          by-cond (λ (Y : Set). getD rows s [] ≡ Y) (member Z s) _ _ (λ t. so .met s l (record { is = t }) (none s))
-          (λ f. so .same s (λ h. absurd (clash (h .is) f)))
+  narrow-all w p h = ap (narrowedAt rows Z) (words-all w Z p h)
 
 -- ---- `with_groups`
 

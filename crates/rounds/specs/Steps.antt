@@ -1,6 +1,7 @@
 -- The steps of R and S as the code takes them: over the rows of an array and the words of a store.
 --
 --   covers n L          the rows that hold the cover of each state for the list L
+--   narrowedAt rows Z P     the rows of the states of P met with Z
 --   narrowed rows Z     the rows after Z is added to the list
 --   successorsBy, forwardBy, keptBy, backwardBy     post, R's step, R meet hold(X), S's step
 use Prim.Native.Nat.{ℕ}
@@ -14,8 +15,11 @@ use Rattle.model.specs.Stores.{rowAt, setAt}
 unfoldable pub covers : ℕ → List Set → List Set
 covers n L = tabulate maxStates (coverOf n L)
 
+unfoldable pub narrowedAt : List Set → Set → Set → List Set
+narrowedAt rows Z P = tabulate (length rows) (λ s. let row = getD rows s [] in cond (member P s) (meet row Z) row)
+
 unfoldable pub narrowed : List Set → Set → List Set
-narrowed rows Z = tabulate (length rows) (λ s. let row = getD rows s [] in cond (member Z s) (meet row Z) row)
+narrowed rows Z = narrowedAt rows Z Z
 
 unfoldable pub successorsBy : List ℕ → Set → Set
 successorsBy store X = image maxStates (λ s. setAt store (rowAt s)) X

@@ -1,6 +1,6 @@
 // The rounds (01, "Rounds") and the call `decide`.
 //
-//   no_groups, with_groups, narrow      the cover: a row of words for each state, set up from the groups and narrowed by each new Z
+//   no_groups, with_groups, narrow_word, narrow      the cover: a row of words for each state, set up from the groups and narrowed by each new Z
 //   forward_step, forward               R, by its step until nothing changes
 //   is_held, keep_word, kept            hold
 //   backward_step, backward             S, by its step until nothing changes
@@ -16,7 +16,7 @@ ghost use Rattle.model.specs.Tables.{notForbidden};
 ghost use Rattle.model.specs.Rounds.{iterate, run as run·model};
 ghost use Rattle.model.specs.Stores.{storeWords, maxGroups, forbiddenAt, rowAt, setAt, tableOf, refuse};
 ghost use Rattle.model.specs.Calls.{decideGrounds, decideAnswer, decideBuffer};
-ghost use Rattle.rounds.specs.Steps.{covers, narrowed, successorsBy, forwardBy, keptBy, backwardBy};
+ghost use Rattle.rounds.specs.Steps.{covers, narrowedAt, narrowed, successorsBy, forwardBy, keptBy, backwardBy};
 ghost use Rattle.rounds.specs.Answers.{outcomeOf, invariantOf, answerOf, stepsIn};
 use paths::Found;
 use paths::find_path;
@@ -43,17 +43,27 @@ fn no_groups(n: usize) -> Rows
     [words; MAX_STATES]
 }
 
+// The cover of each state that `bits` has in word w becomes its meet with z.
+fn narrow_word(rows: &mut Rows, w: usize, bits: u64, z: StateSet)
+    requires { ⌜ w < WORDS ⌝ }
+    ensures { λ _. ⌜ now (rows .exit) ≡ narrowedAt (now (rows .entry)) (z .words) (wordSet w bits) ⌝ }
+{
+    let mut rest = bits;
+    while rest != 0 {
+        let s = 64 * w + u64::trailing_zeros(rest) as usize;
+        let met = row_of(rows, s).meet(z);
+        let words = met.words;
+        rows[s] = words;
+        rest &= rest - 1;
+    }
+}
+
 // z is added to the list: the cover of each of its states becomes its meet with z.
 fn narrow(rows: &mut Rows, z: StateSet)
     ensures { λ _. ⌜ now (rows .exit) ≡ narrowed (now (rows .entry)) (z .words) ⌝ }
 {
-    let mut rest = z;
-    while !rest.is_empty() {
-        let s = rest.smallest();
-        let met = row_of(rows, s).meet(z);
-        let words = met.words;
-        rows[s] = words;
-        rest = rest.without(s);
+    for w in 0..WORDS {
+        narrow_word(rows, w, z.words[w], z);
     }
 }
 
