@@ -1,0 +1,2 @@
+// Files of blocks (01, "Blocks"): the calls `read` and `write`.
+mod blocks;
