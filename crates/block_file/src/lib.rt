@@ -1,2 +1,6 @@
 // Files of blocks (01, "Blocks"): the calls `read` and `write`.
 mod blocks;
+mod writing;
+
+pub use writing::write;
+pub use writing::Written;
