@@ -3,21 +3,23 @@
 --   place-front, place-row    where the sets before the rows stand, and where the rows do; set-place: so there stands set k
 --   content-...
 use Prim.Native.Nat.{ℕ, zero, suc, _+_, _*_, _-_, _/_, _%_, _^_, _≤_, _<_}
-use native.Mathlib.Nat.{add-assoc, div-add-mod, mod-lt, zero-mul, eq-zero-or-pos}
+use native.Mathlib.Nat.{le-of-eq, add-assoc, div-add-mod, mod-lt, zero-mul, eq-zero-or-pos}
 use native.Mathlib.Omega.{arith}
 use mathlib.Core.Path.{_≡_, refl, sym, ap, ap₂, _∙_, subst}
 use mathlib.Core.Logic.{⊎-elim}
-use mathlib.Core.List.{List, [], _∷_, _++_}
+use mathlib.Core.List.{List, [], _∷_, _++_, append-nil}
 use borrow.Author.Tests.{lt-ltb, le-ltb}
-use lib.ListN.{length, getD, List·getD-append}
-use Rattle.model.specs.Sets.{WORDS, maxStates, Set, member, number}
+use lib.ListN.{set, length, getD, take, drop, length-set, length-drop, drop-of-length-le, List·getD-append}
+use lib.Seq.{take-all}
+use Rattle.model.specs.Sets.{WORDS, maxStates, Set, tabulate, member, number}
 use Rattle.model.specs.Stores.{groupAt, rowAt, setAt, tableOf}
-use Rattle.model.specs.Files.{le16, setWidth, sets, contents, contentLength}
+use Rattle.model.specs.Files.{le16, setWidth, sets, contents, contentLength, checkOf, blockOf}
+use Rattle.model.specs.Calls.{overwrite}
 use Rattle.model.proofs.Bounds.{length-tabulate, getD-tabulate}
-use Rattle.model.proofs.ListLaws.{getD-behind, getD-past, div-below, mod-below}
-use Rattle.model.proofs.FileLaws.{byte-number, sets-each, length-contents, contents-header, contents-set}
+use Rattle.model.proofs.ListLaws.{getD-behind, getD-past, div-below, mod-below, tabulate-next, overwrite-front, overwrite-more, overwrite-set}
+use Rattle.model.proofs.FileLaws.{byte-number, sets-each, length-contents, contents-header, contents-set, checkOf-cong, block-unique, framed-is, blockOf-is}
 use Rattle.model.proofs.StoreLaws.{getD-setAt, row-is}
-use Rattle.block_file.specs.Places.{Held, placeOf}
+use Rattle.block_file.specs.Places.{Held, placeOf, contentFrom}
 
 -- ---- a byte of a number, and of a set
 
@@ -114,3 +116,81 @@ module _ (n g i w : ℕ) (wide : w ≡ setWidth n) (h : i < setWidth n * (2 + g 
 
 pub content-at : (store : List ℕ) (n g i : ℕ) → 4 ≤ i → getD (contents (tableOf store n g)) (4 + (i - 4)) 0 ≡ getD (contents (tableOf store n g)) i 0
 content-at store n g i h = let place : 4 + (i - 4) ≡ i = omega arith in ap (λ (j : ℕ). getD (contents (tableOf store n g)) j 0) place
+
+-- ---- a buffer filled
+
+-- the two bytes of a number
+pub le16-written : (old : List ℕ) (x a b : ℕ) → 2 ≤ length old → a ≡ getD (le16 x) 0 0 → b ≡ getD (le16 x) 1 0 → set (set old 0 a) 1 b ≡ overwrite (le16 x) old
+unfolding overwrite
+le16-written old x a b h p q =
+    ap₂ (λ (u v : ℕ). set (set old 0 u) 1 v) p q
+    ∙ ap (λ ys. set ys 1 (x / 256 % 256)) (overwrite-set [] old (x % 256) 0 refl (omega arith))
+    ∙ overwrite-set (x % 256 ∷ []) old (x / 256 % 256) 1 refl h
+
+-- the first i bytes of the content, written over `old`
+pub record Filling (bytes : List ℕ) (from : ℕ) (old out : List ℕ) (i : ℕ) : Type 0 where
+  pub within : i ≤ 508
+  pub long : length out ≡ length old
+  pub is : out ≡ overwrite (contentFrom bytes from i) old
+
+module _ (bytes : List ℕ) (from : ℕ) where
+  length-content : (i : ℕ) → length (contentFrom bytes from i) ≡ i
+  unfolding contentFrom
+  length-content i = length-tabulate _ i
+
+  pub fill-none : (old : List ℕ) → Filling bytes from old old 0
+  unfolding contentFrom tabulate overwrite
+  fill-none old = record { within = omega arith; long = refl; is = refl }
+
+  pub fill-more : (old out : List ℕ) (i x : ℕ) → i < 508 → 508 ≤ length old → x ≡ getD bytes (from + i) 0 → Filling bytes from old out i
+      → Filling bytes from old (set out i x) (i + 1)
+  unfolding contentFrom
+  fill-more old out i x h room e f =
+      record {
+        within = omega arith;
+        long = length-set out i x ∙ f .long;
+        is =
+            ap (λ ys. set ys i x) (f .is)
+            ∙ overwrite-set (contentFrom bytes from i) old x i (length-content i) (omega arith)
+            ∙ ap (λ ys. overwrite ys old) (ap (λ (y : ℕ). contentFrom bytes from i ++ (y ∷ [])) e ∙ sym (tabulate-next _ i));
+      }
+
+  pub fill-all : (old out : List ℕ) (i : ℕ) → 508 ≤ i → Filling bytes from old out i → out ≡ overwrite (contentFrom bytes from 508) old
+  fill-all old out i h f = let done : i ≡ 508 = omega arith in f .is ∙ ap (λ (m : ℕ). overwrite (contentFrom bytes from m) old) done
+
+-- ys written behind xs, into the rest of the buffer, which was lent for it
+pub overwrite-lent : (xs ys old out rest : List ℕ) (n : ℕ) → length xs ≡ n → out ≡ overwrite xs old → rest ≡ overwrite ys (take (length out - n) (drop n out))
+    → take n out ++ (rest ++ drop (length out - n) (drop n out)) ≡ overwrite (xs ++ ys) old
+overwrite-lent xs ys old out rest n long e f =
+    let size : length (drop n out) ≤ length out - n = le-of-eq (length-drop n out) in
+    ap (λ zs. take n out ++ zs)
+    (ap₂ (λ us vs. us ++ vs)
+    (f ∙ ap (overwrite ys) (take-all (length out - n) (drop n out) size))
+    (drop-of-length-le (drop n out) size)
+    ∙ append-nil (overwrite ys (drop n out)))
+    ∙ ap (λ zs. take n zs ++ overwrite ys (drop n zs)) e
+    ∙ overwrite-more xs old ys n long
+
+-- ---- a block
+
+module _ (bytes : List ℕ) (k : ℕ) where
+  abbrev pub blockFront : List ℕ
+  blockFront = le16 k ++ contentFrom bytes (508 * k) 508
+
+  pub length-blockFront : length blockFront ≡ 510
+  length-blockFront = omega (arith, length-content bytes (508 * k) 508)
+
+  blockFront-is : blockFront ++ le16 (checkOf blockFront) ≡ blockOf bytes k
+  unfolding contentFrom
+  blockFront-is =
+      block-unique
+      (framed-is bytes k (contentFrom bytes (508 * k) 508) (length-content bytes (508 * k) 508) (λ i h. getD-tabulate _ 508 i 0 h))
+      (blockOf-is bytes k)
+
+  -- with the check taken of the buffer
+  pub block-written : (old out : List ℕ) (check : ℕ) → out ≡ overwrite blockFront old → check ≡ checkOf out
+      → overwrite (blockFront ++ le16 check) old ≡ overwrite (blockOf bytes k) old
+  block-written old out check e f =
+      let same : checkOf out ≡ checkOf blockFront =
+      ap checkOf e ∙ checkOf-cong (overwrite blockFront old) blockFront (λ i h. overwrite-front blockFront old i 0 (omega (arith, length-blockFront))) in
+      ap (λ (x : ℕ). overwrite (blockFront ++ le16 x) old) (f ∙ same) ∙ ap (λ xs. overwrite xs old) blockFront-is

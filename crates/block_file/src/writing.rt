@@ -14,7 +14,7 @@ ghost use Rattle.model.specs.Stores.{maxGroups, storeWords, setAt, tableOf, con
 ghost use Rattle.model.specs.Files.{le16, setWidth, contents, blockOf};
 ghost use Rattle.model.specs.Calls.{overwrite, writeAnswer, writeBuffer};
 ghost use Rattle.block_file.specs.Answers.{writtenOf};
-ghost use Rattle.block_file.specs.Places.{Held, placeOf};
+ghost use Rattle.block_file.specs.Places.{Held, placeOf, contentFrom};
 use crate::blocks::blocks_for;
 use crate::blocks::check_of;
 use crate::blocks::content_length;
@@ -65,14 +65,28 @@ fn write_block(store: &[u64], n: usize, g: usize, k: usize, out: &mut [u8])
     requires { ⌜ Held (now store) n g × (k < 65536) × (512 ≤ length (now out)) ⌝ }
     ensures { λ r. ⌜ now (out .exit) ≡ overwrite (blockOf (contents (tableOf (now (store .entry)) n g)) k) (now (out .entry)) ⌝ }
 {
-    out[0] = le16_byte(k, 0);
-    out[1] = le16_byte(k, 1);
-    for i in 0..CONTENT {
-        out[CONTENT_AT + i] = content_byte(store, n, g, CONTENT * k + i);
-    }
+    write_le16(k, out);
+    write_content(store, n, g, CONTENT * k, &mut out[CONTENT_AT..]);
     let check = check_of(out) as usize;
-    out[CHECK_AT] = le16_byte(check, 0);
-    out[CHECK_AT + 1] = le16_byte(check, 1);
+    write_le16(check, &mut out[CHECK_AT..]);
+}
+
+// The content of a block, from byte `from` of the contents on.
+fn write_content(store: &[u64], n: usize, g: usize, from: usize, out: &mut [u8])
+    requires { ⌜ Held (now store) n g × (from ≤ 508 * 65536) × (508 ≤ length (now out)) ⌝ }
+    ensures { λ r. ⌜ now (out .exit) ≡ overwrite (contentFrom (contents (tableOf (now (store .entry)) n g)) from 508) (now (out .entry)) ⌝ }
+{
+    for i in 0..CONTENT {
+        out[i] = content_byte(store, n, g, from + i);
+    }
+}
+
+fn write_le16(x: usize, out: &mut [u8])
+    requires { ⌜ 2 ≤ length (now out) ⌝ }
+    ensures { λ r. ⌜ now (out .exit) ≡ overwrite (le16 x) (now (out .entry)) ⌝ }
+{
+    out[0] = le16_byte(x, 0);
+    out[1] = le16_byte(x, 1);
 }
 
 fn content_byte(store: &[u64], n: usize, g: usize, i: usize) -> u8
