@@ -3,7 +3,7 @@
 --   place-front, place-row    where the sets before the rows stand, and where the rows do; set-place: so there stands set k
 --   content-...
 use Prim.Native.Nat.{ℕ, zero, suc, _+_, _*_, _-_, _/_, _%_, _^_, _≤_, _<_}
-use native.Mathlib.Nat.{le-of-eq, add-assoc, div-add-mod, mod-lt, zero-mul, eq-zero-or-pos}
+use native.Mathlib.Nat.{le-of-eq, le-antisymm, add-assoc, div-add-mod, mod-lt, zero-mul, eq-zero-or-pos}
 use native.Mathlib.Omega.{arith}
 use mathlib.Core.Path.{_≡_, refl, sym, ap, ap₂, _∙_, subst}
 use mathlib.Core.Logic.{⊎-elim}
@@ -12,11 +12,11 @@ use borrow.Author.Tests.{lt-ltb, le-ltb}
 use lib.ListN.{set, length, getD, take, drop, length-set, length-drop, drop-of-length-le, List·getD-append}
 use lib.Seq.{take-all}
 use Rattle.model.specs.Sets.{WORDS, maxStates, Set, tabulate, member, number}
-use Rattle.model.specs.Stores.{groupAt, rowAt, setAt, tableOf}
+use Rattle.model.specs.Stores.{groupAt, rowAt, setAt, tableOf, concat}
 use Rattle.model.specs.Files.{le16, setWidth, sets, contents, contentLength, checkOf, blockOf}
 use Rattle.model.specs.Calls.{overwrite}
 use Rattle.model.proofs.Bounds.{length-tabulate, getD-tabulate}
-use Rattle.model.proofs.ListLaws.{getD-behind, getD-past, div-below, mod-below, tabulate-next, overwrite-front, overwrite-more, overwrite-set}
+use Rattle.model.proofs.ListLaws.{getD-behind, getD-past, div-below, mod-below, length-concat, tabulate-next, concat-next, overwrite-front, overwrite-more, overwrite-set}
 use Rattle.model.proofs.FileLaws.{byte-number, sets-each, length-contents, contents-header, contents-set, checkOf-cong, block-unique, framed-is, blockOf-is}
 use Rattle.model.proofs.StoreLaws.{getD-setAt, row-is}
 use Rattle.block_file.specs.Places.{Held, placeOf, contentFrom}
@@ -194,3 +194,30 @@ module _ (bytes : List ℕ) (k : ℕ) where
       let same : checkOf out ≡ checkOf blockFront =
       ap checkOf e ∙ checkOf-cong (overwrite blockFront old) blockFront (λ i h. overwrite-front blockFront old i 0 (omega (arith, length-blockFront))) in
       ap (λ (x : ℕ). overwrite (blockFront ++ le16 x) old) (f ∙ same) ∙ ap (λ xs. overwrite xs old) blockFront-is
+
+-- ---- the blocks
+
+-- the first k blocks, written over `old`
+pub record Writing (bytes old out : List ℕ) (k : ℕ) : Type 0 where
+  pub long : length out ≡ length old
+  pub is : out ≡ overwrite (concat k (blockOf bytes)) old
+
+module _ (bytes old : List ℕ) where
+  pub blocks-none : Writing bytes old old 0
+  unfolding concat overwrite
+  blocks-none = record { long = refl; is = refl }
+
+  pub blocks-more : (out rest : List ℕ) (k : ℕ) → Writing bytes old out k → rest ≡ overwrite (blockOf bytes k) (take (length out - 512 * k) (drop (512 * k) out))
+      → length (take (512 * k) out ++ (rest ++ drop (length out - 512 * k) (drop (512 * k) out))) ≡ length out
+      → Writing bytes old (take (512 * k) out ++ (rest ++ drop (length out - 512 * k) (drop (512 * k) out))) (k + 1)
+  blocks-more out rest k w e long =
+      record {
+        long = long ∙ w .long;
+        is =
+            overwrite-lent (concat k (blockOf bytes)) (blockOf bytes k) old out rest (512 * k)
+            (length-concat (blockOf bytes) 512 k (λ j h. (blockOf-is bytes j) .long)) (w .is) e
+            ∙ ap (λ xs. overwrite xs old) (sym (concat-next (blockOf bytes) k));
+      }
+
+  pub blocks-all : (out : List ℕ) (k blocks : ℕ) → k ≤ blocks → blocks ≤ k → Writing bytes old out k → out ≡ overwrite (concat blocks (blockOf bytes)) old
+  blocks-all out k blocks l h w = w .is ∙ ap (λ (m : ℕ). overwrite (concat m (blockOf bytes)) old) (le-antisymm l h)
