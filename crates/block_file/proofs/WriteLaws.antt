@@ -6,19 +6,22 @@ use Prim.Native.Nat.{ℕ, zero, suc, _+_, _*_, _-_, _/_, _%_, _^_, _≤_, _<_}
 use native.Mathlib.Nat.{le-of-eq, le-antisymm, add-assoc, div-add-mod, mod-lt, zero-mul, eq-zero-or-pos}
 use native.Mathlib.Omega.{arith}
 use mathlib.Core.Path.{_≡_, refl, sym, ap, ap₂, _∙_, subst}
-use mathlib.Core.Logic.{⊎-elim}
+use mathlib.Core.Bool.{cond}
 use mathlib.Core.List.{List, [], _∷_, _++_, append-nil}
-use borrow.Author.Tests.{lt-ltb, le-ltb}
+use borrow.Author.Tests.{lt-ltb, le-ltb, eqb-true}
+use lib.Dec.{eqb, ltb}
 use lib.ListN.{set, length, getD, take, drop, length-set, length-drop, drop-of-length-le, List·getD-append}
 use lib.Seq.{take-all}
 use Rattle.model.specs.Sets.{WORDS, maxStates, Set, tabulate, member, number}
-use Rattle.model.specs.Stores.{groupAt, rowAt, setAt, tableOf, concat}
-use Rattle.model.specs.Files.{le16, setWidth, sets, contents, contentLength, checkOf, blockOf}
-use Rattle.model.specs.Calls.{overwrite}
-use Rattle.model.proofs.Bounds.{length-tabulate, getD-tabulate}
-use Rattle.model.proofs.ListLaws.{getD-behind, getD-past, div-below, mod-below, length-concat, tabulate-next, concat-next, overwrite-front, overwrite-more, overwrite-set}
+use Rattle.model.specs.Stores.{groupAt, rowAt, setAt, tableOf, concat, refuse, sharedGrounds}
+use Rattle.model.specs.Files.{le16, setWidth, sets, contents, contentLength, blocksFor, fileLength, checkOf, blockOf, fileOf}
+use Rattle.model.specs.Calls.{overwrite, Written, writeGrounds, writeAnswer, writeBuffer}
+use Rattle.model.proofs.Bounds.{by-cond, length-tabulate, getD-tabulate}
+use Rattle.model.proofs.ListLaws.{getD-behind, getD-past, div-below, mod-below, length-concat, tabulate-next, concat-next, overwrite-front, overwrite-more, overwrite-set, orElse-none, orElse-fault, refuse-none, refuse-skip, refuse-take, refuse-append}
 use Rattle.model.proofs.FileLaws.{byte-number, sets-each, length-contents, contents-header, contents-set, checkOf-cong, block-unique, framed-is, blockOf-is}
 use Rattle.model.proofs.StoreLaws.{getD-setAt, row-is}
+use Rattle.model.proofs.CallLaws.{write-refusal, writable, write-answer, write-buffer}
+use Rattle.model.proofs.Acceptance.{accepted-store}
 use Rattle.block_file.specs.Places.{Held, placeOf, contentFrom}
 
 -- ---- a byte of a number, and of a set
@@ -221,3 +224,55 @@ module _ (bytes old : List ℕ) where
 
   pub blocks-all : (out : List ℕ) (k blocks : ℕ) → k ≤ blocks → blocks ≤ k → Writing bytes old out k → out ≡ overwrite (concat blocks (blockOf bytes)) old
   blocks-all out k blocks l h w = w .is ∙ ap (λ (m : ℕ). overwrite (concat m (blockOf bytes)) old) (le-antisymm l h)
+
+-- ---- the call
+
+-- no ground that the calls share holds
+pub held : (store : List ℕ) (n g k : ℕ) → k ≡ refuse (sharedGrounds store n g) → k ≡ 0 → Held store n g
+held store n g k e z = let s = accepted-store store n g [] (sym e ∙ z) .0 in record { long = s .long; small = s .small; few = s .few }
+
+module _ (store : List ℕ) (n g : ℕ) (out : List ℕ) where
+  grounds-split : refuse (writeGrounds store n g (length out))
+      ≡ cond (eqb (refuse (sharedGrounds store n g)) 0) (refuse ((ltb (length out) (fileLength n g), 19) ∷ [])) (refuse (sharedGrounds store n g))
+  unfolding writeGrounds
+  grounds-split = refuse-append (sharedGrounds store n g) ((ltb (length out) (fileLength n g), 19) ∷ []) refl
+
+  -- a ground k holds
+  declined : (k : ℕ) → k ≡ refuse (writeGrounds store n g (length out)) → (k ≡ 0 → ⊥)
+      → (record { refusal = k; length = 0 } ≡ writeAnswer store n g (length out)) × (out ≡ writeBuffer store n g out)
+  unfolding writeAnswer writeBuffer
+  declined k e f =
+      let first = refuse (writeGrounds store n g (length out)) in
+      let answered = (writeAnswer store n g (length out)) .refusal in (
+        by-cond (λ (a : Written). record { refusal = k; length = 0 } ≡ a) (eqb first 0) _ _ (λ q. absurd (f (e ∙ eqb-true first 0 q)))
+            (λ q. ap (λ (x : ℕ). record { refusal = x; length = 0 }) e),
+        by-cond (λ (ys : List ℕ). out ≡ ys) (eqb answered 0) _ out
+            (λ q. absurd (f (e ∙ sym (write-refusal store n g (length out)) ∙ eqb-true answered 0 q))) (λ q. refl),
+      )
+
+  -- k is the first of the grounds that the calls share, or 0
+  module _ (k : ℕ) (e : k ≡ refuse (sharedGrounds store n g)) where
+    pub declined-shared : (k ≡ 0 → ⊥) → (record { refusal = k; length = 0 } ≡ writeAnswer store n g (length out)) × (out ≡ writeBuffer store n g out)
+    declined-shared f = declined k (e ∙ sym (grounds-split ∙ orElse-fault (refuse (sharedGrounds store n g)) _ (λ z. f (e ∙ z)))) f
+
+    module _ (z : k ≡ 0) where
+      room-left : refuse (writeGrounds store n g (length out)) ≡ refuse ((ltb (length out) (fileLength n g), 19) ∷ [])
+      room-left = grounds-split ∙ orElse-none (refuse (sharedGrounds store n g)) _ (sym e ∙ z)
+
+      pub declined-room : (blocks : ℕ) → blocks ≡ blocksFor (contentLength n g) → length out < 512 * blocks
+          → (record { refusal = 19; length = 0 } ≡ writeAnswer store n g (length out)) × (out ≡ writeBuffer store n g out)
+      declined-room blocks b h = declined 19 (sym (room-left ∙ refuse-take _ 19 _ (lt-ltb (length out) (fileLength n g) (omega arith)))) (λ x. omega arith)
+
+      pub written : (blocks : ℕ) (after : List ℕ) → blocks ≡ blocksFor (contentLength n g) → 512 * blocks ≤ length out
+          → after ≡ overwrite (concat blocks (blockOf (contents (tableOf store n g)))) out
+          → (record { refusal = 0; length = 512 * blocks } ≡ writeAnswer store n g (length out)) × (after ≡ writeBuffer store n g out)
+      unfolding fileOf tableOf
+      written blocks after b h w =
+          let t = tableOf store n g in
+          let ok = writable store n g (length out) (room-left ∙ refuse-skip _ 19 _ (le-ltb (length out) (fileLength n g) (omega arith)) ∙ refuse-none) in
+          let size = ap (λ (l : ℕ). blocksFor l) (length-contents t (length-tabulate _ g)) in (
+            ap (λ (m : ℕ). record { refusal = 0; length = 512 * m }) b ∙ sym (write-answer store n g (length out) ok),
+            w
+                ∙ ap (λ (m : ℕ). overwrite (concat m (blockOf (contents t))) out) (b ∙ sym size)
+                ∙ sym (write-buffer store n g out ok),
+          )

@@ -2,5 +2,5 @@
 mod blocks;
 mod writing;
 
-pub use writing::write;
 pub use writing::Written;
+pub use writing::write;

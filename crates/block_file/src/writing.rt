@@ -15,18 +15,18 @@ ghost use Rattle.model.specs.Files.{le16, setWidth, contents, blockOf};
 ghost use Rattle.model.specs.Calls.{overwrite, writeAnswer, writeBuffer};
 ghost use Rattle.block_file.specs.Answers.{writtenOf};
 ghost use Rattle.block_file.specs.Places.{Held, placeOf, contentFrom};
-use crate::blocks::blocks_for;
-use crate::blocks::check_of;
-use crate::blocks::content_length;
-use crate::blocks::set_width;
 use crate::blocks::BLOCK;
 use crate::blocks::CHECK_AT;
 use crate::blocks::CONTENT;
 use crate::blocks::CONTENT_AT;
 use crate::blocks::HEADER;
+use crate::blocks::blocks_for;
+use crate::blocks::check_of;
+use crate::blocks::content_length;
+use crate::blocks::set_width;
 use state_set::WORDS;
-use table::refusal;
 use table::ROWS_AT;
+use table::refusal;
 
 pub enum Written {
     // The length of the file.
