@@ -1,9 +1,19 @@
--- Laws of files that the functions of `writing` cite.
+-- Laws that the functions of `writing` cite.
 --
---   place-front, place-row    where the sets before the rows stand, and where the rows do; set-place: so there stands set k
---   content-...
+--   le16-low, le16-high                  the bytes of a two-byte number; set-byte: a byte of a set
+--   place-front, place-behind            where set k of the file begins in the store; set-place: there stands set k
+--   content-n, content-g, content-past   a byte of the contents: in the header, and past the end
+--   width-some, set-below, byte-below    byte i of the sets joined, of w bytes each: its set and its place there; content-set: the byte
+--   le16-written                         two bytes stored
+--   Over xs old out                      out is old with xs written over its front
+--   content-none, content-more           a loop that writes content, byte by byte
+--   overwrite-lent                       more written into the rest of a buffer, which was lent for it
+--   blockFront, block-written            a block up to its check, and with it
+--   blocksOf, blocks-none, blocks-more   a loop that writes blocks; over-all: either loop when it is done
+--   held                                 where no shared ground holds, the store is long enough and n and g are in bounds
+--   Wrote                                what the contract of write says; declined-shared, declined-room, written: each of its answers
 use Prim.Native.Nat.{ℕ, zero, suc, _+_, _*_, _-_, _/_, _%_, _^_, _≤_, _<_}
-use native.Mathlib.Nat.{le-of-eq, le-antisymm, add-assoc, div-add-mod, mod-lt, zero-mul, eq-zero-or-pos}
+use native.Mathlib.Nat.{le-of-eq, le-antisymm, div-add-mod}
 use native.Mathlib.Omega.{arith}
 use mathlib.Core.Path.{_≡_, refl, sym, ap, ap₂, _∙_, subst}
 use mathlib.Core.Bool.{cond}
@@ -22,7 +32,7 @@ use Rattle.model.proofs.FileLaws.{byte-number, sets-each, length-contents, cont
 use Rattle.model.proofs.StoreLaws.{getD-setAt, row-is}
 use Rattle.model.proofs.CallLaws.{write-refusal, writable, write-answer, write-buffer}
 use Rattle.model.proofs.Acceptance.{accepted-store}
-use Rattle.block_file.specs.Places.{Held, placeOf, contentFrom}
+use Rattle.block_file.specs.Writing.{Held, placeOf, contentFrom}
 
 -- ---- a byte of a number, and of a set
 
@@ -130,36 +140,30 @@ le16-written old x a b h p q =
     ∙ ap (λ ys. set ys 1 (x / 256 % 256)) (overwrite-set [] old (x % 256) 0 refl (omega arith))
     ∙ overwrite-set (x % 256 ∷ []) old (x / 256 % 256) 1 refl h
 
--- the first i bytes of the content, written over `old`
-pub record Filling (bytes : List ℕ) (from : ℕ) (old out : List ℕ) (i : ℕ) : Type 0 where
-  pub within : i ≤ 508
+pub record Over (xs old out : List ℕ) : Type 0 where
   pub long : length out ≡ length old
-  pub is : out ≡ overwrite (contentFrom bytes from i) old
+  pub is : out ≡ overwrite xs old
 
-module _ (bytes : List ℕ) (from : ℕ) where
-  length-content : (i : ℕ) → length (contentFrom bytes from i) ≡ i
-  unfolding contentFrom
-  length-content i = length-tabulate _ i
+-- a loop that writes the lists xs i is done
+pub over-all : (xs : ℕ → List ℕ) (old out : List ℕ) (i m : ℕ) → i ≤ m → m ≤ i → Over (xs i) old out → out ≡ overwrite (xs m) old
+over-all xs old out i m l h w = w .is ∙ ap (λ (j : ℕ). overwrite (xs j) old) (le-antisymm l h)
 
-  pub fill-none : (old : List ℕ) → Filling bytes from old old 0
+module _ (bytes : List ℕ) (from : ℕ) (old : List ℕ) where
+  pub content-none : Over (contentFrom bytes from 0) old old
   unfolding contentFrom tabulate overwrite
-  fill-none old = record { within = omega arith; long = refl; is = refl }
+  content-none = record { long = refl; is = refl }
 
-  pub fill-more : (old out : List ℕ) (i x : ℕ) → i < 508 → 508 ≤ length old → x ≡ getD bytes (from + i) 0 → Filling bytes from old out i
-      → Filling bytes from old (set out i x) (i + 1)
+  pub content-more : (out : List ℕ) (i x : ℕ) → i < length old → x ≡ getD bytes (from + i) 0 → Over (contentFrom bytes from i) old out
+      → Over (contentFrom bytes from (i + 1)) old (set out i x)
   unfolding contentFrom
-  fill-more old out i x h room e f =
+  content-more out i x h e w =
       record {
-        within = omega arith;
-        long = length-set out i x ∙ f .long;
+        long = length-set out i x ∙ w .long;
         is =
-            ap (λ ys. set ys i x) (f .is)
-            ∙ overwrite-set (contentFrom bytes from i) old x i (length-content i) (omega arith)
+            ap (λ ys. set ys i x) (w .is)
+            ∙ overwrite-set (contentFrom bytes from i) old x i (length-tabulate _ i) h
             ∙ ap (λ ys. overwrite ys old) (ap (λ (y : ℕ). contentFrom bytes from i ++ (y ∷ [])) e ∙ sym (tabulate-next _ i));
       }
-
-  pub fill-all : (old out : List ℕ) (i : ℕ) → 508 ≤ i → Filling bytes from old out i → out ≡ overwrite (contentFrom bytes from 508) old
-  fill-all old out i h f = let done : i ≡ 508 = omega arith in f .is ∙ ap (λ (m : ℕ). overwrite (contentFrom bytes from m) old) done
 
 -- ys written behind xs, into the rest of the buffer, which was lent for it
 pub overwrite-lent : (xs ys old out rest : List ℕ) (n : ℕ) → length xs ≡ n → out ≡ overwrite xs old → rest ≡ overwrite ys (take (length out - n) (drop n out))
@@ -180,15 +184,17 @@ module _ (bytes : List ℕ) (k : ℕ) where
   abbrev pub blockFront : List ℕ
   blockFront = le16 k ++ contentFrom bytes (508 * k) 508
 
+  content-long : length (contentFrom bytes (508 * k) 508) ≡ 508
+  unfolding contentFrom
+  content-long = length-tabulate _ 508
+
   pub length-blockFront : length blockFront ≡ 510
-  length-blockFront = omega (arith, length-content bytes (508 * k) 508)
+  length-blockFront = omega (arith, content-long)
 
   blockFront-is : blockFront ++ le16 (checkOf blockFront) ≡ blockOf bytes k
   unfolding contentFrom
   blockFront-is =
-      block-unique
-      (framed-is bytes k (contentFrom bytes (508 * k) 508) (length-content bytes (508 * k) 508) (λ i h. getD-tabulate _ 508 i 0 h))
-      (blockOf-is bytes k)
+      block-unique (framed-is bytes k (contentFrom bytes (508 * k) 508) content-long (λ i h. getD-tabulate _ 508 i 0 h)) (blockOf-is bytes k)
 
   -- with the check taken of the buffer
   pub block-written : (old out : List ℕ) (check : ℕ) → out ≡ overwrite blockFront old → check ≡ checkOf out
@@ -200,30 +206,27 @@ module _ (bytes : List ℕ) (k : ℕ) where
 
 -- ---- the blocks
 
--- the first k blocks, written over `old`
-pub record Writing (bytes old out : List ℕ) (k : ℕ) : Type 0 where
-  pub long : length out ≡ length old
-  pub is : out ≡ overwrite (concat k (blockOf bytes)) old
+-- the first k blocks of a file with these contents
+abbrev pub blocksOf : List ℕ → ℕ → List ℕ
+blocksOf bytes k = concat k (blockOf bytes)
 
 module _ (bytes old : List ℕ) where
-  pub blocks-none : Writing bytes old old 0
+  pub blocks-none : Over (blocksOf bytes 0) old old
   unfolding concat overwrite
   blocks-none = record { long = refl; is = refl }
 
-  pub blocks-more : (out rest : List ℕ) (k : ℕ) → Writing bytes old out k → rest ≡ overwrite (blockOf bytes k) (take (length out - 512 * k) (drop (512 * k) out))
+  pub blocks-more : (out rest : List ℕ) (k : ℕ) → Over (blocksOf bytes k) old out
+      → rest ≡ overwrite (blockOf bytes k) (take (length out - 512 * k) (drop (512 * k) out))
       → length (take (512 * k) out ++ (rest ++ drop (length out - 512 * k) (drop (512 * k) out))) ≡ length out
-      → Writing bytes old (take (512 * k) out ++ (rest ++ drop (length out - 512 * k) (drop (512 * k) out))) (k + 1)
+      → Over (blocksOf bytes (k + 1)) old (take (512 * k) out ++ (rest ++ drop (length out - 512 * k) (drop (512 * k) out)))
   blocks-more out rest k w e long =
       record {
         long = long ∙ w .long;
         is =
-            overwrite-lent (concat k (blockOf bytes)) (blockOf bytes k) old out rest (512 * k)
+            overwrite-lent (blocksOf bytes k) (blockOf bytes k) old out rest (512 * k)
             (length-concat (blockOf bytes) 512 k (λ j h. (blockOf-is bytes j) .long)) (w .is) e
             ∙ ap (λ xs. overwrite xs old) (sym (concat-next (blockOf bytes) k));
       }
-
-  pub blocks-all : (out : List ℕ) (k blocks : ℕ) → k ≤ blocks → blocks ≤ k → Writing bytes old out k → out ≡ overwrite (concat blocks (blockOf bytes)) old
-  blocks-all out k blocks l h w = w .is ∙ ap (λ (m : ℕ). overwrite (concat m (blockOf bytes)) old) (le-antisymm l h)
 
 -- ---- the call
 
@@ -232,14 +235,16 @@ pub held : (store : List ℕ) (n g k : ℕ) → k ≡ refuse (sharedGrounds stor
 held store n g k e z = let s = accepted-store store n g [] (sym e ∙ z) .0 in record { long = s .long; small = s .small; few = s .few }
 
 module _ (store : List ℕ) (n g : ℕ) (out : List ℕ) where
+  abbrev pub Wrote : Written → List ℕ → Type 0
+  Wrote answer after = (answer ≡ writeAnswer store n g (length out)) × (after ≡ writeBuffer store n g out)
+
   grounds-split : refuse (writeGrounds store n g (length out))
       ≡ cond (eqb (refuse (sharedGrounds store n g)) 0) (refuse ((ltb (length out) (fileLength n g), 19) ∷ [])) (refuse (sharedGrounds store n g))
   unfolding writeGrounds
   grounds-split = refuse-append (sharedGrounds store n g) ((ltb (length out) (fileLength n g), 19) ∷ []) refl
 
   -- a ground k holds
-  declined : (k : ℕ) → k ≡ refuse (writeGrounds store n g (length out)) → (k ≡ 0 → ⊥)
-      → (record { refusal = k; length = 0 } ≡ writeAnswer store n g (length out)) × (out ≡ writeBuffer store n g out)
+  declined : (k : ℕ) → k ≡ refuse (writeGrounds store n g (length out)) → (k ≡ 0 → ⊥) → Wrote (record { refusal = k; length = 0 }) out
   unfolding writeAnswer writeBuffer
   declined k e f =
       let first = refuse (writeGrounds store n g (length out)) in
@@ -252,20 +257,19 @@ module _ (store : List ℕ) (n g : ℕ) (out : List ℕ) where
 
   -- k is the first of the grounds that the calls share, or 0
   module _ (k : ℕ) (e : k ≡ refuse (sharedGrounds store n g)) where
-    pub declined-shared : (k ≡ 0 → ⊥) → (record { refusal = k; length = 0 } ≡ writeAnswer store n g (length out)) × (out ≡ writeBuffer store n g out)
+    pub declined-shared : (k ≡ 0 → ⊥) → Wrote (record { refusal = k; length = 0 }) out
     declined-shared f = declined k (e ∙ sym (grounds-split ∙ orElse-fault (refuse (sharedGrounds store n g)) _ (λ z. f (e ∙ z)))) f
 
     module _ (z : k ≡ 0) where
       room-left : refuse (writeGrounds store n g (length out)) ≡ refuse ((ltb (length out) (fileLength n g), 19) ∷ [])
       room-left = grounds-split ∙ orElse-none (refuse (sharedGrounds store n g)) _ (sym e ∙ z)
 
-      pub declined-room : (blocks : ℕ) → blocks ≡ blocksFor (contentLength n g) → length out < 512 * blocks
-          → (record { refusal = 19; length = 0 } ≡ writeAnswer store n g (length out)) × (out ≡ writeBuffer store n g out)
+      pub declined-room : (blocks : ℕ) → blocks ≡ blocksFor (contentLength n g) → length out < 512 * blocks → Wrote (record { refusal = 19; length = 0 }) out
       declined-room blocks b h = declined 19 (sym (room-left ∙ refuse-take _ 19 _ (lt-ltb (length out) (fileLength n g) (omega arith)))) (λ x. omega arith)
 
       pub written : (blocks : ℕ) (after : List ℕ) → blocks ≡ blocksFor (contentLength n g) → 512 * blocks ≤ length out
           → after ≡ overwrite (concat blocks (blockOf (contents (tableOf store n g)))) out
-          → (record { refusal = 0; length = 512 * blocks } ≡ writeAnswer store n g (length out)) × (after ≡ writeBuffer store n g out)
+          → Wrote (record { refusal = 0; length = 512 * blocks }) after
       unfolding fileOf tableOf
       written blocks after b h w =
           let t = tableOf store n g in

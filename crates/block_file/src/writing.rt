@@ -1,11 +1,13 @@
 // The call `write` (01, "Blocks"): the file of a table, straight from the store to the lent output.
 //
-//   Written, write     the file at the front of the output and its length, or why it is declined
-//   write_blocks       the first so many blocks
-//   write_block        one block: its number, its content, its check
-//   content_byte       one byte of the contents, 0 past them
-//   place_of, set_byte where a set of the file stands in the store; one byte of a set
-//   le16_byte          one byte of a two-byte number, low byte first
+//   Written, write                 the file at the front of the output and its length, or why it is declined
+//   write_blocks, write_block      the first so many blocks; one block: its number, its content, its check
+//   write_content, write_le16      the content of a block; a two-byte number, low byte first
+//   content_byte, sets_byte        one byte of the contents, 0 past them; one of the sets, which stand behind the header
+//   place_of, set_byte             where a set of the file begins in the store; one byte of the set that begins there
+//   le16_byte                      one byte of a two-byte number
+//
+// What is written is said with the model's `overwrite`: at the front of what was lent, the rest of it untouched.
 ghost use Prim.Native.Nat.{_+_, _*_, _≤_, _<_};
 ghost use mathlib.Core.Path.{_≡_};
 ghost use lib.ListN.{length, getD};
@@ -14,7 +16,7 @@ ghost use Rattle.model.specs.Stores.{maxGroups, storeWords, setAt, tableOf, con
 ghost use Rattle.model.specs.Files.{le16, setWidth, contents, blockOf};
 ghost use Rattle.model.specs.Calls.{overwrite, writeAnswer, writeBuffer};
 ghost use Rattle.block_file.specs.Answers.{writtenOf};
-ghost use Rattle.block_file.specs.Places.{Held, placeOf, contentFrom};
+ghost use Rattle.block_file.specs.Writing.{Held, placeOf, contentFrom};
 use crate::blocks::BLOCK;
 use crate::blocks::CHECK_AT;
 use crate::blocks::CONTENT;
@@ -42,7 +44,8 @@ pub fn write(store: &[u64], n: usize, g: usize, output: &mut [u8]) -> Written
     if declined != 0 {
         return Written::Refused(declined);
     }
-    let blocks = blocks_for(content_length(n, g));
+    let l = content_length(n, g);
+    let blocks = blocks_for(l);
     let size = BLOCK * blocks;
     if output.len() < size {
         return Written::Refused(19);
@@ -51,6 +54,7 @@ pub fn write(store: &[u64], n: usize, g: usize, output: &mut [u8]) -> Written
     Written::File(size)
 }
 
+// The number of a block has two bytes.
 fn write_blocks(store: &[u64], n: usize, g: usize, blocks: usize, out: &mut [u8])
     requires { ⌜ Held (now store) n g × (blocks ≤ 65536) × (512 * blocks ≤ length (now out)) ⌝ }
     ensures { λ r. ⌜ now (out .exit) ≡ overwrite (concat blocks (blockOf (contents (tableOf (now (store .entry)) n g)))) (now (out .entry)) ⌝ }
@@ -73,7 +77,7 @@ fn write_block(store: &[u64], n: usize, g: usize, k: usize, out: &mut [u8])
 
 // The content of a block, from byte `from` of the contents on.
 fn write_content(store: &[u64], n: usize, g: usize, from: usize, out: &mut [u8])
-    requires { ⌜ Held (now store) n g × (from ≤ 508 * 65536) × (508 ≤ length (now out)) ⌝ }
+    requires { ⌜ Held (now store) n g × (from ≤ 512 * 65536) × (508 ≤ length (now out)) ⌝ }
     ensures { λ r. ⌜ now (out .exit) ≡ overwrite (contentFrom (contents (tableOf (now (store .entry)) n g)) from 508) (now (out .entry)) ⌝ }
 {
     for i in 0..CONTENT {

@@ -1,14 +1,15 @@
 -- `write_content`: the bytes passed are written.
-use Prim.Native.Nat.{_-_}
+use Prim.Native.Nat.{_-_, _≤_}
 use borrow.Author.Needs.{needs}
 use Rattle.model.specs.Stores.{tableOf}
 use Rattle.model.specs.Files.{contents}
-use Rattle.block_file.proofs.WriteLaws.{Filling, fill-none, fill-more, fill-all}
+use Rattle.block_file.specs.Writing.{contentFrom}
+use Rattle.block_file.proofs.WriteLaws.{Over, over-all, content-none, content-more}
 use Rattle.block_file.proofs.writing.write_content.Statement.{statement}
 use Rattle.block_file.proofs.writing.write_content.Tie as tie
 
 abbrev Inv-loop : tie.InvT-loop
-Inv-loop store n g from out₀ i₀ out i = Filling (contents (tableOf store n g)) from out₀ out i
+Inv-loop store n g from out₀ i₀ out i = (i ≤ 508) × Over (contentFrom (contents (tableOf store n g)) from i) out₀ out
 
 abbrev μ-loop : tie.MeasureT-loop
 μ-loop store n g from out₀ i₀ out i = 508 - i
@@ -19,12 +20,12 @@ write-content-spec =
     (tie.spec
     Inv-loop
     μ-loop
-    (λ c. fill-none _ _ _)
+    (λ c. (search needs, content-none _ _ _))
     (λ c. search needs)
     (λ c κs. search needs)
     (λ c. search needs)
     (λ c. search needs)
     (λ c. search needs)
-    (λ c. fill-more _ _ _ _ _ _ (search needs) (search needs) (c .content-byte .ensures) (c .before .before .loop .inv))
+    (λ c. (search needs, content-more _ _ _ _ _ _ (search needs) (c .content-byte .ensures) (c .before .before .loop .inv .1)))
     (λ c. search needs)
-    (λ c. fill-all _ _ _ _ _ (search needs) (c .before .loop .inv)))
+    (λ c. over-all (contentFrom _ _) _ _ _ _ (search needs) (search needs) (c .before .loop .inv .1)))
