@@ -2,7 +2,7 @@
 --
 --   le16-low, le16-high                  the bytes of a two-byte number; set-byte: a byte of a set
 --   place-front, place-behind            where set k of the file begins in the store; set-place: there stands set k
---   content-n, content-g, content-past   a byte of the contents: in the header, and past the end
+--   content-n, content-g, content-past   a byte of the contents: in the header, and past the end; content-at: behind the header
 --   width-some, set-below, byte-below    byte i of the sets joined, of w bytes each: its set and its place there; content-set: the byte
 --   le16-written                         two bytes stored
 --   Over xs old out                      out is old with xs written over its front

@@ -1,6 +1,5 @@
 -- `check_of`: the weighted sum of the bytes passed.
 use Prim.Native.Nat.{_-_}
-use native.Mathlib.Omega.{arith}
 use borrow.Author.Needs.{needs}
 use Rattle.block_file.proofs.BlockLaws.{Summing, sum-none, term-fits, sum-fits, sum-more, sum-all}
 use Rattle.block_file.proofs.blocks.check_of.Statement.{statement}

@@ -1,5 +1,5 @@
 -- `content_byte`: in the header, in a set, or past the contents.
-use mathlib.Core.Path.{sym, ap, _∙_}
+use mathlib.Core.Path.{_∙_}
 use borrow.Author.Needs.{needs}
 use Rattle.block_file.proofs.WriteLaws.{content-n, content-g, content-at, content-past}
 use Rattle.block_file.proofs.writing.content_byte.Statement.{statement}
