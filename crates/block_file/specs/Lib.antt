@@ -1,0 +1,2 @@
+pub mod ReadParts
+pub mod ReadAnswers

@@ -1,0 +1,57 @@
+-- What the contracts of the parts of `read` say.
+--
+--   HasSet input w at          the contents have a set of w bytes from `at` on
+--   HasSets input n count      they have `count` sets of a table with n states
+--   Fillable input n g store   they have all of a table with n states and g groups, and the store has room for it
+--   overwriteFrom at xs old    xs from `at` on in a buffer that held old
+--   groupWords t, rowWords t   the words of the groups and of the rows of a table, in the layout
+--   contentRefusal input       the first ground behind those of the blocks that holds, or 0
+use Prim.Native.Nat.{ℕ, _+_, _*_, _/_, _≤_}
+use mathlib.Core.Bool.{not, cond}
+use mathlib.Core.List.{List, [], _∷_, _++_}
+use lib.Dec.{eqb, ltb}
+use lib.ListN.{length, getD, take, drop}
+use Rattle.model.specs.Sets.{maxStates, empty, any}
+use Rattle.model.specs.Tables.{Table}
+use Rattle.model.specs.Stores.{maxGroups, storeWords, concat, refuse, beyond, nonZero, badStates}
+use Rattle.model.specs.Files.{le16At, setWidth, contentLength, blocksFor, contentsOf, setNumber}
+use Rattle.model.specs.Calls.{overwrite}
+
+pub record HasSet (input : List ℕ) (w at : ℕ) : Type 0 where
+  pub narrow : 8 * w ≤ maxStates
+  pub inside : at + w ≤ 508 * (length input / 512)
+
+pub record HasSets (input : List ℕ) (n count : ℕ) : Type 0 where
+  pub states : n ≤ maxStates
+  pub inside : 4 + setWidth n * count ≤ 508 * (length input / 512)
+
+pub record Fillable (input : List ℕ) (n g : ℕ) (store : List ℕ) : Type 0 where
+  pub states : n ≤ maxStates
+  pub groups : g ≤ maxGroups
+  pub inside : contentLength n g ≤ 508 * (length input / 512)
+  pub room : storeWords ≤ length store
+
+unfoldable pub overwriteFrom : ℕ → List ℕ → List ℕ → List ℕ
+overwriteFrom at xs old = take at old ++ overwrite xs (drop at old)
+
+abbrev pub groupWords : Table → List ℕ
+groupWords t = concat maxGroups (λ j. getD (t .groups) j empty)
+
+abbrev pub rowWords : Table → List ℕ
+rowWords t = concat maxStates (λ s. cond (ltb s (t .n)) (t .row s) empty)
+
+-- The part `late` of the model's readRefusal.
+unfoldable pub contentRefusal : List ℕ → ℕ
+contentRefusal input =
+    let blocks = length input / 512 in
+    let bytes = contentsOf input in
+    let n = le16At bytes 0 in
+    let g = le16At bytes 2 in
+    let size = contentLength n g in
+    refuse
+    ((badStates n, 14)
+    ∷ (ltb maxGroups g, 15)
+    ∷ (not (eqb blocks (blocksFor size)), 16)
+    ∷ (any (2 + g + n) (λ k. beyond n (setNumber bytes n k)), 17)
+    ∷ (nonZero bytes size (508 * blocks), 18)
+    ∷ [])

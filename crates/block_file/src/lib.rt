@@ -1,0 +1,6 @@
+// Files of blocks (01, "Blocks"): the calls `read` and `write`.
+mod blocks;
+mod reading;
+
+pub use reading::read;
+pub use reading::TableRead;
