@@ -4,16 +4,16 @@
 --   HasSets input n count      they have `count` sets of a table with n states
 --   Fillable input n g store   they have all of a table with n states and g groups, and the store has room for it
 --   overwriteFrom at xs old    xs from `at` on in a buffer that held old
---   groupWords t, rowWords t   the words of the groups and of the rows of a table, in the layout
+--   groupOf t j, rowOf t s     the sets of a table's layout: group j and row s, empty where the table has none
 --   contentRefusal input       the first ground behind those of the blocks that holds, or 0
 use Prim.Native.Nat.{ℕ, _+_, _*_, _/_, _≤_}
 use mathlib.Core.Bool.{not, cond}
 use mathlib.Core.List.{List, [], _∷_, _++_}
 use lib.Dec.{eqb, ltb}
 use lib.ListN.{length, getD, take, drop}
-use Rattle.model.specs.Sets.{maxStates, empty, any}
+use Rattle.model.specs.Sets.{maxStates, Set, empty, any}
 use Rattle.model.specs.Tables.{Table}
-use Rattle.model.specs.Stores.{maxGroups, storeWords, concat, refuse, beyond, nonZero, badStates}
+use Rattle.model.specs.Stores.{maxGroups, storeWords, refuse, beyond, nonZero, badStates}
 use Rattle.model.specs.Files.{le16At, setWidth, contentLength, blocksFor, contentsOf, setNumber}
 use Rattle.model.specs.Calls.{overwrite}
 
@@ -34,11 +34,12 @@ pub record Fillable (input : List ℕ) (n g : ℕ) (store : List ℕ) : Type 0 w
 unfoldable pub overwriteFrom : ℕ → List ℕ → List ℕ → List ℕ
 overwriteFrom at xs old = take at old ++ overwrite xs (drop at old)
 
-abbrev pub groupWords : Table → List ℕ
-groupWords t = concat maxGroups (λ j. getD (t .groups) j empty)
+-- What stands at the place of group j and of row s: an empty set where the table has none.
+abbrev pub groupOf : Table → ℕ → Set
+groupOf t j = getD (t .groups) j empty
 
-abbrev pub rowWords : Table → List ℕ
-rowWords t = concat maxStates (λ s. cond (ltb s (t .n)) (t .row s) empty)
+abbrev pub rowOf : Table → ℕ → Set
+rowOf t s = cond (ltb s (t .n)) (t .row s) empty
 
 -- The part `late` of the model's readRefusal.
 unfoldable pub contentRefusal : List ℕ → ℕ

@@ -12,10 +12,10 @@ ghost use mathlib.Core.Bool.{cond};
 ghost use lib.Dec.{ltb};
 ghost use lib.ListN.{length, getD};
 ghost use Rattle.model.specs.Sets.{WORDS, maxStates, member, number, any};
-ghost use Rattle.model.specs.Stores.{groupAt, rowAt, layout, beyond, nonZero};
+ghost use Rattle.model.specs.Stores.{maxGroups, groupAt, rowAt, concat, layout, beyond, nonZero};
 ghost use Rattle.model.specs.Files.{setWidth, part, contentsOf, setIn, setNumber, tableIn};
 ghost use Rattle.model.specs.Calls.{overwrite, firstFault, blockFault, readRefusal, readAnswer, readBuffer};
-ghost use Rattle.block_file.specs.ReadParts.{HasSet, HasSets, Fillable, overwriteFrom, groupWords, rowWords, contentRefusal};
+ghost use Rattle.block_file.specs.ReadParts.{HasSet, HasSets, Fillable, overwriteFrom, groupOf, rowOf, contentRefusal};
 ghost use Rattle.block_file.specs.ReadAnswers.{readOf};
 use state_set::StateSet;
 use state_set::WORDS;
@@ -150,7 +150,7 @@ fn any_beyond(input: &[u8], n: usize, count: usize) -> bool
 {
     let w = set_width(n);
     for k in 0..count {
-        if is_beyond(set_in(input, w, HEADER + w * k), n) {
+        if is_beyond(set_in(input, w, k), n) {
             return true;
         }
     }
@@ -203,13 +203,13 @@ fn word_in(input: &[u8], w: usize, at: usize, v: usize) -> u64
     word
 }
 
-// That set by value.
-fn set_in(input: &[u8], w: usize, at: usize) -> StateSet
-    requires { ⌜ HasSet (now input) w at ⌝ }
-    ensures { λ r. ⌜ r .words ≡ setIn (contentsOf (now (input .entry))) w at ⌝ }
+// Set k of contents whose sets take w bytes each.
+fn set_in(input: &[u8], w: usize, k: usize) -> StateSet
+    requires { ⌜ HasSet (now input) w (4 + w * k) ⌝ }
+    ensures { λ r. ⌜ r .words ≡ setIn (contentsOf (now (input .entry))) w (4 + w * k) ⌝ }
 {
     let mut words = [0; WORDS];
-    fill_set(&mut words, input, w, at);
+    fill_set(&mut words, input, w, k);
     StateSet { words }
 }
 
@@ -220,31 +220,31 @@ fn fill(input: &[u8], n: usize, g: usize, store: &mut [u64])
     ensures { λ r. ⌜ now (store .exit) ≡ overwrite (layout (tableIn (contentsOf (now (input .entry))) n g)) (now (store .entry)) ⌝ }
 {
     let w = set_width(n);
-    fill_set(store, input, w, HEADER);
-    fill_set(&mut store[FORBIDDEN_AT..], input, w, HEADER + w);
+    fill_set(store, input, w, 0);
+    fill_set(&mut store[FORBIDDEN_AT..], input, w, 1);
     fill_groups(input, n, g, store);
     fill_rows(input, n, g, store);
 }
 
 fn fill_groups(input: &[u8], n: usize, g: usize, store: &mut [u64])
     requires { ⌜ Fillable (now input) n g (now store) ⌝ }
-    ensures { λ r. ⌜ now (store .exit) ≡ overwriteFrom (groupAt 0) (groupWords (tableIn (contentsOf (now (input .entry))) n g)) (now (store .entry)) ⌝ }
+    ensures { λ r. ⌜ now (store .exit) ≡ overwriteFrom (groupAt 0) (concat maxGroups (groupOf (tableIn (contentsOf (now (input .entry))) n g))) (now (store .entry)) ⌝ }
 {
     for j in 0..MAX_GROUPS {
         let a = GROUPS_AT + WORDS * j;
         let w = used_width(n, j, g);
-        fill_set(&mut store[a..], input, w, HEADER + w * (2 + j));
+        fill_set(&mut store[a..], input, w, 2 + j);
     }
 }
 
 fn fill_rows(input: &[u8], n: usize, g: usize, store: &mut [u64])
     requires { ⌜ Fillable (now input) n g (now store) ⌝ }
-    ensures { λ r. ⌜ now (store .exit) ≡ overwriteFrom (rowAt 0) (rowWords (tableIn (contentsOf (now (input .entry))) n g)) (now (store .entry)) ⌝ }
+    ensures { λ r. ⌜ now (store .exit) ≡ overwriteFrom (rowAt 0) (concat maxStates (rowOf (tableIn (contentsOf (now (input .entry))) n g))) (now (store .entry)) ⌝ }
 {
     for s in 0..MAX_STATES {
         let a = ROWS_AT + WORDS * s;
         let w = used_width(n, s, n);
-        fill_set(&mut store[a..], input, w, HEADER + w * (2 + g + s));
+        fill_set(&mut store[a..], input, w, 2 + g + s);
     }
 }
 
@@ -256,11 +256,12 @@ fn used_width(n: usize, j: usize, used: usize) -> usize
     if j < used { set_width(n) } else { 0 }
 }
 
-// The set whose w bytes begin at `at`, put into the first words of a part of the store.
-fn fill_set(words: &mut [u64], input: &[u8], w: usize, at: usize)
-    requires { ⌜ HasSet (now input) w at × (WORDS ≤ length (now words)) ⌝ }
-    ensures { λ r. ⌜ now (words .exit) ≡ overwrite (setIn (contentsOf (now (input .entry))) w at) (now (words .entry)) ⌝ }
+// Set k of contents whose sets take w bytes each, put into the first words of a part of the store.
+fn fill_set(words: &mut [u64], input: &[u8], w: usize, k: usize)
+    requires { ⌜ HasSet (now input) w (4 + w * k) × (WORDS ≤ length (now words)) ⌝ }
+    ensures { λ r. ⌜ now (words .exit) ≡ overwrite (setIn (contentsOf (now (input .entry))) w (4 + w * k)) (now (words .entry)) ⌝ }
 {
+    let at = HEADER + w * k;
     for v in 0..WORDS {
         words[v] = word_in(input, w, at, v);
     }

@@ -1,6 +1,5 @@
 -- `any_beyond`: no set passed has a state from n up.
 use Prim.Native.Nat.{_-_, _≤_}
-use native.Mathlib.Omega.{arith}
 use mathlib.Core.Path.{_≡_, sym, ap, _∙_}
 use mathlib.Core.Bool.{false}
 use borrow.Author.Needs.{needs}
@@ -26,8 +25,6 @@ any-beyond-spec =
     μ-loop
     (λ c κs. search needs)
     (λ c. (search needs, any-start _))
-    (λ c. let h = has-set (c .before .before .before .before .pre) (c .before .before .set-width .ensures) (c .loop-test .taken) in search needs)
-    (λ c. let h = has-set (c .before .before .before .before .pre) (c .before .before .set-width .ensures) (c .loop-test .taken) in search needs)
     (λ c κs. has-set (c .before .before .before .before .pre) (c .before .before .set-width .ensures) (c .loop-test .taken))
     (λ c κs. search needs)
     (λ c.

@@ -9,10 +9,10 @@ use Rattle.block_file.proofs.reading.fill_set.Statement.{statement}
 use Rattle.block_file.proofs.reading.fill_set.Tie as tie
 
 abbrev Inv-loop : tie.InvT-loop
-Inv-loop words₀ input w at v₀ words v = Copying (setIn (contentsOf input) w at) words₀ v words
+Inv-loop words₀ input w k at v₀ words v = Copying (setIn (contentsOf input) w at) words₀ v words
 
 abbrev μ-loop : tie.MeasureT-loop
-μ-loop words₀ input w at v₀ words v = WORDS - v
+μ-loop words₀ input w k at v₀ words v = WORDS - v
 
 pub fill-set-spec : {M : Type 1} → statement M
 fill-set-spec =
@@ -20,6 +20,8 @@ fill-set-spec =
     (tie.spec
     Inv-loop
     μ-loop
+    (λ c. search needs)
+    (λ c. search needs)
     (λ c. copying-none _ _ (setIn-proper _ _ _) (search needs))
     (λ c κs. search needs)
     (λ c. search needs)
