@@ -5,16 +5,16 @@
 --   Fillable input n g store   they have all of a table with n states and g groups, and the store has room for it
 --   overwriteFrom at xs old    xs from `at` on in a buffer that held old
 --   groupOf t j, rowOf t s     the sets of a table's layout: group j and row s, empty where the table has none
---   contentRefusal input       the first ground behind those of the blocks that holds, or 0
+--   contentGrounds input n g   the grounds behind those of the blocks, for a file that says n and g
 use Prim.Native.Nat.{ℕ, _+_, _*_, _/_, _≤_}
-use mathlib.Core.Bool.{not, cond}
+use mathlib.Core.Bool.{Bool, not, cond}
 use mathlib.Core.List.{List, [], _∷_, _++_}
 use lib.Dec.{eqb, ltb}
 use lib.ListN.{length, getD, take, drop}
 use Rattle.model.specs.Sets.{maxStates, Set, empty, any}
 use Rattle.model.specs.Tables.{Table}
-use Rattle.model.specs.Stores.{maxGroups, storeWords, refuse, beyond, nonZero, badStates}
-use Rattle.model.specs.Files.{le16At, setWidth, contentLength, blocksFor, contentsOf, setNumber}
+use Rattle.model.specs.Stores.{maxGroups, storeWords, beyond, nonZero, badStates}
+use Rattle.model.specs.Files.{setWidth, contentLength, blocksFor, contentsOf, setNumber}
 use Rattle.model.specs.Calls.{overwrite}
 
 pub record HasSet (input : List ℕ) (w at : ℕ) : Type 0 where
@@ -41,18 +41,12 @@ groupOf t j = getD (t .groups) j empty
 abbrev pub rowOf : Table → ℕ → Set
 rowOf t s = cond (ltb s (t .n)) (t .row s) empty
 
--- The part `late` of the model's readRefusal.
-unfoldable pub contentRefusal : List ℕ → ℕ
-contentRefusal input =
-    let blocks = length input / 512 in
-    let bytes = contentsOf input in
-    let n = le16At bytes 0 in
-    let g = le16At bytes 2 in
-    let size = contentLength n g in
-    refuse
-    ((badStates n, 14)
+-- The grounds `late` of the model's readRefusal.
+unfoldable pub contentGrounds : List ℕ → ℕ → ℕ → List (Bool × ℕ)
+contentGrounds input n g =
+    (badStates n, 14)
     ∷ (ltb maxGroups g, 15)
-    ∷ (not (eqb blocks (blocksFor size)), 16)
-    ∷ (any (2 + g + n) (λ k. beyond n (setNumber bytes n k)), 17)
-    ∷ (nonZero bytes size (508 * blocks), 18)
-    ∷ [])
+    ∷ (not (eqb (length input / 512) (blocksFor (contentLength n g))), 16)
+    ∷ (any (2 + g + n) (λ k. beyond n (setNumber (contentsOf input) n k)), 17)
+    ∷ (nonZero (contentsOf input) (contentLength n g) (508 * (length input / 512)), 18)
+    ∷ []

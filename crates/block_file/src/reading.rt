@@ -12,10 +12,10 @@ ghost use mathlib.Core.Bool.{cond};
 ghost use lib.Dec.{ltb};
 ghost use lib.ListN.{length, getD};
 ghost use Rattle.model.specs.Sets.{WORDS, maxStates, member, number, any};
-ghost use Rattle.model.specs.Stores.{maxGroups, groupAt, rowAt, concat, layout, beyond, nonZero};
+ghost use Rattle.model.specs.Stores.{maxGroups, groupAt, rowAt, concat, layout, refuse, beyond, nonZero};
 ghost use Rattle.model.specs.Files.{setWidth, part, contentsOf, setIn, setNumber, tableIn};
 ghost use Rattle.model.specs.Calls.{overwrite, firstFault, blockFault, readRefusal, readAnswer, readBuffer};
-ghost use Rattle.block_file.specs.ReadParts.{HasSet, HasSets, Fillable, overwriteFrom, groupOf, rowOf, contentRefusal};
+ghost use Rattle.block_file.specs.ReadParts.{HasSet, HasSets, Fillable, overwriteFrom, groupOf, rowOf, contentGrounds};
 ghost use Rattle.block_file.specs.ReadAnswers.{readOf};
 use state_set::StateSet;
 use state_set::WORDS;
@@ -81,7 +81,9 @@ fn refusal(input: &[u8], room: usize) -> u8
     if fault != 0 {
         return fault;
     }
-    content_refusal(input)
+    let n = le16_at(input, CONTENT_AT);
+    let g = le16_at(input, CONTENT_AT + 2);
+    content_refusal(input, n, g)
 }
 
 // The first fault of a block, or 0.
@@ -113,14 +115,10 @@ fn block_fault(block: &[u8], k: usize) -> u8
     0
 }
 
-// What is wrong with the contents, or 0.
-fn content_refusal(input: &[u8]) -> u8
-    requires { ⌜ 512 ≤ length (now input) ⌝ }
-    ensures { λ r. ⌜ r ≡ contentRefusal (now (input .entry)) ⌝ }
+// What is wrong with the contents of a file that says n and g, or 0.
+fn content_refusal(input: &[u8], n: usize, g: usize) -> u8
+    ensures { λ r. ⌜ r ≡ refuse (contentGrounds (now (input .entry)) n g) ⌝ }
 {
-    let blocks = input.len() / BLOCK;
-    let n = le16_at(input, CONTENT_AT);
-    let g = le16_at(input, CONTENT_AT + 2);
     if n == 0 {
         return 14;
     }
@@ -130,6 +128,7 @@ fn content_refusal(input: &[u8]) -> u8
     if MAX_GROUPS < g {
         return 15;
     }
+    let blocks = input.len() / BLOCK;
     let size = content_length(n, g);
     if blocks != blocks_for(size) {
         return 16;

@@ -5,31 +5,32 @@
 --   Copying X old v xs                 
 --   word-none, word-more, word-all     a loop that makes a word of a set from its bytes
 use Prim.Native.Nat.{ℕ, _+_, _*_, _-_, _/_, _%_, _^_, _≤_, _<_}
-use native.Mathlib.Nat.{zero-mul, mul-le-mul-left, le-antisymm}
+use native.Mathlib.Nat.{zero-mul, add-assoc, mul-le-mul-left, le-antisymm}
 use native.Mathlib.Numerals.{add-one}
 use native.Mathlib.Omega.{arith}
-use mathlib.Core.Path.{_≡_, refl, sym, ap, ap₂, _∙_}
+use mathlib.Core.Path.{_≡_, refl, sym, ap, ap₂, _∙_, subst}
 use mathlib.Core.Logic.{⊎-elim}
-use mathlib.Core.Bool.{cond}
-use mathlib.Core.List.{List, [], _++_, append-nil, append-assoc}
-use borrow.Author.Tests.{ltb-true, ltb-false, le-ltb}
+use mathlib.Core.Bool.{Bool, true, false, not, cond}
+use mathlib.Core.List.{List, [], _∷_, _++_, append-nil, append-assoc}
+use borrow.Author.Tests.{ltb-true, ltb-false, lt-ltb, le-ltb, eq-eqb, ne-eqb}
 use borrow.Rule.Slice.PartMut.{putMid}
 use lib.Bits.{bitOr, or-shifted-r}
-use lib.Dec.{ltb}
+use lib.Dec.{eqb, ltb}
 use lib.ListN.{length, getD, set, take, drop, length-set, length-append, length-drop, drop-of-length-le, take-append-drop}
 use lib.Pow.{shl-exact}
 use lib.Seq.{length-take-le, take-suc, take-all, take-append-add, drop-append-add}
 use mir.Syntax.{w8}
 use mir.Val.{Fits}
-use Rattle.model.specs.Sets.{WORDS, Set, member, number, empty, tabulate}
-use Rattle.model.specs.Stores.{concat}
-use Rattle.model.specs.Files.{setWidth, part, contentsOf, setIn, setNumber, tableIn}
-use Rattle.model.specs.Calls.{overwrite, firstFault, blockFault}
+use Rattle.model.specs.Sets.{WORDS, maxStates, Set, member, number, empty, any, tabulate}
+use Rattle.model.specs.Stores.{maxGroups, forbiddenAt, groupAt, rowAt, storeWords, concat, layout, refuse, beyond, nonZero, badStates}
+use Rattle.model.specs.Files.{le16At, setWidth, contentLength, blocksFor, part, contentsOf, setIn, setNumber, tableIn}
+use Rattle.model.specs.Calls.{overwrite, firstFault, blockFault, maxFile, readRefusal, readAnswer, readBuffer}
 use Rattle.model.proofs.Bounds.{by-cond, decided, length-tabulate, getD-tabulate}
 use Rattle.model.proofs.SetLaws.{Proper, number-lt, setOf-cong}
-use Rattle.model.proofs.ListLaws.{length-overwrite, overwrite-more, overwrite-set, length-concat, concat-next, getD-past, firstFault-next, firstFault-stop}
-use Rattle.model.proofs.FileLaws.{number-append, word-number, number-setIn, setIn-proper, contentsOf-bounded, length-part}
-use Rattle.block_file.specs.ReadParts.{HasSet, HasSets, Fillable, overwriteFrom, groupOf, rowOf}
+use Rattle.model.proofs.ListLaws.{length-overwrite, overwrite-more, overwrite-set, length-concat, concat-next, getD-past, refuse-none, refuse-skip, refuse-take, orElse-none, orElse-fault, firstFault-next, firstFault-stop}
+use Rattle.model.proofs.FileLaws.{number-append, word-number, number-setIn, setIn-proper, contentsOf-bounded, length-part, getD-contentsOf-at}
+use Rattle.model.proofs.CallLaws.{states-le, Readable, readable, read-answer, read-buffer}
+use Rattle.block_file.specs.ReadParts.{HasSet, HasSets, Fillable, overwriteFrom, groupOf, rowOf, contentGrounds}
 
 -- ---- the blocks in order
 
@@ -66,6 +67,138 @@ module _ (input : List ℕ) where
 
   pub faults-end : (k m : ℕ) → k ≤ m → m ≤ k → faults k ≡ 0 → 0 ≡ faults m
   faults-end k m l h e = sym e ∙ ap faults (le-antisymm l h)
+
+-- ---- the grounds of the contents, one after the other
+
+module _ (input : List ℕ) (n g : ℕ) where
+  abbrev refusal : ℕ
+  refusal = refuse (contentGrounds input n g)
+
+  pub no-states : n ≡ 0 → 14 ≡ refusal
+  unfolding badStates contentGrounds
+  no-states e = sym (refuse-take _ 14 _ (rw (eq-eqb n 0 e)))
+
+  module _ (some : n ≡ 0 → ⊥) where
+    pub many-states : maxStates < n → 14 ≡ refusal
+    unfolding badStates contentGrounds
+    many-states h = sym (refuse-take _ 14 _ (rw (ne-eqb n 0 some) (lt-ltb maxStates n h)))
+
+    module _ (states : n ≤ maxStates) where
+      states-pass : badStates n ≡ false
+      unfolding badStates
+      states-pass = rw (ne-eqb n 0 some) (le-ltb maxStates n states)
+
+      pub many-groups : maxGroups < g → 15 ≡ refusal
+      unfolding contentGrounds
+      many-groups h = sym (refuse-skip _ 14 _ states-pass ∙ refuse-take _ 15 _ (lt-ltb maxGroups g h))
+
+      module _ (groups : g ≤ maxGroups) {size : ℕ} (sized : size ≡ contentLength n g) {blocks : ℕ} (e : blocks ≡ blocksFor size) where
+        pub other-blocks : (length input / 512 ≡ blocks → ⊥) → 16 ≡ refusal
+        unfolding contentGrounds
+        other-blocks x =
+            sym
+            (refuse-skip _ 14 _ states-pass
+            ∙ refuse-skip _ 15 _ (le-ltb maxGroups g groups)
+            ∙ refuse-take _ 16 _ (ap not (ne-eqb _ _ (λ q. x (q ∙ sym (e ∙ ap (λ (l : ℕ). blocksFor l) sized))))))
+
+        module _ (same : length input / 512 ≡ blocks) {b : Bool} (sets : b ≡ any (2 + g + n) (λ k. beyond n (setNumber (contentsOf input) n k))) where
+          behind : refusal ≡ refuse ((b, 17) ∷ (nonZero (contentsOf input) size (508 * (length input / 512)), 18) ∷ [])
+          unfolding contentGrounds
+          behind =
+              refuse-skip _ 14 _ states-pass
+              ∙ refuse-skip _ 15 _ (le-ltb maxGroups g groups)
+              ∙ refuse-skip _ 16 _ (ap not (eq-eqb _ _ (same ∙ e ∙ ap (λ (l : ℕ). blocksFor l) sized)))
+              ∙ ap₂ (λ a (l : ℕ). refuse ((a, 17) ∷ (nonZero (contentsOf input) l (508 * (length input / 512)), 18) ∷ [])) (sym sets) (sym sized)
+
+          pub set-beyond : b ≡ true → 17 ≡ refusal
+          set-beyond t = sym (behind ∙ refuse-take _ 17 _ t)
+
+          module _ (within : b ≡ false) {z : Bool} (filler : z ≡ nonZero (contentsOf input) size (508 * (length input / 512))) where
+            pub filler-non-zero : z ≡ true → 18 ≡ refusal
+            filler-non-zero t = sym (behind ∙ refuse-skip _ 17 _ within ∙ refuse-take _ 18 _ (sym filler ∙ t))
+
+            pub content-right : z ≡ false → 0 ≡ refusal
+            content-right t = sym (behind ∙ refuse-skip _ 17 _ within ∙ refuse-skip _ 18 _ (sym filler ∙ t) ∙ refuse-none)
+
+-- ---- all grounds
+
+-- n and g stand at the front of the first block
+pub header : (input : List ℕ) (i : ℕ) → 512 ≤ length input → i + 1 < 508 → le16At input (2 + i) ≡ le16At (contentsOf input) i
+header input i h l =
+    let byte : (j : ℕ) → j < 508 → getD (contentsOf input) j 0 ≡ getD input (2 + j) 0 =
+    λ j m.
+    let place : 512 * (j / 508) + (2 + j % 508) ≡ 2 + j = omega arith in
+    getD-contentsOf-at input j (omega arith) ∙ ap (λ (k : ℕ). getD input k 0) place in
+    ap₂ (λ (a b : ℕ). a + 256 * b) (sym (byte i (omega arith))) (ap (λ (k : ℕ). getD input k 0) (add-assoc 2 i 1) ∙ sym (byte (i + 1) l))
+
+module _ (input : List ℕ) (room : ℕ) where
+  pub small-store : room < storeWords → 10 ≡ readRefusal input room
+  unfolding readRefusal refuse
+  small-store h = rw (lt-ltb room storeWords h)
+
+  module _ (fits : storeWords ≤ room) where
+    pub no-input : length input ≡ 0 → 11 ≡ readRefusal input room
+    unfolding readRefusal refuse
+    no-input e = rw (le-ltb room storeWords fits, eq-eqb (length input) 0 e)
+
+    module _ (some : length input ≡ 0 → ⊥) where
+      pub part-block : (length input % 512 ≡ 0 → ⊥) → 11 ≡ readRefusal input room
+      unfolding readRefusal refuse
+      part-block x = rw (le-ltb room storeWords fits, ne-eqb (length input) 0 some, ne-eqb (length input % 512) 0 x)
+
+      module _ (whole : length input % 512 ≡ 0) where
+        pub long-input : maxFile < length input → 11 ≡ readRefusal input room
+        unfolding readRefusal refuse
+        long-input h = rw (le-ltb room storeWords fits, ne-eqb (length input) 0 some, eq-eqb (length input % 512) 0 whole, lt-ltb maxFile (length input) h)
+
+        module _ (short : length input ≤ maxFile) {fault : ℕ} (e : fault ≡ faults input (length input / 512)) where
+          behind-blocks : readRefusal input room ≡ cond (eqb fault 0) (refuse (contentGrounds input (le16At (contentsOf input) 0) (le16At (contentsOf input) 2))) fault
+          unfolding readRefusal refuse contentGrounds
+          behind-blocks =
+              rw (
+                le-ltb room storeWords fits,
+                ne-eqb (length input) 0 some,
+                eq-eqb (length input % 512) 0 whole,
+                le-ltb maxFile (length input) short,
+                e,
+              )
+
+          pub block-wrong : (fault ≡ 0 → ⊥) → fault ≡ readRefusal input room
+          block-wrong x = sym (behind-blocks ∙ orElse-fault fault _ x)
+
+          pub blocks-right : fault ≡ 0 → {n g r : ℕ} → n ≡ le16At input 2 → g ≡ le16At input 4 → r ≡ refuse (contentGrounds input n g) → r ≡ readRefusal input room
+          blocks-right z {n} {g} {r} p q f =
+              f
+              ∙ ap₂ (λ (a b : ℕ). refuse (contentGrounds input a b)) (p ∙ header input 0 (omega arith) (omega arith)) (q ∙ header input 2 (omega arith) (omega arith))
+              ∙ sym (behind-blocks ∙ orElse-none fault _ z)
+
+-- ---- the call
+
+pub declined : (input store : List ℕ) {k : ℕ} → k ≡ readRefusal input (length store) → (k ≡ 0 → ⊥)
+    → (record { refusal = k; n = 0; g = 0 } ≡ readAnswer input (length store)) × (store ≡ readBuffer input store)
+unfolding readAnswer readBuffer
+declined input store {k} e x = let no = ne-eqb k 0 x in (rw (← e, no), rw (← e, no))
+
+module _ (input : List ℕ) (room : ℕ) {k : ℕ} (e : k ≡ readRefusal input room) (z : k ≡ 0) where
+  accepted : Readable input room (le16At (contentsOf input) 0) (le16At (contentsOf input) 2)
+  accepted = readable input room (sym e ∙ z)
+
+  pub some-block : 512 ≤ length input
+  some-block = let r = accepted in omega (arith, r .some, r .whole)
+
+  module _ {n g : ℕ} (p : n ≡ le16At input 2) (q : g ≡ le16At input 4) where
+    pub readable-as : Readable input room n g
+    readable-as =
+        subst (λ (m : ℕ). Readable input room m g) (sym (p ∙ header input 0 some-block (omega arith)))
+        (subst (Readable input room _) (sym (q ∙ header input 2 some-block (omega arith))) accepted)
+
+module _ {input : List ℕ} (store : List ℕ) {n g : ℕ} (r : Readable input (length store) n g) where
+  pub fillable : Fillable input n g store
+  fillable = record { states = states-le n (r .states); groups = r .groups; inside = omega (arith, r .blocks); room = r .fits }
+
+  pub table-read : {after : List ℕ} → after ≡ overwrite (layout (tableIn (contentsOf input) n g)) store
+      → (record { refusal = 0; n = n; g = g } ≡ readAnswer input (length store)) × (after ≡ readBuffer input store)
+  table-read f = (sym (read-answer input (length store) n g r), f ∙ sym (read-buffer input store n g r))
 
 -- ---- sets in the contents
 
@@ -263,3 +396,35 @@ module _ (bytes : List ℕ) (n g : ℕ) where
 
   pub row-wide : (s : ℕ) → length (rowOf (tableIn bytes n g) s) ≡ WORDS
   row-wide s = ap length (sym (row-set s refl)) ∙ setIn-proper bytes _ _ .long
+
+-- a store written over at the front, and then from there on
+then : (xs ys old store : List ℕ) (n : ℕ) → store ≡ overwrite xs old → length xs ≡ n → overwriteFrom n ys store ≡ overwrite (xs ++ ys) old
+unfolding overwriteFrom
+then xs ys old store n e l = ap (λ zs. take n zs ++ overwrite ys (drop n zs)) e ∙ overwrite-more xs old ys n l
+
+-- initial set, forbidden set, groups and rows, one after the other
+module _ (bytes : List ℕ) (n g w : ℕ) (old s₁ part s₃ s₄ : List ℕ) where
+  pub filled : storeWords ≤ length old
+      → w ≡ setWidth n
+      → s₁ ≡ overwrite (setIn bytes w (4 + w * 0)) old
+      → part ≡ overwrite (setIn bytes w (4 + w * 1)) (take (length s₁ - forbiddenAt) (drop forbiddenAt s₁))
+      → s₃ ≡ overwriteFrom (groupAt 0) (concat maxGroups (groupOf (tableIn bytes n g))) (putMid forbiddenAt (length s₁ - forbiddenAt) s₁ part)
+      → s₄ ≡ overwriteFrom (rowAt 0) (concat maxStates (rowOf (tableIn bytes n g))) s₃
+      → s₄ ≡ overwrite (layout (tableIn bytes n g)) old
+  unfolding layout tableIn setNumber
+  filled room width e₁ e₂ e₃ e₄ =
+      let t = tableIn bytes n g in
+      let groups = concat maxGroups (groupOf t) in
+      let rows = concat maxStates (rowOf t) in
+      let four : length (t .initial) ≡ WORDS = setIn-proper bytes _ _ .long in
+      let eight : length (t .initial ++ t .forbidden) ≡ groupAt 0 = omega (arith, length-append (t .initial) (t .forbidden), four, setIn-proper bytes (setWidth n) (4 + setWidth n * 1) .long) in
+      let many : length groups ≡ WORDS * maxGroups = length-concat (groupOf t) WORDS maxGroups (λ j l. group-wide bytes n g j) in
+      let k₁ : s₁ ≡ overwrite (t .initial) old = e₁ ∙ ap (λ (v : ℕ). overwrite (setIn bytes v (4 + v * 0)) old) width in
+      let k₂ : putMid forbiddenAt (length s₁ - forbiddenAt) s₁ part ≡ overwrite (t .initial ++ t .forbidden) old =
+      lent-back forbiddenAt s₁ part _ (omega (arith, ap length k₁, length-overwrite (t .initial) old (omega arith))) e₂
+      ∙ ap (λ (v : ℕ). overwriteFrom forbiddenAt (setIn bytes v (4 + v * 1)) s₁) width
+      ∙ then (t .initial) (t .forbidden) old s₁ forbiddenAt k₁ four in
+      let k₃ : s₃ ≡ overwrite ((t .initial ++ t .forbidden) ++ groups) old = e₃ ∙ then (t .initial ++ t .forbidden) groups old _ (groupAt 0) k₂ eight in
+      e₄
+      ∙ then ((t .initial ++ t .forbidden) ++ groups) rows old s₃ (rowAt 0) k₃ (omega (arith, length-append (t .initial ++ t .forbidden) groups))
+      ∙ ap (λ xs. overwrite xs old) (append-assoc (t .initial ++ t .forbidden) groups rows ∙ append-assoc (t .initial) (t .forbidden) (groups ++ rows))
