@@ -1,2 +1,4 @@
 pub mod Answers
 pub mod Writing
+pub mod ReadParts
+pub mod ReadAnswers

@@ -1,6 +1,9 @@
 // Files of blocks (01, "Blocks"): the calls `read` and `write`.
 mod blocks;
+mod reading;
 mod writing;
 
+pub use reading::TableRead;
+pub use reading::read;
 pub use writing::Written;
 pub use writing::write;

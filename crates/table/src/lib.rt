@@ -120,7 +120,7 @@ pub fn union_of(rows: &Rows, x: StateSet) -> StateSet
 }
 
 // x has a state from n up.
-fn is_beyond(x: StateSet, n: usize) -> bool
+pub fn is_beyond(x: StateSet, n: usize) -> bool
     ensures { λ r. ⌜ r ≡ beyond n (x .words) ⌝ }
 {
     !x.is_subset(StateSet::first_states(n))

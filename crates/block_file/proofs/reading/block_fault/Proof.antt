@@ -1,0 +1,31 @@
+-- `block_fault`: the number, then the check.
+use mathlib.Core.Path.{sym, ap, _∙_}
+use mathlib.Core.Bool.{not}
+use borrow.Author.Needs.{needs}
+use borrow.Author.Tests.{eq-eqb, ne-eqb}
+use Rattle.model.specs.Calls.{blockFault}
+use Rattle.model.proofs.ListLaws.{refuse-skip, refuse-take}
+use Rattle.model.proofs.CallLaws.{clear-blockFault}
+use Rattle.block_file.proofs.reading.block_fault.Statement.{statement}
+use Rattle.block_file.proofs.reading.block_fault.Tie as tie
+
+pub block-fault-spec : {M : Type 1} → statement M
+unfolding blockFault
+block-fault-spec =
+    tie.close
+    (tie.spec
+    (λ c κs. search needs)
+    (λ c. sym (refuse-take _ 12 _ (ap not (ne-eqb _ _ (λ e. c .if1 .taken (c .before .le16-at .ensures ∙ e))))))
+    (λ c κs. search needs)
+    (λ c κs. search needs)
+    (λ c.
+    let first = c .before .before .before in
+    sym
+    (refuse-skip _ 12 _ (ap not (eq-eqb _ _ (sym (first .before .le16-at .ensures) ∙ first .if1 .left)))
+    ∙ refuse-take _ 13 _ (ap not (ne-eqb _ _ (λ e. c .if2 .taken (c .before .before .le16-at2 .ensures ∙ e ∙ sym (c .before .check-of .ensures)))))))
+    (λ c.
+    let first = c .before .before .before in
+    sym
+    (clear-blockFault _ _
+    (sym (first .before .le16-at .ensures) ∙ first .if1 .left)
+    (sym (c .before .before .le16-at2 .ensures) ∙ c .if2 .left ∙ c .before .check-of .ensures))))

@@ -1,0 +1,41 @@
+-- `fill_groups`: the groups passed stand in their places.
+use Prim.Native.Nat.{_-_, _≤_}
+use native.Mathlib.Omega.{arith}
+use mathlib.Core.Path.{_∙_}
+use borrow.Author.Needs.{needs}
+use lib.ListN.{length-take, length-drop}
+use Rattle.model.specs.Sets.{maxStates}
+use Rattle.model.specs.Stores.{maxGroups, groupAt}
+use Rattle.model.specs.Files.{contentsOf, tableIn}
+use Rattle.block_file.specs.ReadParts.{groupOf}
+use Rattle.block_file.proofs.reading.Laws.{has-group, Filling, filling-none, filling-more, filling-all, group-set, group-wide}
+use Rattle.block_file.proofs.reading.fill_groups.Statement.{statement}
+use Rattle.block_file.proofs.reading.fill_groups.Tie as tie
+
+abbrev Inv-loop : tie.InvT-loop
+Inv-loop input n g store₀ j₀ store j = (j ≤ maxGroups) × Filling (groupOf (tableIn (contentsOf input) n g)) (groupAt 0) store₀ j store
+
+abbrev μ-loop : tie.MeasureT-loop
+μ-loop input n g store₀ j₀ store j = maxGroups - j
+
+pub fill-groups-spec : {M : Type 1} → statement M
+fill-groups-spec =
+    tie.close
+    (tie.spec
+    Inv-loop
+    μ-loop
+    (λ c. (search needs, filling-none _ _ _ (group-wide _ _ _)))
+    (λ c. search needs)
+    (λ c. search needs)
+    (λ c κs. search needs)
+    (λ c. search needs)
+    (λ c. search needs)
+    (λ c. search needs)
+    (λ c. search needs)
+    (λ c. search needs)
+    (λ c κs. (has-group (c .before .before .before .before .before .before .pre) _ (c .before .used-width .ensures), simp (length-take, length-drop) (omega arith)))
+    (λ c. search needs)
+    (λ c. search needs)
+    (λ c. (search needs, filling-more _ _ _ _ _ _ _ (c .before .before .before .before .before .before .loop .inv .1) (search needs) (group-set _ _ _ _ (c .before .before .before .before .used-width .ensures)) (c .before .before .fill-set .ensures)))
+    (λ c. search needs)
+    (λ c. filling-all _ _ _ _ _ _ (c .before .loop .inv .1) (search needs) (search needs)))

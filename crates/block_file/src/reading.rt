@@ -1,0 +1,267 @@
+// Reading a file (01, "Blocks"): every ground for declining is looked at first, in 01's order, and only then is the store filled.
+//
+//   read                                     the call
+//   refusal, content_refusal                 the grounds, and those of them that lie behind the blocks
+//   first_fault, block_fault                 the blocks in order, each on its own 512 bytes
+//   any_beyond, non_zero                     the grounds 17 and 18
+//   content, byte_in, word_in, set_in        a byte of the contents joined; a byte, a word and the whole of a set in them
+//   fill, fill_groups, fill_rows, fill_set   the table put into the store, each set into its own words
+ghost use mathlib.Core.Path.{_≡_};
+ghost use Prim.Native.Nat.{_+_, _*_, _/_, _≤_, _<_};
+ghost use mathlib.Core.Bool.{cond};
+ghost use lib.Dec.{ltb};
+ghost use lib.ListN.{length, getD};
+ghost use Rattle.model.specs.Sets.{WORDS, maxStates, member, number, any};
+ghost use Rattle.model.specs.Stores.{maxGroups, groupAt, rowAt, concat, layout, refuse, beyond, nonZero};
+ghost use Rattle.model.specs.Files.{setWidth, part, contentsOf, setIn, setNumber, tableIn};
+ghost use Rattle.model.specs.Calls.{overwrite, firstFault, blockFault, readRefusal, readAnswer, readBuffer};
+ghost use Rattle.block_file.specs.ReadParts.{HasSet, HasSets, Fillable, overwriteFrom, groupOf, rowOf, contentGrounds};
+ghost use Rattle.block_file.specs.ReadAnswers.{readOf};
+use state_set::StateSet;
+use state_set::WORDS;
+use table::FORBIDDEN_AT;
+use table::GROUPS_AT;
+use table::MAX_GROUPS;
+use table::MAX_STATES;
+use table::ROWS_AT;
+use table::STORE_WORDS;
+use table::is_beyond;
+use crate::blocks::BLOCK;
+use crate::blocks::CHECK_AT;
+use crate::blocks::CONTENT;
+use crate::blocks::CONTENT_AT;
+use crate::blocks::HEADER;
+use crate::blocks::blocks_for;
+use crate::blocks::check_of;
+use crate::blocks::content_length;
+use crate::blocks::le16_at;
+use crate::blocks::set_width;
+use crate::blocks::wide;
+
+// The length of the largest file.
+const MAX_FILE: usize = BLOCK * ((HEADER + (MAX_STATES + 7) / 8 * (2 + MAX_GROUPS + MAX_STATES) + CONTENT - 1) / CONTENT);
+
+pub enum TableRead {
+    Table { n: usize, g: usize },
+    Refused(u8),
+}
+
+pub fn read(input: &[u8], store: &mut [u64]) -> TableRead
+    ensures { λ r. ⌜ (readOf r ≡ readAnswer (now (input .entry)) (length (now (store .entry)))) × (now (store .exit) ≡ readBuffer (now (input .entry)) (now (store .entry))) ⌝ }
+{
+    let fault = refusal(input, store.len());
+    if fault != 0 {
+        return TableRead::Refused(fault);
+    }
+    let n = le16_at(input, CONTENT_AT);
+    let g = le16_at(input, CONTENT_AT + 2);
+    fill(input, n, g, store);
+    TableRead::Table { n, g }
+}
+
+// ---- grounds
+
+// The first ground that holds where the store has `room` words, or 0.
+fn refusal(input: &[u8], room: usize) -> u8
+    ensures { λ r. ⌜ r ≡ readRefusal (now (input .entry)) room ⌝ }
+{
+    if room < STORE_WORDS {
+        return 10;
+    }
+    if input.len() == 0 {
+        return 11;
+    }
+    if input.len() % BLOCK != 0 {
+        return 11;
+    }
+    if MAX_FILE < input.len() {
+        return 11;
+    }
+    let fault = first_fault(input);
+    if fault != 0 {
+        return fault;
+    }
+    let n = le16_at(input, CONTENT_AT);
+    let g = le16_at(input, CONTENT_AT + 2);
+    content_refusal(input, n, g)
+}
+
+// The first fault of a block, or 0.
+fn first_fault(input: &[u8]) -> u8
+    ensures { λ r. ⌜ r ≡ firstFault (length (now (input .entry)) / 512) (λ k. blockFault (part (now (input .entry)) k) k) ⌝ }
+{
+    for k in 0..input.len() / BLOCK {
+        let a = BLOCK * k;
+        let e = a + BLOCK;
+        let fault = block_fault(&input[a..e], k);
+        if fault != 0 {
+            return fault;
+        }
+    }
+    0
+}
+
+// What is wrong with block k, or 0.
+fn block_fault(block: &[u8], k: usize) -> u8
+    requires { ⌜ length (now block) ≡ 512 ⌝ }
+    ensures { λ r. ⌜ r ≡ blockFault (now (block .entry)) k ⌝ }
+{
+    if le16_at(block, 0) != k {
+        return 12;
+    }
+    if le16_at(block, CHECK_AT) as u64 != check_of(block) {
+        return 13;
+    }
+    0
+}
+
+// What is wrong with the contents of a file that says n and g, or 0.
+fn content_refusal(input: &[u8], n: usize, g: usize) -> u8
+    ensures { λ r. ⌜ r ≡ refuse (contentGrounds (now (input .entry)) n g) ⌝ }
+{
+    if n == 0 {
+        return 14;
+    }
+    if MAX_STATES < n {
+        return 14;
+    }
+    if MAX_GROUPS < g {
+        return 15;
+    }
+    let blocks = input.len() / BLOCK;
+    let size = content_length(n, g);
+    if blocks != blocks_for(size) {
+        return 16;
+    }
+    if any_beyond(input, n, 2 + g + n) {
+        return 17;
+    }
+    if non_zero(input, size, CONTENT * blocks) {
+        return 18;
+    }
+    0
+}
+
+// One of the first `count` sets has a state from n up.
+fn any_beyond(input: &[u8], n: usize, count: usize) -> bool
+    requires { ⌜ HasSets (now input) n count ⌝ }
+    ensures { λ r. ⌜ r ≡ any count (λ k. beyond n (setNumber (contentsOf (now (input .entry))) n k)) ⌝ }
+{
+    let w = set_width(n);
+    for k in 0..count {
+        if is_beyond(set_in(input, w, k), n) {
+            return true;
+        }
+    }
+    false
+}
+
+// Some byte from `from` on and before `to` is not 0.
+fn non_zero(input: &[u8], from: usize, to: usize) -> bool
+    requires { ⌜ (from ≤ to) × (to ≤ 508 * (length (now input) / 512)) ⌝ }
+    ensures { λ r. ⌜ r ≡ nonZero (contentsOf (now (input .entry))) from to ⌝ }
+{
+    for i in from..to {
+        if content(input, i) != 0 {
+            return true;
+        }
+    }
+    false
+}
+
+// ---- the contents joined
+
+// Byte i of the contents.
+fn content(input: &[u8], i: usize) -> u8
+    requires { ⌜ i < 508 * (length (now input) / 512) ⌝ }
+    ensures { λ r. ⌜ r ≡ getD (contentsOf (now (input .entry))) i 0 ⌝ }
+{
+    input[BLOCK * (i / CONTENT) + (CONTENT_AT + i % CONTENT)]
+}
+
+// Byte j of the set whose w bytes begin at `at`: 0 past them.
+fn byte_in(input: &[u8], w: usize, at: usize, j: usize) -> u64
+    requires { ⌜ HasSet (now input) w at ⌝ }
+    ensures { λ r. ⌜ r ≡ number (member (setIn (contentsOf (now (input .entry))) w at)) (8 * j) 8 ⌝ }
+{
+    if w <= j {
+        return 0;
+    }
+    wide(content(input, at + j))
+}
+
+// Word v of that set.
+fn word_in(input: &[u8], w: usize, at: usize, v: usize) -> u64
+    requires { ⌜ HasSet (now input) w at × (v < WORDS) ⌝ }
+    ensures { λ r. ⌜ r ≡ getD (setIn (contentsOf (now (input .entry))) w at) v 0 ⌝ }
+{
+    let mut word: u64 = 0;
+    for b in 0..8 {
+        word |= byte_in(input, w, at, 8 * v + b) << (8 * b);
+    }
+    word
+}
+
+// Set k of contents whose sets take w bytes each.
+fn set_in(input: &[u8], w: usize, k: usize) -> StateSet
+    requires { ⌜ HasSet (now input) w (4 + w * k) ⌝ }
+    ensures { λ r. ⌜ r .words ≡ setIn (contentsOf (now (input .entry))) w (4 + w * k) ⌝ }
+{
+    let mut words = [0; WORDS];
+    fill_set(&mut words, input, w, k);
+    StateSet { words }
+}
+
+// ---- filling the store
+
+fn fill(input: &[u8], n: usize, g: usize, store: &mut [u64])
+    requires { ⌜ Fillable (now input) n g (now store) ⌝ }
+    ensures { λ r. ⌜ now (store .exit) ≡ overwrite (layout (tableIn (contentsOf (now (input .entry))) n g)) (now (store .entry)) ⌝ }
+{
+    let w = set_width(n);
+    fill_set(store, input, w, 0);
+    fill_set(&mut store[FORBIDDEN_AT..], input, w, 1);
+    fill_groups(input, n, g, store);
+    fill_rows(input, n, g, store);
+}
+
+fn fill_groups(input: &[u8], n: usize, g: usize, store: &mut [u64])
+    requires { ⌜ Fillable (now input) n g (now store) ⌝ }
+    ensures { λ r. ⌜ now (store .exit) ≡ overwriteFrom (groupAt 0) (concat maxGroups (groupOf (tableIn (contentsOf (now (input .entry))) n g))) (now (store .entry)) ⌝ }
+{
+    for j in 0..MAX_GROUPS {
+        let a = GROUPS_AT + WORDS * j;
+        let w = used_width(n, j, g);
+        fill_set(&mut store[a..], input, w, 2 + j);
+    }
+}
+
+fn fill_rows(input: &[u8], n: usize, g: usize, store: &mut [u64])
+    requires { ⌜ Fillable (now input) n g (now store) ⌝ }
+    ensures { λ r. ⌜ now (store .exit) ≡ overwriteFrom (rowAt 0) (concat maxStates (rowOf (tableIn (contentsOf (now (input .entry))) n g))) (now (store .entry)) ⌝ }
+{
+    for s in 0..MAX_STATES {
+        let a = ROWS_AT + WORDS * s;
+        let w = used_width(n, s, n);
+        fill_set(&mut store[a..], input, w, 2 + g + s);
+    }
+}
+
+// The bytes of the set that place j takes its words from: none where the place is not below `used`, so that it is filled with 0.
+fn used_width(n: usize, j: usize, used: usize) -> usize
+    requires { ⌜ n ≤ maxStates ⌝ }
+    ensures { λ r. ⌜ r ≡ cond (ltb j used) (setWidth n) 0 ⌝ }
+{
+    if j < used { set_width(n) } else { 0 }
+}
+
+// Set k of contents whose sets take w bytes each, put into the first words of a part of the store.
+fn fill_set(words: &mut [u64], input: &[u8], w: usize, k: usize)
+    requires { ⌜ HasSet (now input) w (4 + w * k) × (WORDS ≤ length (now words)) ⌝ }
+    ensures { λ r. ⌜ now (words .exit) ≡ overwrite (setIn (contentsOf (now (input .entry))) w (4 + w * k)) (now (words .entry)) ⌝ }
+{
+    let at = HEADER + w * k;
+    for v in 0..WORDS {
+        words[v] = word_in(input, w, at, v);
+    }
+}
