@@ -1,9 +1,14 @@
 -- The loops of the cover and of R and S: the invariant of each, where it starts, a turn, and what it gives at the end.
 --
 --   tabulate-const                  a list with one element throughout
---   Narrowing, narrow-*             `narrow`: the rows of the states taken are met with Z
+--   narrowed-by                     rows that are, one by one, those that narrowing gives
+--   narrow-none, narrow-one, narrow-parts       narrowing at no state, at one, and at the states of two sets, one set after the other
+--   narrow-turn                     `narrow_word`: narrowing at the states that are left leads to the same rows
+--   narrow-start, narrow-word, narrow-all       `narrow`: the rows are narrowed at the states in the words passed
 --   Listing, list-*                 `with_groups`: the rows are the covers for the sets listed so far
---   passed, image-passed            `kept`: the states of a set that pass a test, as an image; passed-take, passed-skip: one more state of it
+--   passed, image-passed            the states of a set that pass a test, as an image; passed-take, passed-skip: one more state of it
+--   held, kept-is                   `keep_word`: what is kept of a set, as an image
+--   kept-start, kept-word, kept-all             `kept`: what is kept of the words passed
 --   Iterating, iterate-*            `forward` and `backward`: as many steps as turns, or fewer if one changes nothing
 use Prim.Native.Nat.{ℕ, suc, _+_, _-_, _≤_, _<_, zero-le}
 use native.Mathlib.Nat.{le-refl, le-of-eq, le-antisymm}
@@ -79,7 +84,7 @@ module _ (rows : List Set) (Z : Set) where
       there : (s : ℕ) → member (single x) s ≡ false → getD (set rows x row) s [] ≡ getD rows s []
       there s f = getD-set-other rows x s row [] (λ q. clash (subst (In (single x)) (sym q) (in-single b) .is) f)
 
-  -- first those of A and then those of B: those of P, which has the states of both
+  -- P has the states of A and those of B
   narrow-parts : (A B P : Set) → A ⊆ P → B ⊆ P → ((s : ℕ) → In P s → In A s ⊎ In B s)
       → narrowedAt (narrowedAt rows Z A) Z B ≡ narrowedAt rows Z P
   narrow-parts A B P a b ab =
@@ -102,7 +107,7 @@ module _ (rows : List Set) (Z : Set) where
       twice false true row = refl
       twice false false row = refl
 
-  -- in a turn of `narrow_word`, where x is one of the states left, what is left to do leads to the same rows
+  -- x is one of the states that are left
   pub narrow-turn : {rest rest′ now row : Set} {x : ℕ} → In rest x → now ≡ getD rows x [] → row ≡ meet now Z → rest′ ≡ difference rest (single x)
       → narrowedAt (set rows x row) Z rest′ ≡ narrowedAt rows Z rest
   narrow-turn {rest} {row = row} {x} i p m q =
@@ -164,7 +169,7 @@ module _ (n g : ℕ) (f : ℕ → Set) where
 unfoldable pub passed : (ℕ → Bool) → ℕ → Set
 passed p s = cond (p s) (single s) empty
 
-pub image-passed : (p : ℕ → Bool) (X : Set) → image maxStates (passed p) X ≡ setOf (λ s. member X s && p s)
+image-passed : (p : ℕ → Bool) (X : Set) → image maxStates (passed p) X ≡ setOf (λ s. member X s && p s)
 unfolding passed
 image-passed p X =
     same-set _ _ (image-proper maxStates (passed p) X) (setOf-proper _)

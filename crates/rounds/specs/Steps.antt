@@ -1,8 +1,8 @@
 -- The steps of R and S as the code takes them: over the rows of an array and the words of a store.
 --
---   covers n L          the rows that hold the cover of each state for the list L
---   narrowedAt rows Z P     the rows of the states of P met with Z
---   narrowed rows Z     the rows after Z is added to the list
+--   covers n L              the rows that hold the cover of each state for the list L
+--   narrowedAt rows Z P     the rows, with those of the states of P met with Z
+--   narrowed rows Z         the rows after Z is added to the list
 --   successorsBy, forwardBy, keptBy, backwardBy     post, R's step, R meet hold(X), S's step
 use Prim.Native.Nat.{ℕ}
 use mathlib.Core.Bool.{cond, _&&_}

@@ -1,6 +1,7 @@
 // The rounds (01, "Rounds") and the call `decide`.
 //
-//   no_groups, with_groups, narrow_word, narrow      the cover: a row of words for each state, set up from the groups and narrowed by each new Z
+//   no_groups, narrow_word, narrow, with_groups
+//                                       the cover: a row of words for each state, set up from the groups and narrowed by each new Z
 //   forward_step, forward               R, by its step until nothing changes
 //   is_held, keep_word, kept            hold
 //   backward_step, backward             S, by its step until nothing changes

@@ -116,10 +116,15 @@ impl StateSet {
         true
     }
 
+    // The words are joined and tested once: a test of each word would often be mispredicted.
     pub fn is_empty(self) -> bool
         ensures { λ r. ⌜ r ≡ subset (self .words) empty ⌝ }
     {
-        self.equals(StateSet::empty())
+        let mut all = 0;
+        for w in 0..WORDS {
+            all |= self.words[w];
+        }
+        all == 0
     }
 
     pub fn is_subset(self, other: StateSet) -> bool

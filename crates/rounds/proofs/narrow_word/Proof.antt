@@ -47,7 +47,7 @@ narrow-word-spec =
       omega (arith, less, so .0),
       narrow-turn _ _ (taken d) (c .before .before .row-of .ensures) (c .before .meet .ensures)
           (word-rest _ _ (search needs) (so .0) (d .loop-test .taken))
-      ∙ so .1,
+          ∙ so .1,
     ))
     (λ c.
     narrow-none _ _
