@@ -1,0 +1,93 @@
+#!/usr/bin/env python3
+"""Writes what paths_test must print: ./expected.py > stdout
+
+Made from document 01 alone and not from the code under test. The code measures distances backward from the forbidden states over sets of
+words and then walks forward; this goes forward from the initial states over Python sets, with the smallest path to each state in hand.
+"""
+
+GREATEST_N, GREATEST_G, STORE_WORDS, PATH_BYTES = 256, 64, 1288, 256
+
+
+def shortest(n, initial, forbidden, steps):
+    """The smallest of the shortest paths, or None. Layer by layer: the smallest path to each state that no earlier layer has."""
+    layer = {s: [s] for s in initial}
+    seen = set(layer)
+    while layer:
+        ends = [path for s, path in layer.items() if s in forbidden]
+        if ends:
+            return min(ends)
+        following = {}
+        for s, path in layer.items():
+            for a, b in steps:
+                if a == s and b not in seen:
+                    following[b] = min(following.get(b, path + [b]), path + [b])
+        seen |= set(following)
+        layer = following
+    return None
+
+
+def refusal(words, n, g, initial, forbidden, groups, steps, room):
+    """01's grounds by number, those of shortest path."""
+    if words < STORE_WORDS:
+        return 10
+    if n == 0 or n > GREATEST_N:
+        return 14
+    if g > GREATEST_G:
+        return 15
+    states = initial | forbidden | {s for group in groups for s in group} | {s for step in steps for s in step}
+    if any(s >= n for s in states) or any(group for group in groups[g:]):
+        return 17
+    if room < PATH_BYTES:
+        return 21
+    return 0
+
+
+def report(name, n, g, table, room=256, words=STORE_WORDS):
+    initial, forbidden, groups, steps = table
+    declined = refusal(words, n, g, initial, forbidden, groups, steps, room)
+    path = None if declined else shortest(n, initial, forbidden, steps)
+    if declined:
+        answer = f"refused {declined}"
+    elif path is None:
+        answer = "none"
+    else:
+        answer = f"steps {len(path) - 1}, path {' '.join(map(str, path))}"
+    print(f"{name}: {answer}, rest untouched")
+
+
+def chain(*states):
+    return {(a, b) for a, b in zip(states, states[1:])}
+
+
+A = ({0}, {2}, [], {(0, 1), (1, 0), (2, 2)})
+B = ({0}, {3}, [], {(0, 1), (1, 2), (2, 3), (4, 4)})
+D = ({0}, {3}, [{0}, {1}, {2}], {(0, 1), (1, 2), (2, 3), (4, 4)})
+F = ({0}, {0}, [], set())
+CORRIDOR = ({0}, {255}, [], chain(*range(256)))
+
+report("A", 3, 0, A)
+report("B", 5, 0, B)
+report("D", 5, 3, D)
+report("F", 1, 0, F)
+report("no initial state", 2, 0, (set(), {1}, [], {(0, 1)}))
+report("no forbidden state", 2, 0, ({0}, set(), [], {(0, 1), (1, 0)}))
+report("two first states", 5, 0, ({0, 1, 2}, {4}, [], chain(0, 3, 4) | {(1, 4), (2, 4)}))
+report("two middle states", 5, 0, ({0}, {4}, [], {(0, 1), (0, 2), (0, 3), (1, 0), (2, 4), (3, 4)}))
+report("two last states", 5, 0, ({0}, {3, 4}, [], {(0, 1), (1, 2), (1, 3), (1, 4)}))
+report("initial and forbidden", 3, 0, ({0, 2}, {2}, [], {(0, 2)}))
+report("corridor", 256, 0, CORRIDOR)
+report("corridor, 300 bytes", 256, 64, CORRIDOR, room=300)
+report("corridor, 255 bytes", 256, 0, CORRIDOR, room=255)
+report("B, 300 bytes", 5, 0, B, room=300)
+report("B, 255 bytes", 5, 0, B, room=255)
+report("B, n 0", 0, 0, B)
+report("B, n 257", 257, 0, B)
+report("B, n 4", 4, 0, B)
+report("B, g 64", 5, 64, B)
+report("B, g 65", 5, 65, B)
+report("B, n 257, g 65, 255 bytes", 257, 65, B, room=255)
+report("B, n 4, 255 bytes", 4, 0, B, room=255)
+report("1287 words, n 0", 0, 0, (set(), set(), [], set()), room=255, words=1287)
+report("D, g 2", 5, 2, D)
+report("B, 255 initial", 5, 0, ({0, 255}, {3}, [], B[3]))
+report("B, 2 to 5", 5, 0, ({0}, {3}, [], B[3] | {(2, 5)}))
