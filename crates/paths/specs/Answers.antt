@@ -1,0 +1,25 @@
+-- What find_path and the call shortest path answer.
+--
+--   foundIn t, pathWritten t path     find_path: the steps of a shortest path, and the buffer with the path at its front
+--   shortestOf                        01's numbers for each case of the call's answer
+use Prim.Native.Nat.{ℕ}
+use mathlib.Core.Bool.{cond}
+use mathlib.Core.List.{List}
+use Rattle.model.specs.Tables.{Table}
+use Rattle.model.specs.Paths.{shortest, hasPath, smallestPath}
+use Rattle.model.specs.Calls.{overwrite, Shortest as Answer}
+use Rattle.paths.specs.declared.Found.{Found}
+use Rattle.paths.specs.declared.Found.the-variants.{Steps, Nothing}
+use Rattle.paths.specs.declared.Shortest.{Shortest}
+use Rattle.paths.specs.declared.Shortest.the-variants.{Path as PathOf, NoPath, Refused}
+
+unfoldable pub foundIn : Table → Found
+foundIn t = cond (hasPath t) (Steps (shortest t)) Nothing
+
+unfoldable pub pathWritten : Table → List ℕ → List ℕ
+pathWritten t path = cond (hasPath t) (overwrite (smallestPath t) path) path
+
+unfoldable pub shortestOf : Shortest → Answer
+shortestOf (PathOf steps) = record { refusal = 0; found = 1; steps = steps }
+shortestOf NoPath = record { refusal = 0; found = 0; steps = 0 }
+shortestOf (Refused k) = record { refusal = k; found = 0; steps = 0 }

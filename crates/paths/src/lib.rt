@@ -1,0 +1,188 @@
+// Paths to a forbidden state (01, "Path"): the distance of each state, the path that 01 names, and the call shortest path.
+//
+//   predecessors, join_predecessor       the rows of the store, transposed: for each state the states that step to it
+//   distances, mark                      the distance of each state, layer by layer from the forbidden states outward
+//   least_distance, smallest_within      the least distance of a set's states; its smallest state within d steps
+//   write_path                           the path, state by state
+//   find_path                            whether there is a path, and the path at the front of a buffer
+//   shortest_path                        the call
+//
+// Functions below the call ask for a store that holds a table; the call asks for nothing.
+ghost use mathlib.Core.Path.{_≡_};
+ghost use Prim.Native.Nat.{_≤_, _<_};
+ghost use lib.ListN.{length};
+ghost use lib.Seq.{sets};
+ghost use mathlib.Core.List.{[]};
+ghost use Rattle.model.specs.Sets.{maxStates, tabulate, single, union};
+ghost use Rattle.model.specs.Paths.{distance};
+ghost use Rattle.model.specs.Stores.{storeWords, tableOf};
+ghost use Rattle.model.specs.Calls.{shortestAnswer, shortestBuffer};
+ghost use Rattle.paths.specs.Search.{HoldsTable, mapAt, predecessorRows, leastBy, pickBy, walkBy, Writable};
+ghost use Rattle.paths.specs.Answers.{foundIn, pathWritten, shortestOf};
+use state_set::StateSet;
+use state_set::WORDS;
+use table::FORBIDDEN_AT;
+use table::MAX_STATES;
+use table::Rows;
+use table::refusal;
+use table::row_at;
+use table::row_of;
+use table::set_at;
+use table::union_of;
+
+// The distance of a state from which no forbidden state can be reached.
+pub const UNREACHABLE: u16 = 65535;
+
+// s joins the predecessors of each of its successors.
+fn join_predecessor(rows: &mut Rows, s: usize, successors: StateSet)
+    ensures { λ _. ⌜ now (rows .exit) ≡ mapAt (successors .words) (λ row. union row (single s)) [] (now (rows .entry)) ⌝ }
+{
+    let mut rest = successors;
+    while !rest.is_empty() {
+        let u = rest.smallest();
+        let words = row_of(rows, u).with(s).words;
+        rows[u] = words;
+        rest = rest.without(u);
+    }
+}
+
+// For each state the states that step to it.
+fn predecessors(store: &[u64], n: usize) -> Rows
+    requires { ⌜ (n ≤ maxStates) × (storeWords ≤ length (now store)) ⌝ }
+    ensures { λ r. ⌜ r ≡ predecessorRows (now (store .entry)) n ⌝ }
+{
+    let none = [0; WORDS];
+    let mut rows = [none; MAX_STATES];
+    for s in 0..n {
+        join_predecessor(&mut rows, s, row_at(store, s));
+    }
+    rows
+}
+
+// d is the distance of each state of the layer.
+fn mark(distances: &mut [u16; MAX_STATES], layer: StateSet, d: u16)
+    ensures { λ _. ⌜ now (distances .exit) ≡ mapAt (layer .words) (λ _. d) 0 (now (distances .entry)) ⌝ }
+{
+    let mut rest = layer;
+    while !rest.is_empty() {
+        let s = rest.smallest();
+        distances[s] = d;
+        rest = rest.without(s);
+    }
+}
+
+// The distance of each state, layer by layer from the forbidden states outward. Each state is in one layer.
+pub fn distances(store: &[u64], n: usize) -> [u16; MAX_STATES]
+    requires { ⌜ HoldsTable (now store) n ⌝ }
+    ensures { λ r. ⌜ r ≡ tabulate maxStates (distance (tableOf (now (store .entry)) n 0)) ⌝ }
+{
+    let before = predecessors(store, n);
+    let mut distances = [UNREACHABLE; MAX_STATES];
+    let mut layer = set_at(store, FORBIDDEN_AT);
+    let mut reached = layer;
+    let mut d = 0;
+    while !layer.is_empty() {
+        mark(&mut distances, layer, d);
+        layer = union_of(&before, layer).difference(reached);
+        reached = reached.union(layer);
+        d += 1;
+    }
+    distances
+}
+
+// The least distance of a state of x, which says how long a shortest path from x is.
+fn least_distance(distances: &[u16; MAX_STATES], x: StateSet) -> u16
+    ensures { λ r. ⌜ r ≡ leastBy (now (distances .entry)) (x .words) ⌝ }
+{
+    let mut least = UNREACHABLE;
+    let mut rest = x;
+    while !rest.is_empty() {
+        let s = rest.smallest();
+        if distances[s] < least {
+            least = distances[s];
+        }
+        rest = rest.without(s);
+    }
+    least
+}
+
+// The smallest state of x within d steps of a forbidden one.
+fn smallest_within(distances: &[u16; MAX_STATES], x: StateSet, d: u16) -> usize
+    ensures { λ r. ⌜ r ≡ pickBy (now (distances .entry)) d (x .words) ⌝ }
+{
+    let mut rest = x;
+    while !rest.is_empty() {
+        let s = rest.smallest();
+        if distances[s] <= d {
+            return s;
+        }
+        rest = rest.without(s);
+    }
+    MAX_STATES
+}
+
+// The smallest of the shortest paths that start in x, at `at` in the buffer: its first state, then the path from that state's successors
+// with one step fewer.
+fn write_path(
+    store: &[u64],
+    distances: &[u16; MAX_STATES],
+    x: StateSet,
+    d: u16,
+    path: &mut [u8],
+    at: usize,
+)
+    requires { ⌜ Writable (now store) (now distances) (x .words) d (length (now path)) at ⌝ }
+    ensures { λ _. ⌜ now (path .exit) ≡ sets (now (path .entry)) at (walkBy (now (store .entry)) (now (distances .entry)) d (x .words)) ⌝ }
+{
+    let s = smallest_within(distances, x, d);
+    path[at] = s as u8;
+    if 0 < d {
+        write_path(store, distances, row_at(store, s), d - 1, path, at + 1);
+    }
+}
+
+// The steps of a shortest path, if there is one.
+pub enum Found {
+    Steps(usize),
+    Nothing,
+}
+
+// The path that 01 names, at the front of the buffer.
+pub fn find_path(store: &[u64], n: usize, path: &mut [u8]) -> Found
+    requires { ⌜ HoldsTable (now store) n × (maxStates ≤ length (now path)) ⌝ }
+    ensures { λ r. ⌜ (r ≡ foundIn (tableOf (now (store .entry)) n 0))
+        × (now (path .exit) ≡ pathWritten (tableOf (now (store .entry)) n 0) (now (path .entry))) ⌝ }
+{
+    let distances = distances(store, n);
+    let initial = set_at(store, 0);
+    let d = least_distance(&distances, initial);
+    if d == UNREACHABLE {
+        return Found::Nothing;
+    }
+    write_path(store, &distances, initial, d, path, 0);
+    Found::Steps(d as usize)
+}
+
+// What the call shortest path answers: d, none, or why it declines.
+pub enum Shortest {
+    Path { steps: usize },
+    NoPath,
+    Refused(u8),
+}
+
+pub fn shortest_path(store: &[u64], n: usize, g: usize, path: &mut [u8]) -> Shortest
+    ensures { λ r. ⌜ (shortestOf r ≡ shortestAnswer (now (store .entry)) n g (length (now (path .entry))))
+        × (now (path .exit) ≡ shortestBuffer (now (store .entry)) n g (now (path .entry))) ⌝ }
+{
+    let refused = refusal(store, n, g);
+    if refused != 0 {
+        return Shortest::Refused(refused);
+    }
+    if path.len() < MAX_STATES {
+        return Shortest::Refused(21);
+    }
+    match find_path(store, n, path) {
+        Found::Steps(steps) => Shortest::Path { steps },
+        Found::Nothing => Shortest::NoPath,
+    }
+}
