@@ -18,6 +18,7 @@
 --   by-block                                  a place in a block, by cases
 --   block-bounded, block-number, block-check  its bytes are below 256, and it passes read's tests
 --   is-block, blockOf-is                      what passes them is such a block; blockOf makes it
+--   framed, framed-is                         so are 508 bytes of content between their number and their check
 --   length-fileOf, part-fileOf, getD-fileOf   the file of a table: its length, its blocks, its bytes
 --   fileOf-bounded, fileOf-cong               each is below 256; the file is of n, g and the sets alone
 --   length-part, getD-part, part-bounded      the blocks of an input; joined-part: joined, they are the input
@@ -376,11 +377,10 @@ length-filled : (xs : List ℕ) (m : ℕ) → length (take m (xs ++ replicate m 
 length-filled xs m = length-take-le m (xs ++ replicate m 0) (omega (arith, length-append xs (replicate m 0), length-replicate {A = ℕ} m 0))
 
 -- any 508 bytes between their number and their check (over a variable, since the zeros of `blockOf` would be written out)
-framed : ℕ → List ℕ → List ℕ
+abbrev pub framed : ℕ → List ℕ → List ℕ
 framed k c = let front = le16 k ++ c in front ++ le16 (checkOf front)
 
-framed-is : (bytes : List ℕ) (k : ℕ) (c : List ℕ) → length c ≡ 508 → ((i : ℕ) → i < 508 → getD c i 0 ≡ getD bytes (508 * k + i) 0) → IsBlock bytes k (framed k c)
-unfolding framed
+pub framed-is : (bytes : List ℕ) (k : ℕ) (c : List ℕ) → length c ≡ 508 → ((i : ℕ) → i < 508 → getD c i 0 ≡ getD bytes (508 * k + i) 0) → IsBlock bytes k (framed k c)
 framed-is bytes k c long e =
     let check = le16 (checkOf (le16 k ++ c)) in
     record {
@@ -394,7 +394,7 @@ framed-is bytes k c long e =
     }
 
 pub blockOf-is : (bytes : List ℕ) (k : ℕ) → IsBlock bytes k (blockOf bytes k)
-unfolding blockOf framed
+unfolding blockOf
 blockOf-is bytes k =
     let rest = drop (508 * k) bytes in
     framed-is bytes k (take 508 (rest ++ replicate 508 0)) (length-filled rest 508)

@@ -1,0 +1,76 @@
+-- Laws of blocks that reading and writing share.
+--
+--   Summing, sum-none, sum-more, sum-all    the loop of `check_of`: the weighted sum of the bytes passed, and a bound on it
+--   term-fits, sum-fits                     what the loop multiplies and adds fits a word
+--   sets-fit, contents-fit, contents-le     so does the length of the contents, which is at most that of the largest table
+use Prim.Native.Nat.{ℕ, _+_, _*_, _%_, _^_, _≤_, _<_}
+use native.Mathlib.Nat.{mul-le-mul}
+use native.Mathlib.Numerals.{add-one}
+use native.Mathlib.Omega.{arith}
+use mathlib.Core.Path.{_≡_, refl, sym, ap, ap₂, _∙_}
+use mathlib.Core.List.{List}
+use lib.ListN.{getD}
+use Rattle.model.specs.Sets.{WORDS, maxStates}
+use Rattle.model.specs.Stores.{maxGroups}
+use Rattle.model.specs.Files.{setWidth, contentLength, weighted, checkOf}
+
+-- ---- the check
+
+-- each byte adds less than 510 * 256
+pub record Summing (block : List ℕ) (sum i : ℕ) : Type 0 where
+  pub within : i ≤ 510
+  pub is : sum ≡ weighted block i
+  pub low : sum ≤ 130560 * i
+
+pub sum-none : (block : List ℕ) → Summing block 0 0
+unfolding weighted
+sum-none block = record { within = omega arith; is = refl; low = omega arith }
+
+-- one byte more
+module _ {i x : ℕ} (h : i < 510) (l : x < 256) where
+  term-low : (i + 1) * x ≤ 130560
+  term-low =
+      let place : i + 1 ≤ 510 = omega arith in
+      let byte : x ≤ 256 = omega arith in
+      mul-le-mul place byte
+
+  pub term-fits : (i + 1) * x < 2 ^ 64
+  term-fits = omega (arith, term-low)
+
+  module _ {block : List ℕ} {sum : ℕ} (s : Summing block sum i) where
+    pub sum-fits : sum + (i + 1) * x < 2 ^ 64
+    sum-fits = omega (arith, term-low)
+
+    pub sum-more : x ≡ getD block i 0 → Summing block (sum + (i + 1) * x) (i + 1)
+    unfolding weighted
+    sum-more e =
+        record {
+          within = omega arith;
+          is = ap₂ (λ (a b : ℕ). a + (i + 1) * b) (s .is) e ∙ sym (ap (weighted block) (add-one i));
+          low = omega (arith, term-low);
+        }
+
+pub sum-all : {block : List ℕ} {sum i : ℕ} → Summing block sum i → 510 ≤ i → sum % 65521 ≡ checkOf block
+unfolding checkOf
+sum-all {block} {sum} {i} s h =
+    let done : i ≡ 510 = omega arith in
+    ap (λ (x : ℕ). x % 65521) (s .is ∙ ap (weighted block) done)
+
+-- ---- lengths
+
+-- the width w as code has it
+module _ {n g w : ℕ} (states : n ≤ maxStates) (groups : g ≤ maxGroups) (e : w ≡ setWidth n) where
+  sets-le : w * (2 + g + n) ≤ 8 * WORDS * (2 + maxGroups + maxStates)
+  sets-le =
+      let width : w ≤ 8 * WORDS = omega arith in
+      let many : 2 + g + n ≤ 2 + maxGroups + maxStates = omega arith in
+      mul-le-mul width many
+
+  pub sets-fit : w * (2 + g + n) < 2 ^ 64
+  sets-fit = omega (arith, sets-le)
+
+  pub contents-fit : 4 + w * (2 + g + n) < 2 ^ 64
+  contents-fit = omega (arith, sets-le)
+
+  pub contents-le : 4 + w * (2 + g + n) ≤ contentLength maxStates maxGroups
+  contents-le = omega (arith, sets-le)

@@ -1,0 +1,278 @@
+-- Laws of files that the functions of `writing` cite.
+--
+--   place-front, place-row    where the sets before the rows stand, and where the rows do; set-place: so there stands set k
+--   content-...
+use Prim.Native.Nat.{ℕ, zero, suc, _+_, _*_, _-_, _/_, _%_, _^_, _≤_, _<_}
+use native.Mathlib.Nat.{le-of-eq, le-antisymm, add-assoc, div-add-mod, mod-lt, zero-mul, eq-zero-or-pos}
+use native.Mathlib.Omega.{arith}
+use mathlib.Core.Path.{_≡_, refl, sym, ap, ap₂, _∙_, subst}
+use mathlib.Core.Bool.{cond}
+use mathlib.Core.List.{List, [], _∷_, _++_, append-nil}
+use borrow.Author.Tests.{lt-ltb, le-ltb, eqb-true}
+use lib.Dec.{eqb, ltb}
+use lib.ListN.{set, length, getD, take, drop, length-set, length-drop, drop-of-length-le, List·getD-append}
+use lib.Seq.{take-all}
+use Rattle.model.specs.Sets.{WORDS, maxStates, Set, tabulate, member, number}
+use Rattle.model.specs.Stores.{groupAt, rowAt, setAt, tableOf, concat, refuse, sharedGrounds}
+use Rattle.model.specs.Files.{le16, setWidth, sets, contents, contentLength, blocksFor, fileLength, checkOf, blockOf, fileOf}
+use Rattle.model.specs.Calls.{overwrite, Written, writeGrounds, writeAnswer, writeBuffer}
+use Rattle.model.proofs.Bounds.{by-cond, length-tabulate, getD-tabulate}
+use Rattle.model.proofs.ListLaws.{getD-behind, getD-past, div-below, mod-below, length-concat, tabulate-next, concat-next, overwrite-front, overwrite-more, overwrite-set, orElse-none, orElse-fault, refuse-none, refuse-skip, refuse-take, refuse-append}
+use Rattle.model.proofs.FileLaws.{byte-number, sets-each, length-contents, contents-header, contents-set, checkOf-cong, block-unique, framed-is, blockOf-is}
+use Rattle.model.proofs.StoreLaws.{getD-setAt, row-is}
+use Rattle.model.proofs.CallLaws.{write-refusal, writable, write-answer, write-buffer}
+use Rattle.model.proofs.Acceptance.{accepted-store}
+use Rattle.block_file.specs.Places.{Held, placeOf, contentFrom}
+
+-- ---- a byte of a number, and of a set
+
+pub le16-low : (x i : ℕ) → i ≡ 0 → x % 256 ≡ getD (le16 x) i 0
+le16-low x i e = rw e
+
+pub le16-high : (x i : ℕ) → i < 2 → (i ≡ 0 → ⊥) → x / 256 % 256 ≡ getD (le16 x) i 0
+le16-high x zero h f = absurd (f refl)
+le16-high x (suc zero) h f = refl
+le16-high x (suc (suc i)) h f = absurd (omega arith)
+
+pub set-byte : (store : List ℕ) (at j : ℕ) → j < 8 * WORDS
+    → getD store (at + j / 8) 0 / 2 ^ (8 * (j % 8)) % 256 ≡ number (member (setAt store at)) (8 * j) 8
+set-byte store at j h =
+    ap (λ (x : ℕ). x / 2 ^ (8 * (j % 8)) % 256) (sym (getD-setAt store at (j / 8) (omega arith)))
+    ∙ byte-number (setAt store at) j h
+
+-- ---- set k of the file, in the store
+
+module _ (g : ℕ) where
+  pub place-front : (k : ℕ) → k < 2 + g → placeOf g k ≡ WORDS * k
+  unfolding placeOf
+  place-front k h = rw (lt-ltb k (2 + g) h)
+
+  pub place-behind : (k : ℕ) → 2 + g ≤ k → placeOf g k ≡ rowAt (k - (2 + g))
+  unfolding placeOf
+  place-behind k h = rw (le-ltb k (2 + g) h)
+
+  place-row : (s : ℕ) → placeOf g (2 + g + s) ≡ rowAt s
+  place-row s = let row : 2 + g + s - (2 + g) ≡ s = omega arith in place-behind (2 + g + s) (omega arith) ∙ ap (λ (r : ℕ). rowAt r) row
+
+set-place : (store : List ℕ) (n g k : ℕ) → k < 2 + g + n → getD (sets (tableOf store n g)) k [] ≡ setAt store (placeOf g k)
+unfolding tableOf
+set-place store n g =
+    let at : (k : ℕ) → k < 2 + g → setAt store (WORDS * k) ≡ setAt store (placeOf g k) = λ k h. ap (setAt store) (sym (place-front g k h)) in
+    sets-each (tableOf store n g) (length-tabulate _ g) (λ k X. X ≡ setAt store (placeOf g k))
+    (at 0 (omega arith))
+    (at 1 (omega arith))
+    (λ j h. let group : groupAt j ≡ WORDS * (2 + j) = omega arith in getD-tabulate _ g j [] h ∙ ap (setAt store) group ∙ at (2 + j) (omega arith))
+    (λ s h. row-is store n g s h ∙ ap (setAt store) (sym (place-row g s)))
+
+-- ---- a byte of the contents
+
+module _ (store : List ℕ) (n g : ℕ) where
+  pub content-n : (i : ℕ) → i < 2 → getD (le16 n) i 0 ≡ getD (contents (tableOf store n g)) i 0
+  unfolding tableOf
+  content-n i h = sym (contents-header (tableOf store n g) (length-tabulate _ g) i (omega arith) ∙ List·getD-append (le16 n) (le16 g) 0 i h)
+
+  pub content-g : (i : ℕ) → 2 ≤ i → i < 4 → getD (le16 g) (i - 2) 0 ≡ getD (contents (tableOf store n g)) i 0
+  unfolding tableOf
+  content-g i l h =
+      let place : 2 + (i - 2) ≡ i = omega arith in
+      sym
+      (contents-header (tableOf store n g) (length-tabulate _ g) i h
+      ∙ ap (λ (j : ℕ). getD (le16 n ++ le16 g) j 0) (sym place)
+      ∙ getD-behind (le16 n) (le16 g) 2 (i - 2) 0 refl)
+
+  pub content-past : (i : ℕ) → contentLength n g ≤ i → 0 ≡ getD (contents (tableOf store n g)) i 0
+  unfolding tableOf
+  content-past i h = sym (getD-past (contents (tableOf store n g)) i 0 (omega (arith, length-contents (tableOf store n g) (length-tabulate _ g))))
+
+-- byte i of the sets joined, with their width w as code has it
+module _ (n g i w : ℕ) (wide : w ≡ setWidth n) (h : i < setWidth n * (2 + g + n)) where
+  within : i < w * (2 + g + n)
+  within = subst (λ (v : ℕ). i < v * (2 + g + n)) (sym wide) h
+
+  set-in : i / w < 2 + g + n
+  set-in = div-below w (2 + g + n) i within
+
+  byte-in : i % w < w
+  byte-in = mod-below w (2 + g + n) i within
+
+  pub width-some : 0 < w
+  width-some = omega (arith, byte-in)
+
+  module _ (states : n ≤ maxStates) where
+    pub set-below : i / w < 2 + g + maxStates
+    set-below = omega (arith, set-in)
+
+    pub byte-below : i % w < 8 * WORDS
+    byte-below = omega (arith, byte-in)
+
+  pub content-set : (store : List ℕ) (at : ℕ) → at ≡ placeOf g (i / w)
+      → number (member (setAt store at)) (8 * (i % w)) 8 ≡ getD (contents (tableOf store n g)) (4 + i) 0
+  unfolding tableOf
+  content-set store at e =
+      let k = i / w in
+      let j = i % w in
+      let place : 4 + setWidth n * k + j ≡ 4 + i = omega (arith, div-add-mod i w, ap (λ (v : ℕ). v * k) wide) in
+      sym
+      (ap (λ (m : ℕ). getD (contents (tableOf store n g)) m 0) (sym place)
+      ∙ contents-set (tableOf store n g) (length-tabulate _ g) k j set-in (subst (λ (v : ℕ). j < v) wide byte-in)
+      ∙ ap (λ (X : Set). number (member X) (8 * j) 8) (set-place store n g k set-in ∙ ap (setAt store) (sym e)))
+
+pub content-at : (store : List ℕ) (n g i : ℕ) → 4 ≤ i → getD (contents (tableOf store n g)) (4 + (i - 4)) 0 ≡ getD (contents (tableOf store n g)) i 0
+content-at store n g i h = let place : 4 + (i - 4) ≡ i = omega arith in ap (λ (j : ℕ). getD (contents (tableOf store n g)) j 0) place
+
+-- ---- a buffer filled
+
+-- the two bytes of a number
+pub le16-written : (old : List ℕ) (x a b : ℕ) → 2 ≤ length old → a ≡ getD (le16 x) 0 0 → b ≡ getD (le16 x) 1 0 → set (set old 0 a) 1 b ≡ overwrite (le16 x) old
+unfolding overwrite
+le16-written old x a b h p q =
+    ap₂ (λ (u v : ℕ). set (set old 0 u) 1 v) p q
+    ∙ ap (λ ys. set ys 1 (x / 256 % 256)) (overwrite-set [] old (x % 256) 0 refl (omega arith))
+    ∙ overwrite-set (x % 256 ∷ []) old (x / 256 % 256) 1 refl h
+
+-- the first i bytes of the content, written over `old`
+pub record Filling (bytes : List ℕ) (from : ℕ) (old out : List ℕ) (i : ℕ) : Type 0 where
+  pub within : i ≤ 508
+  pub long : length out ≡ length old
+  pub is : out ≡ overwrite (contentFrom bytes from i) old
+
+module _ (bytes : List ℕ) (from : ℕ) where
+  length-content : (i : ℕ) → length (contentFrom bytes from i) ≡ i
+  unfolding contentFrom
+  length-content i = length-tabulate _ i
+
+  pub fill-none : (old : List ℕ) → Filling bytes from old old 0
+  unfolding contentFrom tabulate overwrite
+  fill-none old = record { within = omega arith; long = refl; is = refl }
+
+  pub fill-more : (old out : List ℕ) (i x : ℕ) → i < 508 → 508 ≤ length old → x ≡ getD bytes (from + i) 0 → Filling bytes from old out i
+      → Filling bytes from old (set out i x) (i + 1)
+  unfolding contentFrom
+  fill-more old out i x h room e f =
+      record {
+        within = omega arith;
+        long = length-set out i x ∙ f .long;
+        is =
+            ap (λ ys. set ys i x) (f .is)
+            ∙ overwrite-set (contentFrom bytes from i) old x i (length-content i) (omega arith)
+            ∙ ap (λ ys. overwrite ys old) (ap (λ (y : ℕ). contentFrom bytes from i ++ (y ∷ [])) e ∙ sym (tabulate-next _ i));
+      }
+
+  pub fill-all : (old out : List ℕ) (i : ℕ) → 508 ≤ i → Filling bytes from old out i → out ≡ overwrite (contentFrom bytes from 508) old
+  fill-all old out i h f = let done : i ≡ 508 = omega arith in f .is ∙ ap (λ (m : ℕ). overwrite (contentFrom bytes from m) old) done
+
+-- ys written behind xs, into the rest of the buffer, which was lent for it
+pub overwrite-lent : (xs ys old out rest : List ℕ) (n : ℕ) → length xs ≡ n → out ≡ overwrite xs old → rest ≡ overwrite ys (take (length out - n) (drop n out))
+    → take n out ++ (rest ++ drop (length out - n) (drop n out)) ≡ overwrite (xs ++ ys) old
+overwrite-lent xs ys old out rest n long e f =
+    let size : length (drop n out) ≤ length out - n = le-of-eq (length-drop n out) in
+    ap (λ zs. take n out ++ zs)
+    (ap₂ (λ us vs. us ++ vs)
+    (f ∙ ap (overwrite ys) (take-all (length out - n) (drop n out) size))
+    (drop-of-length-le (drop n out) size)
+    ∙ append-nil (overwrite ys (drop n out)))
+    ∙ ap (λ zs. take n zs ++ overwrite ys (drop n zs)) e
+    ∙ overwrite-more xs old ys n long
+
+-- ---- a block
+
+module _ (bytes : List ℕ) (k : ℕ) where
+  abbrev pub blockFront : List ℕ
+  blockFront = le16 k ++ contentFrom bytes (508 * k) 508
+
+  pub length-blockFront : length blockFront ≡ 510
+  length-blockFront = omega (arith, length-content bytes (508 * k) 508)
+
+  blockFront-is : blockFront ++ le16 (checkOf blockFront) ≡ blockOf bytes k
+  unfolding contentFrom
+  blockFront-is =
+      block-unique
+      (framed-is bytes k (contentFrom bytes (508 * k) 508) (length-content bytes (508 * k) 508) (λ i h. getD-tabulate _ 508 i 0 h))
+      (blockOf-is bytes k)
+
+  -- with the check taken of the buffer
+  pub block-written : (old out : List ℕ) (check : ℕ) → out ≡ overwrite blockFront old → check ≡ checkOf out
+      → overwrite (blockFront ++ le16 check) old ≡ overwrite (blockOf bytes k) old
+  block-written old out check e f =
+      let same : checkOf out ≡ checkOf blockFront =
+      ap checkOf e ∙ checkOf-cong (overwrite blockFront old) blockFront (λ i h. overwrite-front blockFront old i 0 (omega (arith, length-blockFront))) in
+      ap (λ (x : ℕ). overwrite (blockFront ++ le16 x) old) (f ∙ same) ∙ ap (λ xs. overwrite xs old) blockFront-is
+
+-- ---- the blocks
+
+-- the first k blocks, written over `old`
+pub record Writing (bytes old out : List ℕ) (k : ℕ) : Type 0 where
+  pub long : length out ≡ length old
+  pub is : out ≡ overwrite (concat k (blockOf bytes)) old
+
+module _ (bytes old : List ℕ) where
+  pub blocks-none : Writing bytes old old 0
+  unfolding concat overwrite
+  blocks-none = record { long = refl; is = refl }
+
+  pub blocks-more : (out rest : List ℕ) (k : ℕ) → Writing bytes old out k → rest ≡ overwrite (blockOf bytes k) (take (length out - 512 * k) (drop (512 * k) out))
+      → length (take (512 * k) out ++ (rest ++ drop (length out - 512 * k) (drop (512 * k) out))) ≡ length out
+      → Writing bytes old (take (512 * k) out ++ (rest ++ drop (length out - 512 * k) (drop (512 * k) out))) (k + 1)
+  blocks-more out rest k w e long =
+      record {
+        long = long ∙ w .long;
+        is =
+            overwrite-lent (concat k (blockOf bytes)) (blockOf bytes k) old out rest (512 * k)
+            (length-concat (blockOf bytes) 512 k (λ j h. (blockOf-is bytes j) .long)) (w .is) e
+            ∙ ap (λ xs. overwrite xs old) (sym (concat-next (blockOf bytes) k));
+      }
+
+  pub blocks-all : (out : List ℕ) (k blocks : ℕ) → k ≤ blocks → blocks ≤ k → Writing bytes old out k → out ≡ overwrite (concat blocks (blockOf bytes)) old
+  blocks-all out k blocks l h w = w .is ∙ ap (λ (m : ℕ). overwrite (concat m (blockOf bytes)) old) (le-antisymm l h)
+
+-- ---- the call
+
+-- no ground that the calls share holds
+pub held : (store : List ℕ) (n g k : ℕ) → k ≡ refuse (sharedGrounds store n g) → k ≡ 0 → Held store n g
+held store n g k e z = let s = accepted-store store n g [] (sym e ∙ z) .0 in record { long = s .long; small = s .small; few = s .few }
+
+module _ (store : List ℕ) (n g : ℕ) (out : List ℕ) where
+  grounds-split : refuse (writeGrounds store n g (length out))
+      ≡ cond (eqb (refuse (sharedGrounds store n g)) 0) (refuse ((ltb (length out) (fileLength n g), 19) ∷ [])) (refuse (sharedGrounds store n g))
+  unfolding writeGrounds
+  grounds-split = refuse-append (sharedGrounds store n g) ((ltb (length out) (fileLength n g), 19) ∷ []) refl
+
+  -- a ground k holds
+  declined : (k : ℕ) → k ≡ refuse (writeGrounds store n g (length out)) → (k ≡ 0 → ⊥)
+      → (record { refusal = k; length = 0 } ≡ writeAnswer store n g (length out)) × (out ≡ writeBuffer store n g out)
+  unfolding writeAnswer writeBuffer
+  declined k e f =
+      let first = refuse (writeGrounds store n g (length out)) in
+      let answered = (writeAnswer store n g (length out)) .refusal in (
+        by-cond (λ (a : Written). record { refusal = k; length = 0 } ≡ a) (eqb first 0) _ _ (λ q. absurd (f (e ∙ eqb-true first 0 q)))
+            (λ q. ap (λ (x : ℕ). record { refusal = x; length = 0 }) e),
+        by-cond (λ (ys : List ℕ). out ≡ ys) (eqb answered 0) _ out
+            (λ q. absurd (f (e ∙ sym (write-refusal store n g (length out)) ∙ eqb-true answered 0 q))) (λ q. refl),
+      )
+
+  -- k is the first of the grounds that the calls share, or 0
+  module _ (k : ℕ) (e : k ≡ refuse (sharedGrounds store n g)) where
+    pub declined-shared : (k ≡ 0 → ⊥) → (record { refusal = k; length = 0 } ≡ writeAnswer store n g (length out)) × (out ≡ writeBuffer store n g out)
+    declined-shared f = declined k (e ∙ sym (grounds-split ∙ orElse-fault (refuse (sharedGrounds store n g)) _ (λ z. f (e ∙ z)))) f
+
+    module _ (z : k ≡ 0) where
+      room-left : refuse (writeGrounds store n g (length out)) ≡ refuse ((ltb (length out) (fileLength n g), 19) ∷ [])
+      room-left = grounds-split ∙ orElse-none (refuse (sharedGrounds store n g)) _ (sym e ∙ z)
+
+      pub declined-room : (blocks : ℕ) → blocks ≡ blocksFor (contentLength n g) → length out < 512 * blocks
+          → (record { refusal = 19; length = 0 } ≡ writeAnswer store n g (length out)) × (out ≡ writeBuffer store n g out)
+      declined-room blocks b h = declined 19 (sym (room-left ∙ refuse-take _ 19 _ (lt-ltb (length out) (fileLength n g) (omega arith)))) (λ x. omega arith)
+
+      pub written : (blocks : ℕ) (after : List ℕ) → blocks ≡ blocksFor (contentLength n g) → 512 * blocks ≤ length out
+          → after ≡ overwrite (concat blocks (blockOf (contents (tableOf store n g)))) out
+          → (record { refusal = 0; length = 512 * blocks } ≡ writeAnswer store n g (length out)) × (after ≡ writeBuffer store n g out)
+      unfolding fileOf tableOf
+      written blocks after b h w =
+          let t = tableOf store n g in
+          let ok = writable store n g (length out) (room-left ∙ refuse-skip _ 19 _ (le-ltb (length out) (fileLength n g) (omega arith)) ∙ refuse-none) in
+          let size = ap (λ (l : ℕ). blocksFor l) (length-contents t (length-tabulate _ g)) in (
+            ap (λ (m : ℕ). record { refusal = 0; length = 512 * m }) b ∙ sym (write-answer store n g (length out) ok),
+            w
+                ∙ ap (λ (m : ℕ). overwrite (concat m (blockOf (contents t))) out) (b ∙ sym size)
+                ∙ sym (write-buffer store n g out ok),
+          )

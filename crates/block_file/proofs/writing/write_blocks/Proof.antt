@@ -1,0 +1,32 @@
+-- `write_blocks`: the blocks passed are written.
+use Prim.Native.Nat.{_-_, _≤_}
+use borrow.Author.Needs.{needs}
+use Rattle.model.specs.Stores.{tableOf}
+use Rattle.model.specs.Files.{contents}
+use Rattle.block_file.proofs.WriteLaws.{Writing, blocks-none, blocks-more, blocks-all}
+use Rattle.block_file.proofs.writing.write_blocks.Statement.{statement}
+use Rattle.block_file.proofs.writing.write_blocks.Tie as tie
+
+abbrev Inv-loop : tie.InvT-loop
+Inv-loop store n g blocks out₀ k₀ out k = (k ≤ blocks) × Writing (contents (tableOf store n g)) out₀ out k
+
+abbrev μ-loop : tie.MeasureT-loop
+μ-loop store n g blocks out₀ k₀ out k = blocks - k
+
+pub write-blocks-spec : {M : Type 1} → statement M
+write-blocks-spec =
+    tie.close
+    (tie.spec
+    Inv-loop
+    μ-loop
+    (λ c. (search needs, blocks-none _ _))
+    (λ c. search needs)
+    (λ c. search needs)
+    (λ c. search needs)
+    (λ c. search needs)
+    (λ c κs. search needs)
+    (λ c. search needs)
+    (λ c. search needs)
+    (λ c. (search needs, blocks-more _ _ _ _ _ (c .before .before .before .before .before .loop .inv .1) (c .before .before .write-block .ensures) (search needs)))
+    (λ c. search needs)
+    (λ c. blocks-all _ _ _ _ _ (search needs) (search needs) (c .before .loop .inv .1)))

@@ -1,0 +1,30 @@
+-- `write_content`: the bytes passed are written.
+use Prim.Native.Nat.{_-_}
+use borrow.Author.Needs.{needs}
+use Rattle.model.specs.Stores.{tableOf}
+use Rattle.model.specs.Files.{contents}
+use Rattle.block_file.proofs.WriteLaws.{Filling, fill-none, fill-more, fill-all}
+use Rattle.block_file.proofs.writing.write_content.Statement.{statement}
+use Rattle.block_file.proofs.writing.write_content.Tie as tie
+
+abbrev Inv-loop : tie.InvT-loop
+Inv-loop store n g from out₀ i₀ out i = Filling (contents (tableOf store n g)) from out₀ out i
+
+abbrev μ-loop : tie.MeasureT-loop
+μ-loop store n g from out₀ i₀ out i = 508 - i
+
+pub write-content-spec : {M : Type 1} → statement M
+write-content-spec =
+    tie.close
+    (tie.spec
+    Inv-loop
+    μ-loop
+    (λ c. fill-none _ _ _)
+    (λ c. search needs)
+    (λ c κs. search needs)
+    (λ c. search needs)
+    (λ c. search needs)
+    (λ c. search needs)
+    (λ c. fill-more _ _ _ _ _ _ (search needs) (search needs) (c .content-byte .ensures) (c .before .before .loop .inv))
+    (λ c. search needs)
+    (λ c. fill-all _ _ _ _ _ (search needs) (c .before .loop .inv)))

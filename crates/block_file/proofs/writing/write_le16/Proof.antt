@@ -1,0 +1,16 @@
+-- `write_le16`: both bytes.
+use borrow.Author.Needs.{needs}
+use Rattle.block_file.proofs.WriteLaws.{le16-written}
+use Rattle.block_file.proofs.writing.write_le16.Statement.{statement}
+use Rattle.block_file.proofs.writing.write_le16.Tie as tie
+
+pub write-le16-spec : {M : Type 1} → statement M
+write-le16-spec =
+    tie.close
+    (tie.spec
+    (λ c κs. search needs)
+    (λ c. search needs)
+    (λ c κs. search needs)
+    (λ c. search needs)
+    (λ c. search needs)
+    (λ c. le16-written _ _ _ _ (search needs) (c .before .le16-byte .ensures) (c .le16-byte2 .ensures)))

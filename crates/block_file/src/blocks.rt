@@ -1,0 +1,70 @@
+// What reading and writing a file share (01, "Blocks").
+//
+//   BLOCK, CONTENT, CONTENT_AT, CHECK_AT     a block's bytes, those of its content, and where its content and its check begin
+//   HEADER                                   the content bytes of n and g, which stand before the sets
+//   wide                                     a byte as a 64-bit number
+//   le16_at                                  the number whose two bytes stand at a place, low byte first
+//   check_of                                 the check of a block
+//   set_width, content_length, blocks_for    the bytes of a set, those of the contents (L), the blocks that hold so many
+ghost use Prim.Native.Nat.{_+_, _≤_, _<_};
+ghost use mathlib.Core.Path.{_≡_};
+ghost use lib.ListN.{length};
+ghost use Rattle.model.specs.Sets.{maxStates};
+ghost use Rattle.model.specs.Stores.{maxGroups};
+ghost use Rattle.model.specs.Files.{le16At, setWidth, contentLength, blocksFor, checkOf};
+
+pub const BLOCK: usize = 512;
+
+pub const CONTENT: usize = 508;
+
+pub const CONTENT_AT: usize = 2;
+
+pub const CHECK_AT: usize = 510;
+
+pub const HEADER: usize = 4;
+
+pub fn wide(b: u8) -> u64
+    ensures { λ r. ⌜ (r ≡ b) × (r < 256) ⌝ }
+{
+    b as u64
+}
+
+pub fn le16_at(bytes: &[u8], i: usize) -> usize
+    requires { ⌜ i + 1 < length (now bytes) ⌝ }
+    ensures { λ r. ⌜ r ≡ le16At (now (bytes .entry)) i ⌝ }
+{
+    (wide(bytes[i]) + 256 * wide(bytes[i + 1])) as usize
+}
+
+// The sum stays below 2^64 by far, so it is reduced once, at the end.
+pub fn check_of(block: &[u8]) -> u64
+    requires { ⌜ 510 ≤ length (now block) ⌝ }
+    ensures { λ r. ⌜ r ≡ checkOf (now (block .entry)) ⌝ }
+{
+    let mut sum: u64 = 0;
+    for i in 0..CHECK_AT {
+        sum += (i as u64 + 1) * wide(block[i]);
+    }
+    sum % 65521
+}
+
+pub fn set_width(n: usize) -> usize
+    requires { ⌜ n ≤ maxStates ⌝ }
+    ensures { λ r. ⌜ r ≡ setWidth n ⌝ }
+{
+    (n + 7) / 8
+}
+
+pub fn content_length(n: usize, g: usize) -> usize
+    requires { ⌜ (n ≤ maxStates) × (g ≤ maxGroups) ⌝ }
+    ensures { λ r. ⌜ (r ≡ contentLength n g) × (r ≤ contentLength maxStates maxGroups) ⌝ }
+{
+    HEADER + set_width(n) * (2 + g + n)
+}
+
+pub fn blocks_for(l: usize) -> usize
+    requires { ⌜ l ≤ contentLength maxStates maxGroups ⌝ }
+    ensures { λ r. ⌜ r ≡ blocksFor l ⌝ }
+{
+    (l + CONTENT - 1) / CONTENT
+}

@@ -1,0 +1,147 @@
+// The call `write` (01, "Blocks"): the file of a table, straight from the store to the lent output.
+//
+//   Written, write     the file at the front of the output and its length, or why it is declined
+//   write_blocks       the first so many blocks
+//   write_block        one block: its number, its content, its check
+//   content_byte       one byte of the contents, 0 past them
+//   place_of, set_byte where a set of the file stands in the store; one byte of a set
+//   le16_byte          one byte of a two-byte number, low byte first
+ghost use Prim.Native.Nat.{_+_, _*_, _≤_, _<_};
+ghost use mathlib.Core.Path.{_≡_};
+ghost use lib.ListN.{length, getD};
+ghost use Rattle.model.specs.Sets.{WORDS, maxStates, member, number};
+ghost use Rattle.model.specs.Stores.{maxGroups, storeWords, setAt, tableOf, concat};
+ghost use Rattle.model.specs.Files.{le16, setWidth, contents, blockOf};
+ghost use Rattle.model.specs.Calls.{overwrite, writeAnswer, writeBuffer};
+ghost use Rattle.block_file.specs.Answers.{writtenOf};
+ghost use Rattle.block_file.specs.Places.{Held, placeOf, contentFrom};
+use crate::blocks::BLOCK;
+use crate::blocks::CHECK_AT;
+use crate::blocks::CONTENT;
+use crate::blocks::CONTENT_AT;
+use crate::blocks::HEADER;
+use crate::blocks::blocks_for;
+use crate::blocks::check_of;
+use crate::blocks::content_length;
+use crate::blocks::set_width;
+use state_set::WORDS;
+use table::ROWS_AT;
+use table::refusal;
+
+pub enum Written {
+    // The length of the file.
+    File(usize),
+    Refused(u8),
+}
+
+// Nothing is written before the last ground of refusal has been tested.
+pub fn write(store: &[u64], n: usize, g: usize, output: &mut [u8]) -> Written
+    ensures { λ r. ⌜ (writtenOf r ≡ writeAnswer (now (store .entry)) n g (length (now (output .entry)))) × (now (output .exit) ≡ writeBuffer (now (store .entry)) n g (now (output .entry))) ⌝ }
+{
+    let declined = refusal(store, n, g);
+    if declined != 0 {
+        return Written::Refused(declined);
+    }
+    let blocks = blocks_for(content_length(n, g));
+    let size = BLOCK * blocks;
+    if output.len() < size {
+        return Written::Refused(19);
+    }
+    write_blocks(store, n, g, blocks, output);
+    Written::File(size)
+}
+
+fn write_blocks(store: &[u64], n: usize, g: usize, blocks: usize, out: &mut [u8])
+    requires { ⌜ Held (now store) n g × (blocks ≤ 65536) × (512 * blocks ≤ length (now out)) ⌝ }
+    ensures { λ r. ⌜ now (out .exit) ≡ overwrite (concat blocks (blockOf (contents (tableOf (now (store .entry)) n g)))) (now (out .entry)) ⌝ }
+{
+    for k in 0..blocks {
+        let at = BLOCK * k;
+        write_block(store, n, g, k, &mut out[at..]);
+    }
+}
+
+fn write_block(store: &[u64], n: usize, g: usize, k: usize, out: &mut [u8])
+    requires { ⌜ Held (now store) n g × (k < 65536) × (512 ≤ length (now out)) ⌝ }
+    ensures { λ r. ⌜ now (out .exit) ≡ overwrite (blockOf (contents (tableOf (now (store .entry)) n g)) k) (now (out .entry)) ⌝ }
+{
+    write_le16(k, out);
+    write_content(store, n, g, CONTENT * k, &mut out[CONTENT_AT..]);
+    let check = check_of(out) as usize;
+    write_le16(check, &mut out[CHECK_AT..]);
+}
+
+// The content of a block, from byte `from` of the contents on.
+fn write_content(store: &[u64], n: usize, g: usize, from: usize, out: &mut [u8])
+    requires { ⌜ Held (now store) n g × (from ≤ 508 * 65536) × (508 ≤ length (now out)) ⌝ }
+    ensures { λ r. ⌜ now (out .exit) ≡ overwrite (contentFrom (contents (tableOf (now (store .entry)) n g)) from 508) (now (out .entry)) ⌝ }
+{
+    for i in 0..CONTENT {
+        out[i] = content_byte(store, n, g, from + i);
+    }
+}
+
+fn write_le16(x: usize, out: &mut [u8])
+    requires { ⌜ 2 ≤ length (now out) ⌝ }
+    ensures { λ r. ⌜ now (out .exit) ≡ overwrite (le16 x) (now (out .entry)) ⌝ }
+{
+    out[0] = le16_byte(x, 0);
+    out[1] = le16_byte(x, 1);
+}
+
+fn content_byte(store: &[u64], n: usize, g: usize, i: usize) -> u8
+    requires { ⌜ Held (now store) n g ⌝ }
+    ensures { λ r. ⌜ r ≡ getD (contents (tableOf (now (store .entry)) n g)) i 0 ⌝ }
+{
+    if i < 2 {
+        return le16_byte(n, i);
+    }
+    if i < HEADER {
+        return le16_byte(g, i - 2);
+    }
+    if i < content_length(n, g) {
+        return sets_byte(store, n, g, i - HEADER);
+    }
+    0
+}
+
+// Byte i of the sets joined, which stand behind the header.
+fn sets_byte(store: &[u64], n: usize, g: usize, i: usize) -> u8
+    requires { ⌜ Held (now store) n g × (i < setWidth n * (2 + g + n)) ⌝ }
+    ensures { λ r. ⌜ r ≡ getD (contents (tableOf (now (store .entry)) n g)) (4 + i) 0 ⌝ }
+{
+    let w = set_width(n);
+    let at = place_of(g, i / w);
+    set_byte(store, at, i % w)
+}
+
+// Where set k of the file begins in the store.
+fn place_of(g: usize, k: usize) -> usize
+    requires { ⌜ (g ≤ maxGroups) × (k < 2 + g + maxStates) ⌝ }
+    ensures { λ r. ⌜ (r ≡ placeOf g k) × (r + WORDS ≤ storeWords) ⌝ }
+{
+    if k < 2 + g {
+        WORDS * k
+    } else {
+        ROWS_AT + WORDS * (k - (2 + g))
+    }
+}
+
+// Byte j of the set whose words begin at `at`.
+fn set_byte(store: &[u64], at: usize, j: usize) -> u8
+    requires { ⌜ (at + WORDS ≤ length (now store)) × (j < 8 * WORDS) ⌝ }
+    ensures { λ r. ⌜ r ≡ number (member (setAt (now (store .entry)) at)) (8 * j) 8 ⌝ }
+{
+    ((store[at + j / 8] >> (8 * (j % 8))) % 256) as u8
+}
+
+fn le16_byte(x: usize, i: usize) -> u8
+    requires { ⌜ i < 2 ⌝ }
+    ensures { λ r. ⌜ r ≡ getD (le16 x) i 0 ⌝ }
+{
+    if i == 0 {
+        (x % 256) as u8
+    } else {
+        (x / 256 % 256) as u8
+    }
+}
