@@ -38,9 +38,9 @@ def decide_test():
         ("path buffer of 255", 0, 21),
     ]:
         lines.append(f"{name} {allowance}: refused {refusal}{KEPT}")
+    lines.append(f"state 5 of 6 256: {answer(Table(6, {5}, set(), set()), 256)}{KEPT}")
     nothing = Table(256, set(), set(), set(), [set() for _ in range(64)])
     lines.append(f"n 256, g 64, store of 1300 256: {answer(nothing, 256)}{KEPT}")
-    lines.append(f"state 5 of 6 256: {answer(Table(6, {5}, set(), set()), 256)}{KEPT}")
     return "".join(line + "\n" for line in lines)
 
 

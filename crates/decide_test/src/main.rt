@@ -42,27 +42,39 @@ fn print_decision(d: Decision, path: &[u8]) -> usize {
     }
 }
 
-// One call, with a path buffer of the first `room` of 300 sevens.
-fn try_one(name: &[u8], store: &[u64], n: usize, g: usize, allowance: usize, room: usize) {
+// One call, with a path buffer of sevens.
+fn call(name: &[u8], store: &[u64], n: usize, g: usize, allowance: usize, path: &mut [u8]) {
+    text(name);
+    text(b" ");
+    number(allowance);
+    text(b": ");
+    let d = decide(store, n, g, allowance, path);
+    let written = print_decision(d, path);
+    print_unchanged(unchanged(path, written, 7));
+    line();
+}
+
+fn try_one(name: &[u8], store: &[u64], n: usize, g: usize, allowance: usize) {
+    let mut path = [7u8; 256];
+    call(name, store, n, g, allowance, &mut path);
+}
+
+fn try_short(name: &[u8], store: &[u64], n: usize, g: usize, allowance: usize) {
+    let mut path = [7u8; 255];
+    call(name, store, n, g, allowance, &mut path);
+}
+
+fn try_long(name: &[u8], store: &[u64], n: usize, g: usize, allowance: usize) {
     let mut path = [7u8; 300];
-    if room <= 300 {
-        text(name);
-        text(b" ");
-        number(allowance);
-        text(b": ");
-        let d = decide(store, n, g, allowance, &mut path[..room]);
-        let written = print_decision(d, &path);
-        print_unchanged(unchanged(&path, written, 7));
-        line();
-    }
+    call(name, store, n, g, allowance, &mut path);
 }
 
 fn try_allowances(name: &[u8], store: &[u64], n: usize, g: usize) {
-    try_one(name, store, n, g, 0, 256);
-    try_one(name, store, n, g, 1, 256);
-    try_one(name, store, n, g, 2, 256);
-    try_one(name, store, n, g, 3, 256);
-    try_one(name, store, n, g, 256, 300);
+    try_one(name, store, n, g, 0);
+    try_one(name, store, n, g, 1);
+    try_one(name, store, n, g, 2);
+    try_one(name, store, n, g, 3);
+    try_long(name, store, n, g, 256);
 }
 
 fn table_a() {
@@ -125,26 +137,40 @@ fn table_ninth() {
     try_allowances(b"ninth", &t, 4, 1);
 }
 
-// Each refusal alone, then with every later ground holding as well, then the edges that are no refusal.
-fn refusals() {
-    let t = [0u64; STORE_WORDS];
-    let long = [0u64; 1300];
+// Each refusal alone, then with every later ground holding as well. `stray` has one state, 5, in the initial set.
+fn refusals(empty: &[u64], stray: &[u64]) {
+    try_one(b"n 0", empty, 0, 0, 0);
+    try_one(b"n 257", empty, 257, 0, 0);
+    try_short(b"n 257 and all else", stray, 257, 65, 257);
+    try_one(b"g 65", empty, 5, 65, 0);
+    try_short(b"g 65 and all else", stray, 5, 65, 257);
+    try_one(b"state 5 of 5", stray, 5, 0, 0);
+    try_short(b"state 5 of 5 and all else", stray, 5, 0, 257);
+    try_one(b"allowance 257", empty, 5, 0, 257);
+    try_short(b"allowance 257 and path buffer of 255", empty, 5, 0, 257);
+    try_short(b"path buffer of 255", empty, 5, 0, 0);
+    try_one(b"state 5 of 6", stray, 6, 0, 256);
+}
+
+fn short_store() {
+    let mut short = [0u64; 1287];
+    initial(&mut short, 5);
+    try_one(b"store of 1287", &short, 6, 0, 0);
+    try_short(b"store of 1287 and all else", &short, 0, 65, 257);
+}
+
+fn whole_store() {
+    let empty = [0u64; STORE_WORDS];
     let mut stray = [0u64; STORE_WORDS];
     initial(&mut stray, 5);
-    try_one(b"store of 1287", &t[..1287], 5, 0, 0, 256);
-    try_one(b"store of 1287 and all else", &stray[..1287], 0, 65, 257, 255);
-    try_one(b"n 0", &t, 0, 0, 0, 256);
-    try_one(b"n 257", &t, 257, 0, 0, 256);
-    try_one(b"n 257 and all else", &stray, 257, 65, 257, 255);
-    try_one(b"g 65", &t, 5, 65, 0, 256);
-    try_one(b"g 65 and all else", &stray, 5, 65, 257, 255);
-    try_one(b"state 5 of 5", &stray, 5, 0, 0, 256);
-    try_one(b"state 5 of 5 and all else", &stray, 5, 0, 257, 255);
-    try_one(b"allowance 257", &t, 5, 0, 257, 256);
-    try_one(b"allowance 257 and path buffer of 255", &t, 5, 0, 257, 255);
-    try_one(b"path buffer of 255", &t, 5, 0, 0, 255);
-    try_one(b"n 256, g 64, store of 1300", &long, 256, 64, 256, 256);
-    try_one(b"state 5 of 6", &stray, 6, 0, 256, 256);
+    refusals(&empty, &stray);
+}
+
+// A word past the store's 1,288 is not read.
+fn long_store() {
+    let mut long = [0u64; 1300];
+    long[1288] = 1;
+    try_one(b"n 256, g 64, store of 1300", &long, 256, 64, 256);
 }
 
 fn main() {
@@ -154,5 +180,7 @@ fn main() {
     table_f();
     table_g();
     table_ninth();
-    refusals();
+    short_store();
+    whole_store();
+    long_store();
 }
