@@ -2,6 +2,7 @@
 //
 //   add, step, initial, forbidden, group     a state put into a set of a store
 //   text, number, line                       printed on standard output
+//   wide                                     a byte as a number
 //   states, bytes                            a set's states, or the first bytes of a buffer, printed after spaces
 //   unchanged, unchanged_words               whether each element is still the one given
 //
@@ -81,7 +82,7 @@ fn spaced_byte(buffer: &[u8], i: usize) {
     }
 }
 
-fn wide(b: u8) -> usize {
+pub fn wide(b: u8) -> usize {
     b as usize
 }
 
