@@ -11,10 +11,20 @@
 //     successors        none if 4 divides d(p), otherwise d(8) % 4 of those drawn at p + 1, p + 2, p + 3: if t is even the state d % n,
 //                       otherwise, for longer paths, (s + d % 6) % n
 //     in group j        if d(p + 4 + j) is even
-use rounds::{Decision, Verdict, decide};
+use rounds::Decision;
+use rounds::Verdict;
+use rounds::decide;
 use state_set::StateSet;
-use table::{FORBIDDEN_AT, ROWS_AT, STORE_WORDS};
-use test_support::{add, group, line, number, step, text, wide};
+use table::FORBIDDEN_AT;
+use table::ROWS_AT;
+use table::STORE_WORDS;
+use test_support::add;
+use test_support::group;
+use test_support::line;
+use test_support::number;
+use test_support::step;
+use test_support::text;
+use test_support::wide;
 
 const TABLES: usize = 4000;
 
@@ -151,7 +161,14 @@ fn at(xs: &[usize], i: usize) -> usize {
 }
 
 // A state put at the queue's end if it is wanted and was never there, with its steps from an initial state; the end after that.
-fn visit(wanted: bool, s: usize, d: usize, queue: &mut [usize], end: usize, steps: &mut [usize]) -> usize {
+fn visit(
+    wanted: bool,
+    s: usize,
+    d: usize,
+    queue: &mut [usize],
+    end: usize,
+    steps: &mut [usize],
+) -> usize {
     if wanted {
         if s < steps.len() {
             if end < queue.len() {
@@ -167,7 +184,15 @@ fn visit(wanted: bool, s: usize, d: usize, queue: &mut [usize], end: usize, step
 }
 
 // The states of the set that begins at `place`, one after another.
-fn visit_set(store: &[u64], n: usize, place: usize, d: usize, queue: &mut [usize], from: usize, steps: &mut [usize]) -> usize {
+fn visit_set(
+    store: &[u64],
+    n: usize,
+    place: usize,
+    d: usize,
+    queue: &mut [usize],
+    from: usize,
+    steps: &mut [usize],
+) -> usize {
     let mut end = from;
     for s in 0..n {
         end = visit(holds(store, place, s), s, d, queue, end, steps);
@@ -187,7 +212,15 @@ fn search_by(store: &[u64], n: usize, queue: &mut [usize], steps: &mut [usize]) 
         if holds(store, FORBIDDEN_AT, s) {
             return d;
         }
-        end = visit_set(store, n, ROWS_AT + 4 * (s % 256), d % NONE + 1, queue, end, steps);
+        end = visit_set(
+            store,
+            n,
+            ROWS_AT + 4 * (s % 256),
+            d % NONE + 1,
+            queue,
+            end,
+            steps,
+        );
     }
     NONE
 }
@@ -202,10 +235,15 @@ fn search(store: &[u64], n: usize) -> usize {
 // ---- the tallies
 
 const SAFE: usize = 0;
+
 const UNSAFE: usize = 1;
+
 const SAME_VERDICT: usize = 2;
+
 const SAME_LENGTH: usize = 3;
+
 const DIGEST: usize = 4;
+
 const TALLIES: usize = 5;
 
 fn tally(tallies: &mut [usize], i: usize, counts: bool) {

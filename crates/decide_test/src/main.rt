@@ -1,8 +1,20 @@
 // Tables A to H of 01 and a ninth (which tells a list that is replaced from one that is added to) through the call decide, with allowances
 // 0, 1, 2, 3 and 256; then refusals, their order and their edges. tests/expected.py works out what this must print, from 01's text.
-use rounds::{Decision, Verdict, decide};
+use rounds::Decision;
+use rounds::Verdict;
+use rounds::decide;
 use table::STORE_WORDS;
-use test_support::{bytes, forbidden, group, initial, line, number, print_unchanged, states, step, text, unchanged};
+use test_support::bytes;
+use test_support::forbidden;
+use test_support::group;
+use test_support::initial;
+use test_support::line;
+use test_support::number;
+use test_support::print_unchanged;
+use test_support::states;
+use test_support::step;
+use test_support::text;
+use test_support::unchanged;
 
 // The answer, and how many bytes at the front of the path buffer it accounts for.
 fn print_decision(d: Decision, path: &[u8]) -> usize {
