@@ -15,12 +15,14 @@ calls-round-trip =
     record {
       write-read = λ store n g out w out′ other r other′ cw e words cr long.
           let file : take ((writtenOf w) .length) out′ ≡ take ((writeAnswer store n g (length out)) .length) (writeBuffer store n g out) =
-            ap₂ (λ (a : WriteNumbers) (xs : List ℕ). take (a .length) xs) (cw .answer) (cw .buffer) in
-          let back = round-trips .write-read store n g out other words long (sym (ap (λ (a : WriteNumbers). a .refusal) (cw .answer)) ∙ e) in
-          (cr .answer ∙ ap (λ (f : List ℕ). readAnswer f (length other)) file ∙ back .answer,
-          cr .buffer ∙ ap (λ (f : List ℕ). readBuffer f other) file ∙ back .buffer);
+          ap₂ (λ (a : WriteNumbers) (xs : List ℕ). take (a .length) xs) (cw .answer) (cw .buffer) in
+          let back = round-trips .write-read store n g out other words long (sym (ap (λ (a : WriteNumbers). a .refusal) (cw .answer)) ∙ e) in (
+            cr .answer ∙ ap (λ (f : List ℕ). readAnswer f (length other)) file ∙ back .answer,
+            cr .buffer ∙ ap (λ (f : List ℕ). readBuffer f other) file ∙ back .buffer,
+          );
       read-write = λ input store r store′ out w out′ cr e bytes cw long.
-          let back = round-trips .read-write input store out bytes long (sym (ap (λ (a : ReadNumbers). a .refusal) (cr .answer)) ∙ e) in
-          (cw .answer ∙ ap₂ (λ (xs : List ℕ) (a : ReadNumbers). writeAnswer xs (a .n) (a .g) (length out)) (cr .buffer) (cr .answer) ∙ back .answer,
-          cw .buffer ∙ ap₂ (λ (xs : List ℕ) (a : ReadNumbers). writeBuffer xs (a .n) (a .g) out) (cr .buffer) (cr .answer) ∙ back .buffer)
+          let back = round-trips .read-write input store out bytes long (sym (ap (λ (a : ReadNumbers). a .refusal) (cr .answer)) ∙ e) in (
+            cw .answer ∙ ap₂ (λ (xs : List ℕ) (a : ReadNumbers). writeAnswer xs (a .n) (a .g) (length out)) (cr .buffer) (cr .answer) ∙ back .answer,
+            cw .buffer ∙ ap₂ (λ (xs : List ℕ) (a : ReadNumbers). writeBuffer xs (a .n) (a .g) out) (cr .buffer) (cr .answer) ∙ back .buffer,
+          );
     }

@@ -17,15 +17,6 @@ ghost use Rattle.model.specs.Files.{setWidth, part, contentsOf, setIn, setNumbe
 ghost use Rattle.model.specs.Calls.{overwrite, firstFault, blockFault, readRefusal, readAnswer, readBuffer};
 ghost use Rattle.block_file.specs.ReadParts.{HasSet, HasSets, Fillable, overwriteFrom, groupOf, rowOf, contentGrounds};
 ghost use Rattle.block_file.specs.ReadAnswers.{readOf};
-use state_set::StateSet;
-use state_set::WORDS;
-use table::FORBIDDEN_AT;
-use table::GROUPS_AT;
-use table::MAX_GROUPS;
-use table::MAX_STATES;
-use table::ROWS_AT;
-use table::STORE_WORDS;
-use table::is_beyond;
 use crate::blocks::BLOCK;
 use crate::blocks::CHECK_AT;
 use crate::blocks::CONTENT;
@@ -37,9 +28,19 @@ use crate::blocks::content_length;
 use crate::blocks::le16_at;
 use crate::blocks::set_width;
 use crate::blocks::wide;
+use state_set::StateSet;
+use state_set::WORDS;
+use table::FORBIDDEN_AT;
+use table::GROUPS_AT;
+use table::MAX_GROUPS;
+use table::MAX_STATES;
+use table::ROWS_AT;
+use table::STORE_WORDS;
+use table::is_beyond;
 
 // The length of the largest file.
-const MAX_FILE: usize = BLOCK * ((HEADER + (MAX_STATES + 7) / 8 * (2 + MAX_GROUPS + MAX_STATES) + CONTENT - 1) / CONTENT);
+const MAX_FILE: usize = BLOCK
+    * ((HEADER + (MAX_STATES + 7) / 8 * (2 + MAX_GROUPS + MAX_STATES) + CONTENT - 1) / CONTENT);
 
 pub enum TableRead {
     Table { n: usize, g: usize },

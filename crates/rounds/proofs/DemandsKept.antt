@@ -39,5 +39,5 @@ demands =
           of-call (λ a b. SameAnswer a (answerOf s) b after-s) c
           (of-call (λ a b. SameAnswer (decideAnswer store n g allowance (length p)) a (decideBuffer store n g allowance p) b) d
           (promises .larger store other n g allowance more p q (accepted c e) (accepted d f) same h
-          (λ w. v (ap (λ (a : Answer). a .verdict) (c .answer) ∙ w))))
+          (λ w. v (ap (λ (a : Answer). a .verdict) (c .answer) ∙ w))));
     }

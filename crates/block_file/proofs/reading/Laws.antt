@@ -2,7 +2,7 @@
 --
 --   content-at                         byte i of the contents, where it stands in the input
 --   byte-inside, byte-past             a byte of a set, and 0 past its bytes
---   Copying X old v xs                 
+--   Copying X old v xs
 --   word-none, word-more, word-all     a loop that makes a word of a set from its bytes
 use Prim.Native.Nat.{ℕ, _+_, _*_, _-_, _/_, _%_, _^_, _≤_, _<_}
 use native.Mathlib.Nat.{zero-mul, add-assoc, mul-le-mul-left, le-antisymm}

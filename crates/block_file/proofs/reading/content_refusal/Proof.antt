@@ -13,7 +13,7 @@ content-refusal-spec =
     (λ c. many-groups _ _ _ (c .before .before .if1 .left) (c .before .if2 .left) (c .if3 .taken))
     (λ c κs. search needs)
     (λ c κs. search needs)
-    (λ c. 
+    (λ c.
     let size = c .before .before in
     let g = size .before in
     let n = g .before in

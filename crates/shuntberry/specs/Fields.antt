@@ -1,0 +1,22 @@
+-- The structs of the calls for C, as the model's answers: field by field, under the same names.
+--
+--   decisionFields, shortestFields, tableFields, fileFields     what decide, shortest path, read and write return
+use Rattle.model.specs.Calls.{Decision, Shortest, TableRead, Written}
+use Rattle.shuntberry.specs.declared.DecisionFields.{DecisionFields}
+use Rattle.shuntberry.specs.declared.ShortestFields.{ShortestFields}
+use Rattle.shuntberry.specs.declared.TableFields.{TableFields}
+use Rattle.shuntberry.specs.declared.FileFields.{FileFields}
+
+-- all but `reserved`
+abbrev pub decisionFields : DecisionFields → Decision
+decisionFields r =
+    record { refusal = r .refusal; verdict = r .verdict; count = r .count; invariant = r .invariant; size = r .size; steps = r .steps }
+
+abbrev pub shortestFields : ShortestFields → Shortest
+shortestFields r = record { refusal = r .refusal; found = r .found; steps = r .steps }
+
+abbrev pub tableFields : TableFields → TableRead
+tableFields r = record { refusal = r .refusal; n = r .n; g = r .g }
+
+abbrev pub fileFields : FileFields → Written
+fileFields r = record { refusal = r .refusal; length = r .length }

@@ -1,0 +1,213 @@
+// The four calls for C (include/shuntberry.h). Each only calls the call of the same name and lays its answer out in a struct of 01's
+// numbers: `refusal` is 0 where the call was not declined, and every other field is 0 where it was.
+ghost use mathlib.Core.Path.{_≡_};
+ghost use Prim.Native.Nat.{_≤_};
+ghost use lib.ListN.{length};
+ghost use Rattle.model.specs.Sets.{maxStates};
+ghost use Rattle.model.specs.Calls.{decideAnswer, decideBuffer, shortestAnswer, shortestBuffer, readAnswer, readBuffer, maxFile, writeAnswer, writeBuffer};
+ghost use Rattle.model.proofs.Ranges.{DecisionRange, ReadRange};
+ghost use Rattle.rounds.specs.Answers.{answerOf};
+ghost use Rattle.paths.specs.Answers.{shortestOf};
+ghost use Rattle.block_file.specs.ReadAnswers.{readOf};
+ghost use Rattle.block_file.specs.Answers.{writtenOf};
+ghost use Rattle.shuntberry.specs.Fields.{decisionFields, shortestFields, tableFields, fileFields};
+use block_file::TableRead;
+use block_file::Written;
+use block_file::read;
+use block_file::write;
+use paths::Shortest;
+use paths::shortest_path;
+use rounds::Decision;
+use rounds::Verdict;
+use rounds::decide;
+use state_set::WORDS;
+
+// ---- decide
+
+#[repr(C)]
+pub struct DecisionFields {
+    pub invariant: [u64; WORDS],
+    pub refusal: u32,
+    pub verdict: u32,
+    pub count: u32,
+    pub size: u32,
+    pub steps: u32,
+    pub reserved: u32,
+}
+
+fn lay_out_decision(answer: Decision) -> DecisionFields
+    requires { ⌜ DecisionRange (answerOf answer) ⌝ }
+    ensures { λ r. ⌜ (decisionFields r ≡ answerOf answer) × (r .reserved ≡ 0) ⌝ }
+{
+    let verdict = answer.verdict;
+    let invariant = answer.invariant.words;
+    match verdict {
+        Verdict::Safe { count, size } => DecisionFields {
+            invariant,
+            refusal: 0,
+            verdict: 0,
+            count: count as u32,
+            size: size as u32,
+            steps: 0,
+            reserved: 0,
+        },
+        Verdict::Unsafe { count, steps } => DecisionFields {
+            invariant,
+            refusal: 0,
+            verdict: 1,
+            count: count as u32,
+            size: 0,
+            steps: steps as u32,
+            reserved: 0,
+        },
+        Verdict::Undecided { count } => DecisionFields {
+            invariant,
+            refusal: 0,
+            verdict: 2,
+            count: count as u32,
+            size: 0,
+            steps: 0,
+            reserved: 0,
+        },
+        Verdict::Refused(refusal) => DecisionFields {
+            invariant,
+            refusal: refusal as u32,
+            verdict: 0,
+            count: 0,
+            size: 0,
+            steps: 0,
+            reserved: 0,
+        },
+    }
+}
+
+#[no_mangle]
+pub extern "C" fn shuntberry_decide(
+    store: &[u64],
+    n: usize,
+    g: usize,
+    allowance: usize,
+    path: &mut [u8],
+) -> DecisionFields
+    ensures { λ r. ⌜ (decisionFields r ≡ decideAnswer (now (store .entry)) n g allowance (length (now (path .entry))))
+        × ((r .reserved ≡ 0) × (now (path .exit) ≡ decideBuffer (now (store .entry)) n g allowance (now (path .entry)))) ⌝ }
+{
+    lay_out_decision(decide(store, n, g, allowance, path))
+}
+
+// ---- shortest path
+
+#[repr(C)]
+pub struct ShortestFields {
+    pub refusal: u32,
+    pub found: u32,
+    pub steps: u32,
+}
+
+fn lay_out_shortest(answer: Shortest) -> ShortestFields
+    requires { ⌜ (shortestOf answer) .steps ≤ maxStates ⌝ }
+    ensures { λ r. ⌜ shortestFields r ≡ shortestOf answer ⌝ }
+{
+    match answer {
+        Shortest::Path { steps } => ShortestFields {
+            refusal: 0,
+            found: 1,
+            steps: steps as u32,
+        },
+        Shortest::NoPath => ShortestFields {
+            refusal: 0,
+            found: 0,
+            steps: 0,
+        },
+        Shortest::Refused(refusal) => ShortestFields {
+            refusal: refusal as u32,
+            found: 0,
+            steps: 0,
+        },
+    }
+}
+
+#[no_mangle]
+pub extern "C" fn shuntberry_shortest_path(
+    store: &[u64],
+    n: usize,
+    g: usize,
+    path: &mut [u8],
+) -> ShortestFields
+    ensures { λ r. ⌜ (shortestFields r ≡ shortestAnswer (now (store .entry)) n g (length (now (path .entry))))
+        × (now (path .exit) ≡ shortestBuffer (now (store .entry)) n g (now (path .entry))) ⌝ }
+{
+    lay_out_shortest(shortest_path(store, n, g, path))
+}
+
+// ---- read
+
+#[repr(C)]
+pub struct TableFields {
+    pub refusal: u32,
+    pub n: u32,
+    pub g: u32,
+}
+
+fn lay_out_table(answer: TableRead) -> TableFields
+    requires { ⌜ ReadRange (readOf answer) ⌝ }
+    ensures { λ r. ⌜ tableFields r ≡ readOf answer ⌝ }
+{
+    match answer {
+        TableRead::Table { n, g } => TableFields {
+            refusal: 0,
+            n: n as u32,
+            g: g as u32,
+        },
+        TableRead::Refused(refusal) => TableFields {
+            refusal: refusal as u32,
+            n: 0,
+            g: 0,
+        },
+    }
+}
+
+#[no_mangle]
+pub extern "C" fn shuntberry_read(input: &[u8], store: &mut [u64]) -> TableFields
+    ensures { λ r. ⌜ (tableFields r ≡ readAnswer (now (input .entry)) (length (now (store .entry))))
+        × (now (store .exit) ≡ readBuffer (now (input .entry)) (now (store .entry))) ⌝ }
+{
+    lay_out_table(read(input, store))
+}
+
+// ---- write
+
+#[repr(C)]
+pub struct FileFields {
+    pub refusal: u32,
+    pub length: u32,
+}
+
+fn lay_out_file(answer: Written) -> FileFields
+    requires { ⌜ (writtenOf answer) .length ≤ maxFile ⌝ }
+    ensures { λ r. ⌜ fileFields r ≡ writtenOf answer ⌝ }
+{
+    match answer {
+        Written::File(length) => FileFields {
+            refusal: 0,
+            length: length as u32,
+        },
+        Written::Refused(refusal) => FileFields {
+            refusal: refusal as u32,
+            length: 0,
+        },
+    }
+}
+
+#[no_mangle]
+pub extern "C" fn shuntberry_write(
+    store: &[u64],
+    n: usize,
+    g: usize,
+    output: &mut [u8],
+) -> FileFields
+    ensures { λ r. ⌜ (fileFields r ≡ writeAnswer (now (store .entry)) n g (length (now (output .entry))))
+        × (now (output .exit) ≡ writeBuffer (now (store .entry)) n g (now (output .entry))) ⌝ }
+{
+    lay_out_file(write(store, n, g, output))
+}
