@@ -1,2 +1,2 @@
-pub mod ReadParts
+pub mod Reading
 pub mod ReadAnswers

@@ -2,5 +2,5 @@
 mod blocks;
 mod reading;
 
-pub use reading::read;
 pub use reading::TableRead;
+pub use reading::read;

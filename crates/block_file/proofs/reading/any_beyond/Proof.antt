@@ -1,5 +1,5 @@
 -- `any_beyond`: no set passed has a state from n up.
-use Prim.Native.Nat.{_-_, _≤_}
+use Prim.Native.Nat.{_+_, _-_, _≤_}
 use mathlib.Core.Path.{_≡_, sym, ap, _∙_}
 use mathlib.Core.Bool.{false}
 use borrow.Author.Needs.{needs}
@@ -7,15 +7,15 @@ use Rattle.model.specs.Sets.{any}
 use Rattle.model.specs.Stores.{beyond}
 use Rattle.model.specs.Files.{contentsOf, setNumber}
 use Rattle.model.proofs.Bounds.{any-start, any-turn, any-intro, any-end}
-use Rattle.block_file.proofs.reading.Laws.{has-set, set-number}
+use Rattle.block_file.proofs.reading.Filling.{has-set, set-number}
 use Rattle.block_file.proofs.reading.any_beyond.Statement.{statement}
 use Rattle.block_file.proofs.reading.any_beyond.Tie as tie
 
 abbrev Inv-loop : tie.InvT-loop
-Inv-loop input n count w k₀ k = (k ≤ count) × (any k (λ i. beyond n (setNumber (contentsOf input) n i)) ≡ false)
+Inv-loop input n g w k₀ k-end k = (k ≤ 2 + g + n) × (any k (λ i. beyond n (setNumber (contentsOf input) n i)) ≡ false)
 
 abbrev μ-loop : tie.MeasureT-loop
-μ-loop input n count w k₀ k = count - k
+μ-loop input n g w k₀ k-end k = 2 + g + n - k
 
 pub any-beyond-spec : {M : Type 1} → statement M
 any-beyond-spec =
@@ -24,6 +24,8 @@ any-beyond-spec =
     Inv-loop
     μ-loop
     (λ c κs. search needs)
+    (λ c. search needs)
+    (λ c. search needs)
     (λ c. (search needs, any-start _))
     (λ c κs. has-set (c .before .before .before .before .pre) (c .before .before .set-width .ensures) (c .loop-test .taken))
     (λ c κs. search needs)
