@@ -236,7 +236,7 @@ fn fill(input: &[u8], n: usize, g: usize, store: &mut [u64])
     fill_rows(input, n, g, store);
 }
 
-// Unused groups, and unused rows below, are put there as sets of no bytes.
+// Group j into its words; unused ones, as unused rows below, as sets of no bytes.
 fn fill_groups(input: &[u8], n: usize, g: usize, store: &mut [u64])
     requires { ⌜ HasTable (now input) n g × (storeWords ≤ length (now store)) ⌝ }
     ensures { λ r. ⌜ now (store .exit) ≡ overwriteFrom (groupAt 0) (concat maxGroups (groupOf (tableIn (contentsOf (now (input .entry))) n g))) (now (store .entry)) ⌝ }
@@ -248,6 +248,7 @@ fn fill_groups(input: &[u8], n: usize, g: usize, store: &mut [u64])
     }
 }
 
+// Row s into its own words: the part of the store from ROWS_AT + WORDS * s on is lent, to be filled from the row's bytes.
 fn fill_rows(input: &[u8], n: usize, g: usize, store: &mut [u64])
     requires { ⌜ HasTable (now input) n g × (storeWords ≤ length (now store)) ⌝ }
     ensures { λ r. ⌜ now (store .exit) ≡ overwriteFrom (rowAt 0) (concat maxStates (rowOf (tableIn (contentsOf (now (input .entry))) n g))) (now (store .entry)) ⌝ }

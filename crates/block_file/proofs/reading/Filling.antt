@@ -1,7 +1,8 @@
 -- Laws of the sets in the contents of an input, and of a store that is filled with them.
 --
---   has-set                             a table in the contents has its sets there; set-number: set k, with its width as the code has it
---   has-group, has-row                  so have the places of groups and rows, with no bytes where a place is unused
+--   beyond-number                       a test of set k of a table
+--   has-set                             a table in the contents has its sets there
+--   has-group, has-row                  so have the places of groups and rows in the store, with no bytes where a place is unused
 --   byte-inside                         a byte of a set is one of the contents
 --   word-none, word-more, word-all      a loop that makes a word of a set from its bytes
 --   Copying X old v xs                  the first v words of X stand at the front of what was old: a loop that writes a set
@@ -13,14 +14,14 @@
 --   Filling f at old j store            f 0, .., f (j − 1) stand one after the other in what was old, from `at` on: a loop that fills
 --   filling-none, -more, -all           before its first turn; a turn; when it is done
 --   filled                              initial set, forbidden set, groups and rows, one after the other, are the layout
-use Prim.Native.Nat.{ℕ, _+_, _*_, _-_, _/_, _%_, _^_, _≤_, _<_}
+use Prim.Native.Nat.{ℕ, _+_, _*_, _-_, _%_, _^_, _≤_, _<_}
 use native.Mathlib.Nat.{zero-mul, mul-le-mul-left, le-antisymm}
 use native.Mathlib.Numerals.{add-one}
 use native.Mathlib.Omega.{arith}
 use mathlib.Core.Path.{_≡_, refl, sym, ap, ap₂, _∙_}
 use mathlib.Core.Logic.{⊎-elim}
-use mathlib.Core.Bool.{cond}
-use mathlib.Core.List.{List, [], _++_, append-nil, append-assoc}
+use mathlib.Core.Bool.{Bool, cond}
+use mathlib.Core.List.{List, _++_, append-nil, append-assoc}
 use borrow.Author.Tests.{ltb-true, ltb-false, le-ltb}
 use borrow.Rule.Slice.PartMut.{putMid}
 use lib.Bits.{bitOr, or-shifted-r}
@@ -31,7 +32,7 @@ use lib.Seq.{length-take-le, take-suc, take-all, take-append-add, drop-append-ad
 use mir.Syntax.{w8}
 use mir.Val.{Fits}
 use Rattle.model.specs.Sets.{WORDS, maxStates, Set, member, number, empty, tabulate}
-use Rattle.model.specs.Stores.{maxGroups, forbiddenAt, groupAt, rowAt, concat, layout}
+use Rattle.model.specs.Stores.{maxGroups, forbiddenAt, groupAt, rowAt, concat, layout, beyond}
 use Rattle.model.specs.Files.{setWidth, contentsOf, setIn, setNumber, tableIn}
 use Rattle.model.specs.Calls.{overwrite}
 use Rattle.model.proofs.Bounds.{by-cond, decided, length-tabulate, getD-tabulate}
@@ -42,9 +43,11 @@ use Rattle.block_file.specs.Reading.{HasSet, HasTable, overwriteFrom, gr
 
 -- ---- sets in the contents
 
-pub set-number : (bytes : List ℕ) (n k : ℕ) {w : ℕ} {X : Set} → w ≡ setWidth n → X ≡ setIn bytes w (4 + w * k) → X ≡ setNumber bytes n k
+-- a test of set k of the contents, whose width is w as the code has it
+pub beyond-number : (bytes : List ℕ) (n k : ℕ) {w : ℕ} {X : Set} {b : Bool} → w ≡ setWidth n → X ≡ setIn bytes w (4 + w * k) → b ≡ beyond n X
+    → beyond n (setNumber bytes n k) ≡ b
 unfolding setNumber
-set-number bytes n k e f = f ∙ ap (λ (w : ℕ). setIn bytes w (4 + w * k)) e
+beyond-number bytes n k e f g = sym (g ∙ ap (beyond n) (f ∙ ap (λ (w : ℕ). setIn bytes w (4 + w * k)) e))
 
 module _ {input : List ℕ} {n g : ℕ} (t : HasTable input n g) where
   pub has-set : {w k : ℕ} → w ≡ setWidth n → k < 2 + g + n → HasSet input w (4 + w * k)
@@ -69,7 +72,7 @@ module _ {input : List ℕ} {n g : ℕ} (t : HasTable input n g) where
 
 -- ---- a word of a set, byte by byte
 
--- (the bound on the bytes is what the borrow checker tells of a slice)
+-- that each byte fits is what the borrow checker tells of a slice
 pub byte-inside : {input : List ℕ} {w at : ℕ} (j : ℕ) → HasSet input w at → j < w → ((i : ℕ) → Fits w8 (getD input i 0))
     → getD (contentsOf input) (at + j) 0 ≡ number (member (setIn (contentsOf input) w at)) (8 * j) 8
 byte-inside {input} {w} {at} j h l u = sym (number-setIn (contentsOf input) w at (h .narrow) (contentsOf-bounded input (λ i. u i .fits)) j l)

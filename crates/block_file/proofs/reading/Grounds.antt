@@ -1,20 +1,24 @@
--- Laws of the grounds on which `read` declines.
+-- Laws of the grounds on which `read` declines: of each return of the functions that test them.
 --
---   faults input m                           the first fault of the first m blocks, or 0
---   length-handed                            the bytes that are handed on for a block are 512
---   faults-none, faults-next                 a loop over the blocks finds no fault before the first turn, and after one that found none
---   faults-stop, faults-end                  it returns the first fault, or 0 in the end
---   no-states, many-states, many-groups      what `content_refusal` returns, one return after the other
+--   faults input m                          the first fault of the first m blocks, or 0
+--   length-handed                           the bytes that are handed on for a block are 512
+--   faults-none, faults-next                a loop over the blocks: no fault before its first turn, nor after a turn that found none
+--   faults-stop, faults-end                 it returns the first fault, or 0 when it is done
+--   contentRefusal                          what is wrong with the contents, or 0
+--   no-states, many-states, many-groups,    what `content_refusal` returns for the grounds 14 to 16
 --   other-blocks
---   Sized                                    .. from where its grounds 14 to 16 do not hold
---   set-beyond, filler-non-zero, content-right
---   small-store, no-input, part-block        what `refusal` returns
+--   Sized                                   none of these holds; size is the length of the contents
+--   set-beyond, filler-non-zero,            what it returns then
+--   content-right
+--   header                                  n and g, read from the first block
+--   small-store, no-input, part-block,      what `refusal` returns for the grounds 10 and 11
 --   long-input
---   Whole                                    .. from where its grounds 10 and 11 do not hold
---   block-wrong, blocks-right
---   declined                                 what `read` returns where a ground holds
---   some-block, readable-as                  where none does, the header can be read, and the table with its n and g
---   table-read                               what `read` returns then
+--   Whole                                   neither of these holds
+--   block-wrong, blocks-right               what it returns then
+--   Read                                    what the contract of `read` says of its answer and of the store at exit
+--   declined                                so it is where a ground holds
+--   some-block, readable-as                 where none holds, there is a header to read, and no ground holds of n and g as read from it
+--   has-table, table-read                   so the table can be filled in, and it is so too
 use Prim.Native.Nat.{ℕ, _+_, _*_, _-_, _/_, _%_, _≤_, _<_}
 use native.Mathlib.Nat.{add-assoc, le-antisymm}
 use native.Mathlib.Omega.{arith}
@@ -71,7 +75,6 @@ module _ (input : List ℕ) where
 
 -- ---- the contents
 
--- n and g are in bounds, and their contents, of `size` bytes, have as many blocks as the input
 pub record Sized (input : List ℕ) (n g size : ℕ) : Type 0 where
   pub some : n ≡ 0 → ⊥
   pub states : n ≤ maxStates
@@ -129,7 +132,6 @@ module _ {input : List ℕ} {n g size : ℕ} (s : Sized input n g size) {b : Boo
 
 -- ---- all grounds
 
--- n and g stand at the front of the first block's content
 header : (input : List ℕ) (i : ℕ) → 512 ≤ length input → i + 1 < 508 → le16At input (2 + i) ≡ le16At (contentsOf input) i
 header input i h l =
     let byte : (j : ℕ) → j < 508 → getD (contentsOf input) j 0 ≡ getD input (2 + j) 0 =
@@ -138,7 +140,6 @@ header input i h l =
     getD-contentsOf-at input j (omega arith) ∙ ap (λ (k : ℕ). getD input k 0) place in
     ap₂ (λ (a b : ℕ). a + 256 * b) (sym (byte i (omega arith))) (ap (λ (k : ℕ). getD input k 0) (add-assoc 2 i 1) ∙ sym (byte (i + 1) l))
 
--- the store is long enough, and the input is a number of whole blocks
 pub record Whole (input : List ℕ) (room : ℕ) : Type 0 where
   pub fits : storeWords ≤ room
   pub some : length input ≡ 0 → ⊥
@@ -188,7 +189,6 @@ module _ {input : List ℕ} {room : ℕ} (w : Whole input room) {fault : ℕ} (e
 
 -- ---- the call
 
--- what the contract of `read` says of an answer and of the store at exit
 abbrev pub Read : List ℕ → List ℕ → TableRead → List ℕ → Type 0
 Read input store answer after = (answer ≡ readAnswer input (length store)) × (after ≡ readBuffer input store)
 

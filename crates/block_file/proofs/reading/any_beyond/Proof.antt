@@ -1,13 +1,13 @@
 -- `any_beyond`: no set passed has a state from n up.
 use Prim.Native.Nat.{_+_, _-_, _≤_}
-use mathlib.Core.Path.{_≡_, sym, ap, _∙_}
+use mathlib.Core.Path.{_≡_, sym, _∙_}
 use mathlib.Core.Bool.{false}
 use borrow.Author.Needs.{needs}
 use Rattle.model.specs.Sets.{any}
 use Rattle.model.specs.Stores.{beyond}
 use Rattle.model.specs.Files.{contentsOf, setNumber}
 use Rattle.model.proofs.Bounds.{any-start, any-turn, any-intro, any-end}
-use Rattle.block_file.proofs.reading.Filling.{has-set, set-number}
+use Rattle.block_file.proofs.reading.Filling.{beyond-number, has-set}
 use Rattle.block_file.proofs.reading.any_beyond.Statement.{statement}
 use Rattle.block_file.proofs.reading.any_beyond.Tie as tie
 
@@ -31,12 +31,15 @@ any-beyond-spec =
     (λ c κs. search needs)
     (λ c.
     let turn = c .before .before .before in
-    let here = set-number _ _ _ (turn .before .before .set-width .ensures) (c .before .before .set-in .ensures) in
-    sym (any-intro _ _ (turn .before .loop .k) (search needs) (sym (c .before .is-beyond .ensures ∙ ap (beyond _) here) ∙ c .if1 .taken)))
+    sym
+    (any-intro _ _ (turn .before .loop .k) (search needs)
+    (beyond-number _ _ _ (turn .before .before .set-width .ensures) (c .before .before .set-in .ensures) (c .before .is-beyond .ensures) ∙ c .if1 .taken)))
     (λ c. search needs)
     (λ c. search needs)
     (λ c.
-    let turn = c .before .before .before in
-    let here = set-number _ _ _ (turn .before .before .set-width .ensures) (c .before .before .set-in .ensures) in
-    (search needs, any-turn _ _ (turn .before .loop .inv .1) (sym (c .before .is-beyond .ensures ∙ ap (beyond _) here) ∙ c .if1 .left)))
+    let turn = c .before .before .before in (
+      search needs,
+      any-turn _ _ (turn .before .loop .inv .1)
+          (beyond-number _ _ _ (turn .before .before .set-width .ensures) (c .before .before .set-in .ensures) (c .before .is-beyond .ensures) ∙ c .if1 .left),
+    ))
     (λ c. sym (any-end _ _ _ (search needs) (search needs) (c .before .loop .inv .1))))
