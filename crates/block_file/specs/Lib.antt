@@ -1,5 +1,5 @@
 pub mod Answers
 pub mod Writing
-pub mod ReadParts
 pub mod ReadAnswers
+pub mod Reading
 pub mod RoundTripCalls

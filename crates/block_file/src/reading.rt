@@ -1,21 +1,26 @@
-// Reading a file (01, "Blocks"): every ground for declining is looked at first, in 01's order, and only then is the store filled.
+// The call `read` (01, "Blocks"): a file is looked at whole, ground after ground in 01's order, and only then put into the lent store.
 //
-//   read                                     the call
-//   refusal, content_refusal                 the grounds, and those of them that lie behind the blocks
-//   first_fault, block_fault                 the blocks in order, each on its own 512 bytes
-//   any_beyond, non_zero                     the grounds 17 and 18
-//   content, byte_in, word_in, set_in        a byte of the contents joined; a byte, a word and the whole of a set in them
-//   fill, fill_groups, fill_rows, fill_set   the table put into the store, each set into its own words
+//   TableRead, read                  n and g of the table that is now in the store, or why the file is declined
+//   refusal                          the first ground that holds, or 0
+//   first_fault, block_fault         the grounds of the blocks; those of one block, on its own 512 bytes
+//   content_refusal                  the grounds behind them, those of the contents
+//   any_beyond, non_zero             ground 17, which concerns the sets, and ground 18, which concerns the filler
+//   content                          one byte of the contents
+//   byte_in, word_in, set_in         a byte, a word and the whole of a set in the contents
+//   fill, fill_groups, fill_rows     the table put into the store
+//   fill_set, used_width             one set put into its words; the bytes that it has, none where a group or a row is unused
+//
+// What is put into a buffer is said with the model's `overwrite`, at its front, and with `overwriteFrom`, from a place on.
 ghost use mathlib.Core.Path.{_≡_};
 ghost use Prim.Native.Nat.{_+_, _*_, _/_, _≤_, _<_};
 ghost use mathlib.Core.Bool.{cond};
 ghost use lib.Dec.{ltb};
 ghost use lib.ListN.{length, getD};
 ghost use Rattle.model.specs.Sets.{WORDS, maxStates, member, number, any};
-ghost use Rattle.model.specs.Stores.{maxGroups, groupAt, rowAt, concat, layout, refuse, beyond, nonZero};
+ghost use Rattle.model.specs.Stores.{maxGroups, groupAt, rowAt, storeWords, concat, layout, refuse, beyond, nonZero};
 ghost use Rattle.model.specs.Files.{setWidth, part, contentsOf, setIn, setNumber, tableIn};
 ghost use Rattle.model.specs.Calls.{overwrite, firstFault, blockFault, readRefusal, readAnswer, readBuffer};
-ghost use Rattle.block_file.specs.ReadParts.{HasSet, HasSets, Fillable, overwriteFrom, groupOf, rowOf, contentGrounds};
+ghost use Rattle.block_file.specs.Reading.{HasSet, HasTable, overwriteFrom, groupOf, rowOf, contentGrounds};
 ghost use Rattle.block_file.specs.ReadAnswers.{readOf};
 use crate::blocks::BLOCK;
 use crate::blocks::CHECK_AT;
@@ -43,10 +48,12 @@ const MAX_FILE: usize = BLOCK
     * ((HEADER + (MAX_STATES + 7) / 8 * (2 + MAX_GROUPS + MAX_STATES) + CONTENT - 1) / CONTENT);
 
 pub enum TableRead {
+    // n and g of the table.
     Table { n: usize, g: usize },
     Refused(u8),
 }
 
+// Nothing is put into the store before the last ground has been looked at.
 pub fn read(input: &[u8], store: &mut [u64]) -> TableRead
     ensures { λ r. ⌜ (readOf r ≡ readAnswer (now (input .entry)) (length (now (store .entry)))) × (now (store .exit) ≡ readBuffer (now (input .entry)) (now (store .entry))) ⌝ }
 {
@@ -62,7 +69,7 @@ pub fn read(input: &[u8], store: &mut [u64]) -> TableRead
 
 // ---- grounds
 
-// The first ground that holds where the store has `room` words, or 0.
+// Why a file is declined where the store has `room` words, or 0.
 fn refusal(input: &[u8], room: usize) -> u8
     ensures { λ r. ⌜ r ≡ readRefusal (now (input .entry)) room ⌝ }
 {
@@ -87,7 +94,7 @@ fn refusal(input: &[u8], room: usize) -> u8
     content_refusal(input, n, g)
 }
 
-// The first fault of a block, or 0.
+// What is wrong with the first block that has a fault, or 0.
 fn first_fault(input: &[u8]) -> u8
     ensures { λ r. ⌜ r ≡ firstFault (length (now (input .entry)) / 512) (λ k. blockFault (part (now (input .entry)) k) k) ⌝ }
 {
@@ -107,10 +114,13 @@ fn block_fault(block: &[u8], k: usize) -> u8
     requires { ⌜ length (now block) ≡ 512 ⌝ }
     ensures { λ r. ⌜ r ≡ blockFault (now (block .entry)) k ⌝ }
 {
-    if le16_at(block, 0) != k {
+    let number = le16_at(block, 0);
+    let check = le16_at(block, CHECK_AT) as u64;
+    let sum = check_of(block);
+    if number != k {
         return 12;
     }
-    if le16_at(block, CHECK_AT) as u64 != check_of(block) {
+    if check != sum {
         return 13;
     }
     0
@@ -134,7 +144,7 @@ fn content_refusal(input: &[u8], n: usize, g: usize) -> u8
     if blocks != blocks_for(size) {
         return 16;
     }
-    if any_beyond(input, n, 2 + g + n) {
+    if any_beyond(input, n, g) {
         return 17;
     }
     if non_zero(input, size, CONTENT * blocks) {
@@ -143,13 +153,13 @@ fn content_refusal(input: &[u8], n: usize, g: usize) -> u8
     0
 }
 
-// One of the first `count` sets has a state from n up.
-fn any_beyond(input: &[u8], n: usize, count: usize) -> bool
-    requires { ⌜ HasSets (now input) n count ⌝ }
-    ensures { λ r. ⌜ r ≡ any count (λ k. beyond n (setNumber (contentsOf (now (input .entry))) n k)) ⌝ }
+// A set of the table has a state from n up.
+fn any_beyond(input: &[u8], n: usize, g: usize) -> bool
+    requires { ⌜ HasTable (now input) n g ⌝ }
+    ensures { λ r. ⌜ r ≡ any (2 + g + n) (λ k. beyond n (setNumber (contentsOf (now (input .entry))) n k)) ⌝ }
 {
     let w = set_width(n);
-    for k in 0..count {
+    for k in 0..2 + g + n {
         if is_beyond(set_in(input, w, k), n) {
             return true;
         }
@@ -157,7 +167,7 @@ fn any_beyond(input: &[u8], n: usize, count: usize) -> bool
     false
 }
 
-// Some byte from `from` on and before `to` is not 0.
+// Some byte of the contents from `from` on and before `to` is not 0.
 fn non_zero(input: &[u8], from: usize, to: usize) -> bool
     requires { ⌜ (from ≤ to) × (to ≤ 508 * (length (now input) / 512)) ⌝ }
     ensures { λ r. ⌜ r ≡ nonZero (contentsOf (now (input .entry))) from to ⌝ }
@@ -170,9 +180,9 @@ fn non_zero(input: &[u8], from: usize, to: usize) -> bool
     false
 }
 
-// ---- the contents joined
+// ---- contents
 
-// Byte i of the contents.
+// Byte i of the contents joined.
 fn content(input: &[u8], i: usize) -> u8
     requires { ⌜ i < 508 * (length (now input) / 512) ⌝ }
     ensures { λ r. ⌜ r ≡ getD (contentsOf (now (input .entry))) i 0 ⌝ }
@@ -203,7 +213,7 @@ fn word_in(input: &[u8], w: usize, at: usize, v: usize) -> u64
     word
 }
 
-// Set k of contents whose sets take w bytes each.
+// Set k of the contents, where each set has w bytes.
 fn set_in(input: &[u8], w: usize, k: usize) -> StateSet
     requires { ⌜ HasSet (now input) w (4 + w * k) ⌝ }
     ensures { λ r. ⌜ r .words ≡ setIn (contentsOf (now (input .entry))) w (4 + w * k) ⌝ }
@@ -213,10 +223,10 @@ fn set_in(input: &[u8], w: usize, k: usize) -> StateSet
     StateSet { words }
 }
 
-// ---- filling the store
+// ---- filling
 
 fn fill(input: &[u8], n: usize, g: usize, store: &mut [u64])
-    requires { ⌜ Fillable (now input) n g (now store) ⌝ }
+    requires { ⌜ HasTable (now input) n g × (storeWords ≤ length (now store)) ⌝ }
     ensures { λ r. ⌜ now (store .exit) ≡ overwrite (layout (tableIn (contentsOf (now (input .entry))) n g)) (now (store .entry)) ⌝ }
 {
     let w = set_width(n);
@@ -226,37 +236,39 @@ fn fill(input: &[u8], n: usize, g: usize, store: &mut [u64])
     fill_rows(input, n, g, store);
 }
 
+// Group j into its words; unused ones, as unused rows below, as sets of no bytes.
 fn fill_groups(input: &[u8], n: usize, g: usize, store: &mut [u64])
-    requires { ⌜ Fillable (now input) n g (now store) ⌝ }
+    requires { ⌜ HasTable (now input) n g × (storeWords ≤ length (now store)) ⌝ }
     ensures { λ r. ⌜ now (store .exit) ≡ overwriteFrom (groupAt 0) (concat maxGroups (groupOf (tableIn (contentsOf (now (input .entry))) n g))) (now (store .entry)) ⌝ }
 {
     for j in 0..MAX_GROUPS {
-        let a = GROUPS_AT + WORDS * j;
+        let at = GROUPS_AT + WORDS * j;
         let w = used_width(n, j, g);
-        fill_set(&mut store[a..], input, w, 2 + j);
+        fill_set(&mut store[at..], input, w, 2 + j);
     }
 }
 
+// Row s into its own words: the part of the store from ROWS_AT + WORDS * s on is lent, to be filled from the row's bytes.
 fn fill_rows(input: &[u8], n: usize, g: usize, store: &mut [u64])
-    requires { ⌜ Fillable (now input) n g (now store) ⌝ }
+    requires { ⌜ HasTable (now input) n g × (storeWords ≤ length (now store)) ⌝ }
     ensures { λ r. ⌜ now (store .exit) ≡ overwriteFrom (rowAt 0) (concat maxStates (rowOf (tableIn (contentsOf (now (input .entry))) n g))) (now (store .entry)) ⌝ }
 {
     for s in 0..MAX_STATES {
-        let a = ROWS_AT + WORDS * s;
+        let at = ROWS_AT + WORDS * s;
         let w = used_width(n, s, n);
-        fill_set(&mut store[a..], input, w, 2 + g + s);
+        fill_set(&mut store[at..], input, w, 2 + g + s);
     }
 }
 
-// The bytes of the set that place j takes its words from: none where the place is not below `used`, so that it is filled with 0.
-fn used_width(n: usize, j: usize, used: usize) -> usize
+// The bytes of a set of n states at place i, where the first `used` places are used.
+fn used_width(n: usize, i: usize, used: usize) -> usize
     requires { ⌜ n ≤ maxStates ⌝ }
-    ensures { λ r. ⌜ r ≡ cond (ltb j used) (setWidth n) 0 ⌝ }
+    ensures { λ r. ⌜ r ≡ cond (ltb i used) (setWidth n) 0 ⌝ }
 {
-    if j < used { set_width(n) } else { 0 }
+    if i < used { set_width(n) } else { 0 }
 }
 
-// Set k of contents whose sets take w bytes each, put into the first words of a part of the store.
+// Set k of the contents, where each set has w bytes, put into the first words of a part of the store.
 fn fill_set(words: &mut [u64], input: &[u8], w: usize, k: usize)
     requires { ⌜ HasSet (now input) w (4 + w * k) × (WORDS ≤ length (now words)) ⌝ }
     ensures { λ r. ⌜ now (words .exit) ≡ overwrite (setIn (contentsOf (now (input .entry))) w (4 + w * k)) (now (words .entry)) ⌝ }

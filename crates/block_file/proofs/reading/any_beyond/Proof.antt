@@ -1,21 +1,21 @@
 -- `any_beyond`: no set passed has a state from n up.
-use Prim.Native.Nat.{_-_, _≤_}
-use mathlib.Core.Path.{_≡_, sym, ap, _∙_}
+use Prim.Native.Nat.{_+_, _-_, _≤_}
+use mathlib.Core.Path.{_≡_, sym, _∙_}
 use mathlib.Core.Bool.{false}
 use borrow.Author.Needs.{needs}
 use Rattle.model.specs.Sets.{any}
 use Rattle.model.specs.Stores.{beyond}
 use Rattle.model.specs.Files.{contentsOf, setNumber}
 use Rattle.model.proofs.Bounds.{any-start, any-turn, any-intro, any-end}
-use Rattle.block_file.proofs.reading.Laws.{has-set, set-number}
+use Rattle.block_file.proofs.reading.Filling.{beyond-number, has-set}
 use Rattle.block_file.proofs.reading.any_beyond.Statement.{statement}
 use Rattle.block_file.proofs.reading.any_beyond.Tie as tie
 
 abbrev Inv-loop : tie.InvT-loop
-Inv-loop input n count w k₀ k = (k ≤ count) × (any k (λ i. beyond n (setNumber (contentsOf input) n i)) ≡ false)
+Inv-loop input n g w k₀ k-end k = (k ≤ 2 + g + n) × (any k (λ i. beyond n (setNumber (contentsOf input) n i)) ≡ false)
 
 abbrev μ-loop : tie.MeasureT-loop
-μ-loop input n count w k₀ k = count - k
+μ-loop input n g w k₀ k-end k = 2 + g + n - k
 
 pub any-beyond-spec : {M : Type 1} → statement M
 any-beyond-spec =
@@ -24,17 +24,22 @@ any-beyond-spec =
     Inv-loop
     μ-loop
     (λ c κs. search needs)
+    (λ c. search needs)
+    (λ c. search needs)
     (λ c. (search needs, any-start _))
     (λ c κs. has-set (c .before .before .before .before .pre) (c .before .before .set-width .ensures) (c .loop-test .taken))
     (λ c κs. search needs)
     (λ c.
     let turn = c .before .before .before in
-    let here = set-number _ _ _ (turn .before .before .set-width .ensures) (c .before .before .set-in .ensures) in
-    sym (any-intro _ _ (turn .before .loop .k) (search needs) (sym (c .before .is-beyond .ensures ∙ ap (beyond _) here) ∙ c .if1 .taken)))
+    sym
+    (any-intro _ _ (turn .before .loop .k) (search needs)
+    (beyond-number _ _ _ (turn .before .before .set-width .ensures) (c .before .before .set-in .ensures) (c .before .is-beyond .ensures) ∙ c .if1 .taken)))
     (λ c. search needs)
     (λ c. search needs)
     (λ c.
-    let turn = c .before .before .before in
-    let here = set-number _ _ _ (turn .before .before .set-width .ensures) (c .before .before .set-in .ensures) in
-    (search needs, any-turn _ _ (turn .before .loop .inv .1) (sym (c .before .is-beyond .ensures ∙ ap (beyond _) here) ∙ c .if1 .left)))
+    let turn = c .before .before .before in (
+      search needs,
+      any-turn _ _ (turn .before .loop .inv .1)
+          (beyond-number _ _ _ (turn .before .before .set-width .ensures) (c .before .before .set-in .ensures) (c .before .is-beyond .ensures) ∙ c .if1 .left),
+    ))
     (λ c. sym (any-end _ _ _ (search needs) (search needs) (c .before .loop .inv .1))))

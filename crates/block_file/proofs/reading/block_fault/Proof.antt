@@ -15,17 +15,17 @@ block-fault-spec =
     tie.close
     (tie.spec
     (λ c κs. search needs)
-    (λ c. sym (refuse-take _ 12 _ (ap not (ne-eqb _ _ (λ e. c .if1 .taken (c .before .le16-at .ensures ∙ e))))))
     (λ c κs. search needs)
     (λ c κs. search needs)
+    (λ c. sym (refuse-take _ 12 _ (ap not (ne-eqb _ _ (λ e. c .if1 .taken (c .before .before .before .le16-at .ensures ∙ e))))))
     (λ c.
-    let first = c .before .before .before in
+    let sum = c .before .before in
     sym
-    (refuse-skip _ 12 _ (ap not (eq-eqb _ _ (sym (first .before .le16-at .ensures) ∙ first .if1 .left)))
-    ∙ refuse-take _ 13 _ (ap not (ne-eqb _ _ (λ e. c .if2 .taken (c .before .before .le16-at2 .ensures ∙ e ∙ sym (c .before .check-of .ensures)))))))
+    (refuse-skip _ 12 _ (ap not (eq-eqb _ _ (sym (sum .before .before .le16-at .ensures) ∙ c .before .if1 .left)))
+    ∙ refuse-take _ 13 _ (ap not (ne-eqb _ _ (λ e. c .if2 .taken (sum .before .le16-at2 .ensures ∙ e ∙ sym (sum .check-of .ensures)))))))
     (λ c.
-    let first = c .before .before .before in
+    let sum = c .before .before in
     sym
     (clear-blockFault _ _
-    (sym (first .before .le16-at .ensures) ∙ first .if1 .left)
-    (sym (c .before .before .le16-at2 .ensures) ∙ c .if2 .left ∙ c .before .check-of .ensures))))
+    (sym (sum .before .before .le16-at .ensures) ∙ c .before .if1 .left)
+    (sym (sum .before .le16-at2 .ensures) ∙ c .if2 .left ∙ sum .check-of .ensures))))

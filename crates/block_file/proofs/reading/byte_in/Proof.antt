@@ -2,7 +2,7 @@
 use mathlib.Core.Path.{sym, _∙_}
 use borrow.Author.Needs.{needs}
 use Rattle.model.proofs.FileLaws.{number-setIn-past}
-use Rattle.block_file.proofs.reading.Laws.{byte-inside}
+use Rattle.block_file.proofs.reading.Filling.{byte-inside}
 use Rattle.block_file.proofs.reading.byte_in.Statement.{statement}
 use Rattle.block_file.proofs.reading.byte_in.Tie as tie
 
@@ -16,4 +16,4 @@ byte-in-spec =
     (λ c κs. search needs)
     (λ c.
     let start = c .before .before .before in
-    c .wide .ensures .0 ∙ c .before .content .ensures ∙ byte-inside _ _ _ _ (start .before .pre) (search needs) (start .shared-slice-known .given)))
+    c .wide .ensures .0 ∙ c .before .content .ensures ∙ byte-inside _ (start .before .pre) (search needs) (start .shared-slice-known .given)))

@@ -1,8 +1,22 @@
 -- `content_refusal`: the grounds in their order.
+use mathlib.Core.Path.{_∙_}
 use borrow.Author.Needs.{needs}
-use Rattle.block_file.proofs.reading.Laws.{no-states, many-states, many-groups, other-blocks, set-beyond, filler-non-zero, content-right}
+use Rattle.block_file.proofs.reading.Grounds.{no-states, many-states, many-groups, other-blocks, Sized, set-beyond, filler-non-zero, content-right}
 use Rattle.block_file.proofs.reading.content_refusal.Statement.{statement}
 use Rattle.block_file.proofs.reading.content_refusal.Tie as tie
+
+-- the grounds 14 to 16 do not hold
+sized : (c : tie.Else4) → let size = c .before .before in let args = size .before .before .before .before .before .args in Sized (args .input .now) (args .n) (args .g) (size .content-length .result)
+sized c =
+    let size = c .before .before in
+    let groups = size .before in
+    record {
+      some = groups .before .before .if1 .left;
+      states = groups .before .if2 .left;
+      groups = groups .if3 .left;
+      is = size .content-length .ensures .0;
+      blocks = c .if4 .left ∙ c .before .blocks-for .ensures;
+    }
 
 pub content-refusal-spec : {M : Type 1} → statement M
 content-refusal-spec =
@@ -15,34 +29,16 @@ content-refusal-spec =
     (λ c κs. search needs)
     (λ c.
     let size = c .before .before in
-    let g = size .before in
-    let n = g .before in
-    other-blocks _ _ _ (n .before .if1 .left) (n .if2 .left) (g .if3 .left) (size .content-length .ensures .0) (c .before .blocks-for .ensures) (c .if4 .taken))
-    (λ c. search needs)
-    (λ c. search needs)
+    let groups = size .before in
+    other-blocks _ _ _ (groups .before .before .if1 .left) (groups .before .if2 .left) (groups .if3 .left)
+    (size .content-length .ensures .0) (c .before .blocks-for .ensures) (c .if4 .taken))
     (λ c κs. search needs)
-    (λ c.
-    let blocks = c .before .before in
-    let size = blocks .before .before in
-    let g = size .before in
-    let n = g .before in
-    set-beyond _ _ _ (n .before .if1 .left) (n .if2 .left) (g .if3 .left) (size .content-length .ensures .0) (blocks .before .blocks-for .ensures) (blocks .if4 .left)
-    (c .before .any-beyond .ensures) (c .if5 .taken))
+    (λ c. set-beyond (sized (c .before .before)) (c .before .any-beyond .ensures) (c .if5 .taken))
     (λ c. search needs)
     (λ c κs. search needs)
     (λ c.
     let sets = c .before .before in
-    let blocks = sets .before .before in
-    let size = blocks .before .before in
-    let g = size .before in
-    let n = g .before in
-    filler-non-zero _ _ _ (n .before .if1 .left) (n .if2 .left) (g .if3 .left) (size .content-length .ensures .0) (blocks .before .blocks-for .ensures) (blocks .if4 .left)
-    (sets .before .any-beyond .ensures) (sets .if5 .left) (c .before .non-zero .ensures) (c .if6 .taken))
+    filler-non-zero (sized (sets .before .before)) (sets .before .any-beyond .ensures) (sets .if5 .left) (c .before .non-zero .ensures) (c .if6 .taken))
     (λ c.
     let sets = c .before .before in
-    let blocks = sets .before .before in
-    let size = blocks .before .before in
-    let g = size .before in
-    let n = g .before in
-    content-right _ _ _ (n .before .if1 .left) (n .if2 .left) (g .if3 .left) (size .content-length .ensures .0) (blocks .before .blocks-for .ensures) (blocks .if4 .left)
-    (sets .before .any-beyond .ensures) (sets .if5 .left) (c .before .non-zero .ensures) (c .if6 .left)))
+    content-right (sized (sets .before .before)) (sets .before .any-beyond .ensures) (sets .if5 .left) (c .before .non-zero .ensures) (c .if6 .left)))

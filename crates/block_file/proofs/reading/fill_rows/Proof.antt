@@ -1,14 +1,13 @@
 -- `fill_rows`: the rows passed stand in their places.
 use Prim.Native.Nat.{_-_, _≤_}
 use native.Mathlib.Omega.{arith}
-use mathlib.Core.Path.{_∙_}
 use borrow.Author.Needs.{needs}
 use lib.ListN.{length-take, length-drop}
 use Rattle.model.specs.Sets.{maxStates}
-use Rattle.model.specs.Stores.{maxGroups, rowAt}
+use Rattle.model.specs.Stores.{rowAt}
 use Rattle.model.specs.Files.{contentsOf, tableIn}
-use Rattle.block_file.specs.ReadParts.{rowOf}
-use Rattle.block_file.proofs.reading.Laws.{has-row, Filling, filling-none, filling-more, filling-all, row-set, row-wide}
+use Rattle.block_file.specs.Reading.{rowOf}
+use Rattle.block_file.proofs.reading.Filling.{has-row, Filling, filling-none, filling-more, filling-all, row-set, row-wide}
 use Rattle.block_file.proofs.reading.fill_rows.Statement.{statement}
 use Rattle.block_file.proofs.reading.fill_rows.Tie as tie
 
@@ -34,9 +33,17 @@ fill-rows-spec =
     (λ c. search needs)
     (λ c. search needs)
     (λ c. search needs)
-    (λ c κs. (has-row (c .before .before .before .before .before .before .pre) _ (c .before .used-width .ensures), simp (length-take, length-drop) (omega arith)))
+    (λ c κs. (
+      has-row (c .before .before .before .before .before .before .pre .0) _ (c .before .used-width .ensures),
+      simp (length-take, length-drop) (omega arith),
+    ))
     (λ c. search needs)
     (λ c. search needs)
-    (λ c. (search needs, filling-more _ _ _ _ _ _ _ (c .before .before .before .before .before .before .loop .inv .1) (search needs) (row-set _ _ _ _ (c .before .before .before .before .used-width .ensures)) (c .before .before .fill-set .ensures)))
+    (λ c.
+    let width = c .before .before .before .before in (
+      search needs,
+      filling-more _ _ _ _ _ _ _ (width .before .before .loop .inv .1) (search needs)
+          (row-set _ _ _ _ (width .used-width .ensures)) (c .before .before .fill-set .ensures),
+    ))
     (λ c. search needs)
     (λ c. filling-all _ _ _ _ _ _ (c .before .loop .inv .1) (search needs) (search needs)))

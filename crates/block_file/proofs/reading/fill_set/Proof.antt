@@ -4,7 +4,7 @@ use borrow.Author.Needs.{needs}
 use Rattle.model.specs.Sets.{WORDS}
 use Rattle.model.specs.Files.{contentsOf, setIn}
 use Rattle.model.proofs.FileLaws.{setIn-proper}
-use Rattle.block_file.proofs.reading.Laws.{Copying, copying-none, copying-more, copying-all}
+use Rattle.block_file.proofs.reading.Filling.{Copying, copying-none, copying-more, copying-all}
 use Rattle.block_file.proofs.reading.fill_set.Statement.{statement}
 use Rattle.block_file.proofs.reading.fill_set.Tie as tie
 

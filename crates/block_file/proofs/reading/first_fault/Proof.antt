@@ -3,7 +3,7 @@ use Prim.Native.Nat.{_/_, _-_, _≤_}
 use mathlib.Core.Path.{_≡_}
 use borrow.Author.Needs.{needs}
 use lib.ListN.{length}
-use Rattle.block_file.proofs.reading.Laws.{length-handed, faults, faults-none, faults-next, faults-stop, faults-end}
+use Rattle.block_file.proofs.reading.Grounds.{length-handed, faults, faults-none, faults-next, faults-stop, faults-end}
 use Rattle.block_file.proofs.reading.first_fault.Statement.{statement}
 use Rattle.block_file.proofs.reading.first_fault.Tie as tie
 

@@ -1,9 +1,17 @@
 -- `read`: the store is filled where nothing is refused.
 use native.Mathlib.Omega.{arith}
 use borrow.Author.Needs.{needs}
-use Rattle.block_file.proofs.reading.Laws.{declined, some-block, readable-as, fillable, table-read}
+use lib.ListN.{length}
+use Rattle.model.proofs.CallLaws.{Readable}
+use Rattle.block_file.proofs.reading.Grounds.{declined, some-block, readable-as, has-table, table-read}
 use Rattle.block_file.proofs.reading.read.Statement.{statement}
 use Rattle.block_file.proofs.reading.read.Tie as tie
+
+-- no ground holds
+readable : (c : tie.After-le16-at2) → let args = c .before .before .before .before .before .before .args in Readable (args .input .now) (length (args .store .now)) (c .before .le16-at .result) (c .le16-at2 .result)
+readable c =
+    let none = c .before .before in
+    readable-as _ _ (none .before .refusal .ensures) (none .if1 .left) (c .before .le16-at .ensures) (c .le16-at2 .ensures)
 
 pub read-spec : {M : Type 1} → statement M
 read-spec =
@@ -14,12 +22,6 @@ read-spec =
     (λ c κs. omega (arith, some-block _ _ (c .before .refusal .ensures) (c .if1 .left)))
     (λ c. search needs)
     (λ c κs. omega (arith, some-block _ _ (c .before .before .refusal .ensures) (c .before .if1 .left)))
-    (λ c κs.
-    let g = c .before in
-    let clear = g .before .before in
-    fillable _ (readable-as _ _ (clear .before .refusal .ensures) (clear .if1 .left) (g .before .le16-at .ensures) (g .le16-at2 .ensures)))
+    (λ c κs. (has-table (readable (c .before)), readable (c .before) .fits))
     (λ c. search needs)
-    (λ c.
-    let g = c .before .before .before .before in
-    let clear = g .before .before in
-    table-read _ (readable-as _ _ (clear .before .refusal .ensures) (clear .if1 .left) (g .before .le16-at .ensures) (g .le16-at2 .ensures)) (c .before .before .fill .ensures)))
+    (λ c. table-read _ (readable (c .before .before .before .before)) (c .before .before .fill .ensures)))

@@ -2,7 +2,7 @@
 use mathlib.Core.Path.{refl}
 use borrow.Author.Needs.{needs}
 use Rattle.model.proofs.FileLaws.{setIn-proper}
-use Rattle.block_file.proofs.reading.Laws.{copied}
+use Rattle.block_file.proofs.reading.Filling.{copied}
 use Rattle.block_file.proofs.reading.set_in.Statement.{statement}
 use Rattle.block_file.proofs.reading.set_in.Tie as tie
 

@@ -5,7 +5,7 @@ use borrow.Author.Needs.{needs}
 use Rattle.model.specs.Sets.{member, number}
 use Rattle.model.specs.Files.{contentsOf, setIn}
 use Rattle.model.proofs.FileLaws.{setIn-proper}
-use Rattle.block_file.proofs.reading.Laws.{word-none, word-more, word-all}
+use Rattle.block_file.proofs.reading.Filling.{word-none, word-more, word-all}
 use Rattle.block_file.proofs.reading.word_in.Statement.{statement}
 use Rattle.block_file.proofs.reading.word_in.Tie as tie
 
