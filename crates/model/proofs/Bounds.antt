@@ -5,7 +5,7 @@
 --   all-at, all-intro, all-not                 each passes; one that does not
 --   first-le, first-passes, first-least        `first` is the least that passes, else the bound; first-is, first-none: so it is that one;
 --                                              first-found, first-before: what passes at the bound, or anywhere, tells of it
---   length-tabulate, getD-tabulate, tabulate-cong             a list by its elements
+--   length-tabulate, getD-tabulate, tabulate-cong             a list by its elements; tabulate-const: one element throughout
 use Prim.Native.Nat.{ℕ, zero, suc, _+_, _≤_, _<_, zero-le, suc-le-suc}
 use native.Mathlib.Nat.{le-of-suc-le-suc, not-suc-le-zero, eq-or-lt-of-le, le-antisymm}
 use native.Mathlib.Decide.{decLt}
@@ -15,8 +15,8 @@ use mathlib.Core.Path.{_≡_, refl, sym, ap, ap₂, _∙_, subst}
 use mathlib.Core.Logic.{_⊎_, inl, inr, ⊎-elim}
 use mathlib.Core.Bool.{Bool, true, false, not, _&&_, _||_, cond, true≢false, false≢true}
 use mathlib.Core.List.{[], _∷_, _++_}
-use lib.ListN.{length, getD, length-append, List·getD-append}
-use lib.Seq.{getD-at}
+use lib.ListN.{length, getD, length-append, List·getD-append, replicate, length-replicate, getD-replicate}
+use lib.Seq.{getD-at, ext-getD}
 use Rattle.model.specs.Sets.{any, all, first, tabulate}
 
 -- ---- Booleans
@@ -204,3 +204,10 @@ pub tabulate-cong : {A : Type 0} (f g : ℕ → A) (n : ℕ) → ((i : ℕ) → 
 unfolding tabulate
 tabulate-cong f g zero e = refl
 tabulate-cong f g (suc n) e = ap₂ (λ xs x. xs ++ (x ∷ [])) (tabulate-cong f g n (λ i h. e i (omega arith))) (e n (omega arith))
+
+pub tabulate-const : {A : Type 0} (n : ℕ) (x : A) → replicate n x ≡ tabulate n (λ i. x)
+tabulate-const n x =
+    ext-getD x (replicate n x) (tabulate n (λ i. x)) (length-replicate n x ∙ sym (length-tabulate (λ i. x) n))
+    (λ i h.
+    let l : i < n = subst (λ (m : ℕ). i < m) (length-replicate n x) h in
+    getD-replicate n i x x l ∙ sym (getD-tabulate (λ i. x) n i x l))

@@ -5,17 +5,14 @@
 --   image-peel          the image of a set is what one of its states gives, joined to the image of the rest
 --   image-bound           the image of a set of states below n does not depend on the bound, from n up
 --   image-cong          the image reads f at the set's states only
---   peel-in, peel-size                  a loop that takes a set apart from its least state up: that state is in it, and what is left is smaller
 --   Joining, join-turn, join-end        a loop that joins an image: what is joined so far, with the image of what is left, is the goal
 --   union-assoc, union-empty            union is associative, and the empty set adds nothing
 use Prim.Native.Nat.{ℕ, _<_}
 use mathlib.Core.Path.{_≡_, sym, ap, ap₂, _∙_, subst}
 use mathlib.Core.Logic.{inl, inr, ⊎-elim}
-use mathlib.Core.Bool.{Bool, true, not}
-use Rattle.model.specs.Sets.{maxStates, Set, empty, single, union, difference, subset, firstStates, image, size, smallest}
-use Rattle.model.proofs.Bounds.{not-true}
-use Rattle.model.proofs.SetLaws.{Proper, setOf-proper, In, in-bound, in-or-out, empty-in, in-single, single-in, firstStates-in, in-union, union-in, in-difference, difference-in, _⊆_, subset-in, in-subset, subset-not, same-set, smallest-in, in-image, image-in}
-use Rattle.model.proofs.Counting.{size-lt}
+use mathlib.Core.Bool.{true}
+use Rattle.model.specs.Sets.{maxStates, Set, empty, single, union, difference, subset, firstStates, image}
+use Rattle.model.proofs.SetLaws.{Proper, setOf-proper, In, in-bound, in-or-out, empty-in, in-single, single-in, firstStates-in, in-union, union-in, in-difference, difference-in, _⊆_, subset-in, in-subset, same-set, in-image, image-in}
 use Rattle.model.proofs.CoverLaws.{image-proper}
 
 -- ---- difference and union
@@ -88,17 +85,7 @@ module _ (n : ℕ) (f : ℕ → Set) where
       (λ s h. let w = image-in f X maxStates h in in-image f X n (firstStates-in (i (w .0) (w .2))) (w .2) (w .3))
       (λ s h. let w = image-in f X n h in in-image f X maxStates (in-bound (w .2)) (w .2) (w .3))
 
--- ---- a loop that takes a set apart from its least state up: `rest` is what is left, x its least state, `rest′` what is left then
-
--- (`done` is what the loop's test reads: that nothing is left)
-pub peel-in : {rest : Set} {x : ℕ} (done : Bool) → done ≡ subset rest empty → not done ≡ true → x ≡ smallest rest → In rest x
-peel-in {rest} done e n q =
-    subst (λ (y : ℕ). In rest y) (sym q) (smallest-in (subset-not rest empty (sym e ∙ not-true done n) .1))
-
-pub peel-size : {rest : Set} {x : ℕ} (rest′ : Set) → In rest x → rest′ ≡ difference rest (single x) → size rest′ < size rest
-peel-size {rest} {x} rest′ i e =
-    subst (λ (Y : Set). size Y < size rest) (sym e)
-    (size-lt (λ s h. difference-in h .0) i (λ h. difference-in h .1 (in-single (in-bound i))))
+-- ---- a loop that joins an image
 
 -- what is joined so far, `out`, with the image of what is left, is the goal
 pub record Joining (f : ℕ → Set) (goal out rest : Set) : Type 0 where

@@ -32,12 +32,12 @@ pub record Looked (store : List ℕ) (n : ℕ) (distances : List ℕ) (X : Set) 
   pub held : HoldsTable store n
   pub known : distances ≡ tabulate maxStates (distance (tableOf store n 0))
   pub initial : X ≡ setAt store 0
-  pub least : d ≡ leastBy distances X
+  pub least : d ≡ leastBy unreachable distances X
 
 module _ {store : List ℕ} {n : ℕ} {distances : List ℕ} {X : Set} {d : ℕ} (k : Looked store n distances X d) where
-  least-is : d ≡ leastBy (tabulate maxStates (distance (t store n))) ((t store n) .initial)
+  least-is : d ≡ leastBy unreachable (tabulate maxStates (distance (t store n))) ((t store n) .initial)
   unfolding tableOf
-  least-is = k .least ∙ ap₂ leastBy (k .known) (k .initial)
+  least-is = k .least ∙ ap₂ (leastBy unreachable) (k .known) (k .initial)
 
   steps-below : hasPath (t store n) ≡ true → (d ≡ shortest (t store n)) × (shortest (t store n) < maxStates)
   unfolding hasPath tableOf

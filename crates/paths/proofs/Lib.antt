@@ -1,4 +1,3 @@
-pub mod MapAt
 pub mod Scans
 pub mod Transposed
 pub mod Layers

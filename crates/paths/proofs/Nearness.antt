@@ -1,6 +1,5 @@
 -- From the array of distances to the model.
 --
---   first-cong, any-cong             tests that agree below the bound
 --   distance-near, near-distance     a state is at distance at most k exactly if it is within k steps
 --   near-test, pickBy-is             so the state that walkBy picks is the one that walk picks
 --   least-path, least-none           and the least distance of an initial state is that of a shortest path, or none if there is no path
@@ -24,29 +23,18 @@ use Rattle.model.proofs.WellFormed.{WellFormed}
 use Rattle.model.proofs.PathLaws.{Nearest, pick, pick-at, at-row, at-lt, reaching-at, reaching-mono, reaching-states, distance-is, distance-unreachable, distance-reaching, reaching-distance, shortest-le}
 use Rattle.model.proofs.StoreLaws.{row-is}
 use Rattle.paths.specs.Search.{leastBy, pickBy, walkBy}
-
-first-cong : (p q : ℕ → Bool) (n : ℕ) → ((k : ℕ) → k < n → p k ≡ q k) → first n p ≡ first n q
-unfolding first
-first-cong p q zero e = refl
-first-cong p q (suc n) e =
-    ap₂ (λ (b : Bool) (r : ℕ). cond b zero (suc r)) (e zero (suc-le-suc zero-le))
-    (first-cong (λ k. p (suc k)) (λ k. q (suc k)) n (λ k l. e (suc k) (suc-le-suc l)))
-
-any-cong : (p q : ℕ → Bool) (n : ℕ) → ((k : ℕ) → k < n → p k ≡ q k) → any n p ≡ any n q
-unfolding any
-any-cong p q zero e = refl
-any-cong p q (suc n) e = ap₂ _||_ (any-cong p q n (λ k l. e k (omega arith))) (e n (omega arith))
+use Rattle.paths.proofs.Scans.{first-cong, any-cong}
 
 module _ {t : Table} (ok : WellFormed t) (small : t .n ≤ maxStates) where
   -- a distance below n is that of a state so near; none is from n up
-  distance-near : (s k : ℕ) → k < unreachable → distance t s ≤ k → In (reaching t k) s
+  pub distance-near : (s k : ℕ) → k < unreachable → distance t s ≤ k → In (reaching t k) s
   distance-near s k l m =
       ⊎-elim
       (λ b. reaching-mono t (distance t s) k m s (distance-reaching t s (distance t s) b small (omega arith)))
       (λ b. let far : distance t s ≡ unreachable = distance-unreachable t s (λ j c h. omega (arith, reaching-distance t s j c h)) in absurd (omega arith))
       (lt-or-ge (distance t s) (t .n))
 
-  near-distance : (s k : ℕ) → In (reaching t k) s → distance t s ≤ k
+  pub near-distance : (s k : ℕ) → In (reaching t k) s → distance t s ≤ k
   near-distance s k h = let a = reaching-at t k h in omega (arith, distance-is t s (a .0) (at-lt ok (a .0) (a .2)) (a .2), a .1)
 
   -- the test that the loops make
@@ -69,18 +57,18 @@ module _ {t : Table} (ok : WellFormed t) (small : t .n ≤ maxStates) where
       (λ e. let both = and-true (member X s) _ e in in-meet (record { is = both .0 }) (record { is = both .1 }) .is)
       (λ e. let both = meet-in (record { is = e }) in and-intro (member X s) _ (both .0 .is) (both .1 .is)))
 
-  leastBy-first : (X : Set) → leastBy (tabulate maxStates (distance t)) X ≡ first unreachable (λ k. meets X (reaching t k))
+  leastBy-first : (X : Set) → leastBy unreachable (tabulate maxStates (distance t)) X ≡ first unreachable (λ k. meets X (reaching t k))
   unfolding leastBy meets
   leastBy-first X = first-cong _ _ unreachable (λ k l. any-cong _ _ maxStates (λ s b. near-test X k s l b))
 
   -- the least distance of an initial state is that of a shortest path
-  pub least-path : hasPath t ≡ true → leastBy (tabulate maxStates (distance t)) (t .initial) ≡ shortest t
+  pub least-path : hasPath t ≡ true → leastBy unreachable (tabulate maxStates (distance t)) (t .initial) ≡ shortest t
   unfolding hasPath shortest
   least-path e =
       let b = ltb-true (shortest t) (t .n) e in
       leastBy-first (t .initial) ∙ first-is _ unreachable (shortest t) (omega arith) (first-passes _ (t .n) b) (first-least _ (t .n))
 
-  pub least-none : hasPath t ≡ false → leastBy (tabulate maxStates (distance t)) (t .initial) ≡ unreachable
+  pub least-none : hasPath t ≡ false → leastBy unreachable (tabulate maxStates (distance t)) (t .initial) ≡ unreachable
   unfolding hasPath
   least-none e =
       leastBy-first (t .initial)

@@ -14,8 +14,9 @@ use Rattle.model.specs.Sets.{WORDS, maxStates, Set, tabulate, number, setOf, me
 use Rattle.model.specs.Stores.{rowAt, setAt}
 use Rattle.model.proofs.Bounds.{clash, by-cond, below-suc, tabulate-cong}
 use Rattle.model.proofs.SetLaws.{setOf-proper, In, in-bound, in-single, single-in, in-union, union-in, in-states, states-in, same-set}
-use Rattle.paths.specs.Search.{mapAt, predecessorRows}
-use Rattle.paths.proofs.MapAt.{mapAt-tabulate}
+use Rattle.table.specs.Rows.{mapAt}
+use Rattle.table.proofs.MapAt.{mapAt-tabulate}
+use Rattle.paths.specs.Search.{predecessorRows}
 
 module _ (p : ℕ → Bool) (k : ℕ) where
   widened : {s : ℕ} → In (states k p) s → In (states (suc k) p) s

@@ -1,7 +1,8 @@
 // Paths to a forbidden state (01, "Path"): the distance of each state, the path that 01 names, and the call shortest path.
 //
-//   predecessors, join_predecessor       the rows of the store, transposed: for each state the states that step to it
-//   distances, mark                      the distance of each state, layer by layer from the forbidden states outward
+//   predecessors                         the rows of the store, transposed: for each state the states that step to it
+//   mark                                 one number as the distance of each state of a set
+//   distances, sweep_transposed          the distance of each state, layer by layer from the forbidden states outward
 //   least_distance, smallest_within      the least distance of a set's states; its smallest state within d steps
 //   write_path                           the path, state by state
 //   find_path                            whether there is a path, and the path at the front of a buffer
@@ -13,17 +14,20 @@ ghost use Prim.Native.Nat.{_≤_, _<_};
 ghost use lib.ListN.{length};
 ghost use lib.Seq.{sets};
 ghost use mathlib.Core.List.{[]};
-ghost use Rattle.model.specs.Sets.{maxStates, tabulate, single, union};
-ghost use Rattle.model.specs.Paths.{distance};
+ghost use Rattle.model.specs.Sets.{WORDS, maxStates, tabulate, single, union};
+ghost use Rattle.model.specs.Paths.{unreachable, distance};
 ghost use Rattle.model.specs.Stores.{storeWords, tableOf};
 ghost use Rattle.model.specs.Calls.{shortestAnswer, shortestBuffer};
-ghost use Rattle.paths.specs.Search.{HoldsTable, mapAt, predecessorRows, leastBy, pickBy, walkBy, Writable};
+ghost use Rattle.state_set.specs.WordSets.{wordSet};
+ghost use Rattle.table.specs.Rows.{mapAt};
+ghost use Rattle.paths.specs.Search.{HoldsTable, predecessorRows, Swept, leastBy, pickBy, walkBy, Writable};
 ghost use Rattle.paths.specs.Answers.{foundIn, pathWritten, shortestOf};
 use state_set::StateSet;
 use state_set::WORDS;
 use table::FORBIDDEN_AT;
 use table::MAX_STATES;
 use table::Rows;
+use table::kept;
 use table::refusal;
 use table::row_at;
 use table::row_of;
@@ -33,16 +37,30 @@ use table::union_of;
 // The distance of a state from which no forbidden state can be reached.
 pub const UNREACHABLE: u16 = 65535;
 
+// The layers that are found by a look at the row of each state that is left. Tables with many steps have few layers, and most are then
+// done; for the others the rows are transposed, once, so that no row is looked at again and again.
+const LOOKS: u16 = 8;
+
+// s joins the predecessors of each of its successors that `bits` has in word w.
+fn join_word(rows: &mut Rows, s: usize, w: usize, bits: u64)
+    requires { ⌜ w < WORDS ⌝ }
+    ensures { λ _. ⌜ now (rows .exit) ≡ mapAt (wordSet w bits) (λ row. union row (single s)) [] (now (rows .entry)) ⌝ }
+{
+    let mut rest = bits;
+    while rest != 0 {
+        let u = 64 * w + u64::trailing_zeros(rest) as usize;
+        let words = row_of(rows, u).with(s).words;
+        rows[u] = words;
+        rest &= rest - 1;
+    }
+}
+
 // s joins the predecessors of each of its successors.
 fn join_predecessor(rows: &mut Rows, s: usize, successors: StateSet)
     ensures { λ _. ⌜ now (rows .exit) ≡ mapAt (successors .words) (λ row. union row (single s)) [] (now (rows .entry)) ⌝ }
 {
-    let mut rest = successors;
-    while !rest.is_empty() {
-        let u = rest.smallest();
-        let words = row_of(rows, u).with(s).words;
-        rows[u] = words;
-        rest = rest.without(u);
+    for w in 0..WORDS {
+        join_word(rows, s, w, successors.words[w]);
     }
 }
 
@@ -59,64 +77,129 @@ fn predecessors(store: &[u64], n: usize) -> Rows
     rows
 }
 
+// d is the distance of each state that `bits` has in word w.
+fn mark_word(distances: &mut [u16; MAX_STATES], w: usize, bits: u64, d: u16)
+    requires { ⌜ w < WORDS ⌝ }
+    ensures { λ _. ⌜ now (distances .exit) ≡ mapAt (wordSet w bits) (λ _. d) 0 (now (distances .entry)) ⌝ }
+{
+    let mut rest = bits;
+    while rest != 0 {
+        let s = 64 * w + u64::trailing_zeros(rest) as usize;
+        distances[s] = d;
+        rest &= rest - 1;
+    }
+}
+
 // d is the distance of each state of the layer.
 fn mark(distances: &mut [u16; MAX_STATES], layer: StateSet, d: u16)
     ensures { λ _. ⌜ now (distances .exit) ≡ mapAt (layer .words) (λ _. d) 0 (now (distances .entry)) ⌝ }
 {
-    let mut rest = layer;
-    while !rest.is_empty() {
-        let s = rest.smallest();
-        distances[s] = d;
-        rest = rest.without(s);
+    for w in 0..WORDS {
+        mark_word(distances, w, layer.words[w], d);
     }
 }
 
-// The distance of each state, layer by layer from the forbidden states outward. Each state is in one layer.
+// The distances from layer d on, by the rows transposed: the next layer is what steps into this one and is left.
+fn sweep_transposed(
+    store: &[u64],
+    n: usize,
+    distances: &mut [u16; MAX_STATES],
+    first: StateSet,
+    left: StateSet,
+    from: u16,
+)
+    requires { ⌜ HoldsTable (now store) n × Swept (tableOf (now store) n 0) from (now distances) (first .words) (left .words) ⌝ }
+    ensures { λ _. ⌜ now (distances .exit) ≡ tabulate maxStates (distance (tableOf (now (store .entry)) n 0)) ⌝ }
+{
+    let before = predecessors(store, n);
+    let mut layer = first;
+    let mut rest = left;
+    let mut d = from;
+    while !layer.is_empty() {
+        mark(distances, layer, d);
+        layer = union_of(&before, layer).meet(rest);
+        rest = rest.difference(layer);
+        d += 1;
+    }
+}
+
+// The distance of each state, layer by layer from the forbidden states outward. What is left after a layer is its meet with hold of it
+// (backward elimination), and the next layer is what was lost.
 pub fn distances(store: &[u64], n: usize) -> [u16; MAX_STATES]
     requires { ⌜ HoldsTable (now store) n ⌝ }
     ensures { λ r. ⌜ r ≡ tabulate maxStates (distance (tableOf (now (store .entry)) n 0)) ⌝ }
 {
-    let before = predecessors(store, n);
     let mut distances = [UNREACHABLE; MAX_STATES];
     let mut layer = set_at(store, FORBIDDEN_AT);
-    let mut reached = layer;
+    let mut rest = StateSet::first_states(n).difference(layer);
     let mut d = 0;
     while !layer.is_empty() {
+        if d == LOOKS {
+            sweep_transposed(store, n, &mut distances, layer, rest, d);
+            return distances;
+        }
         mark(&mut distances, layer, d);
-        layer = union_of(&before, layer).difference(reached);
-        reached = reached.union(layer);
+        let left = kept(store, rest, rest);
+        layer = rest.difference(left);
+        rest = left;
         d += 1;
     }
     distances
 }
 
-// The least distance of a state of x, which says how long a shortest path from x is.
-fn least_distance(distances: &[u16; MAX_STATES], x: StateSet) -> u16
-    ensures { λ r. ⌜ r ≡ leastBy (now (distances .entry)) (x .words) ⌝ }
+// The least of `bound` and of the distances of the states that `bits` has in word w.
+fn least_in_word(distances: &[u16; MAX_STATES], w: usize, bits: u64, bound: u16) -> u16
+    requires { ⌜ w < WORDS ⌝ }
+    ensures { λ r. ⌜ r ≡ leastBy bound (now (distances .entry)) (wordSet w bits) ⌝ }
 {
-    let mut least = UNREACHABLE;
-    let mut rest = x;
-    while !rest.is_empty() {
-        let s = rest.smallest();
+    let mut least = bound;
+    let mut rest = bits;
+    while rest != 0 {
+        let s = 64 * w + u64::trailing_zeros(rest) as usize;
         if distances[s] < least {
             least = distances[s];
         }
-        rest = rest.without(s);
+        rest &= rest - 1;
     }
     least
+}
+
+// The least distance of a state of x, which says how long a shortest path from x is.
+fn least_distance(distances: &[u16; MAX_STATES], x: StateSet) -> u16
+    ensures { λ r. ⌜ r ≡ leastBy unreachable (now (distances .entry)) (x .words) ⌝ }
+{
+    let mut least = UNREACHABLE;
+    for w in 0..WORDS {
+        least = least_in_word(distances, w, x.words[w], least);
+    }
+    least
+}
+
+// The smallest of the states that `bits` has in word w within d steps of a forbidden one.
+fn smallest_in_word(distances: &[u16; MAX_STATES], w: usize, bits: u64, d: u16) -> usize
+    requires { ⌜ w < WORDS ⌝ }
+    ensures { λ r. ⌜ r ≡ pickBy (now (distances .entry)) d (wordSet w bits) ⌝ }
+{
+    let mut rest = bits;
+    while rest != 0 {
+        let s = 64 * w + u64::trailing_zeros(rest) as usize;
+        if distances[s] <= d {
+            return s;
+        }
+        rest &= rest - 1;
+    }
+    MAX_STATES
 }
 
 // The smallest state of x within d steps of a forbidden one.
 fn smallest_within(distances: &[u16; MAX_STATES], x: StateSet, d: u16) -> usize
     ensures { λ r. ⌜ r ≡ pickBy (now (distances .entry)) d (x .words) ⌝ }
 {
-    let mut rest = x;
-    while !rest.is_empty() {
-        let s = rest.smallest();
-        if distances[s] <= d {
+    for w in 0..WORDS {
+        let s = smallest_in_word(distances, w, x.words[w], d);
+        if s < MAX_STATES {
             return s;
         }
-        rest = rest.without(s);
     }
     MAX_STATES
 }

@@ -25,7 +25,8 @@ use Rattle.model.proofs.SetLaws.{empty-in, meet-in, _⊆_, ⊆-of-eq}
 use Rattle.model.proofs.Fixpoints.{iterate-has}
 use Rattle.model.proofs.CoverLaws.{hold-within, notForbidden-within, forwardStep-within, backwardStep-within}
 use Rattle.model.proofs.RoundLaws.{first-stop}
-use Rattle.rounds.specs.Steps.{covers, narrowed, successorsBy, forwardBy, keptBy, backwardBy}
+use Rattle.table.specs.Rows.{successorsBy, keptBy}
+use Rattle.rounds.specs.Steps.{covers, narrowed, forwardBy, backwardBy}
 use Rattle.rounds.proofs.Bridge.{covers-add, successorsBy-is, keptBy-is, forward-is, backward-is}
 
 -- ---- sets of the table's states

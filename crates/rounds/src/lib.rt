@@ -3,7 +3,6 @@
 //   no_groups, narrow_word, narrow, with_groups
 //                                       the cover: a row of words for each state, set up from the groups and narrowed by each new Z
 //   forward_step, forward               R, by its step until nothing changes
-//   is_held, keep_word, kept            hold
 //   backward_step, backward             S, by its step until nothing changes
 //   run                                 the rounds
 //   decide                              the call
@@ -11,13 +10,14 @@ ghost use mathlib.Core.Path.{_≡_};
 ghost use mathlib.Core.List.{[]};
 ghost use Prim.Native.Nat.{_≤_, _<_};
 ghost use lib.ListN.{length};
-ghost use Rattle.model.specs.Sets.{WORDS, maxStates, empty, union, subset, firstStates};
+ghost use Rattle.model.specs.Sets.{WORDS, empty, union, meet, subset, firstStates};
 ghost use Rattle.state_set.specs.WordSets.{wordSet};
 ghost use Rattle.model.specs.Tables.{notForbidden};
 ghost use Rattle.model.specs.Rounds.{iterate, run as run·model};
-ghost use Rattle.model.specs.Stores.{storeWords, maxGroups, forbiddenAt, rowAt, setAt, tableOf, refuse};
+ghost use Rattle.model.specs.Stores.{storeWords, maxGroups, forbiddenAt, setAt, tableOf, refuse};
 ghost use Rattle.model.specs.Calls.{decideGrounds, decideAnswer, decideBuffer};
-ghost use Rattle.rounds.specs.Steps.{covers, narrowedAt, narrowed, successorsBy, forwardBy, keptBy, backwardBy};
+ghost use Rattle.table.specs.Rows.{successorsBy, mapAt};
+ghost use Rattle.rounds.specs.Steps.{covers, narrowed, forwardBy, backwardBy};
 ghost use Rattle.rounds.specs.Answers.{outcomeOf, invariantOf, answerOf, stepsIn};
 use paths::Found;
 use paths::find_path;
@@ -27,8 +27,8 @@ use table::FORBIDDEN_AT;
 use table::MAX_STATES;
 use table::Rows;
 use table::group_at;
+use table::kept;
 use table::refusal;
-use table::row_at;
 use table::row_of;
 use table::set_at;
 use table::successors;
@@ -47,7 +47,7 @@ fn no_groups(n: usize) -> Rows
 // The cover of each state that `bits` has in word w becomes its meet with z.
 fn narrow_word(rows: &mut Rows, w: usize, bits: u64, z: StateSet)
     requires { ⌜ w < WORDS ⌝ }
-    ensures { λ _. ⌜ now (rows .exit) ≡ narrowedAt (now (rows .entry)) (z .words) (wordSet w bits) ⌝ }
+    ensures { λ _. ⌜ now (rows .exit) ≡ mapAt (wordSet w bits) (λ row. meet row (z .words)) [] (now (rows .entry)) ⌝ }
 {
     let mut rest = bits;
     while rest != 0 {
@@ -108,43 +108,6 @@ fn forward(store: &[u64], n: usize, rows: &Rows, initial: StateSet, z: StateSet)
 }
 
 // ---- S
-
-// s is in hold(y): its every successor is in y.
-fn is_held(store: &[u64], s: usize, y: StateSet) -> bool
-    requires { ⌜ (s < maxStates) × (storeWords ≤ length (now store)) ⌝ }
-    ensures { λ b. ⌜ b ≡ subset (setAt (now (store .entry)) (rowAt s)) (y .words) ⌝ }
-{
-    row_at(store, s).is_subset(y)
-}
-
-// The states that `bits` has in word w and that are in hold(y), joined to `found`.
-fn keep_word(store: &[u64], w: usize, bits: u64, y: StateSet, found: StateSet) -> StateSet
-    requires { ⌜ (w < WORDS) × (storeWords ≤ length (now store)) ⌝ }
-    ensures { λ r. ⌜ r .words ≡ union (found .words) (keptBy (now (store .entry)) (wordSet w bits) (y .words)) ⌝ }
-{
-    let mut kept = found;
-    let mut rest = bits;
-    while rest != 0 {
-        let s = 64 * w + u64::trailing_zeros(rest) as usize;
-        if is_held(store, s, y) {
-            kept = kept.with(s);
-        }
-        rest &= rest - 1;
-    }
-    kept
-}
-
-// x meet hold(y)
-fn kept(store: &[u64], x: StateSet, y: StateSet) -> StateSet
-    requires { ⌜ storeWords ≤ length (now store) ⌝ }
-    ensures { λ r. ⌜ r .words ≡ keptBy (now (store .entry)) (x .words) (y .words) ⌝ }
-{
-    let mut kept = StateSet::empty();
-    for w in 0..WORDS {
-        kept = keep_word(store, w, x.words[w], y, kept);
-    }
-    kept
-}
 
 // cover(r meet hold(x))
 fn backward_step(store: &[u64], rows: &Rows, r: StateSet, x: StateSet) -> StateSet

@@ -2,9 +2,12 @@
 --
 --   in-wordSet, wordSet-in          membership in the states of a word
 --   word-lowest, word-rest          the lowest bit of a word that is not 0 is a state of it; without it, `x & (x - 1)` is left
+--   word-least                      it is the least state
 --   word-less                       which is a smaller number
 --   word-none                       the word 0 has no states
+--   words-in, words-same            membership in the states of the words before one; such a state is in the whole
 --   words-none, words-more, words-all   the words before the first, one more, all of them
+--   words-apart                     a word has no state that those before it have
 use Prim.Native.Nat.{ℕ, zero, suc, _+_, _-_, _*_, _/_, _%_, _^_, _≤_, _<_}
 use native.Mathlib.Omega.{arith}
 use mathlib.Core.Path.{_≡_, refl, sym, ap, _∙_, subst}
@@ -16,7 +19,7 @@ use lib.Bits.{bitAnd, and-le-r}
 use lib.Count.{trailingZeros}
 use lib.ListN.{getD}
 use Rattle.model.specs.Sets.{WORDS, maxStates, Set, bit, member, setOf, empty, single, union, difference, first}
-use Rattle.model.proofs.Bounds.{and-true, and-intro, not-true, clash, first-passes, lt-or-ge}
+use Rattle.model.proofs.Bounds.{and-true, and-intro, not-true, clash, same-test, first-passes, first-before, lt-or-ge}
 use Rattle.model.proofs.SetLaws.{Proper, setOf-proper, In, in-bound, in-setOf, setOf-in, empty-in, in-single, single-in, in-union, union-in, in-difference, difference-in, member-at, same-set}
 use Rattle.state_set.specs.WordSets.{wordSet, wordsBelow}
 use Rattle.state_set.proofs.Bits.{bit-zero, trailing-first, first-bit, bit-lowest}
@@ -43,6 +46,11 @@ module _ (w x : ℕ) (word : w < WORDS) (fits : x < 2 ^ 64) (some : x ≡ 0 → 
       let place : (64 * w + trailingZeros 64 x) % 64 ≡ trailingZeros 64 x = omega arith in
       in-wordSet w x (omega arith) (omega arith)
       (ap (bit x) (place ∙ trailing-first 64 x) ∙ first-passes (bit x) 64 (first-bit 64 x fits some))
+
+  pub word-least : {s : ℕ} → In (wordSet w x) s → 64 * w + trailingZeros 64 x ≤ s
+  word-least {s} h =
+      let at = wordSet-in w x h in
+      omega (arith, at .0, first-before (bit x) 64 (s % 64) (at .1), trailing-first 64 x)
 
   pub word-rest : wordSet w (bitAnd x (x - 1)) ≡ difference (wordSet w x) (single (64 * w + trailingZeros 64 x))
   unfolding wordSet difference
@@ -81,7 +89,7 @@ in-words : (w : ℕ) (X : Set) {s : ℕ} → s / 64 < w → In X s → In (words
 unfolding wordsBelow
 in-words w X {s} l h = in-setOf _ (in-bound h) (and-intro (ltb (s / 64) w) (member X s) (lt-ltb (s / 64) w l) (h .is))
 
-words-in : (w : ℕ) (X : Set) {s : ℕ} → In (wordsBelow w X) s → (s / 64 < w) × In X s
+pub words-in : (w : ℕ) (X : Set) {s : ℕ} → In (wordsBelow w X) s → (s / 64 < w) × In X s
 unfolding wordsBelow
 words-in w X {s} h =
     let both = and-true (ltb (s / 64) w) (member X s) (setOf-in _ h) in
@@ -120,6 +128,13 @@ words-more w X h =
     let at = wordSet-in w (getD X w 0) r in
     in-words (w + 1) X (omega (arith, at .0)) (record { is = word-member X w s h (at .0) ∙ at .1 }))
     (union-in m))
+
+pub words-apart : (w : ℕ) (X : Set) (x : ℕ) {s : ℕ} → In (wordsBelow w X) s → In (wordSet w x) s → ⊥
+words-apart w X x {s} h k = omega (arith, words-in w X h .0, wordSet-in w x k .0)
+
+pub words-same : (w : ℕ) (X : Set) (s : ℕ) → s / 64 < w → member (wordsBelow w X) s ≡ member X s
+words-same w X s l =
+    same-test (member (wordsBelow w X) s) (member X s) (λ e. words-in w X (record { is = e }) .1 .is) (λ e. in-words w X l (record { is = e }) .is)
 
 pub words-all : (w : ℕ) (X : Set) → Proper X → WORDS ≤ w → wordsBelow w X ≡ X
 unfolding wordsBelow

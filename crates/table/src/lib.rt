@@ -2,6 +2,7 @@
 //
 //   set_at, group_at, row_at     a set of the store
 //   successors                   post: all successors of the states of a set
+//   kept                         hold: the states of a set whose every successor is in another
 //   Rows, row_of, union_of       a row of words for each state, the set in one row, the union of the rows of a set's states
 //   refusal                      the first of the grounds 10, 14, 15 and 17 that holds, or 0
 //
@@ -10,9 +11,10 @@ ghost use mathlib.Core.Path.{_≡_};
 ghost use Prim.Native.Nat.{_+_, _*_, _≤_, _<_};
 ghost use lib.ListN.{length, getD};
 ghost use mathlib.Core.List.{[]};
-ghost use Rattle.model.specs.Sets.{WORDS, maxStates, any, union, image};
+ghost use Rattle.model.specs.Sets.{WORDS, maxStates, any, union, subset, image};
 ghost use Rattle.state_set.specs.WordSets.{wordSet};
 ghost use Rattle.model.specs.Stores.{storeWords, maxGroups, groupAt, rowAt, setAt, beyond, nonZero, malformed, refuse, sharedGrounds};
+ghost use Rattle.table.specs.Rows.{successorsBy, keptBy};
 use state_set::StateSet;
 use state_set::WORDS;
 
@@ -58,7 +60,7 @@ pub fn row_at(store: &[u64], s: usize) -> StateSet
 // The successors of the states that `bits` has in word w, joined to `found`.
 fn join_successors(store: &[u64], w: usize, bits: u64, found: StateSet) -> StateSet
     requires { ⌜ (w < WORDS) × (storeWords ≤ length (now store)) ⌝ }
-    ensures { λ r. ⌜ r .words ≡ union (found .words) (image maxStates (λ s. setAt (now (store .entry)) (rowAt s)) (wordSet w bits)) ⌝ }
+    ensures { λ r. ⌜ r .words ≡ union (found .words) (successorsBy (now (store .entry)) (wordSet w bits)) ⌝ }
 {
     let mut joined = found;
     let mut rest = bits;
@@ -73,13 +75,50 @@ fn join_successors(store: &[u64], w: usize, bits: u64, found: StateSet) -> State
 // All successors of states in x.
 pub fn successors(store: &[u64], x: StateSet) -> StateSet
     requires { ⌜ storeWords ≤ length (now store) ⌝ }
-    ensures { λ r. ⌜ r .words ≡ image maxStates (λ s. setAt (now (store .entry)) (rowAt s)) (x .words) ⌝ }
+    ensures { λ r. ⌜ r .words ≡ successorsBy (now (store .entry)) (x .words) ⌝ }
 {
     let mut found = StateSet::empty();
     for w in 0..WORDS {
         found = join_successors(store, w, x.words[w], found);
     }
     found
+}
+
+// s is in hold(y): its every successor is in y.
+fn is_held(store: &[u64], s: usize, y: StateSet) -> bool
+    requires { ⌜ (s < maxStates) × (storeWords ≤ length (now store)) ⌝ }
+    ensures { λ b. ⌜ b ≡ subset (setAt (now (store .entry)) (rowAt s)) (y .words) ⌝ }
+{
+    row_at(store, s).is_subset(y)
+}
+
+// The states that `bits` has in word w and that are in hold(y), joined to `found`.
+fn keep_word(store: &[u64], w: usize, bits: u64, y: StateSet, found: StateSet) -> StateSet
+    requires { ⌜ (w < WORDS) × (storeWords ≤ length (now store)) ⌝ }
+    ensures { λ r. ⌜ r .words ≡ union (found .words) (keptBy (now (store .entry)) (wordSet w bits) (y .words)) ⌝ }
+{
+    let mut kept = found;
+    let mut rest = bits;
+    while rest != 0 {
+        let s = 64 * w + u64::trailing_zeros(rest) as usize;
+        if is_held(store, s, y) {
+            kept = kept.with(s);
+        }
+        rest &= rest - 1;
+    }
+    kept
+}
+
+// x meet hold(y)
+pub fn kept(store: &[u64], x: StateSet, y: StateSet) -> StateSet
+    requires { ⌜ storeWords ≤ length (now store) ⌝ }
+    ensures { λ r. ⌜ r .words ≡ keptBy (now (store .entry)) (x .words) (y .words) ⌝ }
+{
+    let mut kept = StateSet::empty();
+    for w in 0..WORDS {
+        kept = keep_word(store, w, x.words[w], y, kept);
+    }
+    kept
 }
 
 // One row of words for each state.

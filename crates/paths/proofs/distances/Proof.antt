@@ -1,26 +1,28 @@
--- `distances`: the layers so far.
+-- `distances`: the layers so far, then what `sweep_transposed` makes of them.
 use Prim.Native.Nat.{_-_, _<_}
 use native.Mathlib.Omega.{arith}
 use mathlib.Core.Path.{refl, ap₂, _∙_}
 use borrow.Author.Needs.{needs}
 use Rattle.model.specs.Sets.{difference}
 use Rattle.model.specs.Stores.{tableOf}
-use Rattle.paths.proofs.Layers.{transposes, Layered, layered-start, layered-some, layered-turn, layered-end}
+use Rattle.state_set.proofs.Words.{proper}
+use Rattle.paths.specs.Search.{Swept}
+use Rattle.paths.proofs.Layers.{swept-start, swept-some, swept-kept, swept-end}
 use Rattle.paths.proofs.distances.Statement.{statement}
 use Rattle.paths.proofs.distances.Tie as tie
 
 abbrev Inv-loop : tie.InvT-loop
-Inv-loop store n before distances₀ layer₀ reached₀ d₀ distances layer reached d =
-    Layered (tableOf store n 0) distances (layer .words) (reached .words) d
+Inv-loop store n distances₀ layer₀ rest₀ d₀ distances layer rest d = Swept (tableOf store n 0) d distances (layer .words) (rest .words)
 
 abbrev μ-loop : tie.MeasureT-loop
-μ-loop store n before distances₀ layer₀ reached₀ d₀ distances layer reached d = n - d
+μ-loop store n distances₀ layer₀ rest₀ d₀ distances layer rest d = n - d
 
 -- a layer with a state is below n
-below : (c : tie.Then1 Inv-loop μ-loop) → c .before .before .loop .d < c .before .before .before .before .before .before .args .n
+below : (c : tie.Then1 Inv-loop μ-loop) → c .before .before .loop .d < c .before .before .before .before .before .before .before .args .n
 unfolding tableOf
 below c =
-    layered-some (c .before .before .before .before .before .before .pre .formed) (c .before .before .loop .inv) _ (c .before .is-empty .ensures) (c .if1 .taken)
+    let held = c .before .before .before .before .before .before .before .pre in
+    swept-some (held .formed) (held .small) (c .before .before .loop .inv) _ (c .before .is-empty .ensures) (c .if1 .taken)
 
 pub distances-spec : {M : Type 1} → statement M
 unfolding tableOf
@@ -29,22 +31,28 @@ distances-spec =
     (tie.spec
     Inv-loop
     μ-loop
-    (λ c κs. (c .before .pre .small, c .before .pre .long))
-    (λ c κs. omega (arith, c .before .before .pre .long))
-    (λ c. layered-start (c .before .before .before .pre .formed) (c .set-at .ensures))
-    (λ c κs. search needs)
-    (λ c κs. search needs)
-    (λ c κs. search needs)
+    (λ c κs. omega (arith, c .before .pre .long))
     (λ c κs. search needs)
     (λ c κs. search needs)
     (λ c.
-    let turn = c .before .before .before .before .before .before in
-    omega (arith, below turn, turn .before .before .before .before .before .before .pre .small))
-    (λ c. omega (arith, below (c .before .before .before .before .before .before)))
+    let held = c .before .before .before .before .pre in
+    swept-start (held .formed) (held .small) (proper (search needs) (λ w. search needs)) (c .before .before .set-at .ensures)
+    (c .difference .ensures ∙ ap₂ difference (c .before .first-states .ensures) refl))
+    (λ c κs. search needs)
+    (λ c κs. let d = c .before .before .before .before in (d .before .before .before .before .before .pre, d .loop .inv))
+    (λ c. c .sweep-transposed .ensures)
+    (λ c κs. search needs)
+    (λ c κs. let d = c .before .before .before .before .before in d .before .before .before .before .before .pre .long)
+    (λ c κs. search needs)
     (λ c.
-    let turn = c .before .before .before .before .before .before in
-    let entry = turn .before .before .before .before in
-    layered-turn (entry .before .before .pre .formed) (turn .before .before .loop .inv) _ (transposes _ _ (entry .predecessors .ensures))
-    (c .before .difference .ensures ∙ ap₂ difference (c .before .before .union-of .ensures) refl) (below turn)
-    (c .before .before .before .before .mark .ensures) (c .union .ensures))
-    (λ c. layered-end (c .before .before .before .before .before .before .pre .formed) (c .before .before .loop .inv) _ (c .before .is-empty .ensures) (c .if1 .left)))
+    let turn = c .before .before .before .before .before in
+    omega (arith, below turn, turn .before .before .before .before .before .before .before .pre .small))
+    (λ c. omega (arith, below (c .before .before .before .before .before)))
+    (λ c.
+    let turn = c .before .before .before .before .before in
+    let held = turn .before .before .before .before .before .before .before .pre in
+    swept-kept _ _ (held .formed) (held .small) (turn .before .before .loop .inv) (below turn) (c .before .before .mark .ensures) (c .before .kept .ensures)
+    (c .difference2 .ensures))
+    (λ c.
+    let held = c .before .before .before .before .before .before .before .pre in
+    swept-end (held .formed) (held .small) (c .before .before .loop .inv) _ (c .before .is-empty .ensures) (c .if1 .left)))

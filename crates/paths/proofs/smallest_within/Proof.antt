@@ -1,22 +1,21 @@
--- `smallest_within`: the states passed are farther.
-use native.Mathlib.Omega.{arith}
-use mathlib.Core.Path.{sym}
+-- `smallest_within`: the words passed have no state so near.
+use Prim.Native.Nat.{_-_, _≤_}
+use native.Mathlib.Nat.{le-antisymm}
+use mathlib.Core.Path.{_≡_, sym, _∙_}
 use borrow.Author.Needs.{needs}
-use Rattle.model.specs.Sets.{size}
-use Rattle.model.proofs.SetLaws.{In, in-bound}
-use Rattle.model.proofs.ImageLaws.{peel-in, peel-size}
-use Rattle.paths.proofs.Scans.{Passed, passed-start, passed-turn, passed-before, passed-end, Farther, pick-none, pick-found}
+use Rattle.model.specs.Sets.{WORDS, maxStates}
+use Rattle.state_set.specs.WordSets.{wordsBelow}
+use Rattle.state_set.proofs.Words.{proper}
+use Rattle.paths.specs.Search.{pickBy}
+use Rattle.paths.proofs.Scans.{pick-start, pick-word, pick-found, pick-past, pick-all}
 use Rattle.paths.proofs.smallest_within.Statement.{statement}
 use Rattle.paths.proofs.smallest_within.Tie as tie
 
 abbrev Inv-loop : tie.InvT-loop
-Inv-loop distances d rest₀ rest = Passed (Farther distances d) (rest₀ .words) (rest .words)
+Inv-loop distances d x w₀ w = (w ≤ WORDS) × (pickBy distances d (wordsBelow w (x .words)) ≡ maxStates)
 
 abbrev μ-loop : tie.MeasureT-loop
-μ-loop distances d rest₀ rest = size (rest .words)
-
-least-in : (c : tie.After-smallest Inv-loop μ-loop) → In (c .before .before .before .loop .rest .words) (c .smallest .result)
-least-in c = peel-in _ (c .before .before .is-empty .ensures) (c .before .if1 .taken) (c .smallest .ensures)
+μ-loop distances d x w₀ w = WORDS - w
 
 pub smallest-within-spec : {M : Type 1} → statement M
 smallest-within-spec =
@@ -24,18 +23,18 @@ smallest-within-spec =
     (tie.spec
     Inv-loop
     μ-loop
-    (λ c. passed-start)
+    (λ c. (search needs, pick-start _ _ _))
+    (λ c. search needs)
+    (λ c. search needs)
     (λ c κs. search needs)
-    (λ c κs. search needs)
-    (λ c. omega (arith, in-bound (least-in c)))
-    (λ c. in-bound (least-in c))
     (λ c.
-    let d = c .before .before in
-    let so = d .before .before .before .loop .inv in
-    sym (pick-found _ _ _ _ (so .within _ (least-in d)) (c .if2 .taken) (λ s h l. passed-before (d .smallest .ensures) so h l)))
-    (λ c κs. search needs)
-    (λ c. peel-size _ (least-in (c .before .before .before)) (c .without .ensures))
-    (λ c.
-    let d = c .before .before .before in
-    passed-turn (least-in d) (c .before .if2 .left) (c .without .ensures) (d .before .before .before .loop .inv))
-    (λ c. sym (pick-none _ _ _ (λ s h. passed-end _ (c .before .is-empty .ensures) (c .if1 .left) (c .before .before .loop .inv) h))))
+    pick-found _ _ _ _ (c .if1 .taken)
+    (pick-word _ _ _ _ (search needs) (c .before .before .before .before .loop .inv .1) (c .before .smallest-in-word .ensures)))
+    (λ c. search needs)
+    (λ c. search needs)
+    (λ c. (
+      search needs,
+      pick-past _ _ _ _ (c .if1 .left)
+          (pick-word _ _ _ _ (search needs) (c .before .before .before .before .loop .inv .1) (c .before .smallest-in-word .ensures)),
+    ))
+    (λ c. sym (c .before .loop .inv .1) ∙ pick-all _ _ _ _ (proper (search needs) (λ w. search needs)) (search needs)))

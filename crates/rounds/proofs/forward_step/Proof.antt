@@ -2,12 +2,12 @@
 use mathlib.Core.Path.{ap, _∙_}
 use borrow.Author.Needs.{needs}
 use Rattle.model.specs.Sets.{union, meet}
-use Rattle.rounds.specs.Steps.{successorsBy, coverBy, forwardBy}
+use Rattle.rounds.specs.Steps.{coverBy, forwardBy}
 use Rattle.rounds.proofs.forward_step.Statement.{statement}
 use Rattle.rounds.proofs.forward_step.Tie as tie
 
 pub forward-step-spec : {M : Type 1} → statement M
-unfolding forwardBy coverBy successorsBy
+unfolding forwardBy coverBy
 forward-step-spec =
     tie.close
     (tie.spec

@@ -1,28 +1,30 @@
 -- `narrow_word`: to meet the rows of the bits that are left leads to the whole.
-use Prim.Native.Nat.{_+_, _*_, _^_, _<_}
+use Prim.Native.Nat.{_+_, _*_}
 use native.Mathlib.Omega.{arith}
-use mathlib.Core.Path.{_≡_, refl, sym, ap, _∙_}
+use mathlib.Core.Path.{refl, ap₂, _∙_}
+use mathlib.Core.List.{[]}
 use borrow.Author.Needs.{needs}
 use lib.Count.{trailingZeros, trailing-le}
+use Rattle.model.specs.Sets.{meet}
 use Rattle.model.proofs.SetLaws.{In, in-bound}
 use Rattle.state_set.specs.WordSets.{wordSet}
 use Rattle.state_set.proofs.Counts.{bits-fit, states-fit}
-use Rattle.state_set.proofs.WordSets.{word-lowest, word-rest, word-less, word-none}
-use Rattle.rounds.specs.Steps.{narrowedAt}
-use Rattle.rounds.proofs.Loops.{narrow-none, narrow-turn}
+use Rattle.state_set.proofs.WordSets.{word-lowest, word-less}
+use Rattle.table.specs.Rows.{mapAt}
+use Rattle.table.proofs.MapAt.{Mapping, mapping-turn, mapping-end}
 use Rattle.rounds.proofs.narrow_word.Statement.{statement}
 use Rattle.rounds.proofs.narrow_word.Tie as tie
 
 abbrev Inv-loop : tie.InvT-loop
 Inv-loop rows₀ w bits z rest₀ rows rest =
-    (rest < 2 ^ 64) × (narrowedAt rows (z .words) (wordSet w rest) ≡ narrowedAt rows₀ (z .words) (wordSet w bits))
+    Mapping (λ row. meet row (z .words)) [] (mapAt (wordSet w bits) (λ row. meet row (z .words)) [] rows₀) w rest rows
 
 abbrev μ-loop : tie.MeasureT-loop
 μ-loop rows₀ w bits z rest₀ rows rest = rest
 
 -- the state taken is one that is left
 taken : (c : tie.In-loop Inv-loop μ-loop) → In (wordSet (c .before .before .args .w) (c .before .loop .rest)) (64 * c .before .before .args .w + trailingZeros 64 (c .before .loop .rest))
-taken c = word-lowest _ _ (search needs) (c .before .loop .inv .0) (c .loop-test .taken)
+taken c = word-lowest _ _ (search needs) (c .before .loop .inv .fits) (c .loop-test .taken)
 
 pub narrow-word-spec : {M : Type 1} → statement M
 narrow-word-spec =
@@ -30,7 +32,7 @@ narrow-word-spec =
     (tie.spec
     Inv-loop
     μ-loop
-    (λ c. (search needs, refl))
+    (λ c. record { fits = search needs; whole = refl })
     (λ c. search needs)
     (λ c. bits-fit _ (trailing-le 64 _))
     (λ c. states-fit _ _ (search needs) (trailing-le 64 _))
@@ -42,14 +44,6 @@ narrow-word-spec =
     (λ c. word-less _ (c .before .before .before .before .loop-test .taken))
     (λ c.
     let d = c .before .before .before .before in
-    let so = d .before .loop .inv in
-    let less = word-less _ (d .loop-test .taken) in (
-      omega (arith, less, so .0),
-      narrow-turn _ _ (taken d) (c .before .before .row-of .ensures) (c .before .meet .ensures)
-          (word-rest _ _ (search needs) (so .0) (d .loop-test .taken))
-          ∙ so .1,
-    ))
-    (λ c.
-    narrow-none _ _
-    ∙ ap (narrowedAt _ _) (sym (ap (wordSet _) (c .loop-test .left) ∙ word-none _))
-    ∙ c .before .loop .inv .1))
+    mapping-turn _ _ _ (d .before .loop .inv) (search needs) (d .loop-test .taken)
+    (c .before .meet .ensures ∙ ap₂ meet (c .before .before .row-of .ensures) refl))
+    (λ c. mapping-end _ _ _ (c .before .loop .inv) (c .loop-test .left)))

@@ -3,7 +3,7 @@ use mathlib.Core.Path.{ap, _∙_}
 use Rattle.model.specs.Sets.{maxStates, Set, tabulate}
 use Rattle.model.specs.Tables.{coverOf}
 use Rattle.rounds.specs.Steps.{covers}
-use Rattle.rounds.proofs.Loops.{tabulate-const}
+use Rattle.model.proofs.Bounds.{tabulate-const}
 use Rattle.rounds.proofs.no_groups.Statement.{statement}
 use Rattle.rounds.proofs.no_groups.Tie as tie
 

@@ -2,12 +2,10 @@
 use mathlib.Core.Path.{ap, _∙_}
 use borrow.Author.Needs.{needs}
 use Rattle.model.specs.Sets.{Set, union, subset}
-use Rattle.rounds.specs.Steps.{successorsBy}
 use Rattle.rounds.proofs.stays_inside.Statement.{statement}
 use Rattle.rounds.proofs.stays_inside.Tie as tie
 
 pub stays-inside-spec : {M : Type 1} → statement M
-unfolding successorsBy
 stays-inside-spec =
     tie.close
     (tie.spec

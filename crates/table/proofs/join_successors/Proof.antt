@@ -12,6 +12,7 @@ use Rattle.state_set.specs.WordSets.{wordSet}
 use Rattle.state_set.proofs.Words.{proper}
 use Rattle.state_set.proofs.Counts.{bits-fit, states-fit}
 use Rattle.state_set.proofs.WordSets.{word-lowest, word-rest, word-less, word-none}
+use Rattle.table.specs.Rows.{successorsBy}
 use Rattle.table.proofs.join_successors.Statement.{statement}
 use Rattle.table.proofs.join_successors.Tie as tie
 
@@ -24,6 +25,7 @@ abbrev μ-loop : tie.MeasureT-loop
 μ-loop store w bits joined₀ rest₀ joined rest = rest
 
 pub join-successors-spec : {M : Type 1} → statement M
+unfolding successorsBy
 join-successors-spec =
     tie.close
     (tie.spec

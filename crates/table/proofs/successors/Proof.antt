@@ -7,6 +7,7 @@ use Rattle.model.specs.Stores.{rowAt, setAt}
 use Rattle.state_set.specs.WordSets.{wordsBelow}
 use Rattle.state_set.proofs.Words.{proper}
 use Rattle.table.proofs.Laws.{join-start, join-word, join-all}
+use Rattle.table.specs.Rows.{successorsBy}
 use Rattle.table.proofs.successors.Statement.{statement}
 use Rattle.table.proofs.successors.Tie as tie
 
@@ -17,6 +18,7 @@ abbrev μ-loop : tie.MeasureT-loop
 μ-loop store x found₀ w₀ found w = WORDS - w
 
 pub successors-spec : {M : Type 1} → statement M
+unfolding successorsBy
 successors-spec =
     tie.close
     (tie.spec

@@ -5,10 +5,10 @@ use borrow.Author.Needs.{needs}
 use Rattle.model.specs.Sets.{WORDS}
 use Rattle.state_set.specs.WordSets.{wordsBelow}
 use Rattle.state_set.proofs.Words.{proper}
-use Rattle.rounds.specs.Steps.{keptBy}
-use Rattle.rounds.proofs.Loops.{kept-start, kept-word, kept-all}
-use Rattle.rounds.proofs.kept.Statement.{statement}
-use Rattle.rounds.proofs.kept.Tie as tie
+use Rattle.table.specs.Rows.{keptBy}
+use Rattle.table.proofs.Hold.{kept-start, kept-word, kept-all}
+use Rattle.table.proofs.kept.Statement.{statement}
+use Rattle.table.proofs.kept.Tie as tie
 
 abbrev Inv-loop : tie.InvT-loop
 Inv-loop store y x kept₀ w₀ kept w = (w ≤ WORDS) × (kept .words ≡ keptBy store (wordsBelow w (x .words)) (y .words))

@@ -12,10 +12,10 @@ use Rattle.state_set.specs.WordSets.{wordSet}
 use Rattle.state_set.proofs.Words.{proper}
 use Rattle.state_set.proofs.Counts.{bits-fit, states-fit}
 use Rattle.state_set.proofs.WordSets.{word-lowest, word-rest, word-less, word-none}
-use Rattle.rounds.specs.Steps.{keptBy}
-use Rattle.rounds.proofs.Loops.{passed-take, passed-skip, held, kept-is}
-use Rattle.rounds.proofs.keep_word.Statement.{statement}
-use Rattle.rounds.proofs.keep_word.Tie as tie
+use Rattle.table.specs.Rows.{keptBy}
+use Rattle.table.proofs.Hold.{passed-take, passed-skip, held, kept-is}
+use Rattle.table.proofs.keep_word.Statement.{statement}
+use Rattle.table.proofs.keep_word.Tie as tie
 
 abbrev Inv-loop : tie.InvT-loop
 Inv-loop store w bits y kept₀ rest₀ kept rest =

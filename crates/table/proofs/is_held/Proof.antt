@@ -2,8 +2,8 @@
 use mathlib.Core.Path.{ap, _∙_}
 use borrow.Author.Needs.{needs}
 use Rattle.model.specs.Sets.{Set, subset}
-use Rattle.rounds.proofs.is_held.Statement.{statement}
-use Rattle.rounds.proofs.is_held.Tie as tie
+use Rattle.table.proofs.is_held.Statement.{statement}
+use Rattle.table.proofs.is_held.Tie as tie
 
 pub is-held-spec : {M : Type 1} → statement M
 is-held-spec =

@@ -1,0 +1,50 @@
+-- `smallest_in_word`: the states passed are farther, so that what is left has the smallest of the whole.
+use Prim.Native.Nat.{_+_, _*_, _^_, _<_}
+use native.Mathlib.Omega.{arith}
+use mathlib.Core.Path.{_≡_, refl, sym, ap, _∙_}
+use borrow.Author.Needs.{needs}
+use lib.Count.{trailingZeros, trailing-le}
+use Rattle.model.proofs.SetLaws.{In, in-bound}
+use Rattle.state_set.specs.WordSets.{wordSet}
+use Rattle.state_set.proofs.Counts.{bits-fit, states-fit}
+use Rattle.state_set.proofs.WordSets.{word-lowest, word-least, word-rest, word-less, word-none}
+use Rattle.paths.specs.Search.{pickBy}
+use Rattle.paths.proofs.Scans.{pick-none, pick-skip, pick-lowest}
+use Rattle.paths.proofs.smallest_in_word.Statement.{statement}
+use Rattle.paths.proofs.smallest_in_word.Tie as tie
+
+abbrev Inv-loop : tie.InvT-loop
+Inv-loop distances w bits d rest₀ rest = (rest < 2 ^ 64) × (pickBy distances d (wordSet w rest) ≡ pickBy distances d (wordSet w bits))
+
+abbrev μ-loop : tie.MeasureT-loop
+μ-loop distances w bits d rest₀ rest = rest
+
+-- the state taken is one that is left
+taken : (c : tie.In-loop Inv-loop μ-loop) → In (wordSet (c .before .before .args .w) (c .before .loop .rest)) (64 * c .before .before .args .w + trailingZeros 64 (c .before .loop .rest))
+taken c = word-lowest _ _ (search needs) (c .before .loop .inv .0) (c .loop-test .taken)
+
+pub smallest-in-word-spec : {M : Type 1} → statement M
+smallest-in-word-spec =
+    tie.close
+    (tie.spec
+    Inv-loop
+    μ-loop
+    (λ c. (search needs, refl))
+    (λ c. search needs)
+    (λ c. bits-fit _ (trailing-le 64 _))
+    (λ c. states-fit _ _ (search needs) (trailing-le 64 _))
+    (λ c. omega (arith, in-bound (taken c)))
+    (λ c. in-bound (taken c))
+    (λ c.
+    let d = c .before .before in
+    let so = d .before .loop .inv in
+    sym (pick-lowest _ _ _ _ (taken d) (c .if1 .taken) (λ s. word-least _ _ (search needs) (so .0) (d .loop-test .taken))) ∙ so .1)
+    (λ c. search needs)
+    (λ c. word-less _ (c .before .before .loop-test .taken))
+    (λ c.
+    let d = c .before .before in
+    let so = d .before .loop .inv in (
+      omega (arith, word-less _ (d .loop-test .taken), so .0),
+      pick-skip _ _ _ _ (c .if1 .left) (word-rest _ _ (search needs) (so .0) (d .loop-test .taken)) ∙ so .1,
+    ))
+    (λ c. sym (pick-none _ _) ∙ ap (pickBy _ _) (sym (ap (wordSet _) (c .loop-test .left) ∙ word-none _)) ∙ c .before .loop .inv .1))
