@@ -37,9 +37,9 @@ use table::union_of;
 // The distance of a state from which no forbidden state can be reached.
 pub const UNREACHABLE: u16 = 65535;
 
-// The layers that are found by a look at the row of each state that is left. Tables with many steps have few layers, and most are then
-// done; for the others the rows are transposed, once, so that no row is looked at again and again.
-const LOOKS: u16 = 8;
+// The layers that are found by a look at the row of each state that is left. Tables with many steps have few layers, and are then done;
+// for the others the rows are transposed, once, so that no row is looked at again and again.
+const LOOKS: u16 = 16;
 
 // s joins the predecessors of each of its successors that `bits` has in word w.
 fn join_word(rows: &mut Rows, s: usize, w: usize, bits: u64)
