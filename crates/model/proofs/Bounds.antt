@@ -1,7 +1,8 @@
 -- Laws of tests below a bound, and of lists made by `tabulate`.
 --
 --   and-true, and-intro, or-true, or-intro     Boolean connectives as facts
---   any-find, any-intro, any-none              some number below the bound passes; none does; any-start, -turn, -end: a loop that looks for one
+--   any-find, any-intro, any-none              some number below the bound passes; none does; any-start, -turn, -end: a loop that looks for one;
+--                                              any-cong: tests that agree
 --   all-at, all-intro, all-not                 each passes; one that does not
 --   first-le, first-passes, first-least        `first` is the least that passes, else the bound; first-is, first-none: so it is that one;
 --                                              first-found, first-before: what passes at the bound, or anywhere, tells of it
@@ -137,6 +138,11 @@ module _ (p : ℕ → Bool) where
       go : (all n p ≡ true) ⊎ (all n p ≡ false) → (all n p ≡ false → (k : ℕ) × (k < n) × (p k ≡ false)) → (k : ℕ) × (k < suc n) × (p k ≡ false)
       go (inl h) ih = (n, omega arith, subst (λ (a : Bool). (a && p n) ≡ false) h e)
       go (inr h) ih = (ih h .0, omega (arith, ih h .1), ih h .2)
+
+pub any-cong : (p q : ℕ → Bool) (n : ℕ) → ((k : ℕ) → k < n → p k ≡ q k) → any n p ≡ any n q
+unfolding any
+any-cong p q zero e = refl
+any-cong p q (suc n) e = ap₂ _||_ (any-cong p q n (λ k l. e k (omega arith))) (e n (omega arith))
 
 pub first-le : (p : ℕ → Bool) (n : ℕ) → first n p ≤ n
 unfolding first

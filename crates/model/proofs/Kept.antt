@@ -4,7 +4,6 @@
 --   front                   the path at the front of a buffer, read back
 --   bufferFor               the path buffer that belongs to an answer
 --   outcome-*               a promise for each outcome of the rounds
---   table-words             a table lies in the first words of its store
 --   path-answer             the call shortest path
 --   promises, untouched     all of specs/Promises
 use Prim.Native.Nat.{ℕ, suc, _+_, _≤_, _<_}
@@ -31,8 +30,8 @@ use Rattle.model.proofs.WellFormed.{WellFormed}
 use Rattle.model.proofs.CoverLaws.{in-post, post-in, in-hold, hold-in, hold-within, in-coverOf, coverOf-in, coverOf-within, cover-add-in, cover-add-out}
 use Rattle.model.proofs.RoundLaws.{round-first, round-next, round-is, first-stop, countOf, count-backward, undecided-count, undecided-short, larger-run, safe-invariant, safe-no-path, unsafe-long, unsafe-path}
 use Rattle.model.proofs.PathLaws.{has-path, path-of, smallest-is, length-smallest}
-use Rattle.model.proofs.ListLaws.{part-front}
 use Rattle.model.proofs.CallLaws.{read-refusal}
+use Rattle.model.proofs.FirstWords.{table-words, first-words}
 use Rattle.model.proofs.Acceptance.{accepted-store, well-formed, Check, check-of}
 
 -- ---- the operations
@@ -75,17 +74,18 @@ abbrev bufferFor : Table → Decision → List ℕ → List ℕ
 bufferFor t a path = cond (eqb (a .verdict) 1) (overwrite (smallestPath t) path) path
 
 module _ (t : Table) (allowance : ℕ) where
-  outcome-carries : (path : List ℕ) (o : Outcome) → run t allowance ≡ o → Carries t allowance (decisionOf t o) path (bufferFor t (decisionOf t o) path)
+  outcome-carries : WellFormed t → (path : List ℕ) (o : Outcome) → run t allowance ≡ o → Carries t allowance (decisionOf t o) path (bufferFor t (decisionOf t o) path)
   unfolding decisionOf
-  outcome-carries path (safe i X) q =
-      record { with-safe = λ e. (refl, refl, refl); with-unsafe = λ e. absurd (omega arith); with-undecided = λ e. absurd (omega arith) }
-  outcome-carries path (unsafe i) q =
+  outcome-carries w path (safe i X) q =
+      record { with-safe = λ e. (safe-invariant t allowance q, refl, refl, refl); with-unsafe = λ e. absurd (omega arith); with-undecided = λ e. absurd (omega arith) }
+  outcome-carries w path (unsafe i) q =
+      let found = unsafe-path t w allowance q in
       record {
         with-safe = λ e. absurd (omega arith);
-        with-unsafe = λ e. (refl, refl, length-smallest t, refl);
+        with-unsafe = λ e. (smallest-is w (has-path w (found .0) (found .1)), length-smallest t, refl, refl, refl);
         with-undecided = λ e. absurd (omega arith);
       }
-  outcome-carries path (undecided i) q =
+  outcome-carries w path (undecided i) q =
       record {
         with-safe = λ e. absurd (omega arith);
         with-unsafe = λ e. absurd (omega arith);
@@ -169,32 +169,6 @@ larger-stores t u e a b x y p q ea eb h d =
     subst (λ (v : Table). SameAnswer a b (bufferFor t a p) (bufferFor v b q)) e
     (larger-answer t a b x y p q ea (eb ∙ ap (λ (v : Table). decisionOf v (run v y)) (sym e)) h d)
 
--- ---- a table lies in the first words of its store
-
-module _ (store other : List ℕ) (long : storeWords ≤ length store) (long′ : storeWords ≤ length other) (e : take storeWords store ≡ take storeWords other) where
-  front-part : (xs : List ℕ) (at : ℕ) → storeWords ≤ length xs → at + WORDS ≤ storeWords → setAt xs at ≡ setAt (take storeWords xs) at
-  unfolding setAt
-  front-part xs at l h =
-      ap (λ (ys : List ℕ). take WORDS (drop at ys)) (sym (take-append-drop storeWords xs))
-      ∙ part-front (take storeWords xs) (drop storeWords xs) at WORDS (omega (arith, length-take-le storeWords xs l))
-
-  same-set-at : (at : ℕ) → at + WORDS ≤ storeWords → setAt store at ≡ setAt other at
-  same-set-at at h = front-part store at long h ∙ ap (λ (xs : List ℕ). setAt xs at) e ∙ sym (front-part other at long′ h)
-
-  table-words : (n g : ℕ) → n ≤ maxStates → g ≤ maxGroups → tableOf store n g ≡ tableOf other n g
-  unfolding tableOf
-  table-words n g small few = λ i.
-      record {
-        n = n;
-        initial = same-set-at 0 (lit≤ tt) i;
-        forbidden = same-set-at forbiddenAt (lit≤ tt) i;
-        groups = tabulate-cong _ _ g (λ j h. same-set-at (groupAt j) (omega arith)) i;
-        row = fun-ext same-row i;
-      }
-    where
-      same-row : (s : ℕ) → cond (ltb s n) (setAt store (rowAt s)) empty ≡ cond (ltb s n) (setAt other (rowAt s)) empty
-      same-row s = ⊎-elim (λ q. rw q (same-set-at (rowAt s) (omega (arith, ltb-true s n q)))) (λ q. rw q) (decided (ltb s n))
-
 -- ---- the call shortest path
 
 abbrev pathFound : Table → Bool → Shortest
@@ -255,7 +229,9 @@ promises =
       answer = λ store n g allowance path ok. check store n g allowance path ok .answer;
       carries = λ store n g allowance path ok.
           let t = tableOf store n g in
-          of-answer store n g allowance path ok (λ a. Carries t allowance a path (bufferFor t a path)) (outcome-carries t allowance path _ refl);
+          let held = check store n g allowance path ok .held in
+          of-answer store n g allowance path ok (λ a. Carries t allowance a path (bufferFor t a path))
+          (outcome-carries t allowance (well-formed store n g held) path _ refl);
       demand2 = λ store n g path ok.
           let t = tableOf store n g in
           let held = check store n g release path ok .held in
@@ -265,6 +241,7 @@ promises =
           let c′ = check other n g more q ok′ in
           let tables = table-words store other (c .held .long) (c′ .held .long) same n g (c .held .small) (c .held .few) in
           larger-stores (tableOf store n g) (tableOf other n g) tables _ _ allowance more p q (c .answer) (c′ .answer);
+      first-words = first-words;
       shortest-path = path-answer;
     }
 

@@ -13,5 +13,6 @@ pub mod FileLaws
 pub mod CallLaws
 pub mod RoundTrips
 pub mod Acceptance
+pub mod FirstWords
 pub mod Kept
 pub mod Ranges

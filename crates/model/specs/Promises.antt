@@ -12,6 +12,7 @@
 --   Demand2, Demand3           the demands, of one answer; SameAnswer: of two
 --   PathAnswer                 what the call shortest path returns and leaves in the path buffer
 --   Accepted, Promises         all of it, of every table and of every accepted call
+--   FirstWords                 two stores that no call tells apart
 --   Untouched                  a call that declines leaves its buffer as it was
 use Prim.Native.Nat.{ℕ, zero, suc, _≤_, _<_}
 use mathlib.Core.Path.{_≡_}
@@ -111,10 +112,11 @@ pub record IsInvariant (t : Table) (X : Set) : Type 0 where
 -- ---- one answer: a table, the allowance, what decide returned, and the path buffer before and after
 
 pub record Carries (t : Table) (allowance : ℕ) (a : Decision) (before after : List ℕ) : Type 0 where
-  pub with-safe : a .verdict ≡ 0 → (a .size ≡ size (a .invariant)) × (a .steps ≡ 0) × (after ≡ before)
-  -- d + 1 states at the front of the buffer, and no other byte
+  pub with-safe : a .verdict ≡ 0 → IsInvariant t (a .invariant) × (a .size ≡ size (a .invariant)) × (a .steps ≡ 0) × (after ≡ before)
+  -- the path that 01 names: d + 1 states at the front of the buffer, and no other byte
   pub with-unsafe : a .verdict ≡ 1
-      → (a .invariant ≡ empty) × (a .size ≡ 0) × (length (smallestPath t) ≡ suc (a .steps)) × (after ≡ overwrite (smallestPath t) before)
+      → IsSmallest t (smallestPath t) × (length (smallestPath t) ≡ suc (a .steps)) × (after ≡ overwrite (smallestPath t) before)
+      × (a .invariant ≡ empty) × (a .size ≡ 0)
   pub with-undecided : a .verdict ≡ 2 → (a .invariant ≡ empty) × (a .size ≡ 0) × (a .steps ≡ 0) × (a .count ≡ allowance) × (after ≡ before)
 
 -- A release check.
@@ -159,6 +161,18 @@ pub record PathAnswer (t : Table) (a : Shortest) (before after : List ℕ) : Typ
 pub record Accepted (store : List ℕ) (n g allowance room : ℕ) : Type 0 where
   pub accepted : (decideAnswer store n g allowance room) .refusal ≡ 0
 
+-- What every call reads of a store: its first words. (Read is lent a store to fill; `readAnswer` is given its length alone.)
+pub record FirstWords (store other : List ℕ) : Type 0 where
+  pub decide : (n g allowance : ℕ) (path : List ℕ)
+      → (decideAnswer store n g allowance (length path) ≡ decideAnswer other n g allowance (length path))
+      × (decideBuffer store n g allowance path ≡ decideBuffer other n g allowance path)
+  pub shortest-path : (n g : ℕ) (path : List ℕ)
+      → (shortestAnswer store n g (length path) ≡ shortestAnswer other n g (length path))
+      × (shortestBuffer store n g path ≡ shortestBuffer other n g path)
+  pub write : (n g : ℕ) (output : List ℕ)
+      → (writeAnswer store n g (length output) ≡ writeAnswer other n g (length output))
+      × (writeBuffer store n g output ≡ writeBuffer other n g output)
+
 pub record Promises : Type 0 where
   -- of every table
   pub operations : (n : ℕ) (row : ℕ → Set) (L : List Set) (X : Set) → Operations n row L X
@@ -188,6 +202,9 @@ pub record Promises : Type 0 where
       → ((decideAnswer store n g allowance (length p)) .verdict ≡ 2 → ⊥)
       → SameAnswer (decideAnswer store n g allowance (length p)) (decideAnswer other n g more (length q))
       (decideBuffer store n g allowance p) (decideBuffer other n g more q)
+  -- of every call of decide, shortest path and write, on two stores that are alike in their first words: none after them is read
+  pub first-words : (store other : List ℕ) → storeWords ≤ length store → storeWords ≤ length other → take storeWords store ≡ take storeWords other
+      → FirstWords store other
   -- of every call of shortest path that is not declined
   pub shortest-path : (store : List ℕ) (n g : ℕ) (path : List ℕ)
       → (shortestAnswer store n g (length path)) .refusal ≡ 0

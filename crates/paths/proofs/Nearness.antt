@@ -17,13 +17,13 @@ use Rattle.model.specs.Sets.{maxStates, Set, any, first, tabulate, member, meet
 use Rattle.model.specs.Tables.{Table}
 use Rattle.model.specs.Paths.{reaching, unreachable, distance, shortest, hasPath, walk}
 use Rattle.model.specs.Stores.{rowAt, setAt, tableOf}
-use Rattle.model.proofs.Bounds.{and-true, and-intro, same-test, is-false, lt-or-ge, getD-tabulate, first-is, first-none, first-passes, first-least}
+use Rattle.model.proofs.Bounds.{and-true, and-intro, same-test, is-false, any-cong, lt-or-ge, getD-tabulate, first-is, first-none, first-passes, first-least}
 use Rattle.model.proofs.SetLaws.{In, in-meet, meet-in, firstStates-in, meets-in}
 use Rattle.model.proofs.WellFormed.{WellFormed}
 use Rattle.model.proofs.PathLaws.{Nearest, pick, pick-at, at-row, at-lt, reaching-at, reaching-mono, reaching-states, distance-is, distance-unreachable, distance-reaching, reaching-distance, shortest-le}
 use Rattle.model.proofs.StoreLaws.{row-is}
 use Rattle.paths.specs.Search.{leastBy, pickBy, walkBy}
-use Rattle.paths.proofs.Scans.{first-cong, any-cong}
+use Rattle.paths.proofs.Scans.{first-cong}
 
 module _ {t : Table} (ok : WellFormed t) (small : t .n ≤ maxStates) where
   -- a distance below n is that of a state so near; none is from n up

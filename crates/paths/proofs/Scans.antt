@@ -1,6 +1,6 @@
 -- Laws of leastBy and pickBy, for loops that look at each state of a set, word by word and bit by bit.
 --
---   first-cong, any-cong, first-or         tests that agree below the bound; the first that passes one test or the other
+--   first-cong, first-or                   tests that agree below the bound; the first that passes one test or the other
 --   least-none, least-keep, least-closer   the least distance: of no state, and where a state's is not smaller than the bound, or is
 --   least-start, least-word, least-all     the loop over the words
 --   pick-none, pick-skip, pick-lowest      the smallest state near enough: of no state, without one that is farther, and the least of all
@@ -30,11 +30,6 @@ first-cong p q zero e = refl
 first-cong p q (suc n) e =
     ap₂ (λ (b : Bool) (r : ℕ). cond b zero (suc r)) (e zero (suc-le-suc zero-le))
     (first-cong (λ k. p (suc k)) (λ k. q (suc k)) n (λ k l. e (suc k) (suc-le-suc l)))
-
-pub any-cong : (p q : ℕ → Bool) (n : ℕ) → ((k : ℕ) → k < n → p k ≡ q k) → any n p ≡ any n q
-unfolding any
-any-cong p q zero e = refl
-any-cong p q (suc n) e = ap₂ _||_ (any-cong p q n (λ k l. e k (omega arith))) (e n (omega arith))
 
 first-or : (p q : ℕ → Bool) (n : ℕ) → first n (λ k. p k || q k) ≡ first (first n p) q
 unfolding first

@@ -1,0 +1,129 @@
+-- The calls read the first words of a store and no other.
+--
+--   same-word, same-set-at, table-words     words, sets and the table of two stores that are alike in their first words
+--   malformed-same, grounds-same            ground 17, and the shared grounds, of both
+--   same-call                               what is made of the grounds and, where none holds, of the table, is the same
+--   first-words                             specs/Promises
+use Prim.Native.Nat.{ℕ, _+_, _*_, _≤_, _<_}
+use native.Mathlib.Omega.{arith}
+use mathlib.Core.Path.{_≡_, refl, sym, ap, ap₂, _∙_, fun-ext}
+use mathlib.Core.Logic.{⊎-elim}
+use mathlib.Core.Bool.{Bool, true, false, cond, not, _&&_, _||_}
+use mathlib.Core.List.{List, [], _∷_, _++_}
+use borrow.Author.Tests.{ltb-true, ltb-false, le-ltb, eqb-true}
+use lib.Dec.{eqb, leb, ltb, lit≤}
+use lib.ListN.{length, getD, take, drop, take-append-drop}
+use lib.Seq.{length-take-le, getD-take}
+use Rattle.model.specs.Sets.{WORDS, maxStates, Set, empty}
+use Rattle.model.specs.Tables.{Table}
+use Rattle.model.specs.Rounds.{run}
+use Rattle.model.specs.Paths.{shortest, hasPath, smallestPath}
+use Rattle.model.specs.Stores.{maxGroups, storeWords, forbiddenAt, groupAt, rowAt, setAt, tableOf, refuse, beyond, nonZero, malformed, badStates, sharedGrounds}
+use Rattle.model.specs.Files.{fileLength, fileOf}
+use Rattle.model.specs.Calls.{overwrite, Decision, decideGrounds, decisionOf, declined, decideAnswer, decideBuffer, Shortest, shortestGrounds, shortestAnswer, shortestBuffer, Written, writeGrounds, writeAnswer, writeBuffer}
+use Rattle.model.specs.Promises.{FirstWords}
+use Rattle.model.proofs.Bounds.{decided, any-cong, tabulate-cong}
+use Rattle.model.proofs.ListLaws.{part-front}
+use Rattle.model.proofs.Acceptance.{accepted-store}
+use Rattle.model.proofs.CallLaws.{states-le}
+
+nonZero-cong : (xs ys : List ℕ) (from to : ℕ) → ((i : ℕ) → i < to → getD xs i 0 ≡ getD ys i 0) → nonZero xs from to ≡ nonZero ys from to
+unfolding nonZero
+nonZero-cong xs ys from to e = any-cong _ _ to (λ i h. ap (λ (x : ℕ). leb from i && not (eqb x 0)) (e i h))
+
+module _ (store other : List ℕ) (long : storeWords ≤ length store) (long′ : storeWords ≤ length other) (e : take storeWords store ≡ take storeWords other) where
+  same-word : (i : ℕ) → i < storeWords → getD store i 0 ≡ getD other i 0
+  same-word i h =
+      sym (getD-take storeWords store i 0 h) ∙ ap (λ (xs : List ℕ). getD xs i 0) e ∙ getD-take storeWords other i 0 h
+
+  front-part : (xs : List ℕ) (at : ℕ) → storeWords ≤ length xs → at + WORDS ≤ storeWords → setAt xs at ≡ setAt (take storeWords xs) at
+  unfolding setAt
+  front-part xs at l h =
+      ap (λ (ys : List ℕ). take WORDS (drop at ys)) (sym (take-append-drop storeWords xs))
+      ∙ part-front (take storeWords xs) (drop storeWords xs) at WORDS (omega (arith, length-take-le storeWords xs l))
+
+  same-set-at : (at : ℕ) → at + WORDS ≤ storeWords → setAt store at ≡ setAt other at
+  same-set-at at h = front-part store at long h ∙ ap (λ (xs : List ℕ). setAt xs at) e ∙ sym (front-part other at long′ h)
+
+  pub table-words : (n g : ℕ) → n ≤ maxStates → g ≤ maxGroups → tableOf store n g ≡ tableOf other n g
+  unfolding tableOf
+  table-words n g small few = λ i.
+      record {
+        n = n;
+        initial = same-set-at 0 (lit≤ tt) i;
+        forbidden = same-set-at forbiddenAt (lit≤ tt) i;
+        groups = tabulate-cong _ _ g (λ j h. same-set-at (groupAt j) (omega arith)) i;
+        row = fun-ext same-row i;
+      }
+    where
+      same-row : (s : ℕ) → cond (ltb s n) (setAt store (rowAt s)) empty ≡ cond (ltb s n) (setAt other (rowAt s)) empty
+      same-row s = ⊎-elim (λ q. rw q (same-set-at (rowAt s) (omega (arith, ltb-true s n q)))) (λ q. rw q) (decided (ltb s n))
+
+  malformed-same : (n g : ℕ) → n ≤ maxStates → g ≤ maxGroups → malformed store n g ≡ malformed other n g
+  unfolding malformed
+  malformed-same n g small few =
+      ap₂ _||_
+      (ap₂ _||_
+      (ap₂ _||_
+      (ap₂ _||_
+      (ap₂ _||_ (ap (beyond n) (same-set-at 0 (lit≤ tt))) (ap (beyond n) (same-set-at forbiddenAt (lit≤ tt))))
+      (any-cong _ _ g (λ j h. ap (beyond n) (same-set-at (groupAt j) (omega arith)))))
+      (any-cong _ _ n (λ s h. ap (beyond n) (same-set-at (rowAt s) (omega arith)))))
+      (zero-same (groupAt g) (groupAt maxGroups) (lit≤ tt)))
+      (zero-same (rowAt n) storeWords (lit≤ tt))
+    where
+      zero-same : (from to : ℕ) → to ≤ storeWords → nonZero store from to ≡ nonZero other from to
+      zero-same from to l = nonZero-cong store other from to (λ i h. same-word i (omega arith))
+
+  grounds-same : (n g : ℕ) (later : List (Bool × ℕ)) → refuse (sharedGrounds store n g ++ later) ≡ refuse (sharedGrounds other n g ++ later)
+  unfolding refuse
+  grounds-same n g later =
+      rw (le-ltb (length store) storeWords long, le-ltb (length other) storeWords long′)
+      (⊎-elim
+      (λ (b : badStates n ≡ true). rw b)
+      (λ (b : badStates n ≡ false).
+      ⊎-elim
+      (λ (c : ltb maxGroups g ≡ true). rw (b, c))
+      (λ (c : ltb maxGroups g ≡ false). rw (b, c, malformed-same n g (states-le n b) (ltb-false maxGroups g c)))
+      (decided (ltb maxGroups g)))
+      (decided (badStates n)))
+
+  -- f is given the first ground that holds, and the table, which it reads only where there is none
+  same-call : {A : Type 0} (f : ℕ → Table → A) (n g : ℕ) (later : List (Bool × ℕ)) → ((k : ℕ) (t u : Table) → eqb k 0 ≡ false → f k t ≡ f k u)
+      → f (refuse (sharedGrounds store n g ++ later)) (tableOf store n g) ≡ f (refuse (sharedGrounds other n g ++ later)) (tableOf other n g)
+  same-call f n g later only =
+      let k = refuse (sharedGrounds store n g ++ later) in
+      ⊎-elim
+      (λ (q : eqb k 0 ≡ true). let held = accepted-store store n g later (eqb-true k 0 q) .0 in ap (f k) (table-words n g (held .small) (held .few)))
+      (λ (q : eqb k 0 ≡ false). only k _ _ q)
+      (decided (eqb k 0))
+      ∙ ap (λ (m : ℕ). f m (tableOf other n g)) (grounds-same n g later)
+
+  pub first-words : FirstWords store other
+  unfolding decideAnswer decideBuffer decideGrounds declined shortestAnswer shortestBuffer shortestGrounds writeAnswer writeBuffer writeGrounds
+  first-words =
+      record {
+        decide = λ n g allowance path. (
+          same-call (decided-by allowance) n g _ (λ k t u q. rw q),
+          same-call (λ k t. cond (eqb ((decided-by allowance k t) .verdict) 1) (overwrite (smallestPath t) path) path) n g _ (λ k t u q. rw q),
+        );
+        shortest-path = λ n g path. (
+          same-call found-by n g _ (λ k t u q. rw q),
+          same-call (λ k t. cond (eqb ((found-by k t) .found) 1) (overwrite (smallestPath t) path) path) n g _ (λ k t u q. rw q),
+        );
+        write = λ n g output. (
+          same-call (λ k t. written-by n g k) n g _ (λ k t u q. refl),
+          same-call (λ k t. cond (eqb ((written-by n g k) .refusal) 0) (overwrite (fileOf t) output) output) n g _ (λ k t u q. rw (q, q)),
+        );
+      }
+    where
+      decided-by : ℕ → ℕ → Table → Decision
+      decided-by allowance k t = cond (eqb k 0) (decisionOf t (run t allowance)) (declined k)
+
+      found-by : ℕ → Table → Shortest
+      found-by k t =
+          cond (eqb k 0) (cond (hasPath t) (record { refusal = 0; found = 1; steps = shortest t }) (record { refusal = 0; found = 0; steps = 0 }))
+          (record { refusal = k; found = 0; steps = 0 })
+
+      written-by : ℕ → ℕ → ℕ → Written
+      written-by n g k = cond (eqb k 0) (record { refusal = 0; length = fileLength n g }) (record { refusal = k; length = 0 })
