@@ -16,7 +16,6 @@ use Prim.Native.Nat.{ℕ, zero, suc, _+_, _*_, _-_, _/_, _%_, _^_, _≤_, _<_}
 use native.Mathlib.Nat.{le-of-eq, le-antisymm, div-add-mod}
 use native.Mathlib.Omega.{arith}
 use mathlib.Core.Path.{_≡_, refl, sym, ap, ap₂, _∙_, subst}
-use mathlib.Core.Bool.{cond}
 use mathlib.Core.List.{List, [], _∷_, _++_, append-nil}
 use borrow.Author.Tests.{lt-ltb, le-ltb, eqb-true}
 use lib.Dec.{eqb, ltb}
@@ -27,11 +26,11 @@ use Rattle.model.specs.Stores.{groupAt, rowAt, setAt, tableOf, concat, refuse, 
 use Rattle.model.specs.Files.{le16, setWidth, sets, contents, contentLength, blocksFor, fileLength, checkOf, blockOf, fileOf}
 use Rattle.model.specs.Calls.{overwrite, Written, writeGrounds, writeAnswer, writeBuffer}
 use Rattle.model.proofs.Bounds.{by-cond, length-tabulate, getD-tabulate}
-use Rattle.model.proofs.ListLaws.{getD-behind, getD-past, div-below, mod-below, length-concat, tabulate-next, concat-next, overwrite-front, overwrite-more, overwrite-set, orElse-none, orElse-fault, refuse-none, refuse-skip, refuse-take, refuse-append}
+use Rattle.model.proofs.ListLaws.{getD-behind, getD-past, div-below, mod-below, length-concat, tabulate-next, concat-next, overwrite-front, overwrite-more, overwrite-set, refuse-none, refuse-skip, refuse-take, refuse-append}
 use Rattle.model.proofs.FileLaws.{byte-number, sets-each, length-contents, contents-header, contents-set, checkOf-cong, block-unique, framed-is, blockOf-is}
 use Rattle.model.proofs.StoreLaws.{getD-setAt, row-is}
 use Rattle.model.proofs.CallLaws.{write-refusal, writable, write-answer, write-buffer}
-use Rattle.model.proofs.Acceptance.{accepted-store}
+use Rattle.model.proofs.Acceptance.{accepted-store, store-accepted}
 use Rattle.block_file.specs.Writing.{Held, placeOf, contentFrom}
 
 -- ---- a byte of a number, and of a set
@@ -238,11 +237,6 @@ module _ (store : List ℕ) (n g : ℕ) (out : List ℕ) where
   abbrev pub Wrote : Written → List ℕ → Type 0
   Wrote answer after = (answer ≡ writeAnswer store n g (length out)) × (after ≡ writeBuffer store n g out)
 
-  grounds-split : refuse (writeGrounds store n g (length out))
-      ≡ cond (eqb (refuse (sharedGrounds store n g)) 0) (refuse ((ltb (length out) (fileLength n g), 19) ∷ [])) (refuse (sharedGrounds store n g))
-  unfolding writeGrounds
-  grounds-split = refuse-append (sharedGrounds store n g) ((ltb (length out) (fileLength n g), 19) ∷ []) refl
-
   -- a ground k holds
   declined : (k : ℕ) → k ≡ refuse (writeGrounds store n g (length out)) → (k ≡ 0 → ⊥) → Wrote (record { refusal = k; length = 0 }) out
   unfolding writeAnswer writeBuffer
@@ -258,11 +252,13 @@ module _ (store : List ℕ) (n g : ℕ) (out : List ℕ) where
   -- k is the first of the grounds that the calls share, or 0
   module _ (k : ℕ) (e : k ≡ refuse (sharedGrounds store n g)) where
     pub declined-shared : (k ≡ 0 → ⊥) → Wrote (record { refusal = k; length = 0 }) out
-    declined-shared f = declined k (e ∙ sym (grounds-split ∙ orElse-fault (refuse (sharedGrounds store n g)) _ (λ z. f (e ∙ z)))) f
+    unfolding writeGrounds
+    declined-shared f = declined k (refuse-append (sharedGrounds store n g) _ e f) f
 
     module _ (z : k ≡ 0) where
       room-left : refuse (writeGrounds store n g (length out)) ≡ refuse ((ltb (length out) (fileLength n g), 19) ∷ [])
-      room-left = grounds-split ∙ orElse-none (refuse (sharedGrounds store n g)) _ (sym e ∙ z)
+      unfolding writeGrounds
+      room-left = store-accepted store n g _ (accepted-store store n g [] (sym e ∙ z) .0)
 
       pub declined-room : (blocks : ℕ) → blocks ≡ blocksFor (contentLength n g) → length out < 512 * blocks → Wrote (record { refusal = 19; length = 0 }) out
       declined-room blocks b h = declined 19 (sym (room-left ∙ refuse-take _ 19 _ (lt-ltb (length out) (fileLength n g) (omega arith)))) (λ x. omega arith)

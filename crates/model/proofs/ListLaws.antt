@@ -16,7 +16,7 @@
 --   refuse-none, refuse-skip, refuse-take     no ground is left; one that does not hold; one that does
 --   Clear, numbered                           no ground of a list holds; none of its numbers is 0
 --   refuse-clear, clear-refuse                nothing is refused exactly if no ground holds
---   refuse-append                             the grounds of two lists
+--   refuse-append                             a ground that holds decides, whatever grounds come after
 --   firstFault-clear, clear-firstFault        there is no fault exactly if no place has one
 --   firstFault-next, firstFault-stop          a loop goes on past a place, or returns its fault
 use Prim.Native.Nat.{ℕ, zero, suc, _+_, _*_, _-_, _/_, _%_, _≤_, _<_}
@@ -34,7 +34,7 @@ use lib.Seq.{take-all, take-at, drop-at, take-append-le, drop-append-le, getD-ap
 use Rattle.model.specs.Sets.{tabulate}
 use Rattle.model.specs.Stores.{concat, refuse}
 use Rattle.model.specs.Calls.{overwrite, firstFault}
-use Rattle.model.proofs.Bounds.{and-true, not-true, by-cond, decided, below-suc}
+use Rattle.model.proofs.Bounds.{and-true, not-true, by-cond, below-suc}
 
 -- ---- the part of w elements from `at` on
 
@@ -225,15 +225,11 @@ unfolding refuse
 clear-refuse [] c = refl
 clear-refuse (ground ∷ later) c = rw (c .0) (clear-refuse later (c .1))
 
-pub refuse-append : (xs ys : List (Bool × ℕ)) → numbered xs ≡ true → refuse (xs ++ ys) ≡ cond (eqb (refuse xs) 0) (refuse ys) (refuse xs)
+pub refuse-append : (xs ys : List (Bool × ℕ)) {k : ℕ} → k ≡ refuse xs → (k ≡ 0 → ⊥) → k ≡ refuse (xs ++ ys)
 unfolding refuse
-refuse-append [] ys m = refl
-refuse-append (ground ∷ later) ys m =
-    let parts = and-true (not (eqb (ground .1) 0)) (numbered later) m in
-    ⊎-elim
-    (λ t. rw t (sym (orElse-fault (ground .1) (refuse ys) (eqb-false (ground .1) 0 (not-true (eqb (ground .1) 0) (parts .0))))))
-    (λ t. rw t (refuse-append later ys (parts .1)))
-    (decided (ground .0))
+refuse-append [] ys e f = absurd (f e)
+refuse-append ((true, k) ∷ xs) ys e f = e
+refuse-append ((false, k) ∷ xs) ys e f = refuse-append xs ys e f
 
 -- ---- the first fault
 

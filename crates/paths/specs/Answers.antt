@@ -2,8 +2,9 @@
 --
 --   foundIn t, pathWritten t path     find_path: the steps of a shortest path, and the buffer with the path at its front
 --   shortestOf                        01's numbers for each case of the call's answer
+--   isRefused                         the case in which the call is declined
 use Prim.Native.Nat.{ℕ}
-use mathlib.Core.Bool.{cond}
+use mathlib.Core.Bool.{Bool, true, false, cond}
 use mathlib.Core.List.{List}
 use Rattle.model.specs.Tables.{Table}
 use Rattle.model.specs.Paths.{shortest, hasPath, smallestPath}
@@ -19,7 +20,13 @@ foundIn t = cond (hasPath t) (Steps (shortest t)) Nothing
 unfoldable pub pathWritten : Table → List ℕ → List ℕ
 pathWritten t path = cond (hasPath t) (overwrite (smallestPath t) path) path
 
-unfoldable pub shortestOf : Shortest → Answer
+abbrev pub shortestOf : Shortest → Answer
 shortestOf (PathOf steps) = record { refusal = 0; found = 1; steps = steps }
 shortestOf NoPath = record { refusal = 0; found = 0; steps = 0 }
 shortestOf (Refused k) = record { refusal = k; found = 0; steps = 0 }
+
+-- NoPath and a refusal numbered 0 would have the same numbers: this tells them apart.
+abbrev pub isRefused : Shortest → Bool
+isRefused (PathOf steps) = false
+isRefused NoPath = false
+isRefused (Refused k) = true

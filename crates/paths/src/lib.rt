@@ -10,7 +10,9 @@
 //
 // Functions below the call ask for a store that holds a table; the call asks for nothing.
 ghost use mathlib.Core.Path.{_≡_};
+ghost use mathlib.Core.Bool.{not};
 ghost use Prim.Native.Nat.{_≤_, _<_};
+ghost use lib.Dec.{eqb};
 ghost use lib.ListN.{length};
 ghost use lib.Seq.{sets};
 ghost use mathlib.Core.List.{[]};
@@ -21,7 +23,7 @@ ghost use Rattle.model.specs.Calls.{shortestAnswer, shortestBuffer};
 ghost use Rattle.state_set.specs.WordSets.{wordSet};
 ghost use Rattle.table.specs.Rows.{mapAt};
 ghost use Rattle.paths.specs.Search.{HoldsTable, predecessorRows, Swept, leastBy, pickBy, walkBy, Writable};
-ghost use Rattle.paths.specs.Answers.{foundIn, pathWritten, shortestOf};
+ghost use Rattle.paths.specs.Answers.{foundIn, pathWritten, shortestOf, isRefused};
 use state_set::StateSet;
 use state_set::WORDS;
 use table::FORBIDDEN_AT;
@@ -255,7 +257,8 @@ pub enum Shortest {
 
 pub fn shortest_path(store: &[u64], n: usize, g: usize, path: &mut [u8]) -> Shortest
     ensures { λ r. ⌜ (shortestOf r ≡ shortestAnswer (now (store .entry)) n g (length (now (path .entry))))
-        × (now (path .exit) ≡ shortestBuffer (now (store .entry)) n g (now (path .entry))) ⌝ }
+        × (now (path .exit) ≡ shortestBuffer (now (store .entry)) n g (now (path .entry)))
+        × (isRefused r ≡ not (eqb ((shortestAnswer (now (store .entry)) n g (length (now (path .entry)))) .refusal) 0)) ⌝ }
 {
     let refused = refusal(store, n, g);
     if refused != 0 {

@@ -4,8 +4,8 @@
 --   refuse-20, refuse-21, refuse-none          where no ground holds that the calls share, those that decide adds do
 use Prim.Native.Nat.{ℕ, _≤_, _<_}
 use mathlib.Core.Path.{_≡_, refl, sym, ap, ap₂, _∙_, subst}
-use mathlib.Core.Bool.{Bool, true, false, cond}
-use mathlib.Core.List.{List, [], _∷_, _++_}
+use mathlib.Core.Bool.{Bool, true, not, cond}
+use mathlib.Core.List.{List, [], _∷_}
 use borrow.Author.Tests.{ne-eqb, lt-ltb, le-ltb, ltb-false}
 use lib.Dec.{eqb, ltb, lit<}
 use lib.ListN.{length}
@@ -14,6 +14,7 @@ use Rattle.model.specs.Rounds.{Outcome, safe, unsafe, undecided, run}
 use Rattle.model.specs.Paths.{shortest, hasPath, smallestPath}
 use Rattle.model.specs.Stores.{tableOf, refuse, sharedGrounds}
 use Rattle.model.specs.Calls.{overwrite, maxAllowance, Decision as Answer, decideGrounds, decisionOf, declined, decideAnswer, decideBuffer}
+use Rattle.model.proofs.ListLaws.{refuse-append}
 use Rattle.model.proofs.Acceptance.{cond-zero, Store, accepted-store, store-accepted, well-formed}
 use Rattle.model.proofs.RoundLaws.{unsafe-path}
 use Rattle.model.proofs.PathLaws.{has-path}
@@ -22,21 +23,16 @@ use Rattle.paths.specs.Answers.{foundIn, pathWritten}
 use Rattle.paths.proofs.Groups.{shortest-groups, hasPath-groups, smallestPath-groups}
 use Rattle.rounds.specs.declared.Ending.{Ending}
 use Rattle.rounds.specs.declared.Ended.{Ended}
+use Rattle.rounds.specs.declared.Verdict.{Verdict}
 use Rattle.rounds.specs.declared.Verdict.the-variants.{Safe, Unsafe, Undecided, Refused}
-use Rattle.rounds.specs.Answers.{endsWith, outcomeOf, invariantOf, stepsIn, answersWith}
+use Rattle.rounds.specs.Answers.{endsWith, outcomeOf, invariantOf, stepsIn, answersWith, isRefused}
 
 -- ---- refusals
-
-refuse-append : (xs ys : List (Bool × ℕ)) → (refuse xs ≡ 0 → ⊥) → refuse (xs ++ ys) ≡ refuse xs
-unfolding refuse
-refuse-append [] ys f = absurd (f refl)
-refuse-append ((true, k) ∷ xs) ys f = refl
-refuse-append ((false, k) ∷ xs) ys f = refuse-append xs ys f
 
 pub refuse-shared : (store : List ℕ) (n g allowance room : ℕ) {k : ℕ} → k ≡ refuse (sharedGrounds store n g) → (k ≡ 0 → ⊥)
     → k ≡ refuse (decideGrounds store n g allowance room)
 unfolding decideGrounds
-refuse-shared store n g allowance room e f = e ∙ sym (refuse-append (sharedGrounds store n g) _ (λ z. f (e ∙ z)))
+refuse-shared store n g allowance room e f = refuse-append (sharedGrounds store n g) _ e f
 
 -- the grounds that decide adds, which decide where no shared ground holds
 abbrev later : ℕ → ℕ → List (Bool × ℕ)
@@ -77,15 +73,23 @@ ended-is {r} {o} x q both =
     subst (λ (y : Ending). (endsWith y (r .invariant .words) ≡ o) × (r .invariant .words ≡ invariantOf (endsWith y (r .invariant .words)))) q both
 
 module _ (store : List ℕ) (n g allowance : ℕ) (path : List ℕ) where
-  -- the answer of a check, and what it leaves in the buffer
-  abbrev pub Answered : Answer → List ℕ → Type 0
-  Answered a after = (a ≡ decideAnswer store n g allowance (length path)) × (after ≡ decideBuffer store n g allowance path)
+  -- the verdict v of a check, the invariant X beside it, and what is left in the buffer
+  abbrev pub Answered : Verdict → Set → List ℕ → Type 0
+  Answered v X after =
+      (answersWith v X ≡ decideAnswer store n g allowance (length path))
+      × (after ≡ decideBuffer store n g allowance path)
+      × (isRefused v ≡ not (eqb ((decideAnswer store n g allowance (length path)) .refusal) 0))
 
-  -- the buffer follows from the answer
-  answered : {a : Answer} → a ≡ decideAnswer store n g allowance (length path)
-      → Answered a (cond (eqb (a .verdict) 1) (overwrite (smallestPath (tableOf store n g)) path) path)
+  -- the buffer and the case follow from the numbers
+  answered : (v : Verdict) (X : Set) → answersWith v X ≡ decideAnswer store n g allowance (length path)
+      → isRefused v ≡ not (eqb ((answersWith v X) .refusal) 0)
+      → Answered v X (cond (eqb ((answersWith v X) .verdict) 1) (overwrite (smallestPath (tableOf store n g)) path) path)
   unfolding decideBuffer
-  answered q = (q, ap (λ (b : Answer). cond (eqb (b .verdict) 1) (overwrite (smallestPath (tableOf store n g)) path) path) q)
+  answered v X q c = (
+    q,
+    ap (λ (a : Answer). cond (eqb (a .verdict) 1) (overwrite (smallestPath (tableOf store n g)) path) path) q,
+    c ∙ ap (λ (a : Answer). not (eqb (a .refusal) 0)) q,
+  )
 
   -- k is the ground on which the call is declined, or 0
   module _ {k : ℕ} (e : k ≡ refuse (decideGrounds store n g allowance (length path))) where
@@ -93,21 +97,22 @@ module _ (store : List ℕ) (n g allowance : ℕ) (path : List ℕ) where
     unfolding decideAnswer
     answer-is = ap (λ (j : ℕ). cond (eqb j 0) (decisionOf (tableOf store n g) (run (tableOf store n g) allowance)) (declined j)) e
 
-    pub refused-answer : {X : Set} → (k ≡ 0 → ⊥) → X ≡ empty → Answered (answersWith (Refused k) X) path
+    pub refused-answer : {X : Set} → (k ≡ 0 → ⊥) → X ≡ empty → Answered (Refused k) X path
     unfolding declined
-    refused-answer f x = answered (ap (answersWith (Refused k)) x ∙ (rw (ne-eqb k 0 f) at answer-is))
+    refused-answer f x =
+        answered (Refused k) _ (ap (answersWith (Refused k)) x ∙ (rw (ne-eqb k 0 f) at answer-is)) (sym (ap not (ne-eqb k 0 f)))
 
     module _ (z : k ≡ 0) where
       decided-answer : {o : Outcome} → o ≡ run (tableOf store n g) allowance → decisionOf (tableOf store n g) o ≡ decideAnswer store n g allowance (length path)
       decided-answer q = ap (decisionOf (tableOf store n g)) q ∙ (rw z at answer-is)
 
-      pub safe-answer : {i m : ℕ} {X : Set} → safe i X ≡ run (tableOf store n g) allowance → m ≡ size X → Answered (answersWith (Safe i m) X) path
+      pub safe-answer : {i m : ℕ} {X : Set} → safe i X ≡ run (tableOf store n g) allowance → m ≡ size X → Answered (Safe i m) X path
       unfolding decisionOf
-      safe-answer {i} {X = X} q h = answered (ap (λ (m : ℕ). answersWith (Safe i m) X) h ∙ decided-answer q)
+      safe-answer {i} {X = X} q h = answered (Safe i _) X (ap (λ (m : ℕ). answersWith (Safe i m) X) h ∙ decided-answer q) refl
 
-      pub undecided-answer : {i : ℕ} {X : Set} → undecided i ≡ run (tableOf store n g) allowance → X ≡ empty → Answered (answersWith (Undecided i) X) path
+      pub undecided-answer : {i : ℕ} {X : Set} → undecided i ≡ run (tableOf store n g) allowance → X ≡ empty → Answered (Undecided i) X path
       unfolding decisionOf
-      undecided-answer {i} q x = answered (ap (answersWith (Undecided i)) x ∙ decided-answer q)
+      undecided-answer {i} q x = answered (Undecided i) _ (ap (answersWith (Undecided i)) x ∙ decided-answer q) refl
 
       -- an unsafe check has a path, and finds it
       path-found : {i : ℕ} → unsafe i ≡ run (tableOf store n g) allowance → hasPath (tableOf store n 0) ≡ true
@@ -118,10 +123,10 @@ module _ (store : List ℕ) (n g allowance : ℕ) (path : List ℕ) where
 
       pub unsafe-answer : {i d : ℕ} {X : Set} {found : Found} {after : List ℕ} → unsafe i ≡ run (tableOf store n g) allowance → X ≡ empty
           → found ≡ foundIn (tableOf store n 0) → after ≡ pathWritten (tableOf store n 0) path → d ≡ stepsIn found
-          → Answered (answersWith (Unsafe i d) X) after
+          → Answered (Unsafe i d) X after
       unfolding decisionOf foundIn pathWritten
       unsafe-answer {i} {d} q x f w h =
           let p = path-found q in
           let steps : d ≡ shortest (tableOf store n g) = rw (h, f, foundIn, p, shortest-groups store n g) in
-          let both = answered (ap₂ (λ (m : ℕ) (X : Set). answersWith (Unsafe i m) X) steps x ∙ decided-answer q) in
-          (both .0, rw (w, pathWritten, p, ← smallestPath-groups store n g) (both .1))
+          let both = answered (Unsafe i d) _ (ap₂ (λ (m : ℕ) (X : Set). answersWith (Unsafe i m) X) steps x ∙ decided-answer q) refl in
+          (both .0, rw (w, pathWritten, p, ← smallestPath-groups store n g) (both .1), both .2)

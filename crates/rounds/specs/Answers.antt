@@ -3,7 +3,9 @@
 --   outcomeOf r       how the rounds ended, as the model's outcome
 --   invariantOf o     the invariant that goes with an outcome: R where it is safe, and the empty set where it is not
 --   answerOf r        what decide answers, in 01's numbers for each of its cases
+--   isRefused v       the case in which decide is declined
 use Prim.Native.Nat.{ℕ}
+use mathlib.Core.Bool.{Bool, true, false}
 use Rattle.model.specs.Sets.{Set, empty}
 use Rattle.model.specs.Rounds.{Outcome, safe, unsafe, undecided}
 use Rattle.model.specs.Calls.{Decision as Answer}
@@ -42,3 +44,10 @@ answersWith (Refused k) R = record { refusal = k; verdict = 0; count = 0; invari
 
 abbrev pub answerOf : Decision → Answer
 answerOf r = answersWith (r .verdict) (r .invariant .words)
+
+-- Safe with count and size 0 and a refusal numbered 0 would have the same numbers: this tells them apart.
+abbrev pub isRefused : Verdict → Bool
+isRefused (Safe i k) = false
+isRefused (Unsafe i d) = false
+isRefused (Undecided i) = false
+isRefused (Refused k) = true

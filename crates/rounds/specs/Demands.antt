@@ -4,17 +4,20 @@
 --   Demands        what holds of every call that is not declined, of every two of them, and of every one that is
 use Prim.Native.Nat.{ℕ, _≤_}
 use mathlib.Core.Path.{_≡_}
+use mathlib.Core.Bool.{not}
 use mathlib.Core.List.{List}
+use lib.Dec.{eqb}
 use lib.ListN.{length, take}
 use Rattle.model.specs.Stores.{storeWords, tableOf}
 use Rattle.model.specs.Calls.{release, decideAnswer, decideBuffer}
 use Rattle.model.specs.Promises.{Carries, Demand2, Demand3, SameAnswer}
 use Rattle.rounds.specs.declared.Decision.{Decision}
-use Rattle.rounds.specs.Answers.{answerOf}
+use Rattle.rounds.specs.Answers.{answerOf, isRefused}
 
 pub record Called (store : List ℕ) (n g allowance : ℕ) (before : List ℕ) (r : Decision) (after : List ℕ) : Type 0 where
   pub answer : answerOf r ≡ decideAnswer store n g allowance (length before)
   pub buffer : after ≡ decideBuffer store n g allowance before
+  pub refused : isRefused (r .verdict) ≡ not (eqb ((decideAnswer store n g allowance (length before)) .refusal) 0)
 
 pub record Demands : Type 0 where
   pub declined : (store : List ℕ) (n g allowance : ℕ) (before : List ℕ) (r : Decision) (after : List ℕ)

@@ -7,8 +7,10 @@
 //   run                                 the rounds
 //   decide                              the call
 ghost use mathlib.Core.Path.{_≡_};
+ghost use mathlib.Core.Bool.{not};
 ghost use mathlib.Core.List.{[]};
 ghost use Prim.Native.Nat.{_≤_, _<_};
+ghost use lib.Dec.{eqb};
 ghost use lib.ListN.{length};
 ghost use Rattle.model.specs.Sets.{WORDS, empty, union, meet, subset, firstStates};
 ghost use Rattle.state_set.specs.WordSets.{wordSet};
@@ -18,7 +20,7 @@ ghost use Rattle.model.specs.Stores.{storeWords, maxGroups, forbiddenAt, setAt,
 ghost use Rattle.model.specs.Calls.{decideGrounds, decideAnswer, decideBuffer};
 ghost use Rattle.table.specs.Rows.{successorsBy, mapAt};
 ghost use Rattle.rounds.specs.Steps.{covers, narrowed, forwardBy, backwardBy};
-ghost use Rattle.rounds.specs.Answers.{outcomeOf, invariantOf, answerOf, stepsIn};
+ghost use Rattle.rounds.specs.Answers.{outcomeOf, invariantOf, answerOf, isRefused, stepsIn};
 use paths::Found;
 use paths::find_path;
 use state_set::StateSet;
@@ -248,7 +250,8 @@ fn steps_of(found: Found) -> usize
 
 pub fn decide(store: &[u64], n: usize, g: usize, allowance: usize, path: &mut [u8]) -> Decision
     ensures { λ r. ⌜ (answerOf r ≡ decideAnswer (now (store .entry)) n g allowance (length (now (path .entry))))
-        × (now (path .exit) ≡ decideBuffer (now (store .entry)) n g allowance (now (path .entry))) ⌝ }
+        × (now (path .exit) ≡ decideBuffer (now (store .entry)) n g allowance (now (path .entry)))
+        × (isRefused (r .verdict) ≡ not (eqb ((decideAnswer (now (store .entry)) n g allowance (length (now (path .entry)))) .refusal) 0)) ⌝ }
 {
     let refused = decide_refusal(store, n, g, allowance, path.len());
     if refused != 0 {

@@ -7,7 +7,6 @@ use Rattle.shuntberry.proofs.lay_out_shortest.Statement.{statement}
 use Rattle.shuntberry.proofs.lay_out_shortest.Tie as tie
 
 pub lay-out-shortest-spec : {M : Type 1} → statement M
-unfolding shortestOf
 lay-out-shortest-spec =
     tie.close
     (tie.spec
