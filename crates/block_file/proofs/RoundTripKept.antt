@@ -6,9 +6,10 @@ use lib.ListN.{length, take}
 use Rattle.model.specs.Calls.{readAnswer, readBuffer, writeAnswer, writeBuffer}
 use Rattle.model.specs.Calls.{TableRead as ReadNumbers, Written as WriteNumbers}
 use Rattle.model.proofs.RoundTrips.{round-trips}
+use Rattle.model.proofs.Kept.{untouched}
 use Rattle.block_file.specs.Answers.{writtenOf}
 use Rattle.block_file.specs.ReadAnswers.{readOf}
-use Rattle.block_file.specs.RoundTripCalls.{CalledWrite, CalledRead, CallsRoundTrip}
+use Rattle.block_file.specs.RoundTripCalls.{CalledWrite, CalledRead, CallsRoundTrip, CallsDeclined}
 
 pub calls-round-trip : CallsRoundTrip
 calls-round-trip =
@@ -25,4 +26,11 @@ calls-round-trip =
             cw .answer ∙ ap₂ (λ (xs : List ℕ) (a : ReadNumbers). writeAnswer xs (a .n) (a .g) (length out)) (cr .buffer) (cr .answer) ∙ back .answer,
             cw .buffer ∙ ap₂ (λ (xs : List ℕ) (a : ReadNumbers). writeBuffer xs (a .n) (a .g) out) (cr .buffer) (cr .answer) ∙ back .buffer,
           );
+    }
+
+pub calls-declined : CallsDeclined
+calls-declined =
+    record {
+      read = λ input store r store′ c f. c .buffer ∙ untouched .read input store (λ e. f (ap (λ (a : ReadNumbers). a .refusal) (c .answer) ∙ e));
+      write = λ store n g out w out′ c f. c .buffer ∙ untouched .write store n g out (λ e. f (ap (λ (a : WriteNumbers). a .refusal) (c .answer) ∙ e));
     }

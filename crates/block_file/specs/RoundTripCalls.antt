@@ -2,6 +2,7 @@
 --
 --   CalledWrite, CalledRead     a call and what it gave, as its contract has it
 --   CallsRoundTrip              what write wrote, read gives back; what read accepted, write gives back
+--   CallsDeclined               a call that declines leaves its buffer as it was
 use Prim.Native.Nat.{ℕ, _^_, _≤_}
 use mathlib.Core.Path.{_≡_}
 use mathlib.Core.List.{List}
@@ -33,3 +34,8 @@ pub record CallsRoundTrip : Type 0 where
       → CalledRead input store r store′ → (readOf r) .refusal ≡ 0 → Bounded 256 input
       → CalledWrite store′ ((readOf r) .n) ((readOf r) .g) out w out′ → length input ≤ length out
       → (writtenOf w ≡ record { refusal = 0; length = length input }) × (out′ ≡ overwrite input out)
+
+pub record CallsDeclined : Type 0 where
+  pub read : (input store : List ℕ) (r : TableRead) (store′ : List ℕ) → CalledRead input store r store′ → ((readOf r) .refusal ≡ 0 → ⊥) → store′ ≡ store
+  pub write : (store : List ℕ) (n g : ℕ) (out : List ℕ) (w : Written) (out′ : List ℕ)
+      → CalledWrite store n g out w out′ → ((writtenOf w) .refusal ≡ 0 → ⊥) → out′ ≡ out

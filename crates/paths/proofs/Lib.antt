@@ -6,3 +6,4 @@ pub mod Nearness
 pub mod Find
 pub mod Groups
 pub mod Answers
+pub mod DemandsKept

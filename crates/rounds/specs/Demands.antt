@@ -4,12 +4,13 @@
 --   Demands        what holds of every call that is not declined, of every two of them, and of every one that is
 use Prim.Native.Nat.{ℕ, _≤_}
 use mathlib.Core.Path.{_≡_}
-use mathlib.Core.Bool.{not}
+use mathlib.Core.Bool.{true, false, not}
 use mathlib.Core.List.{List}
 use lib.Dec.{eqb}
 use lib.ListN.{length, take}
 use Rattle.model.specs.Stores.{storeWords, tableOf}
-use Rattle.model.specs.Calls.{release, decideAnswer, decideBuffer}
+use Rattle.model.specs.Rounds.{run}
+use Rattle.model.specs.Calls.{release, decisionOf, decideAnswer, decideBuffer}
 use Rattle.model.specs.Promises.{Carries, Demand2, Demand3, SameAnswer}
 use Rattle.rounds.specs.declared.Decision.{Decision}
 use Rattle.rounds.specs.Answers.{answerOf, isRefused}
@@ -19,19 +20,24 @@ pub record Called (store : List ℕ) (n g allowance : ℕ) (before : List ℕ) (
   pub buffer : after ≡ decideBuffer store n g allowance before
   pub refused : isRefused (r .verdict) ≡ not (eqb ((decideAnswer store n g allowance (length before)) .refusal) 0)
 
+-- (`isRefused (r .verdict)` says whether the call was declined.)
 pub record Demands : Type 0 where
   pub declined : (store : List ℕ) (n g allowance : ℕ) (before : List ℕ) (r : Decision) (after : List ℕ)
-      → Called store n g allowance before r after → ((answerOf r) .refusal ≡ 0 → ⊥) → after ≡ before
+      → Called store n g allowance before r after → isRefused (r .verdict) ≡ true → after ≡ before
+  -- verdict, count, invariant and d are those of the rounds
+  pub answer : (store : List ℕ) (n g allowance : ℕ) (before : List ℕ) (r : Decision) (after : List ℕ)
+      → Called store n g allowance before r after → isRefused (r .verdict) ≡ false
+      → answerOf r ≡ decisionOf (tableOf store n g) (run (tableOf store n g) allowance)
   pub carries : (store : List ℕ) (n g allowance : ℕ) (before : List ℕ) (r : Decision) (after : List ℕ)
-      → Called store n g allowance before r after → (answerOf r) .refusal ≡ 0 → Carries (tableOf store n g) allowance (answerOf r) before after
+      → Called store n g allowance before r after → isRefused (r .verdict) ≡ false → Carries (tableOf store n g) allowance (answerOf r) before after
   -- a release check
   pub demand2 : (store : List ℕ) (n g : ℕ) (before : List ℕ) (r : Decision) (after : List ℕ)
-      → Called store n g release before r after → (answerOf r) .refusal ≡ 0 → Demand2 (tableOf store n g) (answerOf r) after
+      → Called store n g release before r after → isRefused (r .verdict) ≡ false → Demand2 (tableOf store n g) (answerOf r) after
   pub demand3 : (store : List ℕ) (n g allowance : ℕ) (before : List ℕ) (r : Decision) (after : List ℕ)
-      → Called store n g allowance before r after → (answerOf r) .refusal ≡ 0 → Demand3 (tableOf store n g) allowance (answerOf r)
+      → Called store n g allowance before r after → isRefused (r .verdict) ≡ false → Demand3 (tableOf store n g) allowance (answerOf r)
   -- two checks of one table, which lies in the first words of both stores: a larger allowance never changes a verdict given
   pub larger : (store other : List ℕ) (n g allowance more : ℕ) (p q : List ℕ) (r s : Decision) (after-r after-s : List ℕ)
       → Called store n g allowance p r after-r → Called other n g more q s after-s
-      → (answerOf r) .refusal ≡ 0 → (answerOf s) .refusal ≡ 0
+      → isRefused (r .verdict) ≡ false → isRefused (s .verdict) ≡ false
       → take storeWords store ≡ take storeWords other → allowance ≤ more → ((answerOf r) .verdict ≡ 2 → ⊥)
       → SameAnswer (answerOf r) (answerOf s) after-r after-s

@@ -1,0 +1,17 @@
+-- The demands of the call: the model's promises, by the contract of shortest_path.
+use mathlib.Core.Path.{sym, _∙_, subst₂}
+use borrow.Author.Tests.{not-false, eqb-true, eqb-false}
+use Rattle.model.specs.Stores.{tableOf}
+use Rattle.model.specs.Promises.{PathAnswer}
+use Rattle.model.proofs.Bounds.{not-true}
+use Rattle.model.proofs.Kept.{promises, untouched}
+use Rattle.paths.specs.Demands.{Demands}
+
+pub demands : Demands
+demands =
+    record {
+      declined = λ store n g before r after c f. c .buffer ∙ untouched .shortest-path store n g before (eqb-false _ 0 (not-true _ (sym (c .refused) ∙ f)));
+      path = λ store n g before r after c e.
+          subst₂ (λ a b. PathAnswer (tableOf store n g) a before b) (sym (c .answer)) (sym (c .buffer))
+          (promises .shortest-path store n g before (eqb-true _ 0 (not-false _ (sym (c .refused) ∙ e))));
+    }
