@@ -6,6 +6,7 @@
 --   contents-table, file-table      a table that was read has the contents and the file that it was read from
 --   laid, filled-writable           laid out in a store it is accepted by write, and file-filled: has that file
 --   read-write                      so an input that is read is written again
+--   file-sizes                      the lengths of contents and files
 --   round-trips                     both
 use Prim.Native.Nat.{ℕ, _+_, _*_, _/_, _^_, _≤_, _<_}
 use native.Mathlib.Nat.{mul-le-mul}
@@ -22,11 +23,11 @@ use Rattle.model.specs.Tables.{Table}
 use Rattle.model.specs.Stores.{maxGroups, forbiddenAt, groupAt, rowAt, storeWords, setAt, tableOf, concat, layout, beyond, badStates}
 use Rattle.model.specs.Files.{le16, le16At, setWidth, sets, contents, contentLength, blocksFor, fileLength, checkOf, blockOf, fileOf, part, contentsOf, setNumber, tableIn}
 use Rattle.model.specs.Calls.{overwrite, TableRead, Written, maxFile, readBuffer, writeBuffer}
-use Rattle.model.specs.RoundTrip.{Bounded, WriteRead, ReadWrite, RoundTrips}
+use Rattle.model.specs.RoundTrip.{Bounded, WriteRead, ReadWrite, RoundTrips, FileSizes}
 use Rattle.model.proofs.Bounds.{by-cond, lt-or-ge, length-tabulate, getD-tabulate}
 use Rattle.model.proofs.SetLaws.{In}
 use Rattle.model.proofs.ListLaws.{getD-past, concat-cong, length-overwrite, take-overwrite}
-use Rattle.model.proofs.FileLaws.{pairAt-two, setIn-proper, tableIn-row, number-setIn, setIn-is, sets-group, sets-row, sets-each, length-contents, contents-header, contents-set, header-pairs, by-content, IsBlock, block-unique, block-number, block-check, is-block, blockOf-is, length-fileOf, part-fileOf, fileOf-cong, length-part, part-bounded, concat-part, length-contentsOf, getD-contentsOf, contentsOf-bounded, contentsOf-fileOf}
+use Rattle.model.proofs.FileLaws.{pairAt-two, setIn-proper, tableIn-row, number-setIn, setIn-is, sets-group, sets-row, sets-each, length-contents, contents-header, contents-set, header-pairs, by-content, IsBlock, block-unique, block-number, block-check, is-block, blockOf-is, length-fileOf, part-fileOf, fileOf-cong, length-part, part-bounded, concat-part, length-contentsOf, getD-contentsOf, contentsOf-bounded, contentsOf-fileOf, fileLength-most}
 use Rattle.model.proofs.StoreLaws.{setAt-proper, row-is, empty-proper, setAt-empty, Holds, holds-layout, Laid, length-layout, overwrite-holds, holds-sets, Within, beyond-below, below-beyond, holds-clean}
 use Rattle.model.proofs.CallLaws.{states-le, Writable, write-refusal, writable, write-answer, write-buffer, Readable, read-refusal, readable, read-answer, read-buffer}
 
@@ -273,4 +274,13 @@ round-trips =
           let r = readable input (length store) (sym (read-refusal input (length store)) ∙ e) in
           subst (λ (a : TableRead). ReadWrite (readBuffer input store) (a .n) (a .g) input out) (sym (read-answer input (length store) _ _ r))
           (read-write input store _ _ u r out h);
+    }
+
+pub file-sizes : FileSizes
+file-sizes =
+    record {
+      contents-long = λ t. length-contents t refl;
+      file-long = λ t. length-fileOf t refl;
+      largest = fileLength-most;
+      largest-is = refl;
     }

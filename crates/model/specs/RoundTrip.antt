@@ -4,12 +4,16 @@
 --   WriteRead        the file of a store, read into another one, gives back n, g and the words of the table
 --   ReadWrite        the table of an input, written, gives back the length and every byte
 --   RoundTrips       both, of every call that is not declined
-use Prim.Native.Nat.{ℕ, _^_, _≤_, _<_}
+--   FileSizes        how long the contents and the file of a table are, and the largest file
+use Prim.Native.Nat.{ℕ, _*_, _^_, _≤_, _<_}
 use mathlib.Core.Path.{_≡_}
 use mathlib.Core.List.{List}
 use lib.ListN.{length, getD, take}
-use Rattle.model.specs.Stores.{storeWords}
-use Rattle.model.specs.Calls.{overwrite, readAnswer, readBuffer, writeAnswer, writeBuffer}
+use Rattle.model.specs.Sets.{maxStates}
+use Rattle.model.specs.Tables.{Table}
+use Rattle.model.specs.Stores.{maxGroups, storeWords}
+use Rattle.model.specs.Files.{contents, contentLength, fileLength, fileOf}
+use Rattle.model.specs.Calls.{overwrite, maxFile, readAnswer, readBuffer, writeAnswer, writeBuffer}
 
 abbrev pub Bounded : ℕ → List ℕ → Type 0
 Bounded b xs = (i : ℕ) → getD xs i 0 < b
@@ -35,3 +39,9 @@ pub record RoundTrips : Type 0 where
       → length input ≤ length out
       → (readAnswer input (length store)) .refusal ≡ 0
       → ReadWrite (readBuffer input store) ((readAnswer input (length store)) .n) ((readAnswer input (length store)) .g) input out
+
+pub record FileSizes : Type 0 where
+  pub contents-long : (t : Table) → length (contents t) ≡ contentLength (t .n) (length (t .groups))
+  pub file-long : (t : Table) → length (fileOf t) ≡ fileLength (t .n) (length (t .groups))
+  pub largest : (n g : ℕ) → n ≤ maxStates → g ≤ maxGroups → fileLength n g ≤ maxFile
+  pub largest-is : maxFile ≡ 21 * 512

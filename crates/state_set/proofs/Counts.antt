@@ -1,11 +1,13 @@
 -- The loops that count a set's states and find its least.
 --
 --   Counting X w n     n is the number of states of X in its first w words: counting-none, counting-more, counting-all
+--   size-ones          the number of states in a set is the number of ones in its words
 --   Passing X w        X has no state in its first w words: passing-none, passing-more; passing-here, where the next word has one; passing-all
-use Prim.Native.Nat.{ℕ, _+_, _-_, _*_, _≤_, _<_}
-use native.Mathlib.Nat.{not-suc-le-zero, le-antisymm, mod-eq-of-lt}
+use Prim.Native.Nat.{ℕ, zero, suc, _+_, _-_, _*_, _≤_, _<_}
+use native.Mathlib.Nat.{not-suc-le-zero, le-refl, le-antisymm, mod-eq-of-lt}
+use native.Mathlib.Numerals.{add-one}
 use native.Mathlib.Omega.{arith}
-use mathlib.Core.Path.{_≡_, refl, sym, ap, ap₂, _∙_}
+use mathlib.Core.Path.{_≡_, refl, sym, ap, ap₂, _∙_, subst}
 use mathlib.Core.Logic.{⊎-elim}
 use mathlib.Core.Bool.{false}
 use lib.ListN.{length, getD}
@@ -15,6 +17,7 @@ use mir.Val.{Fits}
 use Rattle.model.specs.Sets.{WORDS, maxStates, Set, first, filter, bit, member, members, size, smallest}
 use Rattle.model.proofs.Bounds.{first-passes, first-least, first-is, first-none, lt-or-ge}
 use Rattle.model.proofs.SetLaws.{Proper, member-at}
+use Rattle.state_set.specs.WordSets.{onesIn}
 use Rattle.state_set.proofs.Bits.{bit-zero, ones-filter, trailing-first, first-bit}
 
 -- ---- what is added fits
@@ -56,6 +59,15 @@ module _ (X : Set) where
   pub counting-all : (w n : ℕ) → Counting X w n → WORDS ≤ w → n ≡ size X
   unfolding size members
   counting-all w n so h = so .is ∙ ap (λ (m : ℕ). length (filter (64 * m) (member X))) (le-antisymm (so .within) h)
+
+  counted : Proper X → (w : ℕ) → w ≤ WORDS → Counting X w (onesIn w X)
+  unfolding onesIn
+  counted p zero h = counting-none
+  counted p (suc w) h =
+      subst (λ (k : ℕ). Counting X k (onesIn w X + ones (getD X w 0))) (add-one w) (counting-more w _ p (counted p w (omega arith)) (omega arith))
+
+  pub size-ones : Proper X → size X ≡ onesIn WORDS X
+  size-ones p = sym (counting-all WORDS _ (counted p WORDS (le-refl WORDS)) (le-refl WORDS))
 
 -- ---- the least state
 
