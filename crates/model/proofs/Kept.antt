@@ -6,6 +6,7 @@
 --   outcome-*               a promise for each outcome of the rounds
 --   table-words             a table lies in the first words of its store
 --   path-answer             the call shortest path
+--   not-refused             what the rounds decide is no refusal
 --   promises, untouched     all of specs/Promises
 use Prim.Native.Nat.{ℕ, suc, _+_, _≤_, _<_}
 use native.Mathlib.Omega.{arith}
@@ -270,7 +271,7 @@ promises =
 
 -- ---- what a call that declines leaves
 
-not-refused : (t : Table) (o : Outcome) → (decisionOf t o) .refusal ≡ 0
+pub not-refused : (t : Table) (o : Outcome) → (decisionOf t o) .refusal ≡ 0
 unfolding decisionOf
 not-refused t (safe i X) = refl
 not-refused t (unsafe i) = refl
