@@ -1,2 +1,3 @@
 pub mod CheckText
 pub mod Numbers
+pub mod Reported

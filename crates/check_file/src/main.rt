@@ -1,12 +1,14 @@
 // The program that 01 calls `check`: reads one file on standard input, decides its table with a release check, and prints.
 //
 //   main           reads, calls and writes
+//   input_room     where the file is read into
 //   check          what is printed for a file, put into a lent buffer; the answer is its length
 //   check_table    the same for the table that a store holds
 //   numbers_of     decide's answer in 01's numbers
 ghost use mathlib.Core.Path.{_≡_};
-ghost use Prim.Native.Nat.{_≤_};
+ghost use Prim.Native.Nat.{_+_, _≤_};
 ghost use lib.ListN.{length};
+ghost use Rattle.model.specs.Calls.{maxFile};
 ghost use Rattle.rounds.specs.Answers.{answerOf};
 ghost use Rattle.report.specs.Put.{room, Front};
 ghost use Rattle.check_file.specs.CheckText.{tableText, checkText};
@@ -26,15 +28,21 @@ use state_set::StateSet;
 use table::MAX_STATES;
 use table::STORE_WORDS;
 
-// One byte more than the largest file, so that a longer one is seen to be too long.
 const INPUT: usize = 10753;
 
 fn main() {
-    let mut input = [0u8; INPUT];
+    let mut input = input_room();
     let length = io::read_full(STDIN_FILENO, &mut input);
     let mut out = [0u8; ROOM];
     let end = check(&input[..length], &mut out);
     io::write_all(STDOUT_FILENO, &out[..end]);
+}
+
+// One byte more than the largest file, so that a longer one is seen to be too long.
+fn input_room() -> [u8; INPUT]
+    ensures { λ r. ⌜ maxFile + 1 ≡ length r ⌝ }
+{
+    [0; INPUT]
 }
 
 fn check(input: &[u8], out: &mut [u8]) -> usize

@@ -5,6 +5,7 @@
 --   bufferFor               the path buffer that belongs to an answer
 --   outcome-*               a promise for each outcome of the rounds
 --   path-answer             the call shortest path
+--   not-refused             what the rounds decide is no refusal
 --   promises, untouched     all of specs/Promises
 use Prim.Native.Nat.{ℕ, suc, _+_, _≤_, _<_}
 use native.Mathlib.Omega.{arith}
@@ -247,7 +248,7 @@ promises =
 
 -- ---- what a call that declines leaves
 
-not-refused : (t : Table) (o : Outcome) → (decisionOf t o) .refusal ≡ 0
+pub not-refused : (t : Table) (o : Outcome) → (decisionOf t o) .refusal ≡ 0
 unfolding decisionOf
 not-refused t (safe i X) = refl
 not-refused t (unsafe i) = refl

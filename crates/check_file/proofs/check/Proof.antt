@@ -22,10 +22,10 @@ check-spec =
     let text = c .before .before in
     let table = text .before .before .before .before in
     let given = table .before .before .before in
-    rw (check-read _ (sym (ap readOf (table .n .given .1)) ∙ given .read .ensures .0) (given .read .ensures .1)) at (text .check-table .ensures))
+    check-read _ (sym (ap readOf (table .n .given .1)) ∙ given .read .ensures .0) (given .read .ensures .1) (text .check-table .ensures))
     (λ c. search needs)
     (λ c.
     let text = c .before .before in
     let refused = text .before .before .before in
     let given = refused .before .before .before in
-    rw (check-refused _ (sym (ap readOf (refused .refusal .given .1)) ∙ given .read .ensures .0)) at (text .write-refused .ensures)))
+    check-refused _ (sym (ap readOf (refused .refusal .given .1)) ∙ given .read .ensures .0) (text .write-refused .ensures)))

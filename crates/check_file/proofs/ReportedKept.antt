@@ -1,0 +1,57 @@
+-- The proof of specs/Reported: a file that read accepts is decided; and one that is too long is refused.
+--
+--   held-accepted    a release check declines no store that holds a table
+--   file-held        the store that read leaves holds a table: write accepts it (the round trip), and on the same grounds
+--   reported         specs/Reported
+--   longer-refused   a file longer than the largest gets 11, and so does its part that fills `input_room`
+use Prim.Native.Nat.{ℕ, _<_}
+use native.Mathlib.Nat.{le-refl}
+use mathlib.Core.Path.{_≡_, sym, ap, _∙_}
+use mathlib.Core.Bool.{cond, or-true}
+use mathlib.Core.List.{List, [], _∷_}
+use borrow.Author.Tests.{lt-ltb}
+use lib.Dec.{eqb, ltb}
+use lib.ListN.{length}
+use Rattle.model.specs.Sets.{maxStates}
+use Rattle.model.specs.Rounds.{run}
+use Rattle.model.specs.Stores.{storeWords, tableOf, refuse}
+use Rattle.model.specs.Files.{fileLength}
+use Rattle.model.specs.Calls.{maxAllowance, release, decideGrounds, decisionOf, declined, decideAnswer, maxFile, readRefusal, readAnswer, Written, writeGrounds}
+use Rattle.model.specs.Promises.{Accepted}
+use Rattle.model.specs.RoundTrip.{Bounded}
+use Rattle.model.proofs.CallLaws.{write-refusal}
+use Rattle.model.proofs.RoundTrips.{round-trips}
+use Rattle.model.proofs.Acceptance.{Store, accepted-store, store-accepted}
+use Rattle.model.proofs.Kept.{not-refused, promises}
+use Rattle.report.specs.Text.{refusedText}
+use Rattle.check_file.specs.CheckText.{zeroStore, zeroPath, tableText, checkText}
+use Rattle.check_file.specs.Reported.{fileStore, fileStates, fileGroups, Reported}
+
+held-accepted : (store : List ℕ) (n g : ℕ) → Store store n g → Accepted store n g release maxStates
+unfolding decideAnswer decideGrounds refuse
+held-accepted store n g held =
+    let t = tableOf store n g in
+    let clear = store-accepted store n g ((ltb maxAllowance release, 20) ∷ (ltb maxStates maxStates, 21) ∷ []) held in
+    record { accepted = ap (λ (k : ℕ). (cond (eqb k 0) (decisionOf t (run t release)) (declined k)) .refusal) clear ∙ not-refused t (run t release) }
+
+module _ (input : List ℕ) (bytes : Bounded 256 input) (e : (readAnswer input storeWords) .refusal ≡ 0) where
+  file-held : Store (fileStore input) (fileStates input) (fileGroups input)
+  unfolding writeGrounds
+  file-held =
+      let written = round-trips .read-write input zeroStore input bytes (le-refl (length input)) e .answer in
+      accepted-store _ _ _ ((ltb (length input) (fileLength (fileStates input) (fileGroups input)), 19) ∷ [])
+      (sym (write-refusal (fileStore input) (fileStates input) (fileGroups input) (length input)) ∙ ap (λ (w : Written). w .refusal) written) .0
+
+  pub reported : Reported input
+  unfolding checkText tableText
+  reported =
+      let ok = held-accepted _ _ _ file-held in
+      record {
+        accepted = ok;
+        text = rw (e, ok .accepted);
+        decided = promises .demand2 _ _ _ zeroPath ok .decided;
+      }
+
+pub longer-refused : (input : List ℕ) → maxFile < length input → checkText input ≡ refusedText 11
+unfolding checkText readAnswer readRefusal refuse
+longer-refused input h = rw (lt-ltb maxFile (length input) h, or-true)
