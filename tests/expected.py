@@ -1,6 +1,7 @@
 #!/usr/bin/env python3
 """What the test programs must print, worked out from document 01's text by tables/make.py's implementation of it, which shares no code
-with the library. Without a word it writes crates/NAME/stdout for each program; with --check it fails where one differs."""
+with the library. Without a word it writes crates/NAME/stdout for each program; with --check it fails where one differs.
+crates/paths_test/expected.py does the same for paths_test, by an implementation of its own."""
 
 import sys
 from pathlib import Path
@@ -44,7 +45,7 @@ def decide_test():
     return "".join(line + "\n" for line in lines)
 
 
-# ---- agreement_test: the tables are made by the comment at the head of its source
+# ---- generated tables, by the comment at the head of crates/test_support/src/generated.rt
 
 WORD = 2 ** 32
 
@@ -54,10 +55,12 @@ def noise(x):
     return y ^ (y // 65536)
 
 
-def generated(t):
-    def draw(place):
-        return noise(noise(noise(t * 8192 + place)))
+def drawn(t, place):
+    return noise(noise(noise(t * 8192 + place)))
 
+
+def generated(t):
+    draw = lambda place: drawn(t, place)
     n = 1 + draw(0) % (256 if t % 37 == 0 else 40)
     few = lambda count, at: {draw(at + k) % n for k in range((5 + draw(count) % 13) // 6)}
     place = lambda s: 16 + 16 * s
@@ -70,9 +73,23 @@ def generated(t):
     )
 
 
+# ---- digests of numbers; a set goes in as its four words, each as its lower and its upper half
+
+def digest(numbers, start=0):
+    for x in numbers:
+        start = noise(start + x)
+    return start
+
+
+def halves(states):
+    return [sum(1 << s % 32 for s in states if s // 32 == half) for half in range(8)]
+
+
+# ---- agreement_test
+
 def agreement_test():
     make.ALLOWANCE = 256
-    tables, safe, unsafe, digest = 4000, 0, 0, 0
+    tables, safe, unsafe, taken = 4000, 0, 0, 0
     for t in range(tables):
         table = generated(t)
         verdict, count, invariant = make.decide(table)
@@ -84,26 +101,195 @@ def agreement_test():
         else:
             unsafe += 1
             numbers = [1, count, 0, len(path) - 1, *path]
-        halves = [sum(2 ** (s - 32 * h) for s in invariant if s // 32 == h) for h in range(8)]
-        for x in numbers + halves:
-            digest = noise(digest + x)
+        taken = digest(numbers + halves(invariant), taken)
     return (
         f"tables {tables}\nsafe {safe}\nunsafe {unsafe}\n"
-        f"same verdict {tables}\nsame length of path {unsafe}\ndigest of all answers {digest}\n"
+        f"same verdict {tables}\nsame length of path {unsafe}\ndigest of all answers {taken}\n"
     )
 
 
-PROGRAMS = {"decide_test": decide_test, "agreement_test": agreement_test}
+# ---- files_test: read and write on Python's bytes, and on a store as the list of its 322 sets
+
+def store_of(table):
+    rows = [set() for _ in range(256)]
+    for a, b in table.steps:
+        rows[a].add(b)
+    return [table.initial, table.forbidden, *table.groups, *[set()] * (64 - len(table.groups)), *rows]
+
+
+def largest():
+    words = [WORD * drawn(0, 2 * i) + drawn(0, 2 * i + 1) for i in range(1288)]
+    return [{s for s in range(256) if words[4 * k + s // 64] >> s % 64 & 1} for k in range(322)]
+
+
+def write(store, words, n, g, room):
+    """The file, or the refusal."""
+    if words < 1288:
+        return 10
+    if not 1 <= n <= 256:
+        return 14
+    if g > 64:
+        return 15
+    used = store[:2 + g] + store[66:66 + n]
+    if any(s >= n for states in used for s in states) or any(store[2 + g:66] + store[66 + n:]):
+        return 17
+    file = b"".join(make.blocks(make.two(n) + make.two(g) + b"".join(make.set_bytes(states, n) for states in used)))
+    return 19 if room < len(file) else file
+
+
+def number(data):
+    return int.from_bytes(data, "little")
+
+
+def read(data, words):
+    """n, g and the store, or the refusal."""
+    if words < 1288:
+        return 10
+    if len(data) == 0 or len(data) % 512 or len(data) > 10_752:
+        return 11
+    split = [data[at:at + 512] for at in range(0, len(data), 512)]
+    for k, block in enumerate(split):
+        if number(block[:2]) != k:
+            return 12
+        if number(block[510:]) != make.check(block):
+            return 13
+    content = b"".join(block[2:510] for block in split)
+    n, g = number(content[:2]), number(content[2:4])
+    if not 1 <= n <= 256:
+        return 14
+    if g > 64:
+        return 15
+    w = (n + 7) // 8
+    length = 4 + w * (2 + g + n)
+    if len(split) != -(-length // 508):
+        return 16
+    sets = [{s for s in range(8 * w) if content[at + s // 8] >> s % 8 & 1} for at in range(4, length, w)]
+    if any(s >= n for states in sets for s in states):
+        return 17
+    if any(content[length:]):
+        return 18
+    nothing = [set()] * 256
+    return n, g, sets[:2 + g] + nothing[:64 - g] + sets[2 + g:] + nothing[:256 - n]
+
+
+def digest_store(store, start=0):
+    return digest([half for states in store for half in halves(states)], start)
+
+
+def writes(heading, store, *cases):
+    """A line for each case of words, n, g and room."""
+    yield heading
+    for words, n, g, room in cases:
+        answer = write(store, words, n, g, room)
+        said = f"refused {answer}" if isinstance(answer, int) else f"file of {len(answer)}, digest {digest(answer)}"
+        yield f" from {words} n {n} g {g} into {room}: {said}{KEPT}"
+
+
+def was_read(case, data, words=1288):
+    answer = read(data, words)
+    if isinstance(answer, int):
+        return f"{case}: refused {answer}{KEPT}"
+    n, g, store = answer
+    return f"{case}: n {n} g {g}, digest {digest_store(store)}{KEPT}"
+
+
+def fronts(data, *cases):
+    """A line for each case of a length and words."""
+    return [was_read(f" from {length} into {words}", data[:length], words) for length, words in cases]
+
+
+def replaced(data, damage):
+    """Bytes replaced and the check of each block set right, but for the bytes of a check that are replaced themselves."""
+    for at, value in damage.items():
+        block = at // 512 * 512
+        data = make.with_byte(data, at, value)
+        if at % 512 < 510:
+            data = data[:block + 510] + make.two(make.check(data[block:block + 510])) + data[block + 512:]
+    return data
+
+
+def damaged(data, *cases):
+    """A line for each case of bytes replaced."""
+    return [was_read("".join(f" {at}={value}" for at, value in damage.items()), replaced(data, damage)) for damage in cases]
+
+
+def round_trip(t):
+    """The numbers of the file of one block and of the store that is read back, either as sevens where the call refuses."""
+    table = generated(t)
+    n, g, store = table.n, len(table.groups), store_of(table)
+    file = write(store, 1288, n, g, 512)
+    if file == 19:
+        return [7] * 512 + [7, 0] * 1288
+    assert file == make.encode(table) and read(file, 1288) == (n, g, store)
+    return [*file, *(half for states in store for half in halves(states))]
+
+
+def files_test():
+    e, most = store_of(E), largest()
+    e_group = store_of(Table(3, E.initial, E.forbidden, E.steps, [{0}]))
+    e_step = store_of(Table(4, E.initial, E.forbidden, E.steps | {(3, 0)}, [{0}]))
+    h, h1 = (store_of(Table(61, {0, 8}, {60}, {(0, 60), (31, 32), (60, 60)}, groups)) for groups in ([], [{7, 56}]))
+    e_file, h_file, h1_file = (write(t, 1288, n, g, 1024) for t, n, g in ((e, 3, 0), (h, 61, 0), (h1, 61, 1)))
+    most_file = write(most, 1288, 256, 64, 10752)
+    # 01's figures.
+    assert e_file[2:11].hex(" ") == "03 00 00 00 01 04 01 04 00" and number(e_file[510:]) == 97
+    assert [len(file) for file in (e_file, h_file, h1_file, most_file)] == [512, 512, 1024, 10752]
+    trips = 300
+    lines = [
+        "file of E: " + " ".join(map(str, e_file)),
+        *writes("write E", e,
+                (1288, 3, 0, 10800), (1288, 3, 0, 512), (1288, 3, 0, 511), (1288, 3, 0, 0), (1287, 3, 0, 512), (1287, 0, 65, 511),
+                (1288, 0, 0, 512), (1288, 257, 0, 10752), (1288, 0, 65, 511), (1288, 3, 64, 512), (1288, 3, 65, 512),
+                (1288, 2, 65, 511), (1288, 2, 0, 512), (1288, 2, 0, 511)),
+        *writes("write E with a group", e_group, (1288, 3, 0, 512), (1288, 3, 1, 512)),
+        *writes("write E with a group and a step from 3", e_step, (1288, 3, 1, 512), (1288, 4, 1, 512)),
+        *writes("write H", h, (1288, 61, 0, 512)),
+        *writes("write H with a group", h1, (1288, 61, 1, 1024), (1288, 61, 1, 1023)),
+        *writes("write the largest table", most,
+                (1300, 256, 64, 10752), (1288, 256, 64, 10751), (1288, 257, 64, 10752), (1288, 256, 65, 10752),
+                (1288, 256, 63, 10752), (1288, 255, 64, 10752)),
+        "read E",
+        *fronts(e_file + b"\7" * 512,
+                (512, 1288), (512, 1300), (512, 1287), (0, 1287), (0, 1288), (511, 1288), (513, 1288), (1024, 1288)),
+        was_read(" 0=1 from 511 into 1288", replaced(e_file, {0: 1})[:511]),
+        "read E, number and check",
+        *damaged(e_file, {0: 1}, {1: 1}, {0: 1, 510: 97}, {510: 98}, {511: 1}, {2: 0, 510: 97}),
+        "read E, n and g",
+        *damaged(e_file, {2: 0}, {2: 1, 3: 1}, {3: 1, 5: 1}, {4: 64}, {4: 65}, {5: 1}, {2: 61, 4: 65}),
+        "read E, L either side of 508",
+        *damaged(e_file, {2: 61}, {2: 61, 4: 1}, {2: 62}, {2: 62, 13: 128}),
+        "read E, sets and filler",
+        *damaged(e_file, {6: 9}, {7: 12}, {10: 128}, {6: 9, 11: 1}, {11: 1}, {509: 128}),
+        "read H",
+        *fronts(h_file, (512, 1288)),
+        *damaged(h_file, {509: 48}),
+        "read H with a group",
+        *fronts(h1_file, (1024, 1288), (512, 1288)),
+        *damaged(h1_file, {512: 0}, {1023: 255}, {512: 7, 1023: 255}, {0: 9, 1023: 255}, {511: 255, 512: 7}),
+        *damaged(h1_file, {29: 33}, {521: 48}, {522: 1}, {1021: 1}),
+        "read E and an empty block",
+        was_read(" 512=1", e_file + make.sealed(1, b"")),
+        was_read(" 6=9", replaced(e_file, {6: 9}) + make.sealed(1, b"")),
+        "read the largest table",
+        *fronts(most_file + bytes(512), (10752, 1300), (10753, 1288), (11264, 1288), (10240, 1288)),
+        was_read(" 4=65 from 10752 into 1288", replaced(most_file, {4: 65})),
+        was_read(" 2=1 from 10752 into 1288", replaced(most_file, {4: 65, 2: 1})),
+        f"round trips {trips}, digest {digest(x for t in range(trips) for x in round_trip(t))}",
+    ]
+    return "".join(line + "\n" for line in lines)
+
+
+PROGRAMS = {"decide_test": decide_test, "agreement_test": agreement_test, "files_test": files_test}
 
 if __name__ == "__main__":
     failed = False
     for name, make_text in PROGRAMS.items():
         path = TOP / "crates" / name / "stdout"
         text = make_text()
-        if "--check" in sys.argv:
-            if not path.exists() or path.read_text() != text:
-                print(f"{path} differs")
-                failed = True
+        if "--check" in sys.argv[1:]:
+            same = path.exists() and path.read_text() == text
+            print(f"{path.relative_to(TOP)}: {'as worked out' if same else 'DIFFERS'}")
+            failed |= not same
         else:
             path.write_text(text)
     sys.exit(failed)

@@ -1,11 +1,15 @@
 #!/usr/bin/env python3
-"""Writes what paths_test must print: ./expected.py > stdout
+"""What paths_test must print: writes the file stdout beside this one; with --check writes nothing, and fails if it differs.
 
 Made from document 01 alone and not from the code under test. The code measures distances backward from the forbidden states over sets of
 words and then walks forward; this goes forward from the initial states over Python sets, with the smallest path to each state in hand.
 """
 
+import sys
+from pathlib import Path
+
 GREATEST_N, GREATEST_G, STORE_WORDS, PATH_BYTES = 256, 64, 1288, 256
+LINES = []
 
 
 def shortest(n, initial, forbidden, steps):
@@ -52,7 +56,7 @@ def report(name, n, g, table, room=256, words=STORE_WORDS):
         answer = "none"
     else:
         answer = f"steps {len(path) - 1}, path {' '.join(map(str, path))}"
-    print(f"{name}: {answer}, rest untouched")
+    LINES.append(f"{name}: {answer}, rest untouched\n")
 
 
 def chain(*states):
@@ -91,3 +95,10 @@ report("1287 words, n 0", 0, 0, (set(), set(), [], set()), room=255, words=1287)
 report("D, g 2", 5, 2, D)
 report("B, 255 initial", 5, 0, ({0, 255}, {3}, [], B[3]))
 report("B, 2 to 5", 5, 0, ({0}, {3}, [], B[3] | {(2, 5)}))
+
+path, text = Path(__file__).resolve().parent / "stdout", "".join(LINES)
+if "--check" in sys.argv[1:]:
+    same = path.exists() and path.read_text() == text
+    print(f"crates/paths_test/stdout: {'as worked out' if same else 'DIFFERS'}")
+    sys.exit(not same)
+path.write_text(text)

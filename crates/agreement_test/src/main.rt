@@ -1,140 +1,25 @@
 // Decide beside a graph search that has nothing in common with it: forward from the initial states, one state at a time, by a queue.
 // Printed is how many generated tables of each verdict there were, and in how many the two agree in verdict and in the length of the path;
 // at last a digest of decide's answers, whole. tests/expected.py makes the same tables anew and works out what this must print.
-//
-// Table t, where d(p) is `draw(t, p)`:
-//   states              n = 1 + d(0) % 40, or 1 + d(0) % 256 if 37 divides t
-//   groups              d(1) % 5
-//   initial states      (5 + d(2) % 13) / 6 of the states d(3) % n, d(4) % n
-//   forbidden states    (5 + d(5) % 13) / 6 of the states d(6) % n, d(7) % n
-//   of state s, with p = 16 + 16 * s
-//     successors        none if 4 divides d(p), otherwise d(8) % 4 of those drawn at p + 1, p + 2, p + 3: if t is even the state d % n,
-//                       otherwise, for longer paths, (s + d % 6) % n
-//     in group j        if d(p + 4 + j) is even
 use rounds::Decision;
 use rounds::Verdict;
 use rounds::decide;
 use state_set::StateSet;
+use state_set::WORDS;
 use table::FORBIDDEN_AT;
 use table::ROWS_AT;
 use table::STORE_WORDS;
-use test_support::add;
-use test_support::group;
+use test_support::digest;
+use test_support::digest_bytes;
+use test_support::digest_words;
+use test_support::generate;
+use test_support::groups_of;
+use test_support::labelled;
 use test_support::line;
-use test_support::number;
-use test_support::step;
-use test_support::text;
+use test_support::states_of;
 use test_support::wide;
 
 const TABLES: usize = 4000;
-
-// ---- the tables
-
-// One number from another, below 2^32.
-fn noise(x: usize) -> usize {
-    let y = (x % 4294967296 * 1664525 + 1013904223) % 4294967296;
-    y ^ (y / 65536)
-}
-
-// The number at a place of table t.
-fn draw(t: usize, place: usize) -> usize {
-    noise(noise(noise(t % 65536 * 8192 + place % 8192)))
-}
-
-fn draw_state(t: usize, place: usize, n: usize) -> usize {
-    if n == 0 {
-        return 0;
-    }
-    draw(t, place) % n
-}
-
-fn states_of(t: usize) -> usize {
-    if t % 37 == 0 {
-        1 + draw(t, 0) % 256
-    } else {
-        1 + draw(t, 0) % 40
-    }
-}
-
-fn groups_of(t: usize) -> usize {
-    draw(t, 1) % 5
-}
-
-// None at times, otherwise one or two.
-fn few(t: usize, place: usize) -> usize {
-    (5 + draw(t, place) % 13) / 6
-}
-
-fn add_if(wanted: bool, store: &mut [u64], at: usize, s: usize) {
-    if wanted {
-        add(store, at, s);
-    }
-}
-
-fn put_ends(store: &mut [u64], t: usize, n: usize) {
-    add_if(0 < few(t, 2), store, 0, draw_state(t, 3, n));
-    add_if(1 < few(t, 2), store, 0, draw_state(t, 4, n));
-    add_if(0 < few(t, 5), store, FORBIDDEN_AT, draw_state(t, 6, n));
-    add_if(1 < few(t, 5), store, FORBIDDEN_AT, draw_state(t, 7, n));
-}
-
-fn fan_out(t: usize, p: usize) -> usize {
-    if draw(t, p) % 4 == 0 {
-        return 0;
-    }
-    draw(t, 8) % 4
-}
-
-fn successor(t: usize, p: usize, n: usize, s: usize) -> usize {
-    if n == 0 {
-        return 0;
-    }
-    if t % 2 == 0 {
-        return draw(t, p) % n;
-    }
-    (s % 256 + draw(t, p) % 6) % n
-}
-
-fn step_if(wanted: bool, store: &mut [u64], a: usize, b: usize) {
-    if wanted {
-        step(store, a, b);
-    }
-}
-
-fn group_if(wanted: bool, store: &mut [u64], j: usize, g: usize, s: usize) {
-    if wanted {
-        if j < g {
-            group(store, j, s);
-        }
-    }
-}
-
-fn put_successors(store: &mut [u64], t: usize, n: usize, s: usize) {
-    let p = 16 + 16 * (s % 256);
-    let count = fan_out(t, p);
-    step_if(0 < count, store, s, successor(t, p + 1, n, s));
-    step_if(1 < count, store, s, successor(t, p + 2, n, s));
-    step_if(2 < count, store, s, successor(t, p + 3, n, s));
-}
-
-fn put_in_groups(store: &mut [u64], t: usize, g: usize, s: usize) {
-    let p = 16 + 16 * (s % 256);
-    group_if(draw(t, p + 4) % 2 == 0, store, 0, g, s);
-    group_if(draw(t, p + 5) % 2 == 0, store, 1, g, s);
-    group_if(draw(t, p + 6) % 2 == 0, store, 2, g, s);
-    group_if(draw(t, p + 7) % 2 == 0, store, 3, g, s);
-}
-
-fn put_state(store: &mut [u64], t: usize, n: usize, g: usize, s: usize) {
-    put_successors(store, t, n, s);
-    put_in_groups(store, t, g, s);
-}
-
-fn put_states(store: &mut [u64], t: usize, n: usize, g: usize) {
-    for s in 0..n {
-        put_state(store, t, n, g, s);
-    }
-}
 
 // ---- the search
 
@@ -254,111 +139,92 @@ fn tally(tallies: &mut [usize], i: usize, counts: bool) {
     }
 }
 
-fn digest(tallies: &mut [usize], x: usize) {
-    if DIGEST < tallies.len() {
-        tallies[DIGEST] = noise(tallies[DIGEST] % 4294967296 + x % 4294967296);
-    }
-}
-
-fn digest_word(tallies: &mut [usize], x: u64) {
-    digest(tallies, (x % 4294967296) as usize);
-    digest(tallies, (x / 4294967296) as usize);
-}
-
-fn digest_byte(tallies: &mut [usize], path: &[u8], i: usize) {
-    if i < path.len() {
-        digest(tallies, wide(path[i]));
-    }
-}
-
-fn digest_path(tallies: &mut [usize], path: &[u8], count: usize) {
-    for i in 0..count {
-        digest_byte(tallies, path, i);
-    }
-}
-
-fn digest_numbers(tallies: &mut [usize], verdict: usize, count: usize, size: usize, steps: usize) {
-    digest(tallies, verdict);
-    digest(tallies, count);
-    digest(tallies, size);
-    digest(tallies, steps);
-}
-
-fn digest_set(tallies: &mut [usize], x: StateSet) {
-    let words = x.words;
-    digest_word(tallies, words[0]);
-    digest_word(tallies, words[1]);
-    digest_word(tallies, words[2]);
-    digest_word(tallies, words[3]);
-}
-
-fn compare_verdict(verdict: Verdict, path: &[u8], found: usize, tallies: &mut [usize]) {
+fn tally_verdict(tallies: &mut [usize], verdict: Verdict, found: usize) {
     match verdict {
-        Verdict::Safe { count, size } => {
+        Verdict::Safe { count: _, size: _ } => {
             tally(tallies, SAFE, true);
             tally(tallies, SAME_VERDICT, found == NONE);
-            digest_numbers(tallies, 0, count, size, 0);
         }
-        Verdict::Unsafe { count, steps } => {
+        Verdict::Unsafe { count: _, steps } => {
             tally(tallies, UNSAFE, true);
             tally(tallies, SAME_VERDICT, found != NONE);
             tally(tallies, SAME_LENGTH, found == steps);
-            digest_numbers(tallies, 1, count, 0, steps);
-            digest_path(tallies, path, steps % 256 + 1);
         }
-        Verdict::Undecided { count } => {
-            digest_numbers(tallies, 2, count, 0, 0);
-        }
-        Verdict::Refused(refusal) => {
-            digest_numbers(tallies, 3, wide(refusal), 0, 0);
-        }
+        Verdict::Undecided { count: _ } => {}
+        Verdict::Refused(_) => {}
     }
 }
 
-fn compare(d: Decision, path: &[u8], found: usize, tallies: &mut [usize]) {
+fn digest_numbers(d: usize, verdict: usize, count: usize, size: usize, steps: usize) -> usize {
+    digest(digest(digest(digest(d, verdict), count), size), steps)
+}
+
+fn digest_verdict(d: usize, verdict: Verdict, path: &[u8]) -> usize {
+    match verdict {
+        Verdict::Safe { count, size } => digest_numbers(d, 0, count, size, 0),
+        Verdict::Unsafe { count, steps } => {
+            let e = digest_numbers(d, 1, count, 0, steps);
+            digest_bytes(e, path, steps % 256 + 1)
+        }
+        Verdict::Undecided { count } => digest_numbers(d, 2, count, 0, 0),
+        Verdict::Refused(refusal) => digest_numbers(d, 3, wide(refusal), 0, 0),
+    }
+}
+
+fn digest_set(d: usize, x: StateSet) -> usize {
+    let words = x.words;
+    digest_words(d, &words, WORDS)
+}
+
+fn put_digest(tallies: &mut [usize], d: usize) {
+    if DIGEST < tallies.len() {
+        tallies[DIGEST] = d;
+    }
+}
+
+fn compare(tallies: &mut [usize], d: Decision, path: &[u8], found: usize) {
     let verdict = d.verdict;
     let invariant = d.invariant;
-    compare_verdict(verdict, path, found, tallies);
-    digest_set(tallies, invariant);
+    tally_verdict(tallies, verdict, found);
+    let before = at(tallies, DIGEST);
+    put_digest(
+        tallies,
+        digest_set(digest_verdict(before, verdict, path), invariant),
+    );
 }
 
-fn try_one(t: usize, store: &mut [u64], path: &mut [u8], tallies: &mut [usize]) {
+fn try_one(tallies: &mut [usize], t: usize, store: &mut [u64], path: &mut [u8]) {
     let n = states_of(t);
-    let g = groups_of(t);
-    put_ends(store, t, n);
-    put_states(store, t, n, g);
-    let d = decide(store, n, g, 256, path);
-    compare(d, path, search(store, n), tallies);
+    generate(store, t);
+    let d = decide(store, n, groups_of(t), 256, path);
+    compare(tallies, d, path, search(store, n));
 }
 
-fn try_table(t: usize, tallies: &mut [usize]) {
+fn try_table(tallies: &mut [usize], t: usize) {
     let mut store = [0u64; STORE_WORDS];
     let mut path = [0u8; 256];
-    try_one(t, &mut store, &mut path, tallies);
+    try_one(tallies, t, &mut store, &mut path);
 }
 
 fn try_tables(tallies: &mut [usize]) {
     for t in 0..TABLES {
-        try_table(t, tallies);
+        try_table(tallies, t);
     }
 }
 
-fn print_tally(name: &[u8], tallies: &[usize], i: usize) {
-    text(name);
-    text(b" ");
-    number(at(tallies, i));
+fn print_tally(label: &[u8], tallies: &[usize], i: usize) {
+    labelled(label, at(tallies, i));
     line();
 }
 
 fn main() {
     let mut tallies = [0usize; TALLIES];
     try_tables(&mut tallies);
-    text(b"tables ");
-    number(TABLES);
+    labelled(b"tables ", TABLES);
     line();
-    print_tally(b"safe", &tallies, SAFE);
-    print_tally(b"unsafe", &tallies, UNSAFE);
-    print_tally(b"same verdict", &tallies, SAME_VERDICT);
-    print_tally(b"same length of path", &tallies, SAME_LENGTH);
-    print_tally(b"digest of all answers", &tallies, DIGEST);
+    print_tally(b"safe ", &tallies, SAFE);
+    print_tally(b"unsafe ", &tallies, UNSAFE);
+    print_tally(b"same verdict ", &tallies, SAME_VERDICT);
+    print_tally(b"same length of path ", &tallies, SAME_LENGTH);
+    print_tally(b"digest of all answers ", &tallies, DIGEST);
 }

@@ -5,16 +5,15 @@ use rounds::Verdict;
 use rounds::decide;
 use table::STORE_WORDS;
 use test_support::bytes;
-use test_support::forbidden;
 use test_support::group;
 use test_support::initial;
-use test_support::line;
-use test_support::number;
+use test_support::labelled;
 use test_support::print_unchanged;
+use test_support::put_table;
 use test_support::states;
-use test_support::step;
 use test_support::text;
 use test_support::unchanged;
+use test_support::wide;
 
 // The answer, and how many bytes at the front of the path buffer it accounts for.
 fn print_decision(d: Decision, path: &[u8]) -> usize {
@@ -22,17 +21,14 @@ fn print_decision(d: Decision, path: &[u8]) -> usize {
     let invariant = d.invariant;
     match verdict {
         Verdict::Safe { count, size } => {
-            text(b"safe ");
-            number(count);
-            text(b" invariant ");
-            number(size);
+            labelled(b"safe ", count);
+            labelled(b" invariant ", size);
             text(b":");
             states(invariant);
             0
         }
         Verdict::Unsafe { count, steps } => {
-            text(b"unsafe ");
-            number(count);
+            labelled(b"unsafe ", count);
             text(b" path");
             if steps < 256 {
                 bytes(path, steps + 1);
@@ -42,13 +38,11 @@ fn print_decision(d: Decision, path: &[u8]) -> usize {
             }
         }
         Verdict::Undecided { count } => {
-            text(b"undecided ");
-            number(count);
+            labelled(b"undecided ", count);
             0
         }
         Verdict::Refused(refusal) => {
-            text(b"refused ");
-            number(refusal as usize);
+            labelled(b"refused ", wide(refusal));
             0
         }
     }
@@ -57,13 +51,11 @@ fn print_decision(d: Decision, path: &[u8]) -> usize {
 // One call, with a path buffer of sevens.
 fn call(name: &[u8], store: &[u64], n: usize, g: usize, allowance: usize, path: &mut [u8]) {
     text(name);
-    text(b" ");
-    number(allowance);
+    labelled(b" ", allowance);
     text(b": ");
     let d = decide(store, n, g, allowance, path);
     let written = print_decision(d, path);
     print_unchanged(unchanged(path, written, 7));
-    line();
 }
 
 fn try_one(name: &[u8], store: &[u64], n: usize, g: usize, allowance: usize) {
@@ -91,22 +83,13 @@ fn try_allowances(name: &[u8], store: &[u64], n: usize, g: usize) {
 
 fn table_a() {
     let mut t = [0u64; STORE_WORDS];
-    initial(&mut t, 0);
-    forbidden(&mut t, 2);
-    step(&mut t, 0, 1);
-    step(&mut t, 1, 0);
-    step(&mut t, 2, 2);
+    put_table(&mut t, b"0", b"2", b"01 10 22");
     try_allowances(b"A", &t, 3, 0);
 }
 
 fn table_b() {
     let mut t = [0u64; STORE_WORDS];
-    initial(&mut t, 0);
-    forbidden(&mut t, 3);
-    step(&mut t, 0, 1);
-    step(&mut t, 1, 2);
-    step(&mut t, 2, 3);
-    step(&mut t, 4, 4);
+    put_table(&mut t, b"0", b"3", b"01 12 23 44");
     try_allowances(b"B", &t, 5, 0);
     group(&mut t, 0, 0);
     group(&mut t, 1, 1);
@@ -116,17 +99,13 @@ fn table_b() {
 
 fn table_e() {
     let mut t = [0u64; STORE_WORDS];
-    initial(&mut t, 0);
-    forbidden(&mut t, 2);
-    step(&mut t, 0, 0);
-    step(&mut t, 1, 2);
+    put_table(&mut t, b"0", b"2", b"00 12");
     try_allowances(b"E", &t, 3, 0);
 }
 
 fn table_f() {
     let mut t = [0u64; STORE_WORDS];
-    initial(&mut t, 0);
-    forbidden(&mut t, 0);
+    put_table(&mut t, b"0", b"0", b"");
     try_allowances(b"F", &t, 1, 0);
 }
 
@@ -137,15 +116,8 @@ fn table_g() {
 
 fn table_ninth() {
     let mut t = [0u64; STORE_WORDS];
-    initial(&mut t, 0);
-    forbidden(&mut t, 2);
+    put_table(&mut t, b"0", b"2", b"00 01 13 23 30 32");
     group(&mut t, 0, 0);
-    step(&mut t, 0, 0);
-    step(&mut t, 0, 1);
-    step(&mut t, 1, 3);
-    step(&mut t, 2, 3);
-    step(&mut t, 3, 0);
-    step(&mut t, 3, 2);
     try_allowances(b"ninth", &t, 4, 1);
 }
 

@@ -1,12 +1,25 @@
-// What the test programs share: tables put into a store step by step, and answers printed.
+// What the test programs share: tables put into a store, answers printed, buffers looked at.
 //
-//   add, step, initial, forbidden, group     a state put into a set of a store
-//   text, number, line                       printed on standard output
-//   wide                                     a byte as a number
-//   states, bytes                            a set's states, or the first bytes of a buffer, printed after spaces
-//   unchanged, unchanged_words               whether each element is still the one given
+//   add, step, initial, forbidden, group      a state put into a set of a store
+//   put_table                                 a small table put into a store, given by the digits of its states
+//   generate, states_of, groups_of            a generated table, its n and its g (generated.rt)
+//   generate_largest                          one of 256 states and 64 groups
+//   text, number, labelled, line              printed on standard output
+//   states, bytes                             a set's states, or the first bytes of a buffer, printed after spaces
+//   wide, byte_at, put_byte                   a byte as a number; one byte of a buffer, read and written
+//   unchanged, unchanged_words                whether each element from a place on is still the one given
+//   print_unchanged                           such an answer, which ends a line
+//   digest, digest_bytes, digest_words        a number that stands for what was taken into it, so that one number tells all of it
 //
-// Each function asks for nothing: what does not fit is left out, so that the programs need no proofs of their own.
+// Each function asks for nothing: what does not fit is left out, so that the programs need hardly any proofs of their own.
+mod generated;
+
+ghost use Prim.Native.Nat.{_<_};
+pub use generated::generate;
+pub use generated::generate_largest;
+pub use generated::groups_of;
+use generated::noise;
+pub use generated::states_of;
 use libc::STDOUT_FILENO;
 use state_set::StateSet;
 use table::FORBIDDEN_AT;
@@ -47,6 +60,42 @@ pub fn step(store: &mut [u64], a: usize, b: usize) {
     }
 }
 
+// The state whose digit stands at place i, or one that no set takes.
+fn digit(digits: &[u8], i: usize) -> usize {
+    let b = byte_at(digits, i);
+    if b < 48 {
+        return 256;
+    }
+    b - 48
+}
+
+fn put_set(store: &mut [u64], at: usize, digits: &[u8]) {
+    for i in 0..digits.len() {
+        add(store, at, digit(digits, i));
+    }
+}
+
+fn put_step(store: &mut [u64], pairs: &[u8], i: usize) {
+    if i < pairs.len() {
+        if i % 3 == 0 {
+            step(store, digit(pairs, i), digit(pairs, i + 1));
+        }
+    }
+}
+
+fn put_steps(store: &mut [u64], pairs: &[u8]) {
+    for i in 0..pairs.len() {
+        put_step(store, pairs, i);
+    }
+}
+
+// A table without groups of at most ten states: its initial states and its forbidden states, as b"03", and its steps, as b"01 12".
+pub fn put_table(store: &mut [u64], first: &[u8], last: &[u8], steps: &[u8]) {
+    put_set(store, 0, first);
+    put_set(store, FORBIDDEN_AT, last);
+    put_steps(store, steps);
+}
+
 // ---- printing
 
 pub fn text(bytes: &[u8]) {
@@ -57,6 +106,12 @@ pub fn number(x: usize) {
     io::print_decimal(STDOUT_FILENO, x as u64);
 }
 
+// A number after its label.
+pub fn labelled(label: &[u8], x: usize) {
+    text(label);
+    number(x);
+}
+
 pub fn line() {
     text(b"\n");
 }
@@ -64,8 +119,7 @@ pub fn line() {
 // A number after a space, if it is wanted.
 fn spaced(wanted: bool, x: usize) {
     if wanted {
-        text(b" ");
-        number(x);
+        labelled(b" ", x);
     }
 }
 
@@ -76,24 +130,35 @@ pub fn states(x: StateSet) {
     }
 }
 
-fn spaced_byte(buffer: &[u8], i: usize) {
-    if i < buffer.len() {
-        spaced(true, wide(buffer[i]));
-    }
-}
-
-pub fn wide(b: u8) -> usize {
-    b as usize
-}
-
 // The first `count` bytes, each after a space.
 pub fn bytes(buffer: &[u8], count: usize) {
     for i in 0..count {
-        spaced_byte(buffer, i);
+        spaced(i < buffer.len(), byte_at(buffer, i));
     }
 }
 
 // ---- buffers
+
+pub fn wide(b: u8) -> usize
+    ensures { λ r. ⌜ r < 256 ⌝ }
+{
+    b as usize
+}
+
+pub fn byte_at(buffer: &[u8], i: usize) -> usize
+    ensures { λ r. ⌜ r < 256 ⌝ }
+{
+    if i < buffer.len() {
+        return wide(buffer[i]);
+    }
+    0
+}
+
+pub fn put_byte(buffer: &mut [u8], i: usize, value: u8) {
+    if i < buffer.len() {
+        buffer[i] = value;
+    }
+}
 
 // Each byte from `from` on is `value`.
 pub fn unchanged(buffer: &[u8], from: usize, value: u8) -> bool {
@@ -121,8 +186,41 @@ pub fn unchanged_words(buffer: &[u64], from: usize, value: u64) -> bool {
 
 pub fn print_unchanged(same: bool) {
     if same {
-        text(b", the rest unchanged");
+        text(b", the rest unchanged\n");
     } else {
-        text(b", the rest CHANGED");
+        text(b", the rest CHANGED\n");
     }
+}
+
+// ---- digests
+
+// Digest d with the number x taken into it.
+pub fn digest(d: usize, x: usize) -> usize {
+    noise(d % 4294967296 + x % 4294967296)
+}
+
+pub fn digest_bytes(d: usize, buffer: &[u8], count: usize) -> usize {
+    let mut now = d;
+    for i in 0..count {
+        now = digest(now, byte_at(buffer, i));
+    }
+    now
+}
+
+// A word goes in as its lower and its upper half.
+fn digest_word(d: usize, buffer: &[u64], i: usize) -> usize {
+    if i < buffer.len() {
+        let word = buffer[i];
+        let lower = digest(d, (word % 4294967296) as usize);
+        return digest(lower, (word / 4294967296) as usize);
+    }
+    d
+}
+
+pub fn digest_words(d: usize, buffer: &[u64], count: usize) -> usize {
+    let mut now = d;
+    for i in 0..count {
+        now = digest_word(now, buffer, i);
+    }
+    now
 }

@@ -1,19 +1,19 @@
--- `put_states` is safe and ends.
+-- `generate_largest` is safe and ends.
 use Prim.Native.Nat.{_-_, _≤_}
 use borrow.Author.Needs.{needs}
 use mathlib.Core.Path.{_≡_}
 use lib.ListN.{length}
-use Rattle.agreement_test.proofs.put_states.Statement.{statement}
-use Rattle.agreement_test.proofs.put_states.Tie as tie
+use Rattle.test_support.proofs.generated.generate_largest.Statement.{statement}
+use Rattle.test_support.proofs.generated.generate_largest.Tie as tie
 
 abbrev Inv-loop : tie.InvT-loop
-Inv-loop store₀ t n g s₀ store s = (s ≤ n) × (length store ≡ length store₀)
+Inv-loop store₀ i₀ store i = (i ≤ 1288) × (length store ≡ length store₀)
 
 abbrev μ-loop : tie.MeasureT-loop
-μ-loop store₀ t n g s₀ store s = n - s
+μ-loop store₀ i₀ store i = 1288 - i
 
-pub put-states-spec : {M : Type 1} → statement M
-put-states-spec =
+pub generate-largest-spec : {M : Type 1} → statement M
+generate-largest-spec =
     tie.close
     (tie.spec
     Inv-loop
