@@ -10,7 +10,7 @@
 --   shortest-le, shortest-nearest      shortest t is how near the initial states are
 --   pick t d X, pick-at                the state that walk takes first, and what it has
 --   length-walk, length-smallest       how many states walk and smallestPath give
---   walk-leads, walk-smallest          walk is a path from X, and no path from X of its length is smaller
+--   walk-smallest, walk-leads          no path from X of the length of walk is smaller than it, and walk is a path from X
 --   path-of, has-path                  there is a path exactly if hasPath says so
 --   smallest-is, smallest-below        smallestPath is the path that 01 names; its states are below n
 --   distance-is, distance-at           the distance of s is k exactly if s is at k
@@ -163,18 +163,6 @@ module _ (t : Table) where
       let both = meet-in (smallest-in (in-meet (w .1) (w .2))) in
       (both .0, nearest-at t n (both .0) (both .1))
 
-  pub walk-leads : (d : ℕ) {X : Set} → Nearest t X d → (x : ℕ) × (xs : List ℕ) × (walk t d X ≡ x ∷ xs) × In X x × (leads t x xs ≡ true)
-  unfolding walk leads reaching
-  walk-leads zero {X} n = let p = pick-at n in (pick t zero X, [], refl, p .0, p .1 .within .is)
-  walk-leads (suc d) {X} n =
-      let p = pick-at n in
-      let w = walk-leads d (at-row t (p .1)) in
-      (pick t (suc d) X, walk t d (t .row (pick t (suc d) X)), refl, p .0, rw (w .2) (in-and (w .3) (w .4)))
-
-  pub path-of : hasPath t ≡ true → isPath t (smallestPath t) ≡ true
-  unfolding isPath smallestPath
-  path-of e = let w = walk-leads (shortest t) (shortest-nearest t e) in rw (w .2) (in-and (w .3) (w .4))
-
 -- ---- well-formed tables
 
 module _ {t : Table} (ok : WellFormed t) where
@@ -209,13 +197,6 @@ module _ {t : Table} (ok : WellFormed t) where
       let a = reaching-at t (length xs) (p .1) in
       lt-ltb (shortest t) (t .n) (omega (arith, shortest-le t (a .0) (p .0) (a .2 .within), at-lt (a .0) (a .2)))
 
-  -- ---- the path that 01 names
-
-  no-shorter : (ys : List ℕ) → isPath t ys ≡ true → length (smallestPath t) ≤ length ys
-  unfolding isPath
-  no-shorter [] e = absurd (false≢true e)
-  no-shorter (y ∷ ys) e = let p = path-reaching y ys e in omega (arith, length-smallest t, shortest-le t (length ys) (p .0) (p .1))
-
   -- y is near enough to be picked; where it is the one picked, its successors decide
   pub walk-smallest : (ys : List ℕ) {X : Set} {y : ℕ} → X ⊆ firstStates (t .n) → In X y → leads t y ys ≡ true
       → LexLe (walk t (length ys) X) (y ∷ ys)
@@ -227,13 +208,34 @@ module _ {t : Table} (ok : WellFormed t) where
       ⊎-elim (λ q. inr (q, rw q (walk-smallest zs (successors (f y h)) (p .0) (p .1)))) inl
       (eq-or-lt-of-le (smallest-le (in-meet h (leads-reaching (z ∷ zs) (f y h) e))))
 
+-- ---- the path that 01 names
+
+module _ (t : Table) where
+  pub walk-leads : (d : ℕ) {X : Set} → Nearest t X d → (x : ℕ) × (xs : List ℕ) × (walk t d X ≡ x ∷ xs) × In X x × (leads t x xs ≡ true)
+  unfolding walk leads reaching
+  walk-leads zero {X} n = let p = pick-at t n in (pick t zero X, [], refl, p .0, p .1 .within .is)
+  walk-leads (suc d) {X} n =
+      let p = pick-at t n in
+      let w = walk-leads d (at-row t (p .1)) in
+      (pick t (suc d) X, walk t d (t .row (pick t (suc d) X)), refl, p .0, rw (w .2) (in-and (w .3) (w .4)))
+
+  pub path-of : hasPath t ≡ true → isPath t (smallestPath t) ≡ true
+  unfolding isPath smallestPath
+  path-of e = let w = walk-leads (shortest t) (shortest-nearest t e) in rw (w .2) (in-and (w .3) (w .4))
+
+module _ {t : Table} (ok : WellFormed t) where
+  no-shorter : (ys : List ℕ) → isPath t ys ≡ true → length (smallestPath t) ≤ length ys
+  unfolding isPath
+  no-shorter [] e = absurd (false≢true e)
+  no-shorter (y ∷ ys) e = let p = path-reaching ok y ys e in omega (arith, length-smallest t, shortest-le t (length ys) (p .0) (p .1))
+
   no-smaller : (ys : List ℕ) → isPath t ys ≡ true → length ys ≡ length (smallestPath t) → LexLe (smallestPath t) ys
   unfolding isPath smallestPath
   no-smaller [] e l = absurd (false≢true e)
   no-smaller (y ∷ ys) e l =
       let p = and-in (t .initial) y _ e in
       let q : shortest t ≡ length ys = omega (arith, length-smallest t) in
-      rw q (walk-smallest ys (ok .initial) (p .0) (p .1))
+      rw q (walk-smallest ok ys (ok .initial) (p .0) (p .1))
 
   pub smallest-is : hasPath t ≡ true → IsSmallest t (smallestPath t)
   smallest-is e = record { path = path-of t e; shortest = no-shorter; smallest = no-smaller }
@@ -247,7 +249,7 @@ module _ {t : Table} (ok : WellFormed t) where
   leads-below [] h e (suc i) l = absurd (not-suc-le-zero (le-of-suc-le-suc l))
   leads-below (y ∷ ys) {x} h e (suc i) l =
       let p = and-in (t .row x) y _ e in
-      leads-below ys (successors h y (p .0)) (p .1) i (le-of-suc-le-suc l)
+      leads-below ys (successors ok h y (p .0)) (p .1) i (le-of-suc-le-suc l)
 
   path-below : (xs : List ℕ) → isPath t xs ≡ true → (i : ℕ) → i < length xs → getD xs i 0 < t .n
   unfolding isPath

@@ -1,7 +1,6 @@
 -- Laws of the grounds on which `read` declines: of each return of the functions that test them.
 --
 --   faults input m                          the first fault of the first m blocks, or 0
---   length-handed                           the bytes that are handed on for a block are 512
 --   faults-none, faults-next                a loop over the blocks: no fault before its first turn, nor after a turn that found none
 --   faults-stop, faults-end                 it returns the first fault, or 0 when it is done
 --   contentRefusal                          what is wrong with the contents, or 0
@@ -33,7 +32,7 @@ use Rattle.model.specs.Stores.{maxGroups, storeWords, layout, refuse, beyond, n
 use Rattle.model.specs.Files.{le16At, contentLength, blocksFor, part, contentsOf, setNumber, tableIn}
 use Rattle.model.specs.Calls.{overwrite, TableRead, firstFault, blockFault, maxFile, readRefusal, readAnswer, readBuffer}
 use Rattle.model.proofs.ListLaws.{orElse-none, orElse-fault, refuse-none, refuse-skip, refuse-take, firstFault-next, firstFault-stop}
-use Rattle.model.proofs.FileLaws.{length-part, getD-contentsOf-at}
+use Rattle.model.proofs.FileLaws.{getD-contentsOf-at}
 use Rattle.model.proofs.CallLaws.{states-le, Readable, readable, read-answer, read-buffer}
 use Rattle.block_file.specs.Reading.{HasTable, contentGrounds}
 
@@ -52,9 +51,6 @@ module _ (input : List ℕ) where
   handed-part k =
       let whole : 512 * k + 512 - 512 * k ≡ 512 = omega arith in
       ap (λ (m : ℕ). take m (drop (512 * k) input)) whole
-
-  pub length-handed : (k : ℕ) → k < length input / 512 → length (handed k) ≡ 512
-  length-handed k h = ap length (handed-part k) ∙ length-part input k h
 
   pub faults-none : faults 0 ≡ 0
   unfolding firstFault

@@ -1,11 +1,8 @@
 -- `lay_out_decision`: the numbers are small, so that the casts keep them.
-use Prim.Native.Nat.{ℕ, _≤_}
 use mathlib.Core.Path.{_≡_, refl}
 use native.Mathlib.Omega.{arith}
 use borrow.Author.Needs.{needs}
-use mir.Syntax.{w32}
-use mir.Val.{Fits}
-use Rattle.model.specs.Sets.{Set, maxStates}
+use Rattle.model.specs.Sets.{Set}
 use Rattle.model.proofs.Ranges.{DecisionRange}
 use Rattle.rounds.specs.declared.Verdict.{Verdict}
 use Rattle.rounds.specs.Answers.{answersWith}
@@ -16,21 +13,18 @@ use Rattle.shuntberry.proofs.lay_out_decision.Tie as tie
 known : {v w : Verdict} (X : Set) → v ≡ w → DecisionRange (answersWith v X) → DecisionRange (answersWith w X)
 known X e range = rw e at range
 
-fits : {x : ℕ} → x ≤ maxStates → Fits w32 x
-fits small = record { fits = omega (arith, small) }
-
 pub lay-out-decision-spec : {M : Type 1} → statement M
 lay-out-decision-spec =
     tie.close
     (tie.spec
     (λ c. search needs)
-    (λ c. fits (known _ (c .before .verdict .given .1) (c .before .before .before .before .pre) .count))
-    (λ c. fits (known _ (c .before .verdict .given .1) (c .before .before .before .before .pre) .size))
+    (λ c. let r = known _ (c .before .verdict .given .1) (c .before .before .before .before .pre) in record { fits = omega (arith, r .count, r .size) })
+    (λ c. let r = known _ (c .before .verdict .given .1) (c .before .before .before .before .pre) in record { fits = omega (arith, r .count, r .size) })
     (λ c. search needs)
-    (λ c. fits (known _ (c .before .verdict2 .given .1) (c .before .before .before .before .pre) .count))
-    (λ c. fits (known _ (c .before .verdict2 .given .1) (c .before .before .before .before .pre) .steps))
+    (λ c. let r = known _ (c .before .verdict2 .given .1) (c .before .before .before .before .pre) in record { fits = omega (arith, r .count, r .steps) })
+    (λ c. let r = known _ (c .before .verdict2 .given .1) (c .before .before .before .before .pre) in record { fits = omega (arith, r .count, r .steps) })
     (λ c. search needs)
-    (λ c. fits (known _ (c .before .verdict3 .given .1) (c .before .before .before .before .pre) .count))
+    (λ c. let r = known _ (c .before .verdict3 .given .1) (c .before .before .before .before .pre) in record { fits = omega (arith, r .count) })
     (λ c. search needs)
     (λ c. search needs)
     (λ c. (rw (c .before .verdict .given .1) refl, refl))

@@ -11,8 +11,8 @@ lay-out-table-spec =
     tie.close
     (tie.spec
     (λ c. search needs)
-    (λ c. let small = rw (c .before .answer .given .1) at (c .before .before .before .pre) in record { fits = omega (arith, small .n) })
-    (λ c. let small = rw (c .before .answer .given .1) at (c .before .before .before .pre) in record { fits = omega (arith, small .g) })
+    (λ c. let small = rw (c .before .answer .given .1) at (c .before .before .before .pre) in record { fits = omega (arith, small .n, small .g) })
+    (λ c. let small = rw (c .before .answer .given .1) at (c .before .before .before .pre) in record { fits = omega (arith, small .n, small .g) })
     (λ c. search needs)
     (λ c. search needs)
     (λ c. sym (ap readOf (c .before .answer .given .1)))

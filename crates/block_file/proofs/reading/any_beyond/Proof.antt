@@ -27,7 +27,7 @@ any-beyond-spec =
     (λ c. search needs)
     (λ c. search needs)
     (λ c. (search needs, any-start _))
-    (λ c κs. has-set (c .before .before .before .before .pre) (c .before .before .set-width .ensures) (c .loop-test .taken))
+    (λ c κs. has-set (c .before .before .before .before .pre) (c .before .before .set-width .ensures) (search needs))
     (λ c κs. search needs)
     (λ c.
     let turn = c .before .before .before in

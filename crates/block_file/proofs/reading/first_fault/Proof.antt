@@ -1,9 +1,10 @@
 -- `first_fault`: no block passed has a fault.
 use Prim.Native.Nat.{_/_, _-_, _≤_}
+use native.Mathlib.Omega.{arith}
 use mathlib.Core.Path.{_≡_}
 use borrow.Author.Needs.{needs}
-use lib.ListN.{length}
-use Rattle.block_file.proofs.reading.Grounds.{length-handed, faults, faults-none, faults-next, faults-stop, faults-end}
+use lib.ListN.{length, length-take, length-drop}
+use Rattle.block_file.proofs.reading.Grounds.{faults, faults-none, faults-next, faults-stop, faults-end}
 use Rattle.block_file.proofs.reading.first_fault.Statement.{statement}
 use Rattle.block_file.proofs.reading.first_fault.Tie as tie
 
@@ -25,7 +26,7 @@ first-fault-spec =
     (λ c. search needs)
     (λ c. search needs)
     (λ c. search needs)
-    (λ c κs. length-handed _ _ (c .before .loop-test .taken))
+    (λ c κs. simp (length-take, length-drop) (omega (arith, c .before .loop-test .taken)))
     (λ c.
     let turn = c .before .before .before in
     faults-stop _ _ _ (c .before .block-fault .ensures) (turn .before .loop .inv .1) _ (turn .loop-test .taken) (c .if1 .taken))
