@@ -64,7 +64,7 @@ extern "C" {
 #define SHUNTBERRY_ALLOWANCE 20         /* the allowance is over 256 (decide) */
 #define SHUNTBERRY_PATH_SHORT 21        /* the path buffer has under 256 bytes (decide, shortest path) */
 
-/* ---- Verdicts ---- */
+/* ---- Verdicts: only where `refusal` is 0. A refused call has 0 here too, so test `refusal` first. ---- */
 
 #define SHUNTBERRY_SAFE 0      /* no forbidden state can be reached from an initial one */
 #define SHUNTBERRY_UNSAFE 1    /* one can: the path buffer holds how */
@@ -76,7 +76,7 @@ extern "C" {
 struct shuntberry_decision {
     uint64_t invariant[4]; /* if safe, a set with the initial states, the successors of each of its states, and no forbidden state; else empty */
     uint32_t refusal;      /* 0, or the number of the refusal */
-    uint32_t verdict;      /* SHUNTBERRY_SAFE, SHUNTBERRY_UNSAFE or SHUNTBERRY_UNDECIDED */
+    uint32_t verdict;      /* where refusal is 0: SHUNTBERRY_SAFE, SHUNTBERRY_UNSAFE or SHUNTBERRY_UNDECIDED; else 0, which is no verdict */
     uint32_t count;        /* the number of refinements made */
     uint32_t size;         /* the number of states in the invariant */
     uint32_t steps;        /* if unsafe, the number of steps of the path; else 0 */

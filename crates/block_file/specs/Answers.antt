@@ -1,6 +1,6 @@
--- The calls' answers in 01's numbers.
+-- Write's answer in 01's numbers.
 --
---   writtenOf    write's: `refusal` is 0 and `length` that of the file, or `refusal` is the number and `length` 0
+--   writtenOf    `refusal` is 0 and `length` that of the file, or `refusal` is the number and `length` 0
 use Rattle.model.specs.Calls.{Written as WriteAnswer}
 use Rattle.block_file.specs.declared.writing.Written.{Written}
 use Rattle.block_file.specs.declared.writing.Written.the-variants.{File, Refused}

@@ -1,0 +1,121 @@
+/*
+ * The four calls from C by the header alone: a corridor of 256 states is laid out with the header's
+ * offsets, written, read back, and asked for its path, which is every state in turn; then some of the
+ * refusals. The calls run on a painted stack, to see how much of it they take.
+ *
+ * Without groups all states of Z have one cover, Z itself, so that each round loses the one state that
+ * steps out: Z is 0 to 254 in round 0 and state 0 alone in round 254, where S is empty. The count is 254.
+ */
+#include <pthread.h>
+#include <stdio.h>
+#include <stdlib.h>
+#include <string.h>
+
+#include "shuntberry.h"
+
+_Static_assert(sizeof(struct shuntberry_decision) == 56, "decision");
+_Static_assert(offsetof(struct shuntberry_decision, refusal) == 32, "decision.refusal");
+_Static_assert(offsetof(struct shuntberry_decision, reserved) == 52, "decision.reserved");
+_Static_assert(sizeof(struct shuntberry_shortest) == 12, "shortest");
+_Static_assert(sizeof(struct shuntberry_table) == 12, "table");
+_Static_assert(sizeof(struct shuntberry_file) == 8, "file");
+_Static_assert(SHUNTBERRY_ROW(SHUNTBERRY_MAX_STATES) == SHUNTBERRY_STORE_WORDS, "rows");
+_Static_assert(SHUNTBERRY_GROUP(SHUNTBERRY_MAX_GROUPS) == SHUNTBERRY_ROW(0), "groups");
+
+enum { STATES = SHUNTBERRY_MAX_STATES, STACK = 1 << 20, PAINT = 0xa5, STACK_LIMIT = 256 * 1024 };
+
+static uint64_t store[SHUNTBERRY_STORE_WORDS], other[SHUNTBERRY_STORE_WORDS];
+static uint8_t file[SHUNTBERRY_FILE_BYTES], path[SHUNTBERRY_PATH_BYTES];
+
+static void require(int holds, const char *what)
+{
+    if (!holds) {
+        fprintf(stderr, "calls: %s\n", what);
+        exit(1);
+    }
+}
+
+static void add(size_t set, unsigned state)
+{
+    store[set + state / 64] |= (uint64_t)1 << (state % 64);
+}
+
+static int is_corridor(uint32_t steps)
+{
+    for (unsigned state = 0; state < STATES; state++)
+        if (path[state] != state)
+            return 0;
+    return steps == STATES - 1;
+}
+
+static void answers(void)
+{
+    struct shuntberry_file written =
+        shuntberry_write(store, SHUNTBERRY_STORE_WORDS, STATES, 0, file, sizeof file);
+    require(written.refusal == SHUNTBERRY_ACCEPTED && written.length == 17 * SHUNTBERRY_BLOCK_BYTES, "write");
+    struct shuntberry_table table = shuntberry_read(file, written.length, other, SHUNTBERRY_STORE_WORDS);
+    require(table.refusal == SHUNTBERRY_ACCEPTED && table.n == STATES && table.g == 0, "read");
+    require(memcmp(store, other, sizeof store) == 0, "read gives back what was written");
+
+    struct shuntberry_shortest shortest =
+        shuntberry_shortest_path(store, SHUNTBERRY_STORE_WORDS, STATES, 0, path, sizeof path);
+    require(shortest.refusal == SHUNTBERRY_ACCEPTED && shortest.found == 1 && is_corridor(shortest.steps), "shortest path");
+    memset(path, 0, sizeof path);
+    struct shuntberry_decision decision = shuntberry_decide(store, SHUNTBERRY_STORE_WORDS, STATES, 0,
+                                                            SHUNTBERRY_MAX_ALLOWANCE, path, sizeof path);
+    require(decision.refusal == SHUNTBERRY_ACCEPTED && decision.verdict == SHUNTBERRY_UNSAFE &&
+                decision.count == STATES - 2 && decision.size == 0 && decision.reserved == 0 && is_corridor(decision.steps),
+            "decide");
+}
+
+static uint32_t decide(size_t words, size_t n, size_t g, size_t allowance, size_t room)
+{
+    return shuntberry_decide(store, words, n, g, allowance, path, room).refusal;
+}
+
+static void refusals(void)
+{
+    const size_t words = SHUNTBERRY_STORE_WORDS, most = SHUNTBERRY_MAX_ALLOWANCE, room = SHUNTBERRY_PATH_BYTES;
+
+    require(decide(words - 1, STATES, 0, most, room) == SHUNTBERRY_STORE_SHORT, "a short store");
+    require(decide(words, STATES + 1, 0, most, room) == SHUNTBERRY_STATES, "too many states");
+    require(decide(words, STATES, SHUNTBERRY_MAX_GROUPS + 1, most, room) == SHUNTBERRY_GROUPS, "too many groups");
+    require(decide(words, STATES - 1, 0, most, room) == SHUNTBERRY_STRAY_BIT, "a state from n up");
+    require(decide(words, STATES, 0, most + 1, room) == SHUNTBERRY_ALLOWANCE, "an allowance over 256");
+    require(decide(words, STATES, 0, most, room - 1) == SHUNTBERRY_PATH_SHORT, "a short path buffer");
+    require(shuntberry_write(store, words, STATES, 0, file, 511).refusal == SHUNTBERRY_OUTPUT_SHORT, "a short output");
+    require(shuntberry_read(file, 511, other, words).refusal == SHUNTBERRY_INPUT_LENGTH, "a length of 511");
+}
+
+static void *on_painted_stack(void *unused)
+{
+    (void)unused;
+    answers();
+    refusals();
+    return NULL;
+}
+
+int main(void)
+{
+    add(SHUNTBERRY_INITIAL, 0);
+    add(SHUNTBERRY_FORBIDDEN, STATES - 1);
+    for (unsigned state = 0; state + 1 < STATES; state++)
+        add(SHUNTBERRY_ROW(state), state + 1);
+
+    uint8_t *stack = aligned_alloc(4096, STACK);
+    require(stack != NULL, "no memory");
+    memset(stack, PAINT, STACK);
+    pthread_attr_t attributes;
+    pthread_t thread;
+    require(pthread_attr_init(&attributes) == 0 && pthread_attr_setstack(&attributes, stack, STACK) == 0 &&
+                pthread_create(&thread, &attributes, on_painted_stack, NULL) == 0 && pthread_join(thread, NULL) == 0,
+            "no thread");
+
+    size_t untouched = 0;
+    while (untouched < STACK && stack[untouched] == PAINT)
+        untouched++;
+    require(STACK - untouched < STACK_LIMIT, "the calls take 256 KiB of stack or more");
+    printf("the four calls from C: as expected, within %zu KiB of stack\n", (STACK - untouched + 1023) / 1024);
+    free(stack);
+    return 0;
+}
