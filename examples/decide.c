@@ -70,9 +70,18 @@ int main(int argc, char **argv)
         return 0;
     }
     printf("states %u groups %u\n", (unsigned)table.n, (unsigned)table.g);
-    if (decision.verdict == SHUNTBERRY_SAFE)
+    switch (decision.verdict) {
+    case SHUNTBERRY_SAFE:
         print_safe(&decision);
-    else
-        print_unsafe(&decision, path); /* with allowance 256 no answer is undecided */
-    return 0;
+        return 0;
+    case SHUNTBERRY_UNSAFE:
+        print_unsafe(&decision, path);
+        return 0;
+    case SHUNTBERRY_UNDECIDED: /* never with SHUNTBERRY_MAX_ALLOWANCE */
+        printf("undecided refinements %u\n", (unsigned)decision.count);
+        return 0;
+    default:
+        fprintf(stderr, "%s: unknown verdict %u\n", argv[1], (unsigned)decision.verdict);
+        return 1;
+    }
 }

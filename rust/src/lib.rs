@@ -124,7 +124,7 @@ pub struct TableRead {
     pub g: usize,
 }
 
-/// A refused call, by document 01's number. Every buffer is as before the call.
+/// A refused call, by the number of its ground, from 10 to 21. Every buffer is as before the call.
 #[derive(Clone, Copy, Debug, PartialEq, Eq, Hash)]
 pub struct Refused(pub u32);
 
@@ -200,6 +200,26 @@ pub fn decide<'p>(
 /// no other byte of it is touched, and none if there is no path.
 ///
 /// Refused with 10, 14, 15, 17 or 21.
+///
+/// ```
+/// use shuntberry::{FORBIDDEN, INITIAL, PATH_BYTES, STORE_WORDS, row, shortest_path};
+///
+/// // Four states; 0 and 1 are initial, 3 is forbidden; steps 0 → 2, 1 → 2 and 2 → 3.
+/// let mut store = [0; STORE_WORDS];
+/// store[INITIAL] = 0b0011;
+/// store[FORBIDDEN] = 0b1000;
+/// store[row(0)] = 0b0100;
+/// store[row(1)] = 0b0100;
+/// store[row(2)] = 0b1000;
+///
+/// let mut path = [0; PATH_BYTES];
+/// assert_eq!(shortest_path(&store, 4, 0, &mut path)?, Some(&[0, 2, 3][..]));
+///
+/// // Without the last step there is none.
+/// store[row(2)] = 0;
+/// assert_eq!(shortest_path(&store, 4, 0, &mut path)?, None);
+/// # Ok::<(), shuntberry::Refused>(())
+/// ```
 pub fn shortest_path<'p>(
     store: &[u64],
     n: usize,

@@ -18,8 +18,9 @@ fn family(name: impl Into<String>, tables: Vec<Table>) -> Family {
     }
 }
 
-/// For decide: the families of the issue on decide, then growth.
-pub fn for_decide(random: &mut Random) -> Vec<Family> {
+/// The named families, on which all four calls are measured; growth comes last. In those of many looks
+/// decide makes many refinements, and many looks in each.
+pub fn named(random: &mut Random) -> Vec<Family> {
     let mut families = vec![
         family("corridor of 256", vec![corridor(256)]),
         family("fan-out 2", some(|| fan_out(256, 2, 0, random))),
@@ -40,39 +41,23 @@ pub fn for_decide(random: &mut Random) -> Vec<Family> {
     families
 }
 
-/// For shortest path.
-pub fn for_shortest_path(random: &mut Random) -> Vec<Family> {
-    let mut families = vec![
-        family("fan-out 2", some(|| fan_out(256, 2, 0, random))),
-        family("fan-out 4", some(|| fan_out(256, 4, 0, random))),
-        family("fan-out 16", some(|| fan_out(256, 16, 0, random))),
-        family("dense rows", some(|| dense(256, random))),
+/// Beside those for shortest path: distances of many sizes, and no path.
+pub fn more_for_shortest_path(random: &mut Random) -> Vec<Family> {
+    vec![
         family("layers", some(|| layers(256, random))),
         family("no path", some(|| no_path(256, random))),
-    ];
-    for n in [32, 64, 128, 256] {
-        families.push(family(format!("growth, corridor, {n}"), vec![corridor(n)]));
-    }
-    families
+    ]
 }
 
-/// For read and write: one block, either side of the first block's end, and up to the largest file.
-pub fn for_files(random: &mut Random) -> Vec<Family> {
-    [
-        (3, 0),
-        (61, 0),
-        (61, 1),
-        (128, 0),
-        (256, 0),
-        (255, 64),
-        (256, 64),
-    ]
-    .into_iter()
-    .map(|(n, g)| {
-        let tables = some(|| fan_out(n, 4, g, random));
-        family(format!("{n} states, {g} groups"), tables)
-    })
-    .collect()
+/// Beside those for read and write: one block, either side of its end, and the largest file.
+pub fn more_for_files(random: &mut Random) -> Vec<Family> {
+    [(3, 0), (61, 0), (61, 1), (256, 64)]
+        .into_iter()
+        .map(|(n, g)| {
+            let tables = some(|| fan_out(n, 4, g, random));
+            family(format!("{n} states, {g} groups"), tables)
+        })
+        .collect()
 }
 
 fn some(mut table: impl FnMut() -> Table) -> Vec<Table> {

@@ -1,5 +1,5 @@
-//! Implementations of document 01 that share nothing with the proved library, to test it from outside
-//! and to measure it against.
+//! Implementations of document 01 (the specification, which is not in this repository) that share
+//! nothing with the proved library, to test it from outside and to measure it against.
 //!
 //! The tests hold a library (`calls`) to what `expected` says. That rests on plain implementations,
 //! each written from 01's text and without use of the others:

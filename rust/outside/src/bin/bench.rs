@@ -1,11 +1,13 @@
 //! The benchmark: the library's four calls beside the optimised peer, in one run.
 //!
-//!     bench [--peer] [--repetitions R] [--only WORDS]
+//!     bench [--peer] [--repetitions R] [--only WORDS] [--runs N]
 //!
 //! In each repetition the library and the peers go through a family's tables in turn, in changing
 //! order; a ratio is of two times of one repetition. Printed are the median times of a call, and the
 //! median ratios with the range that holds 80 % of them. `--peer` measures the peer against itself,
-//! which shows the noise; `--only` takes the rows that have the words in their call and family.
+//! which shows the noise; `--only` takes the rows that have the words in their call and family, as in
+//! 'decide | fan-out 2'. `--runs` measures nothing: the library alone goes N times through the tables
+//! of each row, to be watched by a profiler.
 
 use std::hint::black_box;
 use std::process::ExitCode;
@@ -13,7 +15,7 @@ use std::time::Instant;
 
 use shuntberry_outside::blocks;
 use shuntberry_outside::calls::Calls;
-use shuntberry_outside::families::{self, Family};
+use shuntberry_outside::families;
 use shuntberry_outside::generate::Random;
 use shuntberry_outside::peer::{Looks, Peer};
 use shuntberry_outside::table::{STORE_WORDS, Table};
@@ -100,55 +102,93 @@ impl Buffers {
 
 fn main() -> ExitCode {
     let Some(options) = options() else {
-        eprintln!("usage: bench [--peer] [--repetitions R] [--only WORDS]");
+        eprintln!("usage: bench [--peer] [--repetitions R] [--only WORDS] [--runs N]");
         return ExitCode::from(2);
     };
     let Some(subject) = subject(options.peer) else {
         eprintln!("bench: built without the library; only --peer can be measured");
         return ExitCode::from(2);
     };
+    let rows = rows(&options.only);
+    if rows.is_empty() {
+        eprintln!("bench: no row has '{}' in it", options.only);
+        return ExitCode::from(2);
+    }
+    if let Some(runs) = options.runs {
+        watch(subject, &rows, runs);
+    } else if let Err(fault) = print_table(subject, &rows, options.repetitions) {
+        eprintln!("bench: {fault}");
+        return ExitCode::FAILURE;
+    }
+    ExitCode::SUCCESS
+}
+
+/// A row of the table: a call on a family's tables.
+struct Row {
+    call: Call,
+    name: String,
+    cases: Vec<Case>,
+}
+
+/// The rows that have the words in their names.
+fn rows(only: &str) -> Vec<Row> {
+    let mut random = Random::new(SEED);
+    let named = families::named(&mut random);
+    let paths = families::more_for_shortest_path(&mut random);
+    let files = families::more_for_files(&mut random);
+    let mut rows = Vec::new();
+    for (call, more) in [
+        (Call::Decide, &[][..]),
+        (Call::ShortestPath, &paths),
+        (Call::Read, &files),
+        (Call::Write, &files),
+    ] {
+        for family in named.iter().chain(more) {
+            let name = format!("{} | {}", call.name(), family.name);
+            if name.contains(only) {
+                let cases = family.tables.iter().map(Case::of).collect();
+                rows.push(Row { call, name, cases });
+            }
+        }
+    }
+    rows
+}
+
+/// Goes through the tables of each row, for a profiler to watch.
+fn watch(subject: &dyn Calls, rows: &[Row], runs: usize) {
+    let mut buffers = Buffers::new();
+    for Row { call, name, cases } in rows {
+        for _ in 0..runs {
+            call.run(subject, cases, &mut buffers);
+        }
+        let count = runs * cases.len();
+        println!("{}: {name}: {count} calls", subject.name());
+    }
+}
+
+fn print_table(subject: &dyn Calls, rows: &[Row], repetitions: usize) -> Result<(), String> {
     println!(
-        "{}, {} repetitions, seed {SEED}. Times are medians in microseconds for one call; \
-         in brackets the range of 80 % of the ratios.\n",
+        "{}, {repetitions} repetitions, seed {SEED}. Times are medians in microseconds for one call; \
+         in brackets the range of 80 % of the ratios. Buffers are not cleared between runs.\n",
         processor(),
-        options.repetitions
     );
     println!(
         "| call | family | {} | peer | ratio | quick peer | ratio |",
         subject.name()
     );
     println!("|---|---|--:|--:|--:|--:|--:|");
-    let mut random = Random::new(SEED);
-    let decide = families::for_decide(&mut random);
-    let shortest_path = families::for_shortest_path(&mut random);
-    let files = families::for_files(&mut random);
-    for (call, families) in [
-        (Call::Decide, &decide),
-        (Call::ShortestPath, &shortest_path),
-        (Call::Read, &files),
-        (Call::Write, &files),
-    ] {
-        for family in families {
-            let row = format!("{} | {}", call.name(), family.name);
-            if !row.contains(&options.only) {
-                continue;
-            }
-            match measure(subject, call, family, options.repetitions) {
-                Ok(figures) => println!("| {row} | {figures} |"),
-                Err(fault) => {
-                    eprintln!("bench: {row}: {fault}");
-                    return ExitCode::FAILURE;
-                }
-            }
-        }
+    for row in rows {
+        let figures = measure(subject, row, repetitions)?;
+        println!("| {} | {figures} |", row.name);
     }
-    ExitCode::SUCCESS
+    Ok(())
 }
 
 struct Options {
     peer: bool,
     repetitions: usize,
     only: String,
+    runs: Option<usize>,
 }
 
 fn options() -> Option<Options> {
@@ -156,14 +196,15 @@ fn options() -> Option<Options> {
         peer: false,
         repetitions: REPETITIONS,
         only: String::new(),
+        runs: None,
     };
     let mut words = std::env::args().skip(1);
     while let Some(word) = words.next() {
+        let mut number = || words.next()?.parse().ok().filter(|&number| number > 0);
         match word.as_str() {
             "--peer" => options.peer = true,
-            "--repetitions" => {
-                options.repetitions = words.next()?.parse().ok().filter(|&r| r > 0)?;
-            }
+            "--repetitions" => options.repetitions = number()?,
+            "--runs" => options.runs = Some(number()?),
             "--only" => options.only = words.next()?,
             _ => return None,
         }
@@ -191,25 +232,20 @@ fn processor() -> String {
     })
 }
 
-/// Measures a call on a family: the figures of its row.
-fn measure(
-    subject: &dyn Calls,
-    call: Call,
-    family: &Family,
-    repetitions: usize,
-) -> Result<String, String> {
+/// Measures a row: its figures.
+fn measure(subject: &dyn Calls, row: &Row, repetitions: usize) -> Result<String, String> {
+    let Row { call, name, cases } = row;
     let libraries: [&dyn Calls; 3] = [subject, &Peer(Looks::Whole), &Peer(Looks::New)];
     // The two peers differ in decide only.
-    let count = if call == Call::Decide { 3 } else { 2 };
+    let count = if *call == Call::Decide { 3 } else { 2 };
     let libraries = &libraries[..count];
-    let cases: Vec<Case> = family.tables.iter().map(Case::of).collect();
-    agree(libraries, call, &cases)?;
+    agree(libraries, *call, cases).map_err(|fault| format!("{name}: {fault}"))?;
 
     let mut buffers = Buffers::new();
     let mut time = |library: &dyn Calls, rounds: usize| {
         let start = Instant::now();
         for _ in 0..rounds {
-            call.run(library, &cases, &mut buffers);
+            call.run(library, cases, &mut buffers);
         }
         start.elapsed().as_nanos() as f64 / rounds as f64
     };
