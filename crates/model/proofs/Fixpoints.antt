@@ -5,13 +5,13 @@
 --   iterate-still                    a step that stands still stays still
 --   growing-done, shrinking-done     an iteration that only grows, or only shrinks, among n states is still after n steps
 --   least-pre, greatest-post         n steps from the empty set stay inside each prefixpoint, n from all n states around each postfixpoint
---   from-below, from-above           they reach the least and the greatest solution
+--   from-below, from-above           they reach the least and the greatest solution; least-unique, greatest-unique: of which there is one
 --   eliminated-shrinks, eliminated-mono     W only shrinks; eliminated-proper, eliminated-within: it is a set of states of the table
 --   backward-is, eliminated-still           the backward number is what 01 says, and W stays the same from there
 use Prim.Native.Nat.{ℕ, zero, suc, _+_, _-_, _≤_, _<_}
 use native.Mathlib.Decide.{le-ind}
 use native.Mathlib.Omega.{arith}
-use mathlib.Core.Path.{_≡_, refl, sym, ap, _∙_}
+use mathlib.Core.Path.{_≡_, refl, sym, ap, _∙_, subst}
 use mathlib.Core.Logic.{_⊎_, inl, inr, ⊎-elim}
 use mathlib.Core.Bool.{Bool}
 use Rattle.model.specs.Sets.{Set, empty, meet, same, states, firstStates, size}
@@ -19,7 +19,7 @@ use Rattle.model.specs.Tables.{Table, notForbidden}
 use Rattle.model.specs.Rounds.{iterate, eliminationStep, eliminated, backwardNumber}
 use Rattle.model.specs.Promises.{IsLeast, IsGreatest, BackwardIs}
 use Rattle.model.proofs.Bounds.{first-found, first-before, first-le}
-use Rattle.model.proofs.SetLaws.{Proper, setOf-proper, empty-in, meet-in, _⊆_, in-subset, same-set, same-eq, eq-same, ⊆-of-eq, states-within}
+use Rattle.model.proofs.SetLaws.{Proper, setOf-proper, empty-in, meet-in, _⊆_, subset-in, in-subset, same-set, same-eq, eq-same, ⊆-of-eq, states-within}
 use Rattle.model.proofs.Counting.{size-bound, all-or-fewer}
 
 -- ---- chains
@@ -111,6 +111,20 @@ module _ (f : Set → Set) (n : ℕ)
             (iterate-has (λ X. f X ⊆ X) f (firstStates n) (within (firstStates n)) (λ X h. mono (f X) X h)));
         greatest = λ Y e. in-subset (greatest-post Y (⊆-of-eq e));
       }
+
+-- there is one of each
+module _ (f : Set → Set) (proper : (X : Set) → Proper (f X)) where
+  solution-proper : {X : Set} → X ≡ f X → Proper X
+  solution-proper {X} e = subst Proper (sym e) (proper X)
+
+  pub least-unique : {X Y : Set} → IsLeast f X → IsLeast f Y → X ≡ Y
+  least-unique {X} {Y} x y =
+      same-set X Y (solution-proper (x .solves)) (solution-proper (y .solves)) (subset-in (x .least Y (y .solves))) (subset-in (y .least X (x .solves)))
+
+  pub greatest-unique : {X Y : Set} → IsGreatest f X → IsGreatest f Y → X ≡ Y
+  greatest-unique {X} {Y} x y =
+      same-set X Y (solution-proper (x .solves)) (solution-proper (y .solves))
+      (subset-in (y .greatest X (x .solves))) (subset-in (x .greatest Y (y .solves)))
 
 -- ---- backward elimination
 

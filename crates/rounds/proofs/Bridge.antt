@@ -4,11 +4,13 @@
 --   covers-read                  a row is the cover of its state
 --   notForbidden-is              all states without the forbidden ones
 --   coverBy-is, successorsBy-is, keptBy-is      for sets of the table's states, the model's cover, post, and meet with hold
---   iterate-cong                 steps that agree on a kind of set that they keep iterate alike
 --   forwardBy-proper, backwardBy-proper     what the steps give is a proper set
+--   forward-least, backward-greatest        n steps reach the least and the greatest solution; covers-below: of rows that are covers
+--   iterate-cong                 steps that agree on a kind of set that they keep iterate alike
 --   forward-is, backward-is      R and S
 use Prim.Native.Nat.{ℕ, zero, suc, _<_}
 use mathlib.Core.Path.{_≡_, refl, sym, ap, _∙_, subst}
+use mathlib.Core.Logic.{inl, inr, ⊎-elim}
 use mathlib.Core.Bool.{cond}
 use mathlib.Core.List.{List, [], _∷_}
 use lib.ListN.{getD}
@@ -17,14 +19,15 @@ use Rattle.model.specs.Tables.{post, hold, coverOf, cover, notForbidden}
 use Rattle.model.specs.Rounds.{iterate, forwardStep, forward, backwardStep, backward}
 use Rattle.model.specs.Stores.{rowAt, setAt, tableOf}
 use Rattle.model.proofs.Bounds.{and-true, and-intro, is-false, clash, length-tabulate, getD-tabulate, tabulate-cong}
-use Rattle.model.proofs.SetLaws.{Proper, setOf-proper, In, in-bound, in-setOf, setOf-in, in-meet, meet-in, in-difference, difference-in, firstStates-in, _⊆_, subset-in, in-subset, same-set, empty-in}
-use Rattle.model.proofs.Fixpoints.{iterate-has}
-use Rattle.model.proofs.CoverLaws.{image-proper, in-notForbidden, notForbidden-in, notForbidden-within, in-hold, hold-in, forwardStep-within, backwardStep-within}
+use Rattle.model.proofs.SetLaws.{Proper, setOf-proper, In, in-bound, in-setOf, setOf-in, in-union, union-in, in-meet, meet-in, in-difference, difference-in, firstStates-in, _⊆_, subset-in, in-subset, same-set, empty-in, image-in}
+use Rattle.model.specs.Promises.{IsLeast, IsGreatest}
+use Rattle.model.proofs.Fixpoints.{iterate-has, from-below, from-above}
+use Rattle.model.proofs.CoverLaws.{image-mono, image-proper, coverOf-within, in-notForbidden, notForbidden-in, notForbidden-within, in-hold, hold-in, forwardStep-within, backwardStep-within}
 use Rattle.model.proofs.StoreLaws.{row-is}
 use Rattle.model.proofs.ImageLaws.{image-bound, image-cong}
 use Rattle.table.specs.Rows.{successorsBy, keptBy}
 use Rattle.table.proofs.MapAt.{mapAt-tabulate}
-use Rattle.rounds.specs.Steps.{covers, narrowed, coverBy, forwardBy, backwardBy}
+use Rattle.rounds.specs.Steps.{covers, narrowed, coverBy, forwardBy, backwardBy, Below}
 
 -- ---- the cover
 
@@ -81,6 +84,39 @@ module _ (store : List ℕ) (rows : List Set) where
   pub backwardBy-proper : (R X : Set) → Proper (backwardBy store rows R X)
   unfolding backwardBy coverBy
   backwardBy-proper R X = image-proper maxStates _ _
+
+module _ (store : List ℕ) (n : ℕ) (rows : List Set) (below : Below n rows) where
+  coverBy-mono : (X Y : Set) → X ⊆ Y → coverBy rows X ⊆ coverBy rows Y
+  unfolding coverBy
+  coverBy-mono = image-mono maxStates _
+
+  coverBy-within : (X : Set) → coverBy rows X ⊆ firstStates n
+  unfolding coverBy
+  coverBy-within X s h = let w = image-in _ X maxStates h in subset-in (below .row (w .0) (w .1)) s (w .3)
+
+  -- n steps from the empty set, and n from all n states, reach the least and the greatest solution
+  pub forward-least : (initial Z : Set) → IsLeast (forwardBy store rows initial Z) (iterate (forwardBy store rows initial Z) empty n)
+  unfolding forwardBy successorsBy
+  forward-least initial Z =
+      from-below _ n
+      (λ X Y i. coverBy-mono _ _ (λ s h. let both = meet-in h in in-meet (both .0) (⊎-elim (λ a. in-union (inl a)) (λ b. in-union (inr (image-mono maxStates _ X Y i s b))) (union-in (both .1)))))
+      (forwardBy-proper store rows initial Z) (λ X. coverBy-within _)
+
+  pub backward-greatest : (R : Set) → IsGreatest (backwardBy store rows R) (iterate (backwardBy store rows R) (firstStates n) n)
+  unfolding backwardBy keptBy
+  backward-greatest R =
+      from-above _ n
+      (λ X Y i.
+      coverBy-mono _ _
+      (λ s h.
+      let both = and-true (member R s) _ (setOf-in _ h) in
+      in-setOf _ (in-bound h) (and-intro (member R s) _ (both .0) (in-subset (λ u r. i u (subset-in (both .1) u r))))))
+      (backwardBy-proper store rows R) (λ X. coverBy-within _)
+
+-- the rows for a list are the covers of states of the table
+pub covers-below : (n : ℕ) (L : List Set) {rows : List Set} → rows ≡ covers n L → Below n rows
+covers-below n L e =
+    record { row = λ s h. in-subset (λ u i. coverOf-within n L s u (subst (λ (X : Set). In X u) (ap (λ (R : List Set). getD R s []) e ∙ covers-read n L s h) i)) }
 
 pub iterate-cong : (P : Set → Type 0) (f g : Set → Set) (x : Set) → P x → ((X : Set) → P X → f X ≡ g X) → ((X : Set) → P (g X)) → (k : ℕ)
     → iterate f x k ≡ iterate g x k

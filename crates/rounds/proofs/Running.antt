@@ -19,15 +19,15 @@ use Rattle.model.specs.Sets.{Set, empty, union, meet, subset, firstStates}
 use Rattle.model.specs.Tables.{Table, hold, notForbidden}
 use Rattle.model.specs.Rounds.{iterate, forwardStep, forward, backwardStep, backward, Round, roundOf, firstRound, nextRound, isSafe, isUnsafe, safe, unsafe, undecided, run}
 use Rattle.model.specs.Stores.{setAt, forbiddenAt, tableOf}
-use Rattle.model.specs.Promises.{roundAt, Continues}
+use Rattle.model.specs.Promises.{IsLeast, IsGreatest, roundAt, Continues}
 use Rattle.model.proofs.Bounds.{below-suc}
 use Rattle.model.proofs.SetLaws.{empty-in, meet-in, _⊆_, ⊆-of-eq}
-use Rattle.model.proofs.Fixpoints.{iterate-has}
+use Rattle.model.proofs.Fixpoints.{iterate-has, least-unique, greatest-unique}
 use Rattle.model.proofs.CoverLaws.{hold-within, notForbidden-within, forwardStep-within, backwardStep-within}
 use Rattle.model.proofs.RoundLaws.{first-stop}
 use Rattle.table.specs.Rows.{successorsBy, keptBy}
 use Rattle.rounds.specs.Steps.{covers, narrowed, forwardBy, backwardBy}
-use Rattle.rounds.proofs.Bridge.{covers-add, successorsBy-is, keptBy-is, forward-is, backward-is}
+use Rattle.rounds.proofs.Bridge.{covers-add, successorsBy-is, keptBy-is, forwardBy-proper, backwardBy-proper, forward-least, backward-greatest, covers-below, forward-is, backward-is}
 
 -- ---- sets of the table's states
 
@@ -90,18 +90,18 @@ module _ {store : List ℕ} {n g allowance : ℕ} {initial : Set} {rows : List S
   pub rows-are : {rows′ : List Set} → rows′ ≡ narrowed rows Z → rows′ ≡ covers n listNow
   rows-are e = e ∙ ap (λ (X : List Set). narrowed X Z) (so .rows-are) ∙ covers-add n (so .list) Z
 
-  pub R-is : {rows′ : List Set} {R : Set} → rows′ ≡ covers n listNow → R ≡ iterate (forwardBy store rows′ initial Z) empty n → R ≡ roundNow .R
+  pub R-is : {rows′ : List Set} {R : Set} → rows′ ≡ covers n listNow → IsLeast (forwardBy store rows′ initial Z) R → R ≡ roundNow .R
   unfolding roundOf tableOf
-  R-is c e =
-      e
+  R-is {rows′} c e =
+      least-unique _ (forwardBy-proper store rows′ initial Z) e (forward-least store n rows′ (covers-below n listNow c) initial Z)
       ∙ ap₂ (λ (X : List Set) (Y : Set). iterate (forwardBy store X Y Z) empty n) c (so .initial-is)
       ∙ forward-is store n g listNow Z (so .within)
 
   pub S-is : {rows′ : List Set} {R S : Set} → rows′ ≡ covers n listNow → R ≡ roundNow .R
-      → S ≡ iterate (backwardBy store rows′ R) (firstStates n) n → S ≡ roundNow .S
+      → IsGreatest (backwardBy store rows′ R) S → S ≡ roundNow .S
   unfolding roundOf tableOf
-  S-is c r e =
-      e
+  S-is {rows′} {R} c r e =
+      greatest-unique _ (backwardBy-proper store rows′ R) e (backward-greatest store n rows′ (covers-below n listNow c) R)
       ∙ ap₂ (λ (X : List Set) (Y : Set). iterate (backwardBy store X Y) (firstStates n) n) c r
       ∙ backward-is store n g listNow _ (forward-within table listNow Z)
 

@@ -4,10 +4,13 @@
 --   narrowed rows Z         the rows after Z is added to the list
 --   coverBy rows X          the cover of X
 --   forwardBy, backwardBy   R's step and S's step
-use Prim.Native.Nat.{ℕ}
+--   Below n rows            the rows hold states of the table only, and so does what the steps give
+use Prim.Native.Nat.{ℕ, _<_}
+use mathlib.Core.Path.{_≡_}
+use mathlib.Core.Bool.{true}
 use mathlib.Core.List.{List, []}
 use lib.ListN.{getD}
-use Rattle.model.specs.Sets.{maxStates, Set, union, meet, image, tabulate}
+use Rattle.model.specs.Sets.{maxStates, Set, union, meet, subset, firstStates, image, tabulate}
 use Rattle.model.specs.Tables.{coverOf}
 use Rattle.table.specs.Rows.{successorsBy, keptBy, mapAt}
 
@@ -25,3 +28,6 @@ forwardBy store rows initial Z X = coverBy rows (meet Z (union initial (successo
 
 unfoldable pub backwardBy : List ℕ → List Set → Set → Set → Set
 backwardBy store rows R X = coverBy rows (keptBy store R X)
+
+pub record Below (n : ℕ) (rows : List Set) : Type 0 where
+  pub row : (s : ℕ) → s < maxStates → subset (getD rows s []) (firstStates n) ≡ true

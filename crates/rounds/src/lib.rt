@@ -12,14 +12,15 @@ ghost use mathlib.Core.List.{[]};
 ghost use Prim.Native.Nat.{_≤_, _<_};
 ghost use lib.Dec.{eqb};
 ghost use lib.ListN.{length};
-ghost use Rattle.model.specs.Sets.{WORDS, empty, union, meet, subset, firstStates};
+ghost use Rattle.model.specs.Sets.{WORDS, union, meet, subset};
 ghost use Rattle.state_set.specs.WordSets.{wordSet};
 ghost use Rattle.model.specs.Tables.{notForbidden};
-ghost use Rattle.model.specs.Rounds.{iterate, run as run·model};
+ghost use Rattle.model.specs.Rounds.{run as run·model};
 ghost use Rattle.model.specs.Stores.{storeWords, maxGroups, forbiddenAt, setAt, tableOf, refuse};
 ghost use Rattle.model.specs.Calls.{decideGrounds, decideAnswer, decideBuffer};
+ghost use Rattle.model.specs.Promises.{IsLeast, IsGreatest};
 ghost use Rattle.table.specs.Rows.{successorsBy, mapAt};
-ghost use Rattle.rounds.specs.Steps.{covers, narrowed, forwardBy, backwardBy};
+ghost use Rattle.rounds.specs.Steps.{covers, narrowed, forwardBy, backwardBy, Below};
 ghost use Rattle.rounds.specs.Answers.{outcomeOf, invariantOf, answerOf, isRefused, stepsIn};
 use paths::Found;
 use paths::find_path;
@@ -94,9 +95,10 @@ fn forward_step(store: &[u64], rows: &Rows, initial: StateSet, z: StateSet, x: S
     union_of(rows, z.meet(initial.union(successors(store, x))))
 }
 
+// The least x with x = cover(z meet (initial union post(x))).
 fn forward(store: &[u64], n: usize, rows: &Rows, initial: StateSet, z: StateSet) -> StateSet
-    requires { ⌜ storeWords ≤ length (now store) ⌝ }
-    ensures { λ r. ⌜ r .words ≡ iterate (forwardBy (now (store .entry)) (now (rows .entry)) (initial .words) (z .words)) empty n ⌝ }
+    requires { ⌜ (storeWords ≤ length (now store)) × Below n (now rows) ⌝ }
+    ensures { λ r. ⌜ IsLeast (forwardBy (now (store .entry)) (now (rows .entry)) (initial .words) (z .words)) (r .words) ⌝ }
 {
     let mut x = StateSet::empty();
     for _ in 0..n {
@@ -119,9 +121,10 @@ fn backward_step(store: &[u64], rows: &Rows, r: StateSet, x: StateSet) -> StateS
     union_of(rows, kept(store, r, x))
 }
 
+// The greatest x with x = cover(r meet hold(x)).
 fn backward(store: &[u64], n: usize, rows: &Rows, r: StateSet) -> StateSet
-    requires { ⌜ storeWords ≤ length (now store) ⌝ }
-    ensures { λ s. ⌜ s .words ≡ iterate (backwardBy (now (store .entry)) (now (rows .entry)) (r .words)) (firstStates n) n ⌝ }
+    requires { ⌜ (storeWords ≤ length (now store)) × Below n (now rows) ⌝ }
+    ensures { λ s. ⌜ IsGreatest (backwardBy (now (store .entry)) (now (rows .entry)) (r .words)) (s .words) ⌝ }
 {
     let mut x = StateSet::first_states(n);
     for _ in 0..n {

@@ -4,6 +4,7 @@ use native.Mathlib.Omega.{arith}
 use mathlib.Core.Path.{_≡_, refl, _∙_}
 use mathlib.Core.Bool.{false, not}
 use borrow.Author.Needs.{needs}
+use Rattle.rounds.proofs.Bridge.{covers-below}
 use Rattle.rounds.proofs.Running.{Running, run-start, roundNow, safeNow, unsafeNow, rows-are, R-is, S-is, safe-is, unsafe-is, run-safe, run-unsafe, run-undecided, run-turn}
 use Rattle.rounds.proofs.run.Statement.{statement}
 use Rattle.rounds.proofs.run.Tie as tie
@@ -51,10 +52,10 @@ run-spec =
     (λ c κs. search needs)
     (λ c. run-start _ _ _ _ (c .before .before .set-at .ensures) (c .before .not-forbidden .ensures) (c .with-groups .ensures))
     (λ c κs. search needs)
-    (λ c κs. search needs)
+    (λ c κs. let so = c .before .before .before .loop .inv in (search needs, covers-below _ _ (rows-are so (c .before .narrow .ensures))))
     (λ c κs. search needs)
     (λ c. (run-safe (turn (c .before .before) .loop .inv) (R-now (c .before .before)) (safe-now (c .before) ∙ c .if1 .taken), refl))
-    (λ c κs. search needs)
+    (λ c κs. let d = c .before .before .before .before in let so = d .before .before .before .loop .inv in (search needs, covers-below _ _ (rows-are so (d .before .narrow .ensures))))
     (λ c κs. search needs)
     (λ c κs. search needs)
     (λ c.
