@@ -11,6 +11,9 @@ sys.path.insert(0, str(TOP / "tables"))
 import make  # noqa: E402
 from make import A, B, D, E, F, G, Table  # noqa: E402
 
+H_STEPS = {(0, 59), (59, 0), (58, 60)}
+H = Table(61, {0}, {60}, H_STEPS)
+H_GROUP = Table(61, {0}, {60}, H_STEPS, [{0, 59}])
 NINTH = Table(4, {0}, {2}, {(0, 0), (0, 1), (1, 3), (2, 3), (3, 0), (3, 2)}, [{0}])
 KEPT = ", the rest unchanged"
 
@@ -27,7 +30,7 @@ def answer(table, allowance):
 
 def decide_test():
     lines = []
-    for name, table in [("A", A), ("B", B), ("D", D), ("E", E), ("F", F), ("G", G), ("ninth", NINTH)]:
+    for name, table in [("A", A), ("B", B), ("D", D), ("E", E), ("F", F), ("G", G), ("H", H), ("H with a group", H_GROUP), ("ninth", NINTH)]:
         for allowance in (0, 1, 2, 3, 256):
             lines.append(f"{name} {allowance}: {answer(table, allowance)}{KEPT}")
     for name, allowance, refusal in [

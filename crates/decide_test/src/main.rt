@@ -5,12 +5,14 @@ use rounds::Verdict;
 use rounds::decide;
 use table::STORE_WORDS;
 use test_support::bytes;
+use test_support::forbidden;
 use test_support::group;
 use test_support::initial;
 use test_support::labelled;
 use test_support::print_unchanged;
 use test_support::put_table;
 use test_support::states;
+use test_support::step;
 use test_support::text;
 use test_support::unchanged;
 use test_support::wide;
@@ -114,6 +116,21 @@ fn table_g() {
     try_allowances(b"G", &t, 1, 0);
 }
 
+// 01 gives n and g of H alone. Here 58 leads to the forbidden state and shares a cover with the states that a session goes through, till a
+// group parts them.
+fn table_h() {
+    let mut t = [0u64; STORE_WORDS];
+    initial(&mut t, 0);
+    forbidden(&mut t, 60);
+    step(&mut t, 0, 59);
+    step(&mut t, 59, 0);
+    step(&mut t, 58, 60);
+    try_allowances(b"H", &t, 61, 0);
+    group(&mut t, 0, 0);
+    group(&mut t, 0, 59);
+    try_allowances(b"H with a group", &t, 61, 1);
+}
+
 fn table_ninth() {
     let mut t = [0u64; STORE_WORDS];
     put_table(&mut t, b"0", b"2", b"00 01 13 23 30 32");
@@ -163,6 +180,7 @@ fn main() {
     table_e();
     table_f();
     table_g();
+    table_h();
     table_ninth();
     short_store();
     whole_store();
