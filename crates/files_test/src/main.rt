@@ -219,7 +219,7 @@ fn times(k: usize, x: usize) -> usize
     k * x
 }
 
-// The check of a block set right for another value of one of its bytes, which counts once more than its place says.
+// The check of a block set right for another value of its byte i, which counts i + 1 times in it.
 fn mend(file: &mut [u8], at: usize, value: u8) {
     let i = at % 512;
     if i < 510 {
