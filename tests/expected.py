@@ -185,13 +185,6 @@ def writes(heading, store, *cases):
         yield f" from {words} n {n} g {g} into {room}: {said}{KEPT}"
 
 
-def was_read(data, length, words=1288, replaced=""):
-    answer = read(data[:length], words)
-    said = f"refused {answer}" if isinstance(answer, int) else (
-        f"n {answer[0]} g {answer[1]}, digest {digest_store(answer[2])}")
-    return f"{replaced} from {length} into {words}: {said}{KEPT}"
-
-
 def replace(data, at, value):
     """A byte replaced, and the check of its block set right, unless the byte is one of the check's own."""
     data, block = make.with_byte(data, at, value), at // 512 * 512
@@ -201,12 +194,15 @@ def replace(data, at, value):
 
 
 def reads(file, *cases):
-    """A line for each case of a length and bytes replaced; zeros stand behind the file."""
-    for length, damage in cases:
+    """A line for each case of a length, words and bytes replaced; zeros stand behind the file."""
+    for length, words, damage in cases:
         data = file.ljust(11264, b"\0")
         for at, value in damage.items():
             data = replace(data, at, value)
-        yield was_read(data, length, replaced="".join(f" {at}={value}" for at, value in damage.items()))
+        answer = read(data[:length], words)
+        said = f"refused {answer}" if isinstance(answer, int) else (
+            f"n {answer[0]} g {answer[1]}, digest {digest_store(answer[2])}")
+        yield "".join(f" {at}={value}" for at, value in damage.items()) + f" from {length} into {words}: {said}{KEPT}"
 
 
 def round_trip(t):
@@ -236,26 +232,28 @@ def files_test():
                 (1288, 0, 0, 512), (1288, 257, 0, 10752), (1288, 0, 65, 511), (1288, 3, 64, 512), (1288, 3, 65, 512),
                 (1288, 2, 65, 511), (1288, 2, 0, 512), (1288, 2, 0, 511)),
         "read E",
-        *(was_read(e_file, length, words) for length, words in ((512, 1288), (512, 1300), (512, 1287), (0, 1287))),
-        *reads(e_file, (0, {}), (511, {}), (513, {}), (511, {0: 1})),
-        *reads(e_file, *((512, damage) for damage in (
+        *reads(e_file, (512, 1288, {}), (512, 1300, {}), (512, 1287, {}), (0, 1287, {}),
+               (0, 1288, {}), (511, 1288, {}), (513, 1288, {}), (511, 1288, {0: 1})),
+        *reads(e_file, *((512, 1288, damage) for damage in (
             {0: 1}, {1: 1}, {0: 1, 510: 97}, {510: 98}, {511: 1}, {2: 0, 510: 97},
             {2: 0}, {2: 1, 3: 1}, {3: 1, 5: 1}, {4: 64}, {4: 65}, {5: 1}, {2: 61, 4: 65}, {2: 62}, {2: 62, 13: 128}))),
-        *reads(e_file, (1024, {}), (1024, {512: 1}), (1024, {512: 1, 6: 9})),
-        *reads(e_file, *((512, damage) for damage in ({6: 9}, {7: 12}, {10: 128}, {6: 9, 11: 1}, {11: 1}, {509: 128}))),
+        *reads(e_file, (1024, 1288, {}), (1024, 1288, {512: 1}), (1024, 1288, {512: 1, 6: 9})),
+        *reads(e_file, *((512, 1288, damage) for damage in (
+            {6: 9}, {7: 12}, {10: 128}, {6: 9, 11: 1}, {11: 1}, {509: 128}))),
         *writes("write E with a group and a step from 3", more, (1288, 4, 0, 512), (1288, 3, 1, 512), (1288, 4, 1, 512)),
         *writes("write H", h, (1288, 61, 0, 512), (1288, 61, 1, 1024), (1288, 61, 1, 1023)),
         "read H",
-        *reads(h_file, (512, {}), (512, {509: 48})),
+        *reads(h_file, (512, 1288, {}), (512, 1288, {509: 48})),
         "read H with a group",
-        *reads(h1_file, (1024, {}), (512, {}), *((1024, damage) for damage in (
+        *reads(h1_file, (1024, 1288, {}), (512, 1288, {}), *((1024, 1288, damage) for damage in (
             {512: 0}, {1023: 255}, {512: 7, 1023: 255}, {0: 9, 1023: 255}, {511: 255, 512: 7},
             {29: 32}, {521: 48}, {522: 1}, {1021: 1}))),
         *writes("write the largest table", most,
                 (1300, 256, 64, 10752), (1288, 256, 64, 10751), (1288, 257, 64, 10752), (1288, 256, 65, 10752),
                 (1288, 256, 63, 10752), (1288, 255, 64, 10752)),
         "read the largest table",
-        *reads(most_file, (10752, {}), (10753, {}), (11264, {}), (10240, {}), (10752, {4: 65}), (10752, {2: 1, 4: 65})),
+        *reads(most_file, (10752, 1300, {}), (10753, 1288, {}), (11264, 1288, {}), (10240, 1288, {}),
+               (10752, 1288, {4: 65}), (10752, 1288, {2: 1, 4: 65})),
         f"round trips {trips}, digest {digest(x for t in range(trips) for x in round_trip(t))}",
     ]
     return "".join(line + "\n" for line in lines)

@@ -143,12 +143,14 @@ fn replace(file: &mut [u8], at: usize, value: u8) {
 // A place that no file has: nothing is replaced there.
 const NOWHERE: usize = 99999;
 
-// Read the first `length` bytes of the file of a table, with one byte replaced, or two, or none; zeros stand behind the file.
+// Read the first `length` bytes of the file of a table to `words` words, with one byte replaced, or two, or none; zeros stand behind the
+// file.
 fn try_file(
     table: &[u64],
     n: usize,
     g: usize,
     length: usize,
+    words: usize,
     at: usize,
     value: u8,
     at2: usize,
@@ -158,7 +160,7 @@ fn try_file(
     write(table, n, g, &mut file);
     replace(&mut file, at, value);
     replace(&mut file, at2, value2);
-    try_read(&file, length, 1288);
+    try_read(&file, length, words);
 }
 
 // ---- E
@@ -190,25 +192,23 @@ fn write_e(e: &[u64]) {
 }
 
 fn read_stores(e: &[u64]) {
-    let mut file = [7u8; 512];
-    write(e, 3, 0, &mut file);
     text(b"read E\n");
-    try_read(&file, 512, 1288);
-    try_read(&file, 512, 1300);
-    try_read(&file, 512, 1287);
-    try_read(&file, 0, 1287);
+    try_file(e, 3, 0, 512, 1288, NOWHERE, 0, NOWHERE, 0);
+    try_file(e, 3, 0, 512, 1300, NOWHERE, 0, NOWHERE, 0);
+    try_file(e, 3, 0, 512, 1287, NOWHERE, 0, NOWHERE, 0);
+    try_file(e, 3, 0, 0, 1287, NOWHERE, 0, NOWHERE, 0);
 }
 
 fn read_e(e: &[u64], at: usize, value: u8, at2: usize, value2: u8) {
-    try_file(e, 3, 0, 512, at, value, at2, value2);
+    try_file(e, 3, 0, 512, 1288, at, value, at2, value2);
 }
 
 // At last beside a wrong number.
 fn read_lengths(e: &[u64]) {
-    try_file(e, 3, 0, 0, NOWHERE, 0, NOWHERE, 0);
-    try_file(e, 3, 0, 511, NOWHERE, 0, NOWHERE, 0);
-    try_file(e, 3, 0, 513, NOWHERE, 0, NOWHERE, 0);
-    try_file(e, 3, 0, 511, 0, 1, NOWHERE, 0);
+    try_file(e, 3, 0, 0, 1288, NOWHERE, 0, NOWHERE, 0);
+    try_file(e, 3, 0, 511, 1288, NOWHERE, 0, NOWHERE, 0);
+    try_file(e, 3, 0, 513, 1288, NOWHERE, 0, NOWHERE, 0);
+    try_file(e, 3, 0, 511, 1288, 0, 1, NOWHERE, 0);
 }
 
 // The number, alone and beside a wrong check; the check, alone and beside n 0.
@@ -237,9 +237,9 @@ fn read_numbers(e: &[u64]) {
 fn read_numbers_of_blocks(e: &[u64]) {
     read_e(e, 2, 62, NOWHERE, 0);
     read_e(e, 2, 62, 13, 128);
-    try_file(e, 3, 0, 1024, NOWHERE, 0, NOWHERE, 0);
-    try_file(e, 3, 0, 1024, 512, 1, NOWHERE, 0);
-    try_file(e, 3, 0, 1024, 512, 1, 6, 9);
+    try_file(e, 3, 0, 1024, 1288, NOWHERE, 0, NOWHERE, 0);
+    try_file(e, 3, 0, 1024, 1288, 512, 1, NOWHERE, 0);
+    try_file(e, 3, 0, 1024, 1288, 512, 1, 6, 9);
 }
 
 // State 3 initial; 3 forbidden; 7 in the last row; 3 initial beside filler; the first and the last byte of filler.
@@ -302,12 +302,12 @@ fn write_h(h: &[u64]) {
 // At last with state 61 in the last row.
 fn read_h(h: &[u64]) {
     text(b"read H\n");
-    try_file(h, 61, 0, 512, NOWHERE, 0, NOWHERE, 0);
-    try_file(h, 61, 0, 512, 509, 48, NOWHERE, 0);
+    try_file(h, 61, 0, 512, 1288, NOWHERE, 0, NOWHERE, 0);
+    try_file(h, 61, 0, 512, 1288, 509, 48, NOWHERE, 0);
 }
 
 fn read_h1(h: &[u64], at: usize, value: u8, at2: usize, value2: u8) {
-    try_file(h, 61, 1, 1024, at, value, at2, value2);
+    try_file(h, 61, 1, 1024, 1288, at, value, at2, value2);
 }
 
 // All of it; the first block alone; the second block's number; its check; both; the first one's number and its check; the first one's
@@ -315,7 +315,7 @@ fn read_h1(h: &[u64], at: usize, value: u8, at2: usize, value2: u8) {
 fn read_h_blocks(h: &[u64]) {
     text(b"read H with a group\n");
     read_h1(h, NOWHERE, 0, NOWHERE, 0);
-    try_file(h, 61, 1, 512, NOWHERE, 0, NOWHERE, 0);
+    try_file(h, 61, 1, 512, 1288, NOWHERE, 0, NOWHERE, 0);
     read_h1(h, 512, 0, NOWHERE, 0);
     read_h1(h, 1023, 255, NOWHERE, 0);
     read_h1(h, 512, 7, 1023, 255);
@@ -353,12 +353,12 @@ fn write_largest(t: &[u64]) {
 // All of it; a byte more; a block more; a block less; g 65; n 257 and g 65.
 fn read_largest(t: &[u64]) {
     text(b"read the largest table\n");
-    try_file(t, 256, 64, 10752, NOWHERE, 0, NOWHERE, 0);
-    try_file(t, 256, 64, 10753, NOWHERE, 0, NOWHERE, 0);
-    try_file(t, 256, 64, 11264, NOWHERE, 0, NOWHERE, 0);
-    try_file(t, 256, 64, 10240, NOWHERE, 0, NOWHERE, 0);
-    try_file(t, 256, 64, 10752, 4, 65, NOWHERE, 0);
-    try_file(t, 256, 64, 10752, 2, 1, 4, 65);
+    try_file(t, 256, 64, 10752, 1300, NOWHERE, 0, NOWHERE, 0);
+    try_file(t, 256, 64, 10753, 1288, NOWHERE, 0, NOWHERE, 0);
+    try_file(t, 256, 64, 11264, 1288, NOWHERE, 0, NOWHERE, 0);
+    try_file(t, 256, 64, 10240, 1288, NOWHERE, 0, NOWHERE, 0);
+    try_file(t, 256, 64, 10752, 1288, 4, 65, NOWHERE, 0);
+    try_file(t, 256, 64, 10752, 1288, 2, 1, 4, 65);
 }
 
 // A word past 1,288 is not 0, and is not read.
