@@ -109,6 +109,7 @@ fn try_read(input: &[u8], length: usize, words: usize) {
 
 // ---- damage
 
+// A product on its own: its bounds are all that the checker needs to see that it fits.
 fn times(k: usize, x: usize) -> usize
     requires { ⌜ (k < 1024) × (1024 * x < 2 ^ 63) ⌝ }
 {
@@ -173,6 +174,7 @@ fn print_e(e: &[u64]) {
     line();
 }
 
+// Room to spare, enough, a byte short, none; then 10, 14, 15 and 17, each alone and beside later ones.
 fn write_e(e: &[u64]) {
     text(b"write E\n");
     try_write(e, 1288, 3, 0, 10800);
@@ -191,6 +193,7 @@ fn write_e(e: &[u64]) {
     try_write(e, 1288, 2, 0, 511);
 }
 
+// At last beside no input at all.
 fn read_stores(e: &[u64]) {
     text(b"read E\n");
     try_file(e, 3, 0, 512, 1288, NOWHERE, 0, NOWHERE, 0);
