@@ -231,7 +231,10 @@ def main():
     if "--check" in sys.argv[1:]:
         kept = {p.name: p.read_bytes() for p in folder.iterdir() if p.suffix in (".table", ".expected")}
         wrong = sorted(name for name in made | kept if made.get(name) != kept.get(name))
-        sys.exit(f"differ: {' '.join(wrong)}" if wrong else 0)
+        if wrong:
+            sys.exit(f"tables: DIFFER: {' '.join(wrong)}")
+        print(f"tables: {len(made)} files as worked out")
+        return
     for name, data in made.items():
         (folder / name).write_bytes(data)
 

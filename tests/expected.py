@@ -188,32 +188,24 @@ def writes(heading, store, *cases):
         yield f" from {words} n {n} g {g} into {room}: {said}{KEPT}"
 
 
-def was_read(case, data, words=1288):
-    answer = read(data, words)
-    if isinstance(answer, int):
-        return f"{case}: refused {answer}{KEPT}"
-    n, g, store = answer
-    return f"{case}: n {n} g {g}, digest {digest_store(store)}{KEPT}"
-
-
-def fronts(data, *cases):
-    """A line for each case of a length and words."""
-    return [was_read(f" from {length} into {words}", data[:length], words) for length, words in cases]
-
-
-def replaced(data, damage):
-    """Bytes replaced and the check of each block set right, but for the bytes of a check that are replaced themselves."""
-    for at, value in damage.items():
-        block = at // 512 * 512
-        data = make.with_byte(data, at, value)
-        if at % 512 < 510:
-            data = data[:block + 510] + make.two(make.check(data[block:block + 510])) + data[block + 512:]
+def replace(data, at, value):
+    """A byte replaced, and the check of its block set right, unless the byte is one of the check's own."""
+    data, block = make.with_byte(data, at, value), at // 512 * 512
+    if at % 512 < 510:
+        data = data[:block + 510] + make.two(make.check(data[block:block + 510])) + data[block + 512:]
     return data
 
 
-def damaged(data, *cases):
-    """A line for each case of bytes replaced."""
-    return [was_read("".join(f" {at}={value}" for at, value in damage.items()), replaced(data, damage)) for damage in cases]
+def reads(file, *cases):
+    """A line for each case of a length, words and bytes replaced; zeros stand behind the file."""
+    for length, words, damage in cases:
+        data = file.ljust(11264, b"\0")
+        for at, value in damage.items():
+            data = replace(data, at, value)
+        answer = read(data[:length], words)
+        said = f"refused {answer}" if isinstance(answer, int) else (
+            f"n {answer[0]} g {answer[1]}, digest {digest_store(answer[2])}")
+        yield "".join(f" {at}={value}" for at, value in damage.items()) + f" from {length} into {words}: {said}{KEPT}"
 
 
 def round_trip(t):
@@ -228,11 +220,9 @@ def round_trip(t):
 
 
 def files_test():
-    e, most = store_of(E), largest()
-    e_group = store_of(Table(3, E.initial, E.forbidden, E.steps, [{0}]))
-    e_step = store_of(Table(4, E.initial, E.forbidden, E.steps | {(3, 0)}, [{0}]))
-    h, h1 = (store_of(Table(61, {0, 8}, {60}, {(0, 60), (31, 32), (60, 60)}, groups)) for groups in ([], [{7, 56}]))
-    e_file, h_file, h1_file = (write(t, 1288, n, g, 1024) for t, n, g in ((e, 3, 0), (h, 61, 0), (h1, 61, 1)))
+    e, more, most = store_of(E), store_of(Table(4, {0}, {2}, E.steps | {(3, 0)}, [{0}])), largest()
+    h = store_of(Table(61, {0, 8}, {60}, {(0, 60), (31, 32), (60, 60)}))
+    e_file, h_file, h1_file = (write(t, 1288, n, g, 1024) for t, n, g in ((e, 3, 0), (h, 61, 0), (h, 61, 1)))
     most_file = write(most, 1288, 256, 64, 10752)
     # 01's figures.
     assert e_file[2:11].hex(" ") == "03 00 00 00 01 04 01 04 00" and number(e_file[510:]) == 97
@@ -244,39 +234,29 @@ def files_test():
                 (1288, 3, 0, 10800), (1288, 3, 0, 512), (1288, 3, 0, 511), (1288, 3, 0, 0), (1287, 3, 0, 512), (1287, 0, 65, 511),
                 (1288, 0, 0, 512), (1288, 257, 0, 10752), (1288, 0, 65, 511), (1288, 3, 64, 512), (1288, 3, 65, 512),
                 (1288, 2, 65, 511), (1288, 2, 0, 512), (1288, 2, 0, 511)),
-        *writes("write E with a group", e_group, (1288, 3, 0, 512), (1288, 3, 1, 512)),
-        *writes("write E with a group and a step from 3", e_step, (1288, 3, 1, 512), (1288, 4, 1, 512)),
-        *writes("write H", h, (1288, 61, 0, 512)),
-        *writes("write H with a group", h1, (1288, 61, 1, 1024), (1288, 61, 1, 1023)),
+        "read E",
+        *reads(e_file, (512, 1288, {}), (512, 1300, {}), (512, 1287, {}), (0, 1287, {}),
+               (0, 1288, {}), (511, 1288, {}), (513, 1288, {}), (511, 1288, {0: 1})),
+        *reads(e_file, *((512, 1288, damage) for damage in (
+            {0: 1}, {1: 1}, {0: 1, 510: 97}, {510: 98}, {511: 1}, {2: 0, 510: 97},
+            {2: 0}, {2: 1, 3: 1}, {3: 1, 5: 1}, {4: 64}, {4: 65}, {5: 1}, {2: 61, 4: 65}, {2: 62}, {2: 62, 13: 128}))),
+        *reads(e_file, (1024, 1288, {}), (1024, 1288, {512: 1}), (1024, 1288, {512: 1, 6: 9})),
+        *reads(e_file, *((512, 1288, damage) for damage in (
+            {6: 9}, {7: 12}, {10: 128}, {6: 9, 11: 1}, {11: 1}, {509: 128}))),
+        *writes("write E with a group and a step from 3", more, (1288, 4, 0, 512), (1288, 3, 1, 512), (1288, 4, 1, 512)),
+        *writes("write H", h, (1288, 61, 0, 512), (1288, 61, 1, 1024), (1288, 61, 1, 1023)),
+        "read H",
+        *reads(h_file, (512, 1288, {}), (512, 1288, {509: 48})),
+        "read H with a group",
+        *reads(h1_file, (1024, 1288, {}), (512, 1288, {}), *((1024, 1288, damage) for damage in (
+            {512: 0}, {1023: 255}, {512: 7, 1023: 255}, {0: 9, 1023: 255}, {511: 255, 512: 7},
+            {29: 32}, {521: 48}, {522: 1}, {1021: 1}))),
         *writes("write the largest table", most,
                 (1300, 256, 64, 10752), (1288, 256, 64, 10751), (1288, 257, 64, 10752), (1288, 256, 65, 10752),
                 (1288, 256, 63, 10752), (1288, 255, 64, 10752)),
-        "read E",
-        *fronts(e_file + b"\7" * 512,
-                (512, 1288), (512, 1300), (512, 1287), (0, 1287), (0, 1288), (511, 1288), (513, 1288), (1024, 1288)),
-        was_read(" 0=1 from 511 into 1288", replaced(e_file, {0: 1})[:511]),
-        "read E, number and check",
-        *damaged(e_file, {0: 1}, {1: 1}, {0: 1, 510: 97}, {510: 98}, {511: 1}, {2: 0, 510: 97}),
-        "read E, n and g",
-        *damaged(e_file, {2: 0}, {2: 1, 3: 1}, {3: 1, 5: 1}, {4: 64}, {4: 65}, {5: 1}, {2: 61, 4: 65}),
-        "read E, L either side of 508",
-        *damaged(e_file, {2: 61}, {2: 61, 4: 1}, {2: 62}, {2: 62, 13: 128}),
-        "read E, sets and filler",
-        *damaged(e_file, {6: 9}, {7: 12}, {10: 128}, {6: 9, 11: 1}, {11: 1}, {509: 128}),
-        "read H",
-        *fronts(h_file, (512, 1288)),
-        *damaged(h_file, {509: 48}),
-        "read H with a group",
-        *fronts(h1_file, (1024, 1288), (512, 1288)),
-        *damaged(h1_file, {512: 0}, {1023: 255}, {512: 7, 1023: 255}, {0: 9, 1023: 255}, {511: 255, 512: 7}),
-        *damaged(h1_file, {29: 33}, {521: 48}, {522: 1}, {1021: 1}),
-        "read E and an empty block",
-        was_read(" 512=1", e_file + make.sealed(1, b"")),
-        was_read(" 6=9", replaced(e_file, {6: 9}) + make.sealed(1, b"")),
         "read the largest table",
-        *fronts(most_file + bytes(512), (10752, 1300), (10753, 1288), (11264, 1288), (10240, 1288)),
-        was_read(" 4=65 from 10752 into 1288", replaced(most_file, {4: 65})),
-        was_read(" 2=1 from 10752 into 1288", replaced(most_file, {4: 65, 2: 1})),
+        *reads(most_file, (10752, 1300, {}), (10753, 1288, {}), (11264, 1288, {}), (10240, 1288, {}),
+               (10752, 1288, {4: 65}), (10752, 1288, {2: 1, 4: 65})),
         f"round trips {trips}, digest {digest(x for t in range(trips) for x in round_trip(t))}",
     ]
     return "".join(line + "\n" for line in lines)

@@ -3,8 +3,8 @@
 // tests/expected.py works out what this must print, from 01's text.
 //
 // Places in the file of E, of one block: number 0 1, n 2 3, g 4 5, initial set 6, forbidden set 7, rows 8 9 10, filler 11 to 509,
-// check 510 511. In that of H the last row ends at 509, and nothing is filler. H with a group has two blocks: group 22 to 29, last row
-// 514 to 521, filler 522 to 1021.
+// check 510 511. In that of H the last row ends at 509, and nothing is filler. With a group, which has 22 to 29, H has a second block:
+// last row 514 to 521, filler 522 to 1021.
 ghost use Prim.Native.Nat.{_*_, _^_, _<_};
 use block_file::TableRead;
 use block_file::Written;
@@ -34,7 +34,7 @@ use test_support::unchanged;
 use test_support::unchanged_words;
 use test_support::wide;
 
-// ---- one call
+// ---- one call of write
 
 // The answer, and how many bytes at the front of the output it accounts for.
 fn print_written(w: Written, output: &[u8]) -> usize {
@@ -51,25 +51,27 @@ fn print_written(w: Written, output: &[u8]) -> usize {
     }
 }
 
-fn call_write(store: &[u64], n: usize, g: usize, output: &mut [u8], room: usize) {
-    if room <= output.len() {
-        let w = write(store, n, g, &mut output[0..room]);
-        let written = print_written(w, output);
-        print_unchanged(unchanged(output, written, 7));
+fn call_write(store: &[u64], words: usize, n: usize, g: usize, output: &mut [u8], room: usize) {
+    if words <= store.len() {
+        if room <= output.len() {
+            let w = write(&store[0..words], n, g, &mut output[0..room]);
+            let written = print_written(w, output);
+            print_unchanged(unchanged(output, written, 7));
+        }
     }
 }
 
 // Write from the first `words` words of a store to `room` bytes.
 fn try_write(store: &[u64], words: usize, n: usize, g: usize, room: usize) {
     let mut output = [7u8; 10800];
-    if words <= store.len() {
-        labelled(b" from ", words);
-        labelled(b" n ", n);
-        labelled(b" g ", g);
-        labelled(b" into ", room);
-        call_write(&store[0..words], n, g, &mut output, room);
-    }
+    labelled(b" from ", words);
+    labelled(b" n ", n);
+    labelled(b" g ", g);
+    labelled(b" into ", room);
+    call_write(store, words, n, g, &mut output, room);
 }
+
+// ---- one call of read
 
 // The answer, and how many words at the front of the store it accounts for.
 fn print_read(r: TableRead, store: &[u64]) -> usize {
@@ -87,139 +89,34 @@ fn print_read(r: TableRead, store: &[u64]) -> usize {
     }
 }
 
-fn call_read(input: &[u8], store: &mut [u64], words: usize) {
-    if words <= store.len() {
-        let r = read(input, &mut store[0..words]);
-        let filled = print_read(r, store);
-        print_unchanged(unchanged_words(store, filled, 7));
+fn call_read(input: &[u8], length: usize, store: &mut [u64], words: usize) {
+    if length <= input.len() {
+        if words <= store.len() {
+            let r = read(&input[0..length], &mut store[0..words]);
+            let filled = print_read(r, store);
+            print_unchanged(unchanged_words(store, filled, 7));
+        }
     }
 }
 
-// Read to `words` words.
-fn try_read(input: &[u8], words: usize) {
+// Read the first `length` bytes of an input to `words` words.
+fn try_read(input: &[u8], length: usize, words: usize) {
     let mut store = [7u64; 1300];
-    call_read(input, &mut store, words);
-}
-
-// Read the first `length` bytes of a file to `words` words.
-fn try_front(file: &[u8], length: usize, words: usize) {
-    if length <= file.len() {
-        labelled(b" from ", length);
-        labelled(b" into ", words);
-        try_read(&file[0..length], words);
-    }
-}
-
-// ---- tables
-
-fn put_e(t: &mut [u64]) {
-    put_table(t, b"0", b"2", b"00 12");
-}
-
-fn put_h(t: &mut [u64]) {
-    initial(t, 0);
-    initial(t, 8);
-    forbidden(t, 60);
-    step(t, 0, 60);
-    step(t, 31, 32);
-    step(t, 60, 60);
-}
-
-fn put_h_group(t: &mut [u64]) {
-    group(t, 0, 7);
-    group(t, 0, 56);
-}
-
-// ---- writing
-
-fn print_e(e: &[u64]) {
-    let mut output = [7u8; 512];
-    write(e, 3, 0, &mut output);
-    text(b"file of E:");
-    bytes(&output, 512);
-    line();
-}
-
-fn try_e(e: &[u64]) {
-    text(b"write E\n");
-    try_write(e, 1288, 3, 0, 10800);
-    try_write(e, 1288, 3, 0, 512);
-    try_write(e, 1288, 3, 0, 511);
-    try_write(e, 1288, 3, 0, 0);
-    try_write(e, 1287, 3, 0, 512);
-    try_write(e, 1287, 0, 65, 511);
-    try_write(e, 1288, 0, 0, 512);
-    try_write(e, 1288, 257, 0, 10752);
-    try_write(e, 1288, 0, 65, 511);
-    try_write(e, 1288, 3, 64, 512);
-    try_write(e, 1288, 3, 65, 512);
-    try_write(e, 1288, 2, 65, 511);
-    try_write(e, 1288, 2, 0, 512);
-    try_write(e, 1288, 2, 0, 511);
-}
-
-fn write_e() {
-    let mut e = [0u64; STORE_WORDS];
-    put_e(&mut e);
-    print_e(&e);
-    try_e(&e);
-}
-
-// A state in group 0, which is unused where g is 0, then a step from state 3, whose row is unused where n is 3.
-fn write_unused() {
-    let mut t = [0u64; STORE_WORDS];
-    put_e(&mut t);
-    group(&mut t, 0, 0);
-    text(b"write E with a group\n");
-    try_write(&t, 1288, 3, 0, 512);
-    try_write(&t, 1288, 3, 1, 512);
-    step(&mut t, 3, 0);
-    text(b"write E with a group and a step from 3\n");
-    try_write(&t, 1288, 3, 1, 512);
-    try_write(&t, 1288, 4, 1, 512);
-}
-
-fn write_h() {
-    let mut t = [0u64; STORE_WORDS];
-    put_h(&mut t);
-    text(b"write H\n");
-    try_write(&t, 1288, 61, 0, 512);
-    put_h_group(&mut t);
-    text(b"write H with a group\n");
-    try_write(&t, 1288, 61, 1, 1024);
-    try_write(&t, 1288, 61, 1, 1023);
-}
-
-fn try_largest(t: &[u64]) {
-    text(b"write the largest table\n");
-    try_write(t, 1300, 256, 64, 10752);
-    try_write(t, 1288, 256, 64, 10751);
-    try_write(t, 1288, 257, 64, 10752);
-    try_write(t, 1288, 256, 65, 10752);
-    try_write(t, 1288, 256, 63, 10752);
-    try_write(t, 1288, 255, 64, 10752);
-}
-
-// A word past 1,288 is not 0, and is not read.
-fn write_largest() {
-    let mut t = [0u64; 1300];
-    generate_largest(&mut t);
-    add(&mut t, STORE_WORDS, 3);
-    try_largest(&t);
+    labelled(b" from ", length);
+    labelled(b" into ", words);
+    call_read(input, length, &mut store, words);
 }
 
 // ---- damage
 
-// A place that no file has: nothing is replaced there.
-const NOWHERE: usize = 99999;
-
+// A product on its own: its bounds are all that the checker needs to see that it fits.
 fn times(k: usize, x: usize) -> usize
     requires { ⌜ (k < 1024) × (1024 * x < 2 ^ 63) ⌝ }
 {
     k * x
 }
 
-// The check of a block set right for another value of one of its bytes, which counts once more than its place says.
+// The check of a block set right for another value of its byte i, which counts i + 1 times in it.
 fn mend(file: &mut [u8], at: usize, value: u8) {
     let i = at % 512;
     if i < 510 {
@@ -244,179 +141,236 @@ fn replace(file: &mut [u8], at: usize, value: u8) {
     }
 }
 
-fn file_of_e(file: &mut [u8]) {
-    let mut t = [0u64; STORE_WORDS];
-    put_e(&mut t);
-    write(&t, 3, 0, file);
-}
+// A place that no file has: nothing is replaced there.
+const NOWHERE: usize = 99999;
 
-fn file_of_h(file: &mut [u8]) {
-    let mut t = [0u64; STORE_WORDS];
-    put_h(&mut t);
-    write(&t, 61, 0, file);
-}
-
-// H with a group.
-fn file_of_h1(file: &mut [u8]) {
-    let mut t = [0u64; STORE_WORDS];
-    put_h(&mut t);
-    put_h_group(&mut t);
-    write(&t, 61, 1, file);
-}
-
-fn file_of_largest(file: &mut [u8]) {
-    let mut t = [0u64; STORE_WORDS];
-    generate_largest(&mut t);
-    write(&t, 256, 64, file);
-}
-
-// ---- reading
-
-fn try_lengths(file: &[u8]) {
-    text(b"read E\n");
-    try_front(file, 512, 1288);
-    try_front(file, 512, 1300);
-    try_front(file, 512, 1287);
-    try_front(file, 0, 1287);
-    try_front(file, 0, 1288);
-    try_front(file, 511, 1288);
-    try_front(file, 513, 1288);
-    try_front(file, 1024, 1288);
-}
-
-// E's block, and one of sevens behind it; at last with a wrong number too.
-fn read_lengths() {
-    let mut file = [7u8; 1024];
-    file_of_e(&mut file);
-    try_lengths(&file);
-    replace(&mut file, 0, 1);
-    try_front(&file, 511, 1288);
-}
-
-// E's file with one byte replaced, or two.
-fn read_e(at: usize, value: u8, at2: usize, value2: u8) {
-    let mut file = [7u8; 512];
-    file_of_e(&mut file);
+// Read the first `length` bytes of the file of a table to `words` words, with one byte replaced, or two, or none; zeros stand behind the
+// file.
+fn try_file(
+    table: &[u64],
+    n: usize,
+    g: usize,
+    length: usize,
+    words: usize,
+    at: usize,
+    value: u8,
+    at2: usize,
+    value2: u8,
+) {
+    let mut file = [0u8; 11264];
+    write(table, n, g, &mut file);
     replace(&mut file, at, value);
     replace(&mut file, at2, value2);
-    try_read(&file, 1288);
+    try_read(&file, length, words);
+}
+
+// ---- E
+
+fn print_e(e: &[u64]) {
+    let mut output = [7u8; 512];
+    write(e, 3, 0, &mut output);
+    text(b"file of E:");
+    bytes(&output, 512);
+    line();
+}
+
+// Room to spare, enough, a byte short, none; then 10, 14, 15 and 17, each alone and beside later ones.
+fn write_e(e: &[u64]) {
+    text(b"write E\n");
+    try_write(e, 1288, 3, 0, 10800);
+    try_write(e, 1288, 3, 0, 512);
+    try_write(e, 1288, 3, 0, 511);
+    try_write(e, 1288, 3, 0, 0);
+    try_write(e, 1287, 3, 0, 512);
+    try_write(e, 1287, 0, 65, 511);
+    try_write(e, 1288, 0, 0, 512);
+    try_write(e, 1288, 257, 0, 10752);
+    try_write(e, 1288, 0, 65, 511);
+    try_write(e, 1288, 3, 64, 512);
+    try_write(e, 1288, 3, 65, 512);
+    try_write(e, 1288, 2, 65, 511);
+    try_write(e, 1288, 2, 0, 512);
+    try_write(e, 1288, 2, 0, 511);
+}
+
+// At last beside no input at all.
+fn read_stores(e: &[u64]) {
+    text(b"read E\n");
+    try_file(e, 3, 0, 512, 1288, NOWHERE, 0, NOWHERE, 0);
+    try_file(e, 3, 0, 512, 1300, NOWHERE, 0, NOWHERE, 0);
+    try_file(e, 3, 0, 512, 1287, NOWHERE, 0, NOWHERE, 0);
+    try_file(e, 3, 0, 0, 1287, NOWHERE, 0, NOWHERE, 0);
+}
+
+fn read_e(e: &[u64], at: usize, value: u8, at2: usize, value2: u8) {
+    try_file(e, 3, 0, 512, 1288, at, value, at2, value2);
+}
+
+// At last beside a wrong number.
+fn read_lengths(e: &[u64]) {
+    try_file(e, 3, 0, 0, 1288, NOWHERE, 0, NOWHERE, 0);
+    try_file(e, 3, 0, 511, 1288, NOWHERE, 0, NOWHERE, 0);
+    try_file(e, 3, 0, 513, 1288, NOWHERE, 0, NOWHERE, 0);
+    try_file(e, 3, 0, 511, 1288, 0, 1, NOWHERE, 0);
 }
 
 // The number, alone and beside a wrong check; the check, alone and beside n 0.
-fn read_blocks() {
-    text(b"read E, number and check\n");
-    read_e(0, 1, NOWHERE, 0);
-    read_e(1, 1, NOWHERE, 0);
-    read_e(0, 1, 510, 97);
-    read_e(510, 98, NOWHERE, 0);
-    read_e(511, 1, NOWHERE, 0);
-    read_e(2, 0, 510, 97);
+fn read_blocks(e: &[u64]) {
+    read_e(e, 0, 1, NOWHERE, 0);
+    read_e(e, 1, 1, NOWHERE, 0);
+    read_e(e, 0, 1, 510, 97);
+    read_e(e, 510, 98, NOWHERE, 0);
+    read_e(e, 511, 1, NOWHERE, 0);
+    read_e(e, 2, 0, 510, 97);
 }
 
 // n 0; n 257; n 259 beside g 256; g 64; g 65; g 256; g 65 beside too few blocks for 61 states.
-fn read_numbers() {
-    text(b"read E, n and g\n");
-    read_e(2, 0, NOWHERE, 0);
-    read_e(2, 1, 3, 1);
-    read_e(3, 1, 5, 1);
-    read_e(4, 64, NOWHERE, 0);
-    read_e(4, 65, NOWHERE, 0);
-    read_e(5, 1, NOWHERE, 0);
-    read_e(2, 61, 4, 65);
+fn read_numbers(e: &[u64]) {
+    read_e(e, 2, 0, NOWHERE, 0);
+    read_e(e, 2, 1, 3, 1);
+    read_e(e, 3, 1, 5, 1);
+    read_e(e, 4, 64, NOWHERE, 0);
+    read_e(e, 4, 65, NOWHERE, 0);
+    read_e(e, 5, 1, NOWHERE, 0);
+    read_e(e, 2, 61, 4, 65);
 }
 
-// n 61, for which one block is enough; with a group; n 62; beside the initial state 63.
-fn read_too_long() {
-    text(b"read E, L either side of 508\n");
-    read_e(2, 61, NOWHERE, 0);
-    read_e(2, 61, 4, 1);
-    read_e(2, 62, NOWHERE, 0);
-    read_e(2, 62, 13, 128);
+// Too few blocks for n 62, alone and beside the initial state 63; then a block too many: one of zeros, which does not hold its number; one
+// that does, alone and beside the initial state 3.
+fn read_numbers_of_blocks(e: &[u64]) {
+    read_e(e, 2, 62, NOWHERE, 0);
+    read_e(e, 2, 62, 13, 128);
+    try_file(e, 3, 0, 1024, 1288, NOWHERE, 0, NOWHERE, 0);
+    try_file(e, 3, 0, 1024, 1288, 512, 1, NOWHERE, 0);
+    try_file(e, 3, 0, 1024, 1288, 512, 1, 6, 9);
 }
 
 // State 3 initial; 3 forbidden; 7 in the last row; 3 initial beside filler; the first and the last byte of filler.
-fn read_contents() {
-    text(b"read E, sets and filler\n");
-    read_e(6, 9, NOWHERE, 0);
-    read_e(7, 12, NOWHERE, 0);
-    read_e(10, 128, NOWHERE, 0);
-    read_e(6, 9, 11, 1);
-    read_e(11, 1, NOWHERE, 0);
-    read_e(509, 128, NOWHERE, 0);
+fn read_contents(e: &[u64]) {
+    read_e(e, 6, 9, NOWHERE, 0);
+    read_e(e, 7, 12, NOWHERE, 0);
+    read_e(e, 10, 128, NOWHERE, 0);
+    read_e(e, 6, 9, 11, 1);
+    read_e(e, 11, 1, NOWHERE, 0);
+    read_e(e, 509, 128, NOWHERE, 0);
+}
+
+fn try_e(e: &[u64]) {
+    print_e(e);
+    write_e(e);
+    read_stores(e);
+    read_lengths(e);
+    read_blocks(e);
+    read_numbers(e);
+    read_numbers_of_blocks(e);
+    read_contents(e);
+}
+
+fn table_e() {
+    let mut e = [0u64; STORE_WORDS];
+    put_table(&mut e, b"0", b"2", b"00 12");
+    try_e(&e);
+}
+
+// ---- the other tables
+
+// E with a state in group 0, which is unused where g is 0, and a step from state 3, whose row is unused where n is 3.
+fn table_with_more() {
+    let mut t = [0u64; STORE_WORDS];
+    put_table(&mut t, b"0", b"2", b"00 12 30");
+    group(&mut t, 0, 0);
+    text(b"write E with a group and a step from 3\n");
+    try_write(&t, 1288, 4, 0, 512);
+    try_write(&t, 1288, 3, 1, 512);
+    try_write(&t, 1288, 4, 1, 512);
+}
+
+fn put_h(h: &mut [u64]) {
+    initial(h, 0);
+    initial(h, 8);
+    forbidden(h, 60);
+    step(h, 0, 60);
+    step(h, 31, 32);
+    step(h, 60, 60);
+}
+
+// L either side of 508: without a group, then with one, which is empty.
+fn write_h(h: &[u64]) {
+    text(b"write H\n");
+    try_write(h, 1288, 61, 0, 512);
+    try_write(h, 1288, 61, 1, 1024);
+    try_write(h, 1288, 61, 1, 1023);
 }
 
 // At last with state 61 in the last row.
-fn read_h() {
-    let mut file = [7u8; 512];
-    file_of_h(&mut file);
+fn read_h(h: &[u64]) {
     text(b"read H\n");
-    try_front(&file, 512, 1288);
-    replace(&mut file, 509, 48);
-    try_read(&file, 1288);
+    try_file(h, 61, 0, 512, 1288, NOWHERE, 0, NOWHERE, 0);
+    try_file(h, 61, 0, 512, 1288, 509, 48, NOWHERE, 0);
 }
 
-// The file of H with a group: all of it, and its first block alone.
-fn read_h1() {
-    let mut file = [7u8; 1024];
-    file_of_h1(&mut file);
+fn read_h1(h: &[u64], at: usize, value: u8, at2: usize, value2: u8) {
+    try_file(h, 61, 1, 1024, 1288, at, value, at2, value2);
+}
+
+// All of it; the first block alone; the second block's number; its check; both; the first one's number and its check; the first one's
+// check and its number.
+fn read_h_blocks(h: &[u64]) {
     text(b"read H with a group\n");
-    try_front(&file, 1024, 1288);
-    try_front(&file, 512, 1288);
-}
-
-fn read_h1_damaged(at: usize, value: u8, at2: usize, value2: u8) {
-    let mut file = [7u8; 1024];
-    file_of_h1(&mut file);
-    replace(&mut file, at, value);
-    replace(&mut file, at2, value2);
-    try_read(&file, 1288);
-}
-
-// The second block's number; its check; both; the first one's number and its check; the first one's check and its number.
-fn read_h1_blocks() {
-    read_h1_damaged(512, 0, NOWHERE, 0);
-    read_h1_damaged(1023, 255, NOWHERE, 0);
-    read_h1_damaged(512, 7, 1023, 255);
-    read_h1_damaged(0, 9, 1023, 255);
-    read_h1_damaged(511, 255, 512, 7);
+    read_h1(h, NOWHERE, 0, NOWHERE, 0);
+    try_file(h, 61, 1, 512, 1288, NOWHERE, 0, NOWHERE, 0);
+    read_h1(h, 512, 0, NOWHERE, 0);
+    read_h1(h, 1023, 255, NOWHERE, 0);
+    read_h1(h, 512, 7, 1023, 255);
+    read_h1(h, 0, 9, 1023, 255);
+    read_h1(h, 511, 255, 512, 7);
 }
 
 // State 61 in the group; in the last row; the first and the last byte of filler.
-fn read_h1_contents() {
-    read_h1_damaged(29, 33, NOWHERE, 0);
-    read_h1_damaged(521, 48, NOWHERE, 0);
-    read_h1_damaged(522, 1, NOWHERE, 0);
-    read_h1_damaged(1021, 1, NOWHERE, 0);
+fn read_h_contents(h: &[u64]) {
+    read_h1(h, 29, 32, NOWHERE, 0);
+    read_h1(h, 521, 48, NOWHERE, 0);
+    read_h1(h, 522, 1, NOWHERE, 0);
+    read_h1(h, 1021, 1, NOWHERE, 0);
 }
 
-// A second block that holds its number and nothing else; at last beside the initial state 3.
-fn read_block_more() {
-    let mut file = [0u8; 1024];
-    file_of_e(&mut file);
-    text(b"read E and an empty block\n");
-    replace(&mut file, 512, 1);
-    try_read(&file, 1288);
-    replace(&mut file, 6, 9);
-    try_read(&file, 1288);
+fn table_h() {
+    let mut h = [0u64; STORE_WORDS];
+    put_h(&mut h);
+    write_h(&h);
+    read_h(&h);
+    read_h_blocks(&h);
+    read_h_contents(&h);
 }
 
-fn try_largest_lengths(file: &[u8]) {
+fn write_largest(t: &[u64]) {
+    text(b"write the largest table\n");
+    try_write(t, 1300, 256, 64, 10752);
+    try_write(t, 1288, 256, 64, 10751);
+    try_write(t, 1288, 257, 64, 10752);
+    try_write(t, 1288, 256, 65, 10752);
+    try_write(t, 1288, 256, 63, 10752);
+    try_write(t, 1288, 255, 64, 10752);
+}
+
+// All of it; a byte more; a block more; a block less; g 65; n 257 and g 65.
+fn read_largest(t: &[u64]) {
     text(b"read the largest table\n");
-    try_front(file, 10752, 1300);
-    try_front(file, 10753, 1288);
-    try_front(file, 11264, 1288);
-    try_front(file, 10240, 1288);
+    try_file(t, 256, 64, 10752, 1300, NOWHERE, 0, NOWHERE, 0);
+    try_file(t, 256, 64, 10753, 1288, NOWHERE, 0, NOWHERE, 0);
+    try_file(t, 256, 64, 11264, 1288, NOWHERE, 0, NOWHERE, 0);
+    try_file(t, 256, 64, 10240, 1288, NOWHERE, 0, NOWHERE, 0);
+    try_file(t, 256, 64, 10752, 1288, 4, 65, NOWHERE, 0);
+    try_file(t, 256, 64, 10752, 1288, 2, 1, 4, 65);
 }
 
-// At last with g 65, then with n 257 too.
-fn read_largest() {
-    let mut file = [0u8; 11264];
-    file_of_largest(&mut file);
-    try_largest_lengths(&file);
-    replace(&mut file, 4, 65);
-    try_front(&file, 10752, 1288);
-    replace(&mut file, 2, 1);
-    try_front(&file, 10752, 1288);
+// A word past 1,288 is not 0, and is not read.
+fn table_largest() {
+    let mut t = [0u64; 1300];
+    generate_largest(&mut t);
+    add(&mut t, STORE_WORDS, 3);
+    write_largest(&t);
+    read_largest(&t);
 }
 
 // ---- round trips
@@ -443,21 +397,10 @@ fn round_trips() -> usize {
 }
 
 fn main() {
-    write_e();
-    write_unused();
-    write_h();
-    write_largest();
-    read_lengths();
-    read_blocks();
-    read_numbers();
-    read_too_long();
-    read_contents();
-    read_h();
-    read_h1();
-    read_h1_blocks();
-    read_h1_contents();
-    read_block_more();
-    read_largest();
+    table_e();
+    table_with_more();
+    table_h();
+    table_largest();
     labelled(b"round trips ", TABLES);
     labelled(b", digest ", round_trips());
     line();
