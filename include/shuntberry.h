@@ -3,7 +3,9 @@
  *
  * Four calls: decide, shortest path, read and write. Link target/staticlib/libshuntberry.a, which
  * `rt staticlib shuntberry` makes. Nothing is allocated, nothing is kept between calls, and no call
- * fails other than by a refusal number: each may be made from several threads at once.
+ * fails other than by a refusal number. Calls may be made from several threads at once, as long as no
+ * buffer that one of them writes is lent to another. A call takes less than 256 KiB of stack
+ * (tests/outside measures it on the longest path).
  *
  * A TABLE has n states, numbered 0 to n - 1, with n from 1 to 256, and g groups, with g from 0 to 64.
  * A SET of states is four words: state s is the bit of value 2^(s % 64) in word s / 64.

@@ -7,8 +7,8 @@
 //! A table has `n` states, numbered 0 to `n` − 1 ([`MAX_STATES`] at most), and `g` groups
 //! ([`MAX_GROUPS`] at most). It stands in a store of at least [`STORE_WORDS`] words of 64 bits, as
 //! sets of four words each: the initial set at [`INITIAL`], the forbidden set at [`FORBIDDEN`], group
-//! j at [`group`]`(j)`, the successors of state s at [`row`]`(s)`. All other words among the first
-//! 1,288 are 0; words past them are neither read nor written.
+//! j at [`group`]`(j)`, the successors of state s at [`row`]`(s)`. The words of groups from g up and
+//! of rows from n up are 0; words past the first 1,288 are neither read nor written.
 //!
 //! ```
 //! use shuntberry::{FORBIDDEN, INITIAL, MAX_ALLOWANCE, PATH_BYTES, STORE_WORDS, Verdict, decide, row};
@@ -61,12 +61,12 @@ pub const INITIAL: usize = 0;
 /// Where the forbidden set begins in a store.
 pub const FORBIDDEN: usize = 4;
 
-/// Where group `j` begins in a store.
+/// Where group `j` begins in a store, for `j` below [`MAX_GROUPS`].
 pub const fn group(j: usize) -> usize {
     j.saturating_mul(4).saturating_add(8)
 }
 
-/// Where the successors of state `s` begin in a store.
+/// Where the successors of state `s` begin in a store, for `s` below [`MAX_STATES`].
 pub const fn row(s: usize) -> usize {
     s.saturating_mul(4).saturating_add(264)
 }

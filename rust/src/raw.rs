@@ -1,5 +1,6 @@
 //! The four calls as the library exports them for C; `include/shuntberry.h` has a comment for each
-//! function and field.
+//! function and field. A refused call has 0 in every field but `refusal`: a verdict of 0 is *safe* only
+//! where `refusal` is 0.
 
 #![allow(missing_docs)]
 
