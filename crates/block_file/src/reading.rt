@@ -209,11 +209,14 @@ fn byte_in(input: &[u8], w: usize, at: usize, j: usize) -> u64
     wide(content(input, at + j))
 }
 
-// Word v of that set.
+// Word v of that set: 0 past its bytes, of which unused groups and rows have none.
 fn word_in(input: &[u8], w: usize, at: usize, v: usize) -> u64
     requires { ⌜ HasSet (now input) w at × (v < WORDS) ⌝ }
     ensures { λ r. ⌜ r ≡ getD (setIn (contentsOf (now (input .entry))) w at) v 0 ⌝ }
 {
+    if w <= 8 * v {
+        return 0;
+    }
     let mut word: u64 = 0;
     for b in 0..8 {
         word |= byte_in(input, w, at, 8 * v + b) << (8 * b);
