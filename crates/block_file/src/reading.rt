@@ -4,9 +4,10 @@
 //   refusal                          the first ground that holds, or 0
 //   first_fault, block_fault         the grounds of the blocks; those of one block, on its own 512 bytes
 //   content_refusal                  the grounds behind them, those of the contents
-//   any_beyond, non_zero             ground 17, which concerns the sets, and ground 18, which concerns the filler
+//   any_beyond, is_set_beyond        ground 17, which concerns the sets, of all and of one
+//   non_zero                         ground 18, which concerns the filler
 //   content                          one byte of the contents
-//   byte_in, word_in, set_in         a byte, a word and the whole of a set in the contents
+//   byte_in, word_in                 a byte and a word of a set in the contents
 //   fill, fill_groups, fill_rows     the table put into the store
 //   fill_set, used_width             one set put into its words; the bytes that it has, none where a group or a row is unused
 //
@@ -33,7 +34,6 @@ use crate::blocks::content_length;
 use crate::blocks::le16_at;
 use crate::blocks::set_width;
 use crate::blocks::wide;
-use state_set::StateSet;
 use state_set::WORDS;
 use table::FORBIDDEN_AT;
 use table::GROUPS_AT;
@@ -41,7 +41,6 @@ use table::MAX_GROUPS;
 use table::MAX_STATES;
 use table::ROWS_AT;
 use table::STORE_WORDS;
-use table::is_beyond;
 
 // The length of the largest file.
 const MAX_FILE: usize = BLOCK
@@ -155,16 +154,25 @@ fn content_refusal(input: &[u8], n: usize, g: usize) -> u8
 
 // A set of the table has a state from n up.
 fn any_beyond(input: &[u8], n: usize, g: usize) -> bool
-    requires { ⌜ HasTable (now input) n g ⌝ }
+    requires { ⌜ HasTable (now input) n g × (0 < n) ⌝ }
     ensures { λ r. ⌜ r ≡ any (2 + g + n) (λ k. beyond n (setNumber (contentsOf (now (input .entry))) n k)) ⌝ }
 {
     let w = set_width(n);
     for k in 0..2 + g + n {
-        if is_beyond(set_in(input, w, k), n) {
+        if is_set_beyond(input, n, w, k) {
             return true;
         }
     }
     false
+}
+
+// Set k of the contents has a state from n up: those are in the last of its w bytes.
+fn is_set_beyond(input: &[u8], n: usize, w: usize, k: usize) -> bool
+    requires { ⌜ HasSet (now input) w (4 + w * k) × (0 < n) × (w ≡ setWidth n) ⌝ }
+    ensures { λ r. ⌜ r ≡ beyond n (setNumber (contentsOf (now (input .entry))) n k) ⌝ }
+{
+    let last = wide(content(input, HEADER + w * k + (w - 1)));
+    last >> (n - 8 * (w - 1)) != 0
 }
 
 // Some byte of the contents from `from` on and before `to` is not 0.
@@ -201,26 +209,19 @@ fn byte_in(input: &[u8], w: usize, at: usize, j: usize) -> u64
     wide(content(input, at + j))
 }
 
-// Word v of that set.
+// Word v of that set: 0 past its bytes, of which unused groups and rows have none.
 fn word_in(input: &[u8], w: usize, at: usize, v: usize) -> u64
     requires { ⌜ HasSet (now input) w at × (v < WORDS) ⌝ }
     ensures { λ r. ⌜ r ≡ getD (setIn (contentsOf (now (input .entry))) w at) v 0 ⌝ }
 {
+    if w <= 8 * v {
+        return 0;
+    }
     let mut word: u64 = 0;
     for b in 0..8 {
         word |= byte_in(input, w, at, 8 * v + b) << (8 * b);
     }
     word
-}
-
-// Set k of the contents, where each set has w bytes.
-fn set_in(input: &[u8], w: usize, k: usize) -> StateSet
-    requires { ⌜ HasSet (now input) w (4 + w * k) ⌝ }
-    ensures { λ r. ⌜ r .words ≡ setIn (contentsOf (now (input .entry))) w (4 + w * k) ⌝ }
-{
-    let mut words = [0; WORDS];
-    fill_set(&mut words, input, w, k);
-    StateSet { words }
 }
 
 // ---- filling

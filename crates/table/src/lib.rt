@@ -159,7 +159,7 @@ pub fn union_of(rows: &Rows, x: StateSet) -> StateSet
 }
 
 // x has a state from n up.
-pub fn is_beyond(x: StateSet, n: usize) -> bool
+fn is_beyond(x: StateSet, n: usize) -> bool
     ensures { λ r. ⌜ r ≡ beyond n (x .words) ⌝ }
 {
     !x.is_subset(StateSet::first_states(n))

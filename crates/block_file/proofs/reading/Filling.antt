@@ -1,13 +1,12 @@
 -- Laws of the sets in the contents of an input, and of a store that is filled with them.
 --
---   beyond-number                       a test of set k of a table
 --   has-set                             a table in the contents has its sets there
 --   has-group, has-row                  so have the places of groups and rows in the store, with no bytes where a place is unused
 --   byte-inside                         a byte of a set is one of the contents
+--   word-past                           a word past the bytes of a set
 --   word-none, word-more, word-all      a loop that makes a word of a set from its bytes
 --   Copying X old v xs                  the first v words of X stand at the front of what was old: a loop that writes a set
 --   copying-none, -more, -all           before its first turn; a turn; when it is done
---   copied                              a set written over just as many words
 --   group-set, row-set                  what is put at the place of a group and of a row is what the layout has there
 --   group-wide, row-wide                which is WORDS words
 --   lent-back                           a buffer whose rest was lent and written over
@@ -15,12 +14,12 @@
 --   filling-none, -more, -all           before its first turn; a turn; when it is done
 --   filled                              initial set, forbidden set, groups and rows, one after the other, are the layout
 use Prim.Native.Nat.{ℕ, _+_, _*_, _-_, _%_, _^_, _≤_, _<_}
-use native.Mathlib.Nat.{zero-mul, mul-le-mul-left, le-antisymm}
+use native.Mathlib.Nat.{zero-mul, mul-le-mul-left, le-antisymm, not-le-of-lt}
 use native.Mathlib.Numerals.{add-one}
 use native.Mathlib.Omega.{arith}
 use mathlib.Core.Path.{_≡_, refl, sym, ap, ap₂, _∙_}
 use mathlib.Core.Logic.{⊎-elim}
-use mathlib.Core.Bool.{Bool, cond}
+use mathlib.Core.Bool.{false, cond}
 use mathlib.Core.List.{List, _++_, append-nil, append-assoc}
 use borrow.Author.Tests.{ltb-true, ltb-false, le-ltb}
 use borrow.Rule.Slice.PartMut.{putMid}
@@ -32,22 +31,16 @@ use lib.Seq.{length-take-le, take-suc, take-all, take-append-add, drop-append-ad
 use mir.Syntax.{w8}
 use mir.Val.{Fits}
 use Rattle.model.specs.Sets.{WORDS, maxStates, Set, member, number, empty, tabulate}
-use Rattle.model.specs.Stores.{maxGroups, forbiddenAt, groupAt, rowAt, concat, layout, beyond}
+use Rattle.model.specs.Stores.{maxGroups, forbiddenAt, groupAt, rowAt, concat, layout}
 use Rattle.model.specs.Files.{setWidth, contentsOf, setIn, setNumber, tableIn}
 use Rattle.model.specs.Calls.{overwrite}
-use Rattle.model.proofs.Bounds.{by-cond, decided, length-tabulate, getD-tabulate}
+use Rattle.model.proofs.Bounds.{is-false, by-cond, decided, length-tabulate, getD-tabulate}
 use Rattle.model.proofs.SetLaws.{Proper, number-lt, setOf-cong}
 use Rattle.model.proofs.ListLaws.{getD-past, length-concat, concat-next, length-overwrite, overwrite-more, overwrite-set}
-use Rattle.model.proofs.FileLaws.{number-append, word-number, number-setIn, setIn-proper, contentsOf-bounded}
+use Rattle.model.proofs.FileLaws.{number-none, number-append, word-number, number-setIn, setIn-proper, setIn-below, contentsOf-bounded}
 use Rattle.block_file.specs.Reading.{HasSet, HasTable, overwriteFrom, groupOf, rowOf}
 
 -- ---- sets in the contents
-
--- a test of set k of the contents, whose width is w as the code has it
-pub beyond-number : (bytes : List ℕ) (n k : ℕ) {w : ℕ} {X : Set} {b : Bool} → w ≡ setWidth n → X ≡ setIn bytes w (4 + w * k) → b ≡ beyond n X
-    → beyond n (setNumber bytes n k) ≡ b
-unfolding setNumber
-beyond-number bytes n k e f g = sym (g ∙ ap (beyond n) (f ∙ ap (λ (w : ℕ). setIn bytes w (4 + w * k)) e))
 
 module _ {input : List ℕ} {n g : ℕ} (t : HasTable input n g) where
   pub has-set : {w k : ℕ} → w ≡ setWidth n → k < 2 + g + n → HasSet input w (4 + w * k)
@@ -76,6 +69,13 @@ module _ {input : List ℕ} {n g : ℕ} (t : HasTable input n g) where
 pub byte-inside : {input : List ℕ} {w at : ℕ} (j : ℕ) → HasSet input w at → j < w → ((i : ℕ) → Fits w8 (getD input i 0))
     → getD (contentsOf input) (at + j) 0 ≡ number (member (setIn (contentsOf input) w at)) (8 * j) 8
 byte-inside {input} {w} {at} j h l u = sym (number-setIn (contentsOf input) w at (h .narrow) (contentsOf-bounded input (λ i. u i .fits)) j l)
+
+pub word-past : (bytes : List ℕ) (w at v : ℕ) → v < WORDS → w ≤ 8 * v → 0 ≡ getD (setIn bytes w at) v 0
+word-past bytes w at v h l =
+    let X = setIn bytes w at in
+    let out : (s : ℕ) → 64 * v ≤ s → member X s ≡ false =
+    λ s m. is-false (member X s) (λ e. not-le-of-lt (setIn-below bytes w at s (record { is = e })) (omega arith)) in
+    sym (word-number X (setIn-proper bytes w at) v h ∙ number-none (member X) (64 * v) 64 out)
 
 module _ (X : Set) (v : ℕ) where
   pub word-none : 0 ≡ number (member X) (64 * v) (8 * 0)
@@ -131,10 +131,6 @@ module _ (X : Set) (old : List ℕ) where
 
     pub copying-all : WORDS ≤ v → xs ≡ overwrite X old
     copying-all h = so .is ∙ ap (λ ys. overwrite ys old) (take-all v X (omega (arith, so .words)))
-
-pub copied : (X : Set) (old xs : List ℕ) → Proper X → length old ≡ WORDS → xs ≡ overwrite X old → xs ≡ X
-unfolding overwrite
-copied X old xs x h e = e ∙ ap (λ ys. X ++ ys) (drop-of-length-le old {i = length X} (omega (arith, x .long))) ∙ append-nil X
 
 -- ---- the sets of the layout
 

@@ -7,7 +7,7 @@ use Rattle.model.specs.Sets.{any}
 use Rattle.model.specs.Stores.{beyond}
 use Rattle.model.specs.Files.{contentsOf, setNumber}
 use Rattle.model.proofs.Bounds.{any-start, any-turn, any-intro, any-end}
-use Rattle.block_file.proofs.reading.Filling.{beyond-number, has-set}
+use Rattle.block_file.proofs.reading.Filling.{has-set}
 use Rattle.block_file.proofs.reading.any_beyond.Statement.{statement}
 use Rattle.block_file.proofs.reading.any_beyond.Tie as tie
 
@@ -27,19 +27,18 @@ any-beyond-spec =
     (λ c. search needs)
     (λ c. search needs)
     (λ c. (search needs, any-start _))
-    (λ c κs. has-set (c .before .before .before .before .pre) (c .before .before .set-width .ensures) (search needs))
-    (λ c κs. search needs)
+    (λ c κs. (has-set (c .before .before .before .before .pre .0) (c .before .before .set-width .ensures) (search needs), search needs, search needs))
     (λ c.
-    let turn = c .before .before .before in
+    let turn = c .before .before in
     sym
     (any-intro _ _ (turn .before .loop .k) (search needs)
-    (beyond-number _ _ _ (turn .before .before .set-width .ensures) (c .before .before .set-in .ensures) (c .before .is-beyond .ensures) ∙ c .if1 .taken)))
+    (sym (c .before .is-set-beyond .ensures) ∙ c .if1 .taken)))
     (λ c. search needs)
     (λ c. search needs)
     (λ c.
-    let turn = c .before .before .before in (
+    let turn = c .before .before in (
       search needs,
       any-turn _ _ (turn .before .loop .inv .1)
-          (beyond-number _ _ _ (turn .before .before .set-width .ensures) (c .before .before .set-in .ensures) (c .before .is-beyond .ensures) ∙ c .if1 .left),
+          (sym (c .before .is-set-beyond .ensures) ∙ c .if1 .left),
     ))
     (λ c. sym (any-end _ _ _ (search needs) (search needs) (c .before .loop .inv .1))))

@@ -1,11 +1,11 @@
--- `word_in`: the bytes passed are the low bits of the word.
+-- `word_in`: nothing past the bytes; the bytes passed are the low bits of the word.
 use Prim.Native.Nat.{_*_, _-_, _≤_}
 use mathlib.Core.Path.{_≡_}
 use borrow.Author.Needs.{needs}
 use Rattle.model.specs.Sets.{member, number}
 use Rattle.model.specs.Files.{contentsOf, setIn}
 use Rattle.model.proofs.FileLaws.{setIn-proper}
-use Rattle.block_file.proofs.reading.Filling.{word-none, word-more, word-all}
+use Rattle.block_file.proofs.reading.Filling.{word-past, word-none, word-more, word-all}
 use Rattle.block_file.proofs.reading.word_in.Statement.{statement}
 use Rattle.block_file.proofs.reading.word_in.Tie as tie
 
@@ -21,6 +21,8 @@ word-in-spec =
     (tie.spec
     Inv-loop
     μ-loop
+    (λ c. search needs)
+    (λ c. word-past _ _ _ _ (search needs) (search needs))
     (λ c. (search needs, word-none _ _))
     (λ c. search needs)
     (λ c. search needs)
