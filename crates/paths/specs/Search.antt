@@ -2,7 +2,7 @@
 --
 --   HoldsTable store n           the store holds a well-formed table of n states (an accepted store does); its groups play no part
 --   predecessorRows store n      for each state the states below n that step to it: the rows of the store, transposed
---   layerAt t d                  the states at distance d; farther t d: those that are not so near
+--   layerAt t d                  the states at distance d; farther t d: those at a greater distance, or at none
 --   distancesBelow t d           the array of the distances below d, with `unreachable` for every other state
 --   Swept t d                    the sweep as far as layer d: the distances below d, layer d, and the states that are left
 --   leastBy bound distances X    the least of `bound` and of the distances of the states of X

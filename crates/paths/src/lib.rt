@@ -8,7 +8,7 @@
 //   find_path                            whether there is a path, and the path at the front of a buffer
 //   shortest_path                        the call
 //
-// Functions below the call ask for a store that holds a table; the call asks for nothing.
+// distances, sweep_transposed and find_path ask for a store that holds a table; the call asks for nothing.
 ghost use mathlib.Core.Path.{_≡_};
 ghost use mathlib.Core.Bool.{not};
 ghost use Prim.Native.Nat.{_≤_, _<_};
@@ -39,9 +39,9 @@ use table::union_of;
 // The distance of a state from which no forbidden state can be reached.
 pub const UNREACHABLE: u16 = 65535;
 
-// The layers that are found by a look at the row of each state that is left. Tables with many steps have few layers, and are then done;
+// The layers that are found by hold, with a look at the row of each state that is left. Tables with many steps have few, and are then done;
 // for the others the rows are transposed, once, so that no row is looked at again and again.
-const LOOKS: u16 = 16;
+const LAYERS_BY_HOLD: u16 = 16;
 
 // s joins the predecessors of each of its successors that `bits` has in word w.
 fn join_word(rows: &mut Rows, s: usize, w: usize, bits: u64)
@@ -125,8 +125,8 @@ fn sweep_transposed(
     }
 }
 
-// The distance of each state, layer by layer from the forbidden states outward. What is left after a layer is its meet with hold of it
-// (backward elimination), and the next layer is what was lost.
+// The distance of each state, layer by layer from the forbidden states outward. The next `rest` is `rest` meet hold(`rest`) (backward
+// elimination), and the next layer is what it lost.
 pub fn distances(store: &[u64], n: usize) -> [u16; MAX_STATES]
     requires { ⌜ HoldsTable (now store) n ⌝ }
     ensures { λ r. ⌜ r ≡ tabulate maxStates (distance (tableOf (now (store .entry)) n 0)) ⌝ }
@@ -136,7 +136,7 @@ pub fn distances(store: &[u64], n: usize) -> [u16; MAX_STATES]
     let mut rest = StateSet::first_states(n).difference(layer);
     let mut d = 0;
     while !layer.is_empty() {
-        if d == LOOKS {
+        if d == LAYERS_BY_HOLD {
             sweep_transposed(store, n, &mut distances, layer, rest, d);
             return distances;
         }
@@ -177,7 +177,7 @@ fn least_distance(distances: &[u16; MAX_STATES], x: StateSet) -> u16
     least
 }
 
-// The smallest of the states that `bits` has in word w within d steps of a forbidden one.
+// The smallest of the states that `bits` has in word w within d steps of a forbidden one, or MAX_STATES.
 fn smallest_in_word(distances: &[u16; MAX_STATES], w: usize, bits: u64, d: u16) -> usize
     requires { ⌜ w < WORDS ⌝ }
     ensures { λ r. ⌜ r ≡ pickBy (now (distances .entry)) d (wordSet w bits) ⌝ }
@@ -193,7 +193,7 @@ fn smallest_in_word(distances: &[u16; MAX_STATES], w: usize, bits: u64, d: u16) 
     MAX_STATES
 }
 
-// The smallest state of x within d steps of a forbidden one.
+// The smallest state of x within d steps of a forbidden one, or MAX_STATES.
 fn smallest_within(distances: &[u16; MAX_STATES], x: StateSet, d: u16) -> usize
     ensures { λ r. ⌜ r ≡ pickBy (now (distances .entry)) d (x .words) ⌝ }
 {

@@ -4,7 +4,7 @@
 --   narrowed rows Z         the rows after Z is added to the list
 --   coverBy rows X          the cover of X
 --   forwardBy, backwardBy   R's step and S's step
---   Below n rows            the rows hold states of the table only, and so does what the steps give
+--   Below n rows            the rows hold states of the table only, so that the steps give such states only
 use Prim.Native.Nat.{ℕ, _<_}
 use mathlib.Core.Path.{_≡_}
 use mathlib.Core.Bool.{true}

@@ -2,7 +2,7 @@
 //
 //   set_at, group_at, row_at     a set of the store
 //   successors                   post: all successors of the states of a set
-//   kept                         hold: the states of a set whose every successor is in another
+//   kept                         x meet hold(y): the states of a set whose every successor is in another
 //   Rows, row_of, union_of       a row of words for each state, the set in one row, the union of the rows of a set's states
 //   refusal                      the first of the grounds 10, 14, 15 and 17 that holds, or 0
 //
