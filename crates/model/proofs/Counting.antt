@@ -2,7 +2,7 @@
 --
 --   filter-le, filter-lt           where what passes p passes q, p picks at most as many as q; fewer, if a number passes q alone
 --   filter-bound                   where only numbers below n pass, at most n are picked
---   size-le, size-lt               a set inside another has at most its size; strictly inside, fewer
+--   size-lt                        a set strictly inside another has fewer states
 --   all-or-fewer                   a set inside another is all of it, or has fewer members
 --   size-bound, size-pos           a set of n states has at most n members; one with a member has at least one; size-most: any set
 use Prim.Native.Nat.{ℕ, zero, suc, _+_, _≤_, _<_}
@@ -63,10 +63,6 @@ filter-bound p n f (suc m) =
     (decided (p m))
 
 -- ---- the size of a set
-
-pub size-le : {X Y : Set} → X ⊆ Y → size X ≤ size Y
-unfolding size members
-size-le {X} {Y} f = filter-le (member X) (member Y) (λ k e. f k (record { is = e }) .is) maxStates
 
 pub size-lt : {X Y : Set} {s : ℕ} → X ⊆ Y → In Y s → (In X s → ⊥) → size X < size Y
 unfolding size members

@@ -1,8 +1,8 @@
 -- Files by index (01, "Blocks"): the bytes of a set, of the contents, of a block and of a file, and what is read back from them. Bytes are
 -- read with 0 past the end, so that filler is no special case.
 --
---   two-bounded, pairAt-two, two-pairAt       the two bytes of a number, and the number of two bytes
---   length-setBytes, getD-setBytes            the bytes of a set; setBytes-bounded
+--   pairAt-two, two-pairAt                    the two bytes of a number, and the number of two bytes
+--   length-setBytes, getD-setBytes            the bytes of a set
 --   number-none, number-append                a number made of tests none of which passes; in two parts
 --   word-number, byte-number                  the words of a set, and a byte of a word, by the states
 --   setIn-proper, member-setIn, setIn-below   the set that w bytes hold: its states, all of them below 8 w
@@ -11,16 +11,16 @@
 --   length-sets, sets-group, sets-row         the sets of a table: initial, forbidden, groups, rows; sets-each: a fact about each
 --   length-contents                           the contents: their length
 --   contents-header, contents-set             their bytes: n and g, then byte j of set k
---   contents-bounded, header-pairs            each is below 256; n and g read from a header make it again
+--   header-pairs                              n and g read from a header make it again
 --   by-content                                a place in contents, by cases
 --   checkOf-lt, checkOf-cong                  the check is below its modulus, and reads the first 510 bytes
 --   IsBlock, block-unique                     the bytes of block k: there is one such block
 --   by-block                                  a place in a block, by cases
---   block-bounded, block-number, block-check  its bytes are below 256, and it passes read's tests
+--   block-number, block-check                 it passes read's tests
 --   is-block, blockOf-is                      what passes them is such a block; blockOf makes it
 --   framed, framed-is                         so are 508 bytes of content between their number and their check
---   length-fileOf, part-fileOf, getD-fileOf   the file of a table: its length, its blocks, its bytes
---   fileOf-bounded, fileOf-cong               each is below 256; the file is of n, g and the sets alone
+--   length-fileOf, part-fileOf                the file of a table: its length and its blocks
+--   fileOf-cong                               the file is of n, g and the sets alone
 --   length-part, getD-part, part-bounded      the blocks of an input; joined-part: joined, they are the input
 --   length-contentsOf, getD-contentsOf(-at)   the contents of an input, by block and by place; contentsOf-bounded
 --   contentsOf-fileOf                         those of a table's file are those of the table, with zeros behind
@@ -43,7 +43,7 @@ use Rattle.model.specs.Files.{le16, le16At, setWidth, setBytes, sets, co
 use Rattle.model.specs.RoundTrip.{Bounded}
 use Rattle.model.proofs.Bounds.{and-true, is-false, lt-or-ge, length-tabulate, getD-tabulate}
 use Rattle.model.proofs.SetLaws.{bit-number, number-lt, member-setOf, Proper, setOf-proper, bits-eq, member-at, ext, In, setOf-in}
-use Rattle.model.proofs.ListLaws.{getD-behind, getD-past, div-below, mod-below, Wide, length-concat, part-concat, getD-concat, getD-concat-at, concat-cong, concat-parts}
+use Rattle.model.proofs.ListLaws.{getD-behind, getD-past, div-below, mod-below, Wide, length-concat, part-concat, getD-concat, concat-cong, concat-parts}
 
 -- ---- numbers below a bound
 
@@ -65,11 +65,6 @@ bounded-part b xs at w h u i =
 
 -- ---- two bytes
 
-pub two-bounded : (x : ℕ) → Bounded 256 (le16 x)
-two-bounded x zero = omega arith
-two-bounded x (suc zero) = omega arith
-two-bounded x (suc (suc i)) = omega arith
-
 pub pairAt-two : (bytes : List ℕ) (at x : ℕ) → x < 65536 → getD bytes at 0 ≡ x % 256 → getD bytes (at + 1) 0 ≡ x / 256 % 256 → le16At bytes at ≡ x
 pairAt-two bytes at x h low high = omega arith
 
@@ -88,13 +83,6 @@ module _ (w : ℕ) (X : Set) where
   pub getD-setBytes : (j : ℕ) → j < w → getD (setBytes w X) j 0 ≡ number (member X) (8 * j) 8
   unfolding setBytes
   getD-setBytes j h = getD-tabulate _ w j 0 h
-
-  pub setBytes-bounded : Bounded 256 (setBytes w X)
-  setBytes-bounded j =
-      ⊎-elim
-      (λ l. rw (getD-setBytes j l) (number-lt (member X) (8 * j) 8))
-      (λ l. rw (getD-past (setBytes w X) j 0 (subst (λ (m : ℕ). m ≤ j) (sym length-setBytes) l)) (omega arith))
-      (lt-or-ge j w)
 
 -- ---- words and bytes
 
@@ -260,14 +248,6 @@ module _ (t : Table) {g : ℕ} (many : length (t .groups) ≡ g) where
       ∙ getD-concat _ (setWidth (t .n)) (length (sets t)) k j 0 sets-wide (subst (λ (m : ℕ). k < m) (sym length-sets) h) l
       ∙ getD-setBytes (setWidth (t .n)) (getD (sets t) k []) j l
 
-pub contents-bounded : (t : Table) → Bounded 256 (contents t)
-unfolding contents
-contents-bounded t =
-    let set : ℕ → List ℕ = λ k. setBytes (setWidth (t .n)) (getD (sets t) k []) in
-    bounded-append 256 (le16 (t .n)) (le16 (length (t .groups)) ++ concat (length (sets t)) set) (two-bounded (t .n))
-    (bounded-append 256 (le16 (length (t .groups))) (concat (length (sets t)) set) (two-bounded (length (t .groups)))
-    (bounded-concat 256 set (omega arith) (λ k. setBytes-bounded (setWidth (t .n)) (getD (sets t) k [])) (length (sets t))))
-
 -- the header, from n and g that were read from it
 pub header-pairs : (bytes : List ℕ) → Bounded 256 bytes → (i : ℕ) → i < 4 → getD (le16 (le16At bytes 0) ++ le16 (le16At bytes 2)) i 0 ≡ getD bytes i 0
 header-pairs bytes u zero h = two-pairAt bytes 0 u 0 (omega arith)
@@ -330,17 +310,6 @@ module _ {bytes : List ℕ} {k : ℕ} where
       by-block (λ j. getD a j 0 ≡ getD b j 0) number content
       (λ j l. x .holds-check j l ∙ ap (λ (c : ℕ). getD (le16 c) j 0) (checkOf-cong a b front) ∙ sym (y .holds-check j l))
       i (subst (λ (m : ℕ). i < m) (x .long) h))
-
-  pub block-bounded : {block : List ℕ} → IsBlock bytes k block → Bounded 256 bytes → Bounded 256 block
-  block-bounded {block} x u i =
-      ⊎-elim
-      (by-block (λ j. getD block j 0 < 256)
-      (λ j h. rw (x .holds-number j h) (two-bounded k j))
-      (λ j h. rw (x .holds-content j h) (u (508 * k + j)))
-      (λ j h. rw (x .holds-check j h) (two-bounded (checkOf block) j))
-      i)
-      (λ l. rw (getD-past block i 0 (subst (λ (m : ℕ). m ≤ i) (sym (x .long)) l)) (omega arith))
-      (lt-or-ge i 512)
 
   pub block-number : {block : List ℕ} → IsBlock bytes k block → k < 65536 → le16At block 0 ≡ k
   block-number {block} x h = pairAt-two block 0 k h (x .holds-number 0 (omega arith)) (x .holds-number 1 (omega arith))
@@ -417,16 +386,6 @@ module _ (t : Table) {g : ℕ} (many : length (t .groups) ≡ g) where
   unfolding fileOf part
   part-fileOf k h =
       part-concat (blockOf (contents t)) 512 (blocksFor (length (contents t))) k blocks-wide (subst (λ (m : ℕ). k < m) (sym blocks-are) h)
-
-  pub getD-fileOf : (i : ℕ) → i < fileLength (t .n) g → getD (fileOf t) i 0 ≡ getD (blockOf (contents t) (i / 512)) (i % 512) 0
-  unfolding fileOf
-  getD-fileOf i h =
-      getD-concat-at (blockOf (contents t)) 512 (blocksFor (length (contents t))) i 0 blocks-wide (subst (λ (m : ℕ). i < 512 * m) (sym blocks-are) h)
-
-pub fileOf-bounded : (t : Table) → Bounded 256 (fileOf t)
-unfolding fileOf
-fileOf-bounded t =
-    bounded-concat 256 (blockOf (contents t)) (omega arith) (λ k. block-bounded (blockOf-is (contents t) k) (contents-bounded t)) (blocksFor (length (contents t)))
 
 -- the file is of n, g and the sets alone
 pub fileOf-cong : (t u : Table) → t .n ≡ u .n → length (t .groups) ≡ length (u .groups) → sets t ≡ sets u → fileOf t ≡ fileOf u

@@ -7,7 +7,7 @@
 --   least-pre, greatest-post         n steps from the empty set stay inside each prefixpoint, n from all n states around each postfixpoint
 --   from-below, from-above           they reach the least and the greatest solution; least-unique, greatest-unique: of which there is one
 --   eliminated-shrinks, eliminated-mono     W only shrinks; eliminated-proper, eliminated-within: it is a set of states of the table
---   backward-is, eliminated-still           the backward number is what 01 says, and W stays the same from there
+--   backward-is                             the backward number is what 01 says
 use Prim.Native.Nat.{ℕ, zero, suc, _+_, _-_, _≤_, _<_}
 use native.Mathlib.Decide.{le-ind}
 use native.Mathlib.Omega.{arith}
@@ -161,7 +161,3 @@ module _ (t : Table) where
         least = λ j e. first-before (unchanged t) (t .n) j (eq-same e);
         bounded = first-le (unchanged t) (t .n);
       }
-
-  pub eliminated-still : (j : ℕ) → backwardNumber t ≤ j → eliminated t j ≡ eliminated t (backwardNumber t)
-  unfolding eliminated eliminationStep iterate
-  eliminated-still j = iterate-still (eliminationStep t) _ (backwardNumber t) j (sym (backward-is .still))

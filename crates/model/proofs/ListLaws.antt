@@ -5,11 +5,11 @@
 --   div-below, mod-below                      a place in n lists of w elements: its list and its place there
 --   Wide n w f                                the lists f 0, .., f (n − 1) have w elements each
 --   length-concat, part-concat                such lists joined: the length, and one of them as a part
---   getD-concat, getD-concat-at               an element by its list and its place there, and by its place in all
+--   getD-concat                               an element by its list and its place there
 --   tabulate-next, concat-next                     one more, for a loop; joined-cong: the same lists joined
 --   concat-parts                              the parts of a list joined
 --   length-overwrite, take-overwrite          a buffer written over: its length and its front
---   overwrite-front, overwrite-behind         its elements
+--   overwrite-front                           its first elements
 --   overwrite-append, overwrite-more          written over in two parts, the second where the buffer is lent from there on
 --   overwrite-set                             one element more
 --   orElse-none, orElse-fault, orElse-clear   `cond (eqb e 0) later e`: the fault e, or a later one where e is 0
@@ -101,11 +101,6 @@ module _ (f : ℕ → List ℕ) (w : ℕ) where
       ∙ sym (getD-take w (drop (w * k) (concat n f)) i d l)
       ∙ ap (λ (xs : List ℕ). getD xs i d) (part-concat n k wide h)
 
-  pub getD-concat-at : (n i d : ℕ) → Wide n w f → i < w * n → getD (concat n f) i d ≡ getD (f (i / w)) (i % w) d
-  getD-concat-at n i d wide h =
-      ap (λ (j : ℕ). getD (concat n f) j d) (sym (div-add-mod i w))
-      ∙ getD-concat n (i / w) (i % w) d wide (div-below w n i h) (mod-below w n i h)
-
 pub tabulate-next : {A : Type 0} (f : ℕ → A) (n : ℕ) → tabulate (n + 1) f ≡ tabulate n f ++ (f n ∷ [])
 unfolding tabulate
 tabulate-next f n = ap (λ (m : ℕ). tabulate m f) (add-one n)
@@ -142,15 +137,6 @@ module _ (xs old : List ℕ) where
   pub overwrite-front : (i d : ℕ) → i < length xs → getD (overwrite xs old) i d ≡ getD xs i d
   unfolding overwrite
   overwrite-front i d h = List·getD-append xs (drop (length xs) old) d i h
-
-  pub overwrite-behind : (i d : ℕ) → length xs ≤ i → getD (overwrite xs old) i d ≡ getD old i d
-  unfolding overwrite
-  overwrite-behind i d h =
-      let split : length xs + (i - length xs) ≡ i = omega arith in
-      ap (λ (j : ℕ). getD (xs ++ drop (length xs) old) j d) (sym split)
-      ∙ getD-append-add xs (drop (length xs) old) (i - length xs) d
-      ∙ getD-drop (length xs) old (i - length xs) d
-      ∙ ap (λ (j : ℕ). getD old j d) split
 
   pub overwrite-append : (ys : List ℕ) → overwrite (xs ++ ys) old ≡ xs ++ overwrite ys (drop (length xs) old)
   unfolding overwrite

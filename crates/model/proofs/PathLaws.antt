@@ -13,10 +13,9 @@
 --   walk-smallest, walk-leads          no path from X of the length of walk is smaller than it, and walk is a path from X
 --   path-of, has-path                  there is a path exactly if hasPath says so
 --   smallest-is, smallest-below        smallestPath is the path that 01 names; its states are below n
---   distance-is, distance-at           the distance of s is k exactly if s is at k
---   distance-unreachable, unreachable-distance         it is far exactly if s is never near
+--   distance-is                        where s is at k, its distance is k
+--   distance-unreachable               where s is never near, it has none
 --   reaching-distance, distance-reaching       it is at most k exactly if s is within k steps
---   pick-distance                      pick by distances: the least state of X whose distance is at most d
 use Prim.Native.Nat.{ℕ, zero, suc, _≤_, _<_, zero-le, suc-le-suc}
 use native.Mathlib.Nat.{le-refl, le-of-suc-le-suc, not-suc-le-zero, eq-or-lt-of-le}
 use native.Mathlib.Omega.{arith}
@@ -293,19 +292,6 @@ module _ (t : Table) where
 
     -- no more states than a set can hold: `unreachable` is no distance
     module _ (small : t .n ≤ maxStates) where
-      pub distance-at : distance t s ≡ k → At t s k
-      distance-at e = ⊎-elim (λ c. rw e at (c .1)) (λ c. absurd (omega arith)) (distance-cases s)
-
       pub distance-reaching : distance t s ≤ k → In (reaching t k) s
       distance-reaching m =
           ⊎-elim (λ c. reaching-mono t (distance t s) k m s (c .1 .within)) (λ c. absurd (omega arith)) (distance-cases s)
-
-      pub unreachable-distance : distance t s ≡ unreachable → In (reaching t k) s → ⊥
-      unreachable-distance e h = omega (arith, reaching-distance h)
-
-  pub pick-distance : {X : Set} (x d : ℕ) → d < t .n → t .n ≤ maxStates → In X x → distance t x ≤ d
-      → ((y : ℕ) → y < x → In X y → distance t y ≤ d → ⊥) → pick t d X ≡ x
-  pick-distance {X} x d l small h m f =
-      let i = in-meet h (distance-reaching x d l small m) in
-      let both = meet-in (smallest-in i) in
-      ⊎-elim (λ e. e) (λ q. absurd (f (pick t d X) q (both .0) (reaching-distance (pick t d X) d l (both .1)))) (eq-or-lt-of-le (smallest-le i))
