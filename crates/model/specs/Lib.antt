@@ -5,5 +5,6 @@ pub mod Paths
 pub mod Stores
 pub mod Files
 pub mod Calls
+pub mod Sizes
 pub mod Promises
 pub mod RoundTrip
