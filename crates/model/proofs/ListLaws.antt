@@ -6,7 +6,7 @@
 --   Wide n w f                                the lists f 0, .., f (n − 1) have w elements each
 --   length-concat, part-concat                such lists joined: the length, and one of them as a part
 --   getD-concat                               an element by its list and its place there
---   tabulate-next, concat-next                     one more, for a loop; joined-cong: the same lists joined
+--   tabulate-next, concat-next                one more, for a loop; concat-cong: the same lists joined
 --   concat-parts                              the parts of a list joined
 --   length-overwrite, take-overwrite          a buffer written over: its length and its front
 --   overwrite-front                           its first elements
@@ -19,8 +19,8 @@
 --   refuse-append                             a ground that holds decides, whatever grounds come after
 --   firstFault-clear, clear-firstFault        there is no fault exactly if no place has one
 --   firstFault-next, firstFault-stop          a loop goes on past a place, or returns its fault
-use Prim.Native.Nat.{ℕ, zero, suc, _+_, _*_, _-_, _/_, _%_, _≤_, _<_}
-use native.Mathlib.Nat.{not-suc-le-zero, zero-mul, mul-zero, mul-suc, mul-comm, mul-le-mul-left, le-of-eq, div-add-mod, div-lt-iff-lt-mul, mod-lt, eq-zero-or-pos}
+use Prim.Native.Nat.{ℕ, zero, suc, _+_, _*_, _/_, _%_, _≤_, _<_}
+use native.Mathlib.Nat.{not-suc-le-zero, zero-mul, mul-zero, mul-suc, mul-comm, mul-le-mul-left, le-of-eq, div-lt-iff-lt-mul, mod-lt, eq-zero-or-pos}
 use native.Mathlib.Numerals.{add-one}
 use native.Mathlib.Omega.{arith}
 use mathlib.Core.Path.{_≡_, refl, sym, ap, ap₂, _∙_, subst}

@@ -7,5 +7,6 @@ pub mod Blocks
 pub mod Contents
 pub mod Files
 pub mod Calls
+pub mod Sizes
 pub mod Promises
 pub mod RoundTrip

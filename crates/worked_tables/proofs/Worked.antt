@@ -13,7 +13,7 @@ use Rattle.model.specs.Blocks.{weighted, checkOf, blockOf}
 use Rattle.model.specs.Contents.{setBytes, sets, contents}
 use Rattle.model.specs.Calls.{release, decisionOf}
 use Rattle.worked_tables.specs.Tables.{A, B, D, E, F, G}
-use Rattle.worked_tables.specs.Worked.{LineA, LineB, LineC, LineD, LineE, LineF, LineG, LineH, Worked}
+use Rattle.worked_tables.specs.Worked.{LineA, LineB, LineC, LineD, LineE, LineF, LineG, Worked}
 use Rattle.worked_tables.proofs.Decides.{zeros, fits, decides}
 
 computes : Type 0
