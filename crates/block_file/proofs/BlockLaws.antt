@@ -12,7 +12,8 @@ use mathlib.Core.List.{List}
 use lib.ListN.{getD}
 use Rattle.model.specs.Sets.{WORDS, maxStates}
 use Rattle.model.specs.Stores.{maxGroups}
-use Rattle.model.specs.Files.{setWidth, contentLength, weighted, checkOf}
+use Rattle.model.specs.Blocks.{weighted, checkOf}
+use Rattle.model.specs.Contents.{setWidth, contentLength}
 
 -- ---- the check
 

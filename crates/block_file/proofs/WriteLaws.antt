@@ -23,11 +23,14 @@ use lib.ListN.{set, length, getD, take, drop, length-set, length-drop, drop-of-l
 use lib.Seq.{take-all}
 use Rattle.model.specs.Sets.{WORDS, maxStates, Set, tabulate, member, number}
 use Rattle.model.specs.Stores.{groupAt, rowAt, setAt, tableOf, concat, refuse, sharedGrounds}
-use Rattle.model.specs.Files.{le16, setWidth, sets, contents, contentLength, blocksFor, fileLength, checkOf, blockOf, fileOf}
+use Rattle.model.specs.Blocks.{le16, blocksFor, checkOf, blockOf}
+use Rattle.model.specs.Contents.{setWidth, sets, contents, contentLength}
+use Rattle.model.specs.Files.{fileLength, fileOf}
 use Rattle.model.specs.Calls.{overwrite, Written, writeGrounds, writeAnswer, writeBuffer}
 use Rattle.model.proofs.Bounds.{by-cond, length-tabulate, getD-tabulate}
 use Rattle.model.proofs.ListLaws.{getD-behind, getD-past, div-below, mod-below, length-concat, tabulate-next, concat-next, overwrite-front, overwrite-more, overwrite-set, refuse-none, refuse-skip, refuse-take, refuse-append}
-use Rattle.model.proofs.FileLaws.{byte-number, sets-each, length-contents, contents-header, contents-set, checkOf-cong, block-unique, framed-is, blockOf-is}
+use Rattle.model.proofs.BlockLaws.{checkOf-cong, block-unique, framed-is, blockOf-is}
+use Rattle.model.proofs.ContentLaws.{byte-number, sets-each, length-contents, contents-header, contents-set}
 use Rattle.model.proofs.StoreLaws.{getD-setAt, row-is}
 use Rattle.model.proofs.CallLaws.{write-refusal, writable, write-answer, write-buffer}
 use Rattle.model.proofs.Acceptance.{accepted-store, store-accepted}

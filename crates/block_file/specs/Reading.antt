@@ -13,7 +13,8 @@ use lib.ListN.{length, getD, take, drop}
 use Rattle.model.specs.Sets.{maxStates, Set, empty, any}
 use Rattle.model.specs.Tables.{Table}
 use Rattle.model.specs.Stores.{maxGroups, beyond, nonZero, badStates}
-use Rattle.model.specs.Files.{contentLength, blocksFor, contentsOf, setNumber}
+use Rattle.model.specs.Blocks.{blocksFor, contentsOf}
+use Rattle.model.specs.Contents.{contentLength, setNumber}
 use Rattle.model.specs.Calls.{overwrite}
 
 pub record HasSet (input : List ℕ) (w at : ℕ) : Type 0 where

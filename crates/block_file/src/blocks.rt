@@ -11,7 +11,8 @@ ghost use mathlib.Core.Path.{_≡_};
 ghost use lib.ListN.{length};
 ghost use Rattle.model.specs.Sets.{maxStates};
 ghost use Rattle.model.specs.Stores.{maxGroups};
-ghost use Rattle.model.specs.Files.{le16At, setWidth, contentLength, blocksFor, checkOf};
+ghost use Rattle.model.specs.Blocks.{le16At, blocksFor, checkOf};
+ghost use Rattle.model.specs.Contents.{setWidth, contentLength};
 
 pub const BLOCK: usize = 512;
 

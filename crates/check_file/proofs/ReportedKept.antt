@@ -15,8 +15,8 @@ use lib.ListN.{length}
 use Rattle.model.specs.Sets.{maxStates}
 use Rattle.model.specs.Rounds.{run}
 use Rattle.model.specs.Stores.{storeWords, tableOf, refuse}
-use Rattle.model.specs.Files.{fileLength}
-use Rattle.model.specs.Calls.{maxAllowance, release, decideGrounds, decisionOf, declined, decideAnswer, maxFile, readRefusal, readAnswer, Written, writeGrounds}
+use Rattle.model.specs.Files.{fileLength, maxFile}
+use Rattle.model.specs.Calls.{maxAllowance, release, decideGrounds, decisionOf, declined, decideAnswer, readRefusal, readAnswer, Written, writeGrounds}
 use Rattle.model.specs.Promises.{Accepted}
 use Rattle.model.specs.RoundTrip.{Bounded}
 use Rattle.model.proofs.CallLaws.{write-refusal}

@@ -8,7 +8,7 @@ use mathlib.Core.Bool.{false≢true}
 use mathlib.Core.List.{List}
 use borrow.Author.Tests.{ne-eqb}
 use Rattle.model.specs.Stores.{storeWords, badStates}
-use Rattle.model.specs.Files.{le16At, contentsOf}
+use Rattle.model.specs.Blocks.{le16At, contentsOf}
 use Rattle.model.specs.Calls.{TableRead, readAnswer, readBuffer}
 use Rattle.model.proofs.CallLaws.{read-refusal, readable, read-answer}
 use Rattle.report.specs.Text.{refusedText}

@@ -16,8 +16,10 @@ use lib.Dec.{eqb, ltb}
 use lib.ListN.{length, getD}
 use Rattle.model.specs.Sets.{maxStates, any, number}
 use Rattle.model.specs.Stores.{maxGroups, storeWords, tableOf, layout, refuse, beyond, nonZero, badStates}
-use Rattle.model.specs.Files.{le16At, contentLength, blocksFor, fileLength, checkOf, fileOf, part, contentsOf, setNumber, tableIn}
-use Rattle.model.specs.Calls.{overwrite, TableRead, firstFault, blockFault, maxFile, readRefusal, readAnswer, readBuffer, Written, writeGrounds, writeAnswer, writeBuffer}
+use Rattle.model.specs.Blocks.{blockBytes, contentBytes, checkAt, le16At, checkOf, blocksFor, part, contentsOf, blockFault}
+use Rattle.model.specs.Contents.{contentLength, setNumber, tableIn}
+use Rattle.model.specs.Files.{fileOf, fileLength, maxFile}
+use Rattle.model.specs.Calls.{overwrite, TableRead, firstFault, readRefusal, readAnswer, readBuffer, Written, writeGrounds, writeAnswer, writeBuffer}
 use Rattle.model.proofs.Bounds.{by-cond, any-none, or-false, no-any}
 use Rattle.model.proofs.ListLaws.{orElse-none, orElse-clear, refuse-none, refuse-skip, refuse-clear, clear-refuse, firstFault-clear, clear-firstFault}
 use Rattle.model.proofs.StoreLaws.{nonZero-zero, zero-nonZero, Clean, malformed-clean, clean-malformed}
@@ -80,7 +82,7 @@ write-buffer store n g out w =
 earlyGrounds : List ℕ → ℕ → List (Bool × ℕ)
 earlyGrounds input room =
     (ltb room storeWords, 10)
-    ∷ (eqb (length input) 0 || not (eqb (length input % 512) 0) || ltb maxFile (length input), 11)
+    ∷ (eqb (length input) 0 || not (eqb (length input % blockBytes) 0) || ltb maxFile (length input), 11)
     ∷ []
 
 lateGrounds : List ℕ → ℕ → ℕ → ℕ → List (Bool × ℕ)
@@ -89,37 +91,37 @@ lateGrounds bytes blocks n g =
     ∷ (ltb maxGroups g, 15)
     ∷ (not (eqb blocks (blocksFor (contentLength n g))), 16)
     ∷ (any (2 + g + n) (λ k. beyond n (setNumber bytes n k)), 17)
-    ∷ (nonZero bytes (contentLength n g) (508 * blocks), 18)
+    ∷ (nonZero bytes (contentLength n g) (contentBytes * blocks), 18)
     ∷ []
 
 faults : List ℕ → ℕ
-faults input = firstFault (length input / 512) (λ k. blockFault (part input k) k)
+faults input = firstFault (length input / blockBytes) (λ k. blockFault (part input k) k)
 
 pub record Readable (input : List ℕ) (room n g : ℕ) : Type 0 where
   pub fits : storeWords ≤ room
   pub some : length input ≡ 0 → ⊥
-  pub whole : length input % 512 ≡ 0
+  pub whole : length input % blockBytes ≡ 0
   pub short : length input ≤ maxFile
-  pub number : (k : ℕ) → k < length input / 512 → le16At (part input k) 0 ≡ k
-  pub check : (k : ℕ) → k < length input / 512 → le16At (part input k) 510 ≡ checkOf (part input k)
+  pub number : (k : ℕ) → k < length input / blockBytes → le16At (part input k) 0 ≡ k
+  pub check : (k : ℕ) → k < length input / blockBytes → le16At (part input k) checkAt ≡ checkOf (part input k)
   pub n-is : le16At (contentsOf input) 0 ≡ n
   pub g-is : le16At (contentsOf input) 2 ≡ g
   pub states : badStates n ≡ false
   pub groups : g ≤ maxGroups
-  pub blocks : length input / 512 ≡ blocksFor (contentLength n g)
+  pub blocks : length input / blockBytes ≡ blocksFor (contentLength n g)
   pub within : (k : ℕ) → k < 2 + g + n → beyond n (setNumber (contentsOf input) n k) ≡ false
-  pub filler : (i : ℕ) → contentLength n g ≤ i → i < 508 * (length input / 512) → getD (contentsOf input) i 0 ≡ 0
+  pub filler : (i : ℕ) → contentLength n g ≤ i → i < contentBytes * (length input / blockBytes) → getD (contentsOf input) i 0 ≡ 0
 
 module _ (block : List ℕ) (k : ℕ) where
-  pub blockFault-clear : blockFault block k ≡ 0 → (le16At block 0 ≡ k) × (le16At block 510 ≡ checkOf block)
+  pub blockFault-clear : blockFault block k ≡ 0 → (le16At block 0 ≡ k) × (le16At block checkAt ≡ checkOf block)
   unfolding blockFault
   blockFault-clear e =
       let c = refuse-clear _ refl e in
-      (eqb-true (le16At block 0) k (not-false (eqb (le16At block 0) k) (c .0)), eqb-true (le16At block 510) (checkOf block) (not-false _ (c .1 .0)))
+      (eqb-true (le16At block 0) k (not-false (eqb (le16At block 0) k) (c .0)), eqb-true (le16At block checkAt) (checkOf block) (not-false _ (c .1 .0)))
 
-  pub clear-blockFault : le16At block 0 ≡ k → le16At block 510 ≡ checkOf block → blockFault block k ≡ 0
+  pub clear-blockFault : le16At block 0 ≡ k → le16At block checkAt ≡ checkOf block → blockFault block k ≡ 0
   unfolding blockFault
-  clear-blockFault p q = clear-refuse _ (ap not (eq-eqb (le16At block 0) k p), (ap not (eq-eqb (le16At block 510) (checkOf block) q), tt))
+  clear-blockFault p q = clear-refuse _ (ap not (eq-eqb (le16At block 0) k p), (ap not (eq-eqb (le16At block checkAt) (checkOf block) q), tt))
 
 module _ (input : List ℕ) (room : ℕ) where
   pub read-refusal : (readAnswer input room) .refusal ≡ readRefusal input room
@@ -132,19 +134,19 @@ module _ (input : List ℕ) (room : ℕ) where
   unfolding readRefusal earlyGrounds lateGrounds faults
   readable e =
       let bytes = contentsOf input in
-      let m = length input / 512 in
+      let m = length input / blockBytes in
       let outer = orElse-clear (refuse (earlyGrounds input room)) _ e in
       let inner = orElse-clear (faults input) (refuse (lateGrounds bytes m (le16At bytes 0) (le16At bytes 2))) (outer .1) in
       let early = refuse-clear (earlyGrounds input room) refl (outer .0) in
       let late = refuse-clear (lateGrounds bytes m (le16At bytes 0) (le16At bytes 2)) refl (inner .1) in
       let long = or-false _ (ltb maxFile (length input)) (early .1 .0) in
-      let odd = or-false (eqb (length input) 0) (not (eqb (length input % 512) 0)) (long .0) in
-      let block : (k : ℕ) → k < m → (le16At (part input k) 0 ≡ k) × (le16At (part input k) 510 ≡ checkOf (part input k)) =
+      let odd = or-false (eqb (length input) 0) (not (eqb (length input % blockBytes) 0)) (long .0) in
+      let block : (k : ℕ) → k < m → (le16At (part input k) 0 ≡ k) × (le16At (part input k) checkAt ≡ checkOf (part input k)) =
       λ k h. blockFault-clear (part input k) k (firstFault-clear (λ j. blockFault (part input j) j) m (inner .0) k h) in
       record {
         fits = ltb-false room storeWords (early .0);
         some = eqb-false (length input) 0 (odd .0);
-        whole = eqb-true (length input % 512) 0 (not-false _ (odd .1));
+        whole = eqb-true (length input % blockBytes) 0 (not-false _ (odd .1));
         short = ltb-false maxFile (length input) (long .1);
         number = λ k h. block k h .0;
         check = λ k h. block k h .1;
@@ -154,14 +156,14 @@ module _ (input : List ℕ) (room : ℕ) where
         groups = ltb-false maxGroups (le16At bytes 2) (late .1 .0);
         blocks = eqb-true m _ (not-false _ (late .1 .1 .0));
         within = any-none (λ k. beyond (le16At bytes 0) (setNumber bytes (le16At bytes 0) k)) (2 + le16At bytes 2 + le16At bytes 0) (late .1 .1 .1 .0);
-        filler = nonZero-zero bytes (contentLength (le16At bytes 0) (le16At bytes 2)) (508 * m) (late .1 .1 .1 .1 .0);
+        filler = nonZero-zero bytes (contentLength (le16At bytes 0) (le16At bytes 2)) (contentBytes * m) (late .1 .1 .1 .1 .0);
       }
 
   pub readable-refusal : (n g : ℕ) → Readable input room n g → readRefusal input room ≡ 0
   unfolding readRefusal earlyGrounds lateGrounds faults
   readable-refusal n g r =
       let bytes = contentsOf input in
-      let m = length input / 512 in
+      let m = length input / blockBytes in
       orElse-none (refuse (earlyGrounds input room)) _ (clear-refuse (earlyGrounds input room) (le-ltb room storeWords (r .fits), (odd, tt)))
       ∙ orElse-none (faults input) (refuse (lateGrounds bytes m (le16At bytes 0) (le16At bytes 2)))
       (clear-firstFault (λ j. blockFault (part input j) j) m (λ k h. clear-blockFault (part input k) k (r .number k h) (r .check k h)))
@@ -170,11 +172,11 @@ module _ (input : List ℕ) (room : ℕ) where
       ∙ refuse-skip _ 15 _ (le-ltb maxGroups g (r .groups))
       ∙ refuse-skip _ 16 _ (ap not (eq-eqb m (blocksFor (contentLength n g)) (r .blocks)))
       ∙ refuse-skip _ 17 _ (no-any (λ k. beyond n (setNumber bytes n k)) (2 + g + n) (r .within))
-      ∙ refuse-skip _ 18 _ (zero-nonZero bytes (contentLength n g) (508 * m) (r .filler))
+      ∙ refuse-skip _ 18 _ (zero-nonZero bytes (contentLength n g) (contentBytes * m) (r .filler))
       ∙ refuse-none
     where
-      odd : (eqb (length input) 0 || not (eqb (length input % 512) 0) || ltb maxFile (length input)) ≡ false
-      odd = rw (ne-eqb (length input) 0 (r .some), eq-eqb (length input % 512) 0 (r .whole), le-ltb maxFile (length input) (r .short))
+      odd : (eqb (length input) 0 || not (eqb (length input % blockBytes) 0) || ltb maxFile (length input)) ≡ false
+      odd = rw (ne-eqb (length input) 0 (r .some), eq-eqb (length input % blockBytes) 0 (r .whole), le-ltb maxFile (length input) (r .short))
 
   pub read-answer : (n g : ℕ) → Readable input room n g → readAnswer input room ≡ record { refusal = 0; n = n; g = g }
   unfolding readAnswer

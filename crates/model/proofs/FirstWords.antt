@@ -19,7 +19,7 @@ use Rattle.model.specs.Tables.{Table}
 use Rattle.model.specs.Rounds.{run}
 use Rattle.model.specs.Paths.{shortest, hasPath, smallestPath}
 use Rattle.model.specs.Stores.{maxGroups, storeWords, forbiddenAt, groupAt, rowAt, setAt, tableOf, refuse, beyond, nonZero, malformed, badStates, sharedGrounds}
-use Rattle.model.specs.Files.{fileLength, fileOf}
+use Rattle.model.specs.Files.{fileOf, fileLength}
 use Rattle.model.specs.Calls.{overwrite, Decision, decideGrounds, decisionOf, declined, decideAnswer, decideBuffer, Shortest, shortestGrounds, shortestAnswer, shortestBuffer, Written, writeGrounds, writeAnswer, writeBuffer}
 use Rattle.model.specs.Promises.{FirstWords}
 use Rattle.model.proofs.Bounds.{decided, any-cong, tabulate-cong}

@@ -8,6 +8,8 @@ pub mod WellFormed
 pub mod RoundLaws
 pub mod PathLaws
 pub mod ListLaws
+pub mod BlockLaws
+pub mod ContentLaws
 pub mod StoreLaws
 pub mod FileLaws
 pub mod CallLaws

@@ -15,7 +15,8 @@ use Rattle.model.specs.Tables.{Table}
 use Rattle.model.specs.Rounds.{Outcome, safe, unsafe, undecided, run}
 use Rattle.model.specs.Paths.{reaching, shortest, hasPath}
 use Rattle.model.specs.Stores.{maxGroups, tableOf, refuse}
-use Rattle.model.specs.Calls.{Decision, maxAllowance, decideGrounds, decisionOf, declined, decideAnswer, Shortest, shortestGrounds, shortestAnswer, TableRead, readRefusal, readAnswer, Written, writeGrounds, writeAnswer, maxFile}
+use Rattle.model.specs.Files.{maxFile}
+use Rattle.model.specs.Calls.{Decision, maxAllowance, decideGrounds, decisionOf, declined, decideAnswer, Shortest, shortestGrounds, shortestAnswer, TableRead, readRefusal, readAnswer, Written, writeGrounds, writeAnswer}
 use Rattle.model.proofs.Bounds.{by-cond, first-le}
 use Rattle.model.proofs.Counting.{size-most}
 use Rattle.model.proofs.Fixpoints.{backward-is}

@@ -20,7 +20,9 @@ use Rattle.model.specs.Tables.{Table}
 use Rattle.model.specs.Rounds.{Outcome, safe, unsafe, undecided, run}
 use Rattle.model.specs.Paths.{shortest, hasPath, smallestPath}
 use Rattle.model.specs.Stores.{maxGroups, storeWords, tableOf, layout, refuse, beyond, nonZero, badStates, sharedGrounds}
-use Rattle.model.specs.Files.{le16At, contentLength, blocksFor, fileLength, checkOf, fileOf, part, contentsOf, setNumber, tableIn}
+use Rattle.model.specs.Blocks.{blockBytes, contentBytes, le16At, blocksFor, part, contentsOf, blockFault}
+use Rattle.model.specs.Contents.{contentLength, setNumber, tableIn}
+use Rattle.model.specs.Files.{fileOf, fileLength, maxFile}
 
 unfoldable pub overwrite : List ℕ → List ℕ → List ℕ
 overwrite xs old = xs ++ drop (length xs) old
@@ -100,21 +102,9 @@ unfoldable pub firstFault : ℕ → (ℕ → ℕ) → ℕ
 firstFault zero f = 0
 firstFault (suc m) f = let e = firstFault m f in cond (eqb e 0) (f m) e
 
--- Block k holds number k and its own check.
-unfoldable pub blockFault : List ℕ → ℕ → ℕ
-blockFault block k =
-    refuse
-    ((not (eqb (le16At block 0) k), 12)
-    ∷ (not (eqb (le16At block 510) (checkOf block)), 13)
-    ∷ [])
-
--- The largest file: n and g at their greatest.
-abbrev pub maxFile : ℕ
-maxFile = fileLength maxStates maxGroups
-
 unfoldable pub readRefusal : List ℕ → ℕ → ℕ
 readRefusal input room =
-    let blocks = length input / 512 in
+    let blocks = length input / blockBytes in
     let bytes = contentsOf input in
     let n = le16At bytes 0 in
     let g = le16At bytes 2 in
@@ -122,7 +112,7 @@ readRefusal input room =
     let early =
     refuse
     ((ltb room storeWords, 10)
-    ∷ (eqb (length input) 0 || not (eqb (length input % 512) 0) || ltb maxFile (length input), 11)
+    ∷ (eqb (length input) 0 || not (eqb (length input % blockBytes) 0) || ltb maxFile (length input), 11)
     ∷ []) in
     let faulty = firstFault blocks (λ k. blockFault (part input k) k) in
     let late =
@@ -131,7 +121,7 @@ readRefusal input room =
     ∷ (ltb maxGroups g, 15)
     ∷ (not (eqb blocks (blocksFor size)), 16)
     ∷ (any (2 + g + n) (λ k. beyond n (setNumber bytes n k)), 17)
-    ∷ (nonZero bytes size (508 * blocks), 18)
+    ∷ (nonZero bytes size (contentBytes * blocks), 18)
     ∷ []) in
     cond (eqb early 0) (cond (eqb faulty 0) late faulty) early
 

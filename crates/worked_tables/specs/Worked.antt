@@ -16,7 +16,8 @@ use Rattle.model.specs.Sets.{maxStates}
 use Rattle.model.specs.Tables.{Table}
 use Rattle.model.specs.Rounds.{backwardNumber}
 use Rattle.model.specs.Stores.{tableOf, layout}
-use Rattle.model.specs.Files.{contents, contentLength, blocksFor, checkOf, blockOf}
+use Rattle.model.specs.Blocks.{blocksFor, checkOf, blockOf}
+use Rattle.model.specs.Contents.{contents, contentLength}
 use Rattle.model.specs.Calls.{release, overwrite, Decision, decideAnswer, decideBuffer}
 use Rattle.worked_tables.specs.Tables.{set, A, B, D, E, F, G}
 

@@ -32,12 +32,14 @@ use mir.Syntax.{w8}
 use mir.Val.{Fits}
 use Rattle.model.specs.Sets.{WORDS, maxStates, Set, member, number, empty, tabulate}
 use Rattle.model.specs.Stores.{maxGroups, forbiddenAt, groupAt, rowAt, concat, layout}
-use Rattle.model.specs.Files.{setWidth, contentsOf, setIn, setNumber, tableIn}
+use Rattle.model.specs.Blocks.{contentsOf}
+use Rattle.model.specs.Contents.{setWidth, setIn, setNumber, tableIn}
 use Rattle.model.specs.Calls.{overwrite}
 use Rattle.model.proofs.Bounds.{is-false, by-cond, decided, length-tabulate, getD-tabulate}
 use Rattle.model.proofs.SetLaws.{Proper, number-lt, setOf-cong}
 use Rattle.model.proofs.ListLaws.{getD-past, length-concat, concat-next, length-overwrite, overwrite-more, overwrite-set}
-use Rattle.model.proofs.FileLaws.{number-none, number-append, word-number, number-setIn, setIn-proper, setIn-below, contentsOf-bounded}
+use Rattle.model.proofs.BlockLaws.{contentsOf-bounded}
+use Rattle.model.proofs.ContentLaws.{number-none, number-append, word-number, number-setIn, setIn-proper, setIn-below}
 use Rattle.block_file.specs.Reading.{HasSet, HasTable, overwriteFrom, groupOf, rowOf}
 
 -- ---- sets in the contents

@@ -29,10 +29,12 @@ use lib.Dec.{eqb}
 use lib.ListN.{length, getD, take, drop}
 use Rattle.model.specs.Sets.{maxStates, any}
 use Rattle.model.specs.Stores.{maxGroups, storeWords, layout, refuse, beyond, nonZero, badStates}
-use Rattle.model.specs.Files.{le16At, contentLength, blocksFor, part, contentsOf, setNumber, tableIn}
-use Rattle.model.specs.Calls.{overwrite, TableRead, firstFault, blockFault, maxFile, readRefusal, readAnswer, readBuffer}
+use Rattle.model.specs.Blocks.{le16At, blocksFor, part, contentsOf, blockFault}
+use Rattle.model.specs.Contents.{contentLength, setNumber, tableIn}
+use Rattle.model.specs.Files.{maxFile}
+use Rattle.model.specs.Calls.{overwrite, TableRead, firstFault, readRefusal, readAnswer, readBuffer}
 use Rattle.model.proofs.ListLaws.{orElse-none, orElse-fault, refuse-none, refuse-skip, refuse-take, firstFault-next, firstFault-stop}
-use Rattle.model.proofs.FileLaws.{getD-contentsOf-at}
+use Rattle.model.proofs.BlockLaws.{getD-contentsOf-at}
 use Rattle.model.proofs.CallLaws.{states-le, Readable, readable, read-answer, read-buffer}
 use Rattle.block_file.specs.Reading.{HasTable, contentGrounds}
 

@@ -15,11 +15,11 @@ use lib.ListN.{getD}
 use lib.Pow.{shr-shr, shr-lt}
 use Rattle.model.specs.Sets.{maxStates, Set, bit, member, first}
 use Rattle.model.specs.Stores.{beyond}
-use Rattle.model.specs.Files.{setWidth, setIn, setNumber}
+use Rattle.model.specs.Contents.{setWidth, setIn, setNumber}
 use Rattle.model.proofs.Bounds.{clash, decided, first-passes, lt-or-ge}
 use Rattle.model.proofs.SetLaws.{In}
+use Rattle.model.proofs.ContentLaws.{member-setIn, setIn-below}
 use Rattle.model.proofs.StoreLaws.{beyond-below, below-beyond}
-use Rattle.model.proofs.FileLaws.{member-setIn, setIn-below}
 use Rattle.state_set.proofs.Bits.{bit-zero, first-bit}
 
 bit-above : (x d i : ℕ) → bit (x / 2 ^ d) i ≡ bit x (d + i)

@@ -5,7 +5,8 @@ use mathlib.Core.Bool.{false}
 use borrow.Author.Needs.{needs}
 use Rattle.model.specs.Sets.{any}
 use Rattle.model.specs.Stores.{beyond}
-use Rattle.model.specs.Files.{contentsOf, setNumber}
+use Rattle.model.specs.Blocks.{contentsOf}
+use Rattle.model.specs.Contents.{setNumber}
 use Rattle.model.proofs.Bounds.{any-start, any-turn, any-intro, any-end}
 use Rattle.block_file.proofs.reading.Filling.{has-set}
 use Rattle.block_file.proofs.reading.any_beyond.Statement.{statement}

@@ -3,7 +3,7 @@ use mathlib.Core.Path.{sym, ap, _∙_}
 use mathlib.Core.Bool.{not}
 use borrow.Author.Needs.{needs}
 use borrow.Author.Tests.{eq-eqb, ne-eqb}
-use Rattle.model.specs.Calls.{blockFault}
+use Rattle.model.specs.Blocks.{blockFault}
 use Rattle.model.proofs.ListLaws.{refuse-skip, refuse-take}
 use Rattle.model.proofs.CallLaws.{clear-blockFault}
 use Rattle.block_file.proofs.reading.block_fault.Statement.{statement}

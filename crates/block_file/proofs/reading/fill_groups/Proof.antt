@@ -4,7 +4,8 @@ use native.Mathlib.Omega.{arith}
 use borrow.Author.Needs.{needs}
 use lib.ListN.{length-take, length-drop}
 use Rattle.model.specs.Stores.{maxGroups, groupAt}
-use Rattle.model.specs.Files.{contentsOf, tableIn}
+use Rattle.model.specs.Blocks.{contentsOf}
+use Rattle.model.specs.Contents.{tableIn}
 use Rattle.block_file.specs.Reading.{groupOf}
 use Rattle.block_file.proofs.reading.Filling.{has-group, Filling, filling-none, filling-more, filling-all, group-set, group-wide}
 use Rattle.block_file.proofs.reading.fill_groups.Statement.{statement}

@@ -5,7 +5,8 @@ use borrow.Author.Needs.{needs}
 use lib.ListN.{length-take, length-drop}
 use Rattle.model.specs.Sets.{maxStates}
 use Rattle.model.specs.Stores.{rowAt}
-use Rattle.model.specs.Files.{contentsOf, tableIn}
+use Rattle.model.specs.Blocks.{contentsOf}
+use Rattle.model.specs.Contents.{tableIn}
 use Rattle.block_file.specs.Reading.{rowOf}
 use Rattle.block_file.proofs.reading.Filling.{has-row, Filling, filling-none, filling-more, filling-all, row-set, row-wide}
 use Rattle.block_file.proofs.reading.fill_rows.Statement.{statement}

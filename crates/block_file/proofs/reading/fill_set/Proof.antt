@@ -2,8 +2,9 @@
 use Prim.Native.Nat.{_-_}
 use borrow.Author.Needs.{needs}
 use Rattle.model.specs.Sets.{WORDS}
-use Rattle.model.specs.Files.{contentsOf, setIn}
-use Rattle.model.proofs.FileLaws.{setIn-proper}
+use Rattle.model.specs.Blocks.{contentsOf}
+use Rattle.model.specs.Contents.{setIn}
+use Rattle.model.proofs.ContentLaws.{setIn-proper}
 use Rattle.block_file.proofs.reading.Filling.{Copying, copying-none, copying-more, copying-all}
 use Rattle.block_file.proofs.reading.fill_set.Statement.{statement}
 use Rattle.block_file.proofs.reading.fill_set.Tie as tie
