@@ -19,7 +19,7 @@ use state_set::StateSet;
 use state_set::WORDS;
 
 // The specs' room is the same number.
-pub const ROOM: usize = 1024 + 256 * WORDS;
+pub const ROOM: usize = 1024 + 4 * 64 * WORDS;
 
 pub fn write_refused(refusal: u8, out: &mut [u8]) -> usize
     requires { ⌜ room ≤ length (now out) ⌝ }
