@@ -1,5 +1,6 @@
-// The four calls for C (include/shuntberry.h). Each only calls the call of the same name and lays its answer out in a struct of 01's
-// numbers: `refusal` is 0 where the call was not declined, and every other field is 0 where it was.
+// The four calls for C (include/shuntberry.h). Each only calls the call of the same name and lays its answer out in a struct of the
+// specification's numbers (docs/SPECIFICATION.md, "Refusals"): `refusal` is 0 where the call was not declined, and every other field is 0
+// where it was.
 ghost use mathlib.Core.Path.{_≡_};
 ghost use Prim.Native.Nat.{_≤_};
 ghost use lib.ListN.{length};
