@@ -22,7 +22,7 @@ use Rattle.model.specs.Tables.{Table, coverOf, cover}
 use Rattle.model.specs.Rounds.{Outcome, safe, unsafe, undecided, run, backwardNumber}
 use Rattle.model.specs.Paths.{isPath, shortest, hasPath, smallestPath}
 use Rattle.model.specs.Stores.{maxGroups, storeWords, forbiddenAt, groupAt, rowAt, setAt, tableOf, refuse}
-use Rattle.model.specs.Calls.{overwrite, Decision, release, decideGrounds, decisionOf, declined, decideAnswer, decideBuffer, Shortest, shortestGrounds, shortestAnswer, shortestBuffer, readRefusal, readBuffer, writeAnswer, writeBuffer}
+use Rattle.model.specs.Calls.{overwrite, Decision, release, decideGrounds, decisionOf, declined, decideAnswer, decideBuffer, Shortest, shortestGrounds, shortestAnswer, shortestBuffer, readGrounds, readBuffer, writeAnswer, writeBuffer}
 use Rattle.model.specs.Promises.{Operations, IsSmallest, Carries, Demand2, Demand3, SameAnswer, PathAnswer, Accepted, Promises, Untouched}
 use Rattle.model.proofs.Bounds.{decided, by-cond, clash, tabulate-cong}
 use Rattle.model.proofs.SetLaws.{In, in-image, image-in, in-firstStates, firstStates-in}
@@ -268,6 +268,6 @@ untouched =
           (by-cond (λ (a : Shortest). eqb (refuse (shortestGrounds store n g (length path))) 0 ≡ true → (a .refusal ≡ 0 → ⊥) → cond (eqb (a .found) 1) (overwrite (smallestPath (tableOf store n g)) path) path ≡ path)
           (hasPath (tableOf store n g)) _ _ (λ h q f. absurd (f refl)) (λ h q f. refl))
           (λ q f. refl);
-      read = λ input store f. rw (ne-eqb (readRefusal input (length store)) 0 (λ e. f (read-refusal input (length store) ∙ e)));
+      read = λ input store f. rw (ne-eqb (refuse (readGrounds input (length store))) 0 (λ e. f (read-refusal input (length store) ∙ e)));
       write = λ store n g output f. rw (ne-eqb ((writeAnswer store n g (length output)) .refusal) 0 f);
     }
