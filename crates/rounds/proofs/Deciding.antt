@@ -25,7 +25,7 @@ use Rattle.rounds.specs.declared.Ending.{Ending}
 use Rattle.rounds.specs.declared.Ended.{Ended}
 use Rattle.rounds.specs.declared.Verdict.{Verdict}
 use Rattle.rounds.specs.declared.Verdict.the-variants.{Safe, Unsafe, Undecided, Refused}
-use Rattle.rounds.specs.Answers.{endsWith, outcomeOf, invariantOf, stepsIn, answersWith, isRefused}
+use Rattle.rounds.specs.Answers.{endsWith, outcomeOf, invariantOf, stepsIn, answersWith, isRefused, Called}
 
 -- ---- refusals
 
@@ -71,10 +71,7 @@ ended-is {r} {o} x q both =
 module _ (store : List ℕ) (n g allowance : ℕ) (path : List ℕ) where
   -- the verdict v of a check, the invariant X beside it, and what is left in the buffer
   abbrev pub Answered : Verdict → Set → List ℕ → Type 0
-  Answered v X after =
-      (answersWith v X ≡ decideAnswer store n g allowance (length path))
-      × (after ≡ decideBuffer store n g allowance path)
-      × (isRefused v ≡ not (eqb ((decideAnswer store n g allowance (length path)) .refusal) 0))
+  Answered v X after = Called store n g allowance path (record { verdict = v; invariant = record { words = X } }) after
 
   -- the buffer and the case follow from the numbers
   answered : (v : Verdict) (X : Set) → answersWith v X ≡ decideAnswer store n g allowance (length path)

@@ -1,22 +1,16 @@
 -- The loops of R and S: the invariant, where it starts, a turn, and what it gives at the end.
 --
 --   Iterating, iterate-*            `forward` and `backward`: as many steps as turns, or fewer if one changes nothing
-use Prim.Native.Nat.{ℕ, suc, _+_, _-_, _≤_, _<_, zero-le}
-use native.Mathlib.Nat.{le-refl, le-of-eq, le-antisymm}
+use Prim.Native.Nat.{ℕ, _+_, _≤_, _<_, zero-le}
+use native.Mathlib.Nat.{le-antisymm}
 use native.Mathlib.Numerals.{add-one}
 use native.Mathlib.Omega.{arith}
-use mathlib.Core.Path.{_≡_, sym, ap, ap₂, _∙_, subst}
+use mathlib.Core.Path.{_≡_, sym, ap, _∙_, subst}
 use mathlib.Core.Bool.{true}
-use mathlib.Core.List.{List, [], _∷_}
-use lib.ListN.{length, drop, drop-of-length-le}
-use lib.Seq.{drop-cons}
-use Rattle.model.specs.Sets.{Set, same, tabulate}
+use Rattle.model.specs.Sets.{Set, same}
 use Rattle.model.specs.Rounds.{iterate}
-use Rattle.model.proofs.Bounds.{length-tabulate, getD-tabulate}
 use Rattle.model.proofs.SetLaws.{Proper, same-eq}
 use Rattle.model.proofs.Fixpoints.{iterate-suc, iterate-has, iterate-still}
-use Rattle.rounds.specs.Steps.{covers, narrowed}
-use Rattle.rounds.proofs.Bridge.{covers-add}
 
 -- ---- `forward` and `backward`
 

@@ -6,6 +6,7 @@
 --   run-start                           it holds at the start, with all groups left
 --   run-group, run-ready                a group is added; where none is left it is Z
 --   Ready                               the rows are then the covers of round i
+--   conclude-safe, -unsafe, -open       what `conclude` concludes, by the tests of steps 2 and 4
 --   run-safe, run-unsafe, run-undecided     where the rounds end
 --   run-turn                            the invariant holds again after a round that goes on
 use Prim.Native.Nat.{ℕ, suc, _+_, _-_, _≤_, _<_, zero-le}
@@ -16,23 +17,23 @@ use mathlib.Core.Path.{_≡_, refl, sym, ap, ap₂, _∙_, subst}
 use mathlib.Core.Logic.{⊎-elim}
 use mathlib.Core.Bool.{Bool, true, false, not}
 use mathlib.Core.List.{List, [], _∷_, _++_, append-assoc, append-nil}
-use borrow.Author.Tests.{ne-eqb}
+use borrow.Author.Tests.{ne-eqb, not-false}
 use Rattle.model.specs.Sets.{Set, empty, union, meet, subset, firstStates, tabulate}
 use Rattle.model.specs.Tables.{Table, hold, notForbidden}
 use Rattle.model.specs.Rounds.{iterate, forwardStep, forward, backwardStep, backward, Round, roundOf, firstRound, nextRound, isSafe, isUnsafe, safe, unsafe, undecided, run}
 use Rattle.model.specs.Stores.{setAt, forbiddenAt, groupAt, tableOf}
 use Rattle.model.specs.Promises.{IsLeast, IsGreatest, roundAt, Continues}
-use Rattle.model.proofs.Bounds.{below-suc}
+use Rattle.model.proofs.Bounds.{below-suc, not-true}
 use Rattle.model.proofs.SetLaws.{empty-in, meet-in, _⊆_, ⊆-of-eq}
 use Rattle.model.proofs.Fixpoints.{iterate-has, least-unique, greatest-unique}
 use Rattle.model.proofs.CoverLaws.{hold-within, notForbidden-within, forwardStep-within, backwardStep-within}
 use Rattle.model.proofs.RoundLaws.{first-stop}
-use Rattle.table.specs.Rows.{successorsBy, keptBy}
+use Rattle.table.specs.Rows.{successorsBy, meetHold}
 use Rattle.rounds.specs.Steps.{covers, narrowed, nextAdded, forwardBy, backwardBy, Below}
 use Rattle.rounds.specs.declared.Conclusion.the-variants.{Safe as ConcludesSafe, Unsafe as ConcludesUnsafe, Open}
 use Rattle.rounds.specs.declared.Concluded.{Concluded}
-use Rattle.rounds.specs.Answers.{concludes, Concludes}
-use Rattle.rounds.proofs.Bridge.{covers-add, successorsBy-is, keptBy-is, forwardBy-proper, backwardBy-proper, forward-least, backward-greatest, covers-below, forward-is, backward-is}
+use Rattle.rounds.specs.Answers.{concludes, setBeside, Concludes}
+use Rattle.rounds.proofs.Bridge.{covers-add, successorsBy-is, meetHold-is, forwardBy-proper, backwardBy-proper, forward-least, backward-greatest, covers-below, forward-is, backward-is}
 
 -- ---- sets of the table's states
 
@@ -126,17 +127,34 @@ module _ {store : List ℕ} {n g allowance : ℕ} {initial : Set} {rows : List S
 
 -- ---- what the tests of a round come to
 
+-- in `conclude`: x is step 2's test, y that of step 4
+pub conclude-safe : (inside : Bool) {safe x : Bool} → x ≡ safe → x ≡ true → ConcludesSafe ≡ concludes safe inside
+unfolding concludes
+conclude-safe inside e t = ap (λ (b : Bool). concludes b inside) (sym t ∙ e)
+
+pub conclude-unsafe : {safe inside x y : Bool} → x ≡ safe → x ≡ false → y ≡ inside → not y ≡ true → ConcludesUnsafe ≡ concludes safe inside
+unfolding concludes
+conclude-unsafe e f g t = ap₂ concludes (sym f ∙ e) (sym (not-true _ t) ∙ g)
+
+pub conclude-open : {safe inside x y : Bool} → x ≡ safe → x ≡ false → y ≡ inside → not y ≡ false → Open ≡ concludes safe inside
+unfolding concludes
+conclude-open e f g t = ap₂ concludes (sym f ∙ e) (sym (not-false _ t) ∙ g)
+
+-- in `run`
 is-safe : (safe unsafe : Bool) → concludes safe (not unsafe) ≡ ConcludesSafe → safe ≡ true
+unfolding concludes
 is-safe true u e = refl
 is-safe false true e = cc
 is-safe false false e = cc
 
 is-unsafe : (safe unsafe : Bool) → concludes safe (not unsafe) ≡ ConcludesUnsafe → (safe ≡ false) × (unsafe ≡ true)
+unfolding concludes
 is-unsafe true u e = (cc, cc)
 is-unsafe false true e = (refl, refl)
 is-unsafe false false e = (refl, cc)
 
 is-open : (safe unsafe : Bool) → concludes safe (not unsafe) ≡ Open → (safe ≡ false) × (unsafe ≡ false)
+unfolding concludes
 is-open true u e = (cc, cc)
 is-open false true e = (refl, cc)
 is-open false false e = (refl, refl)
@@ -193,9 +211,9 @@ module _ {store : List ℕ} {n g allowance : ℕ} {initial : Set} {rows : List S
   unfolding isUnsafe roundOf tableOf
   unsafe-is s e = sym (ap not (e ∙ ap₂ subset (so .initial-is) s))
 
-  Z-is : {S Z′ : Set} → S ≡ roundNow .S → Z′ ≡ keptBy store S S → Z′ ≡ meet (roundNow .S) (hold n (table .row) (roundNow .S))
+  Z-is : {S Z′ : Set} → S ≡ roundNow .S → Z′ ≡ meetHold store S S → Z′ ≡ meet (roundNow .S) (hold n (table .row) (roundNow .S))
   unfolding roundOf tableOf
-  Z-is s e = e ∙ ap (λ (X : Set). keptBy store X X) s ∙ keptBy-is store n g _ _ (backward-within table listNow _)
+  Z-is s e = e ∙ ap (λ (X : Set). meetHold store X X) s ∙ meetHold-is store n g _ _ (backward-within table listNow _)
 
   -- ---- where the round leads
 
@@ -217,11 +235,13 @@ module _ {store : List ℕ} {n g allowance : ℕ} {initial : Set} {rows : List S
     concluded = e .conclusion ∙ ap₂ concludes (sym (safe-is R-now refl)) (sym (ap not (unsafe-is S-now refl) ∙ not-not (subset initial (e .S))))
 
     pub run-safe : r .conclusion ≡ ConcludesSafe → safe i (r .set .words) ≡ run table allowance
+    unfolding setBeside
     run-safe q =
         ap (safe i) ((rw q at (e .set)) ∙ R-now ∙ ap (λ (x : Round). x .R) (so .round-is))
         ∙ sym (first-stop table allowance .at-safe i (so .used) (so .before) (ap (isSafe table) (sym (so .round-is)) ∙ is-safe safeNow unsafeNow (sym concluded ∙ q)))
 
     pub run-unsafe : r .conclusion ≡ ConcludesUnsafe → (unsafe i ≡ run table allowance) × (r .set .words ≡ empty)
+    unfolding setBeside
     run-unsafe q =
         let tests = is-unsafe safeNow unsafeNow (sym concluded ∙ q) in (
           sym
@@ -236,7 +256,7 @@ module _ {store : List ℕ} {n g allowance : ℕ} {initial : Set} {rows : List S
         ap undecided h ∙ sym (first-stop table allowance .at-undecided (λ k l. before-next (tests .0) (tests .1) k (omega arith)))
 
     pub run-turn : {j : ℕ} → j ≤ 0 → r .conclusion ≡ Open → (i ≡ allowance → ⊥) → Running store n g allowance initial rows (r .set .words) j (i + 1)
-    unfolding roundAt nextRound roundOf tableOf tabulate
+    unfolding setBeside roundAt nextRound roundOf tableOf tabulate
     run-turn {j} none q other =
         let z : j ≡ 0 = omega arith in
         let tests = is-open safeNow unsafeNow (sym concluded ∙ q) in

@@ -15,7 +15,7 @@ use lib.ListN.{getD}
 use Rattle.model.specs.Sets.{maxStates, Set, union, meet, subset, firstStates, image, tabulate}
 use Rattle.model.specs.Tables.{coverOf}
 use Rattle.model.specs.Stores.{groupAt, setAt}
-use Rattle.table.specs.Rows.{successorsBy, keptBy, mapAt}
+use Rattle.table.specs.Rows.{successorsBy, meetHold, mapAt}
 
 unfoldable pub covers : ℕ → List Set → List Set
 covers n L = tabulate maxStates (coverOf n L)
@@ -33,7 +33,7 @@ unfoldable pub forwardBy : List ℕ → List Set → Set → Set → Set → Set
 forwardBy store rows initial Z X = coverBy rows (meet Z (union initial (successorsBy store X)))
 
 unfoldable pub backwardBy : List ℕ → List Set → Set → Set → Set
-backwardBy store rows R X = coverBy rows (keptBy store R X)
+backwardBy store rows R X = coverBy rows (meetHold store R X)
 
 pub record Below (n : ℕ) (rows : List Set) : Type 0 where
   pub row : (s : ℕ) → s < maxStates → subset (getD rows s []) (firstStates n) ≡ true

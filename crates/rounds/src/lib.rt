@@ -7,20 +7,18 @@
 //   run                                 the rounds: the cover is narrowed by the groups, and by the Z of each round
 //   decide                              the call
 ghost use mathlib.Core.Path.{_≡_};
-ghost use mathlib.Core.Bool.{not};
 ghost use mathlib.Core.List.{[]};
 ghost use Prim.Native.Nat.{_≤_, _<_};
-ghost use lib.Dec.{eqb};
 ghost use lib.ListN.{length};
 ghost use Rattle.model.specs.Sets.{WORDS, union, meet, subset};
 ghost use Rattle.model.specs.Tables.{notForbidden};
 ghost use Rattle.model.specs.Rounds.{run as run·model};
 ghost use Rattle.model.specs.Stores.{storeWords, maxGroups, forbiddenAt, setAt, tableOf, refuse};
-ghost use Rattle.model.specs.Calls.{decideGrounds, decideAnswer, decideBuffer};
+ghost use Rattle.model.specs.Calls.{decideGrounds};
 ghost use Rattle.model.specs.Promises.{IsLeast, IsGreatest};
 ghost use Rattle.table.specs.Rows.{successorsBy};
 ghost use Rattle.rounds.specs.Steps.{covers, nextAdded, forwardBy, backwardBy, Below};
-ghost use Rattle.rounds.specs.Answers.{Concludes, outcomeOf, invariantOf, answerOf, isRefused, stepsIn};
+ghost use Rattle.rounds.specs.Answers.{Concludes, outcomeOf, invariantOf, stepsIn, Called};
 use paths::Found;
 use paths::find_path;
 use state_set::StateSet;
@@ -29,7 +27,7 @@ use table::FORBIDDEN_AT;
 use table::MAX_STATES;
 use table::Rows;
 use table::group_at;
-use table::kept;
+use table::meet_hold;
 use table::refusal;
 use table::row_of;
 use table::set_at;
@@ -90,7 +88,7 @@ fn backward_step(store: &[u64], rows: &Rows, r: StateSet, x: StateSet) -> StateS
     requires { ⌜ storeWords ≤ length (now store) ⌝ }
     ensures { λ s. ⌜ s .words ≡ backwardBy (now (store .entry)) (now (rows .entry)) (r .words) (x .words) ⌝ }
 {
-    union_of(rows, kept(store, r, x))
+    union_of(rows, meet_hold(store, r, x))
 }
 
 // The greatest x with x = cover(r meet hold(x)).
@@ -174,7 +172,7 @@ fn conclude(store: &[u64], n: usize, rows: &Rows, initial: StateSet, z: StateSet
     }
     Concluded {
         conclusion: Conclusion::Open,
-        set: kept(store, s, s),
+        set: meet_hold(store, s, s),
     }
 }
 
@@ -283,9 +281,7 @@ fn steps_of(found: Found) -> usize
 }
 
 pub fn decide(store: &[u64], n: usize, g: usize, allowance: usize, path: &mut [u8]) -> Decision
-    ensures { λ r. ⌜ (answerOf r ≡ decideAnswer (now (store .entry)) n g allowance (length (now (path .entry))))
-        × (now (path .exit) ≡ decideBuffer (now (store .entry)) n g allowance (now (path .entry)))
-        × (isRefused (r .verdict) ≡ not (eqb ((decideAnswer (now (store .entry)) n g allowance (length (now (path .entry)))) .refusal) 0)) ⌝ }
+    ensures { λ r. ⌜ Called (now (store .entry)) n g allowance (now (path .entry)) r (now (path .exit)) ⌝ }
 {
     let refused = decide_refusal(store, n, g, allowance, path.len());
     if refused != 0 {

@@ -1,5 +1,4 @@
 -- `next_added`: Z where no group is left, and the last group that is left where there is one.
-use mathlib.Core.Path.{_∙_}
 use borrow.Author.Needs.{needs}
 use borrow.Author.Tests.{eq-eqb, ne-eqb}
 use Rattle.rounds.specs.Steps.{nextAdded}

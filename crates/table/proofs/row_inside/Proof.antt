@@ -1,10 +1,10 @@
--- `is_held`: one call in the other.
+-- `row_inside`: one call in the other.
 use mathlib.Core.Path.{_≡_, ap, _∙_}
 use mathlib.Core.Bool.{Bool}
 use borrow.Author.Needs.{needs}
 use Rattle.model.specs.Sets.{Set, subset}
-use Rattle.table.proofs.is_held.Statement.{statement}
-use Rattle.table.proofs.is_held.Tie as tie
+use Rattle.table.proofs.row_inside.Statement.{statement}
+use Rattle.table.proofs.row_inside.Tie as tie
 
 inside : (X Y Z : Set) {b : Bool} → X ≡ Z → b ≡ subset X Y → b ≡ subset Z Y
 inside X Y Z x e = e ∙ ap (λ (W : Set). subset W Y) x
@@ -15,5 +15,5 @@ row-at-requires c κs = search needs
 returns : tie.Need-returns
 returns c = search (needs, inside)
 
-pub is-held-spec : {M : Type 1} → statement M
-is-held-spec = tie.close (search (tie.spec, row-at-requires, returns))
+pub row-inside-spec : {M : Type 1} → statement M
+row-inside-spec = tie.close (search (tie.spec, row-at-requires, returns))
