@@ -11,7 +11,7 @@ ghost use Rattle.model.proofs.Ranges.{DecisionRange, ReadRange};
 ghost use Rattle.rounds.specs.Answers.{answerOf};
 ghost use Rattle.paths.specs.Answers.{shortestOf};
 ghost use Rattle.block_file.specs.ReadAnswers.{readOf};
-ghost use Rattle.block_file.specs.Answers.{writtenOf};
+ghost use Rattle.block_file.specs.WriteAnswers.{writtenOf};
 ghost use Rattle.shuntberry.specs.Fields.{decisionFields, shortestFields, tableFields, fileFields};
 use block_file::TableRead;
 use block_file::Written;

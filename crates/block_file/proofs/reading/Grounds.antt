@@ -3,6 +3,7 @@
 --   Passed input k                          no ground of the first k blocks holds
 --   passed-none, passed-next                a loop over the blocks: before its first turn, and after a turn that found no ground
 --   passed-stop, passed-all                 it returns the first ground that holds, or 0 when it is done
+--   number-wrong, check-wrong, block-right  what `block_fault` returns
 --   contentRefusal                          what is wrong with the contents, or 0
 --   no-states, many-states, many-groups,    what `content_refusal` returns for the grounds 14 to 16
 --   other-blocks
@@ -14,10 +15,9 @@
 --   long-input
 --   Whole                                   neither of these holds
 --   block-wrong, blocks-right               what it returns then
---   Read                                    what the contract of `read` says of its answer and of the store at exit
---   declined                                so it is where a ground holds
+--   declined                                the contract of `read` where a ground holds
 --   some-block, readable-as                 where none holds, there is a header to read, and no ground holds of n and g as read from it
---   has-table, table-read                   so the table can be filled in, and it is so too
+--   table-inside, table-read                   so the table can be filled in, and the contract holds
 use Prim.Native.Nat.{ℕ, _+_, _*_, _-_, _/_, _%_, _≤_, _<_}
 use native.Mathlib.Nat.{add-assoc, le-antisymm}
 use native.Mathlib.Omega.{arith}
@@ -29,14 +29,16 @@ use lib.Dec.{eqb}
 use lib.ListN.{length, getD, take, drop}
 use Rattle.model.specs.Sets.{maxStates, any}
 use Rattle.model.specs.Stores.{maxGroups, storeWords, concat, layout, refuse, beyond, nonZero, badStates}
-use Rattle.model.specs.Blocks.{blockBytes, contentBytes, le16At, blocksFor, part, contentsOf, blockGrounds}
+use Rattle.model.specs.Blocks.{blockBytes, contentBytes, checkAt, le16At, checkOf, blocksFor, part, contentsOf, blockGrounds}
 use Rattle.model.specs.Contents.{contentLength, setNumber, tableIn}
 use Rattle.model.specs.Files.{maxFile}
-use Rattle.model.specs.Calls.{overwrite, TableRead, statesIn, groupsIn, badLength, blocksGrounds, contentGrounds, fileGrounds, readGrounds, readAnswer, readBuffer}
+use Rattle.model.specs.Calls.{overwrite, statesIn, groupsIn, badLength, blocksGrounds, contentGrounds, fileGrounds, readGrounds, readAnswer, readBuffer}
 use Rattle.model.proofs.GroundLaws.{Clear, refuse-none, refuse-skip, refuse-take, refuse-append, refuse-behind, clear-refuse, refuse-clear, clear-next, refuse-stop}
 use Rattle.model.proofs.BlockLaws.{getD-contentsOf-at}
-use Rattle.model.proofs.CallLaws.{states-pass, blocks-clear, Readable, readable, read-answer, read-buffer}
-use Rattle.block_file.specs.Reading.{HasTable}
+use Rattle.model.proofs.CallLaws.{states-pass, right-block, blocks-clear, Readable, readable, read-answer, read-buffer}
+use Rattle.block_file.specs.declared.reading.TableRead.the-variants.{Table, Refused}
+use Rattle.block_file.specs.ReadAnswers.{CalledRead}
+use Rattle.block_file.specs.Reading.{TableInside}
 
 -- ---- the blocks
 
@@ -74,6 +76,21 @@ module _ (input : List ℕ) where
   pub passed-all : (k : ℕ) → k ≤ length input / blockBytes → length input / blockBytes ≤ k → Passed k → 0 ≡ refuse (blocksGrounds input)
   unfolding blocksGrounds
   passed-all k l h so = sym (clear-refuse _ (subst Passed (le-antisymm l h) so))
+
+module _ (block : List ℕ) {k number check sum : ℕ} (n-is : number ≡ le16At block 0) (c-is : check ≡ le16At block checkAt) (s-is : sum ≡ checkOf block) where
+  pub number-wrong : (number ≡ k → ⊥) → 12 ≡ refuse (blockGrounds block k)
+  unfolding blockGrounds
+  number-wrong x = sym (refuse-take _ 12 _ (ap not (ne-eqb (le16At block 0) k (λ e. x (n-is ∙ e)))))
+
+  pub check-wrong : number ≡ k → (check ≡ sum → ⊥) → 13 ≡ refuse (blockGrounds block k)
+  unfolding blockGrounds
+  check-wrong p x =
+      sym
+      (refuse-skip _ 12 _ (ap not (eq-eqb (le16At block 0) k (sym n-is ∙ p)))
+      ∙ refuse-take _ 13 _ (ap not (ne-eqb (le16At block checkAt) (checkOf block) (λ e. x (c-is ∙ e ∙ sym s-is)))))
+
+  pub block-right : number ≡ k → check ≡ sum → 0 ≡ refuse (blockGrounds block k)
+  block-right p q = sym (clear-refuse (blockGrounds block k) (right-block block k (sym n-is ∙ p) (sym c-is ∙ q ∙ s-is)))
 
 -- ---- the contents
 
@@ -190,10 +207,7 @@ module _ {input : List ℕ} {room : ℕ} (w : Whole input room) {fault : ℕ} (e
 
 -- ---- the call
 
-abbrev pub Read : List ℕ → List ℕ → TableRead → List ℕ → Type 0
-Read input store answer after = (answer ≡ readAnswer input (length store)) × (after ≡ readBuffer input store)
-
-pub declined : (input store : List ℕ) {k : ℕ} → k ≡ refuse (readGrounds input (length store)) → (k ≡ 0 → ⊥) → Read input store (record { refusal = k; n = 0; g = 0 }) store
+pub declined : (input store : List ℕ) {k : ℕ} → k ≡ refuse (readGrounds input (length store)) → (k ≡ 0 → ⊥) → CalledRead input store (Refused k) store
 unfolding readAnswer readBuffer
 declined input store {k} e x = let no = ne-eqb k 0 x in (rw (← e, no), rw (← e, no))
 
@@ -209,10 +223,10 @@ module _ (input : List ℕ) (room : ℕ) {k : ℕ} (e : k ≡ refuse (readGround
       subst (λ (m : ℕ). Readable input room m g) (sym (p ∙ header input 0 some-block (omega arith)))
       (subst (Readable input room _) (sym (q ∙ header input 2 some-block (omega arith))) accepted)
 
-pub has-table : {input : List ℕ} {room n g : ℕ} → Readable input room n g → HasTable input n g
-has-table r = record { states = r .small; groups = r .few; inside = omega (arith, r .blocks) }
+pub table-inside : {input : List ℕ} {room n g : ℕ} → Readable input room n g → TableInside input n g
+table-inside r = record { small = r .small; few = r .few; inside = omega (arith, r .blocks) }
 
 pub table-read : {input : List ℕ} (store : List ℕ) {n g : ℕ} {after : List ℕ} → Readable input (length store) n g
     → after ≡ overwrite (layout (tableIn (contentsOf input) n g)) store
-    → Read input store (record { refusal = 0; n = n; g = g }) after
+    → CalledRead input store (Table n g) after
 table-read {input} store {n} {g} r e = (sym (read-answer input (length store) n g r), e ∙ sym (read-buffer input store n g r))

@@ -2,7 +2,7 @@
 use mathlib.Core.Path.{sym, _∙_}
 use borrow.Author.Needs.{needs}
 use Rattle.model.proofs.ContentLaws.{number-setIn-past}
-use Rattle.block_file.proofs.reading.Filling.{byte-inside}
+use Rattle.block_file.proofs.reading.Words.{byte-inside}
 use Rattle.block_file.proofs.reading.byte_in.Statement.{statement}
 use Rattle.block_file.proofs.reading.byte_in.Tie as tie
 

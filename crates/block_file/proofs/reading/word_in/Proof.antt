@@ -6,7 +6,7 @@ use Rattle.model.specs.Sets.{member, number}
 use Rattle.model.specs.Blocks.{contentsOf}
 use Rattle.model.specs.Contents.{setIn}
 use Rattle.model.proofs.ContentLaws.{setIn-proper}
-use Rattle.block_file.proofs.reading.Filling.{word-past, word-none, word-more, word-all}
+use Rattle.block_file.proofs.reading.Words.{word-past, word-none, word-more, word-all}
 use Rattle.block_file.proofs.reading.word_in.Statement.{statement}
 use Rattle.block_file.proofs.reading.word_in.Tie as tie
 
