@@ -4,6 +4,7 @@
 --   beyond-is                   a set has a state from n up exactly if it is not inside the first n states
 --   non-zero-start, -pass, -hit, -end   a loop that looks for a word other than 0
 --   malformed-initial, .., malformed-last   the tests of ground 17, one after the other
+--   refuse-10, .., refuse-17, refuse-none   the grounds that the calls share, in their order
 use Prim.Native.Nat.{ℕ, _+_, _≤_, _<_}
 use native.Mathlib.Nat.{le-antisymm}
 use native.Mathlib.Omega.{arith}
@@ -12,12 +13,12 @@ use mathlib.Core.Logic.{⊎-elim}
 use mathlib.Core.Bool.{Bool, true, false, not, _&&_, _||_}
 use mathlib.Core.List.{List}
 use borrow.Author.Count.{below-more}
-use borrow.Author.Tests.{le-leb, leb-true, eq-eqb, ne-eqb, lt-leb}
+use borrow.Author.Tests.{lt-ltb, le-ltb, le-leb, leb-true, eq-eqb, ne-eqb, lt-leb}
 use lib.Dec.{eqb, leb}
 use lib.ListN.{length, getD, set, take, drop, length-set, length-take, length-drop}
 use lib.Seq.{ext-getD, getD-take, getD-drop, getD-set-same, getD-set-other}
 use Rattle.model.specs.Sets.{WORDS, maxStates, Set, member, subset, firstStates, any}
-use Rattle.model.specs.Stores.{maxGroups, forbiddenAt, groupAt, rowAt, storeWords, setAt, beyond, nonZero, malformed}
+use Rattle.model.specs.Stores.{maxGroups, forbiddenAt, groupAt, rowAt, storeWords, setAt, beyond, nonZero, malformed, badStates, refuse, sharedGrounds}
 use Rattle.model.proofs.Bounds.{and-true, and-intro, is-false, same-test, lt-or-ge, any-intro, any-find, any-turn, no-any, not-true}
 use Rattle.model.proofs.SetLaws.{In, in-bound, in-firstStates, firstStates-in, subset-in, subset-not}
 
@@ -135,3 +136,34 @@ module _ (store : List ℕ) (n g : ℕ) where
       → nonZero store (rowAt n) storeWords ≡ malformed store n g
   unfolding malformed
   malformed-last a b c d e = rw (a, b, c, d, e)
+
+-- ---- the grounds that the calls share, in their order
+
+module _ (store : List ℕ) (n g : ℕ) where
+  pub refuse-10 : length store < storeWords → 10 ≡ refuse (sharedGrounds store n g)
+  unfolding refuse
+  refuse-10 l = rw (lt-ltb (length store) storeWords l)
+
+  module _ (long : storeWords ≤ length store) where
+    pub refuse-14-none : n ≡ 0 → 14 ≡ refuse (sharedGrounds store n g)
+    unfolding refuse badStates
+    refuse-14-none z = rw (le-ltb (length store) storeWords long, eq-eqb n 0 z)
+
+    module _ (some : n ≡ 0 → ⊥) where
+      pub refuse-14-many : maxStates < n → 14 ≡ refuse (sharedGrounds store n g)
+      unfolding refuse badStates
+      refuse-14-many l = rw (le-ltb (length store) storeWords long, ne-eqb n 0 some, lt-ltb maxStates n l)
+
+      module _ (few : n ≤ maxStates) where
+        pub refuse-15 : maxGroups < g → 15 ≡ refuse (sharedGrounds store n g)
+        unfolding refuse badStates
+        refuse-15 l = rw (le-ltb (length store) storeWords long, ne-eqb n 0 some, le-ltb maxStates n few, lt-ltb maxGroups g l)
+
+        module _ (groups : g ≤ maxGroups) where
+          pub refuse-17 : malformed store n g ≡ true → 17 ≡ refuse (sharedGrounds store n g)
+          unfolding refuse badStates
+          refuse-17 e = rw (le-ltb (length store) storeWords long, ne-eqb n 0 some, le-ltb maxStates n few, le-ltb maxGroups g groups, e)
+
+          pub refuse-none : malformed store n g ≡ false → 0 ≡ refuse (sharedGrounds store n g)
+          unfolding refuse badStates
+          refuse-none e = rw (le-ltb (length store) storeWords long, ne-eqb n 0 some, le-ltb maxStates n few, le-ltb maxGroups g groups, e)
