@@ -9,7 +9,7 @@ use Rattle.model.specs.Stores.{tableOf}
 use Rattle.model.specs.Calls.{release, decisionOf, decideAnswer, decideBuffer}
 use Rattle.model.specs.Calls.{Decision as Answer}
 use Rattle.model.specs.Rounds.{run}
-use Rattle.model.specs.Promises.{Carries, Demand2, Demand3, SameAnswer, Accepted}
+use Rattle.model.specs.Promises.{StopsFirst, Carries, Demand2, Demand3, SameAnswer, Accepted}
 use Rattle.model.proofs.Bounds.{not-true}
 use Rattle.model.proofs.Kept.{promises, untouched}
 use Rattle.rounds.specs.declared.Decision.{Decision}
@@ -34,6 +34,9 @@ demands =
       declined = λ store n g allowance before r after c f.
           c .1 ∙ untouched .decide store n g allowance before (eqb-false _ 0 (not-true _ (sym (c .2) ∙ f)));
       answer = answer;
+      stops = λ store n g allowance before r after c e.
+          of-call store n g allowance before r after c (λ a b. StopsFirst (tableOf store n g) allowance a)
+          (promises .stops store n g allowance before (accepted store n g allowance before r after c e));
       carries = λ store n g allowance before r after c e.
           of-call store n g allowance before r after c (λ a b. Carries (tableOf store n g) allowance a before b)
           (promises .carries store n g allowance before (accepted store n g allowance before r after c e));

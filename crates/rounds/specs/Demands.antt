@@ -11,7 +11,7 @@ use lib.ListN.{take}
 use Rattle.model.specs.Stores.{storeWords, tableOf}
 use Rattle.model.specs.Rounds.{run}
 use Rattle.model.specs.Calls.{release, decisionOf}
-use Rattle.model.specs.Promises.{Carries, Demand2, Demand3, SameAnswer}
+use Rattle.model.specs.Promises.{StopsFirst, Carries, Demand2, Demand3, SameAnswer}
 use Rattle.rounds.specs.declared.Decision.{Decision}
 use Rattle.rounds.specs.Answers.{answerOf, isRefused, Called}
 
@@ -23,6 +23,9 @@ pub record Demands : Type 0 where
   pub answer : (store : List ℕ) (n g allowance : ℕ) (before : List ℕ) (r : Decision) (after : List ℕ)
       → Called store n g allowance before r after → isRefused (r .verdict) ≡ false
       → answerOf r ≡ decisionOf (tableOf store n g) (run (tableOf store n g) allowance)
+  -- which are those of the first round that stops
+  pub stops : (store : List ℕ) (n g allowance : ℕ) (before : List ℕ) (r : Decision) (after : List ℕ)
+      → Called store n g allowance before r after → isRefused (r .verdict) ≡ false → StopsFirst (tableOf store n g) allowance (answerOf r)
   pub carries : (store : List ℕ) (n g allowance : ℕ) (before : List ℕ) (r : Decision) (after : List ℕ)
       → Called store n g allowance before r after → isRefused (r .verdict) ≡ false → Carries (tableOf store n g) allowance (answerOf r) before after
   -- a release check
