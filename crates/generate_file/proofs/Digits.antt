@@ -7,8 +7,8 @@ use Prim.Native.Nat.{ℕ, _+_, _*_, _-_, _≤_, _<_, min}
 use native.Mathlib.Nat.{le-antisymm, min-zero, min-le-left, min-eq-left, min-eq-right}
 use native.Mathlib.Numerals.{add-one}
 use native.Mathlib.Omega.{arith}
-use mathlib.Core.Path.{_≡_, refl, sym, ap, ap₂, _∙_}
-use mathlib.Core.Logic.{_⊎_, ⊎-elim, inl, inr}
+use mathlib.Core.Path.{_≡_, refl, sym, ap, _∙_}
+use mathlib.Core.Logic.{_⊎_, ⊎-elim}
 use mathlib.Core.Bool.{Bool, true, false, not, _&&_, cond}
 use mathlib.Core.List.{List}
 use borrow.Author.Tests.{leb-true, le-leb, eq-eqb, ne-eqb}
@@ -16,7 +16,6 @@ use lib.Dec.{eqb, leb}
 use lib.ListN.{length, getD}
 use Rattle.model.specs.Sets.{all}
 use Rattle.model.proofs.Bounds.{and-true, and-intro, is-false, clash, lt-or-ge, all-at}
-use Rattle.generate_file.specs.declared.Word.{Word}
 use Rattle.generate_file.specs.declared.Word.the-variants.{Number, Other}
 use Rattle.generate_file.specs.Words.{isDigit, isNumber, valueOf, limit, wordOf}
 

@@ -4,22 +4,23 @@
 --   made-refused   where it is
 use Prim.Native.Nat.{ℕ, _≤_, _<_}
 use native.Mathlib.Omega.{arith}
-use mathlib.Core.Path.{_≡_, refl, sym, ap, ap₂, _∙_, subst}
+use mathlib.Core.Path.{_≡_, refl, sym, ap, _∙_}
 use mathlib.Core.Bool.{true, false, not}
-use mathlib.Core.List.{List, []}
+use mathlib.Core.List.{List}
 use borrow.Author.Tests.{eqb-true, not-false, not-true}
 use lib.Dec.{eqb}
 use lib.ListN.{length}
-use Rattle.model.specs.Sets.{maxStates}
-use Rattle.model.specs.Stores.{storeWords, tableOf}
-use Rattle.model.specs.Files.{fileLength, fileOf}
-use Rattle.model.specs.Calls.{overwrite, maxFile, Written as WriteAnswer, writeAnswer, writeBuffer}
+use Rattle.model.specs.Stores.{storeWords, tableOf, concat}
+use Rattle.model.specs.Blocks.{blocksFor, blockOf}
+use Rattle.model.specs.Files.{fileLength, fileOf, maxFile}
+use Rattle.model.specs.Calls.{overwrite, Written as WriteAnswer, writeAnswer, writeBuffer}
 use Rattle.model.proofs.Bounds.{length-tabulate}
-use Rattle.model.proofs.FileLaws.{fileLength-most, fileOf-cong}
+use Rattle.model.proofs.ContentLaws.{contents-cong}
+use Rattle.model.proofs.FileLaws.{fileLength-most}
 use Rattle.model.proofs.CallLaws.{write-refusal, writable, write-answer, write-buffer}
 use Rattle.block_file.specs.declared.writing.Written.{Written}
 use Rattle.block_file.specs.declared.writing.Written.the-variants.{File, Refused}
-use Rattle.block_file.specs.Answers.{writtenOf}
+use Rattle.block_file.specs.WriteAnswers.{writtenOf}
 use Rattle.generator.specs.declared.Generated.{Generated}
 use Rattle.generator.specs.declared.Generated.the-variants.{Filled, Refused as GenerateRefused}
 use Rattle.generator.specs.Load.{tableFrom, load, GenerateAnswer, generateAnswer}
@@ -51,14 +52,15 @@ module _ (seed n f : ℕ) (lent store : List ℕ) (r : Generated) (called : Call
 
     pub made-file : (out : List ℕ) (w : Written) (out′ : List ℕ) → maxFile ≤ length out → writtenOf w ≡ writeAnswer store n 0 (length out)
         → out′ ≡ writeBuffer store n 0 out → (w ≡ fileMade n f) × (out′ ≡ fileBuffer seed n f out)
-    unfolding fileMade fileBuffer tableOf load tableFrom
+    unfolding fileMade fileBuffer fileOf tableOf load tableFrom
     made-file out w out′ room answer buffer =
         let kept = ap isRefused filled in
         let fits : fileLength n 0 ≤ length out = omega (arith, fileLength-most n 0 (held .small) (omega arith)) in
         let accepted = loads .accepted seed n f lent r store called kept .write (length out) fits in
         let ok = writable store n 0 (length out) (sym (write-refusal store n 0 (length out)) ∙ accepted) in
         let same : fileOf (tableOf store n 0) ≡ fileOf (load seed n f) =
-        fileOf-cong (tableOf store n 0) (load seed n f) refl (length-tabulate _ 0) (loads .table seed n f lent r store called kept) in (
+        ap (λ bytes. concat (blocksFor (length bytes)) (blockOf bytes))
+        (contents-cong (tableOf store n 0) (load seed n f) refl (length-tabulate _ 0) (loads .table seed n f lent r store called kept)) in (
           written-file w (fileLength n 0) (omega arith) (answer ∙ write-answer store n 0 (length out) ok) ∙ sym (rw none),
           buffer ∙ write-buffer store n 0 out ok ∙ ap (λ xs. overwrite xs out) same ∙ sym (rw none),
         )

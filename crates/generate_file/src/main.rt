@@ -12,7 +12,7 @@
 ghost use mathlib.Core.Path.{_≡_};
 ghost use Prim.Native.Nat.{_≤_, min};
 ghost use lib.ListN.{length};
-ghost use Rattle.model.specs.Calls.{maxFile};
+ghost use Rattle.model.specs.Files.{maxFile};
 ghost use Rattle.generate_file.specs.Words.{wordOf};
 ghost use Rattle.generate_file.specs.LoadFile.{fileMade, fileBuffer};
 use block_file::Written;

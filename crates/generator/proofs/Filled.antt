@@ -6,16 +6,13 @@
 use Prim.Native.Nat.{ℕ, _+_, _*_, _-_, _≤_, _<_}
 use native.Mathlib.Nat.{le-of-eq}
 use native.Mathlib.Omega.{arith}
-use mathlib.Core.Path.{_≡_, refl, sym, ap, ap₂, _∙_}
-use mathlib.Core.Bool.{cond}
-use mathlib.Core.List.{List, []}
+use mathlib.Core.Path.{_≡_, refl, sym, ap, _∙_}
+use mathlib.Core.List.{List}
 use borrow.Author.Tests.{lt-ltb, le-ltb}
 use mathlib.Core.Logic.{⊎-elim}
-use lib.Dec.{ltb}
 use lib.ListN.{length, getD, drop}
 use lib.Seq.{paste, length-paste, take-all}
-use Rattle.model.specs.Sets.{WORDS, maxStates, Set, empty, single, setOf, tabulate}
-use Rattle.model.specs.Tables.{Table}
+use Rattle.model.specs.Sets.{WORDS, maxStates, Set, empty, single, tabulate}
 use Rattle.model.specs.Stores.{forbiddenAt, groupAt, rowAt, storeWords, setAt, concat, layout}
 use Rattle.model.specs.Calls.{overwrite}
 use Rattle.model.proofs.Bounds.{lt-or-ge, length-tabulate, getD-tabulate}

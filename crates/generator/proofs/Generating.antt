@@ -6,9 +6,8 @@
 use Prim.Native.Nat.{ℕ, _+_, _*_, _≤_, _<_}
 use native.Mathlib.Nat.{mul-le-mul}
 use native.Mathlib.Omega.{arith}
-use mathlib.Core.Path.{_≡_, refl, sym, ap, ap₂, _∙_}
-use mathlib.Core.Bool.{not, cond}
-use mathlib.Core.List.{List}
+use mathlib.Core.Path.{_≡_, refl, sym, ap, _∙_}
+use mathlib.Core.List.{List, []}
 use borrow.Author.Tests.{ltb-false, lt-ltb, le-ltb, eqb-false, eq-eqb, ne-eqb}
 use lib.Dec.{eqb, ltb}
 use lib.ListN.{length}
@@ -16,7 +15,7 @@ use Rattle.model.specs.Sets.{maxStates}
 use Rattle.model.specs.Stores.{storeWords, layout, refuse, badStates}
 use Rattle.model.specs.Calls.{overwrite}
 use Rattle.model.proofs.Bounds.{or-false}
-use Rattle.model.proofs.ListLaws.{refuse-clear}
+use Rattle.model.proofs.GroundLaws.{refuse-clear}
 use Rattle.generator.specs.Load.{maxFanOut, numbers, tableFrom, load, generateGrounds, generateAnswer, generateBuffer}
 use Rattle.generator.specs.declared.Generated.the-variants.{Filled, Refused}
 use Rattle.generator.specs.Answers.{CalledGenerate}
@@ -60,7 +59,7 @@ positive n h = omega arith
 pub accepted-load : (n f room : ℕ) {k : ℕ} → k ≡ refuse (generateGrounds n f room) → k ≡ 0 → Accepted n f room
 unfolding generateGrounds badStates
 accepted-load n f room e z =
-    let clear = refuse-clear (generateGrounds n f room) refl (sym e ∙ z) in
+    let clear = refuse-clear (generateGrounds n f room) [] refl (sym e ∙ z) .0 in
     let states = or-false (eqb n 0) (ltb maxStates n) (clear .1 .0) in
     let small = ltb-false maxStates n (states .1) in
     let few = ltb-false maxFanOut f (clear .1 .1 .0) in

@@ -1,25 +1,25 @@
 -- The promises of `Loads`, of every call of generate.
-use Prim.Native.Nat.{ℕ, _+_, _*_, _-_, _%_, _≤_, _<_}
+use Prim.Native.Nat.{ℕ, _+_, _*_, _-_, _%_, _<_}
 use native.Mathlib.Nat.{not-suc-le-zero, mod-lt}
 use native.Mathlib.Omega.{arith}
 use mathlib.Core.Path.{_≡_, refl, sym, ap, _∙_, subst}
-use mathlib.Core.Bool.{Bool, true, false, not, cond}
+use mathlib.Core.Bool.{true, false, not, cond}
 use mathlib.Core.List.{List, [], _∷_}
-use borrow.Author.Tests.{le-ltb, eqb-true, eqb-false, eq-eqb, ne-eqb, not-true, not-false}
+use borrow.Author.Tests.{le-ltb, eqb-true, eq-eqb, not-true, not-false}
 use lib.Dec.{eqb, ltb}
 use lib.ListN.{length, getD, drop}
 use lib.Seq.{drop-at}
-use Rattle.model.specs.Sets.{maxStates, Set, single}
-use Rattle.model.specs.Tables.{Table}
+use Rattle.model.specs.Sets.{maxStates, single}
 use Rattle.model.specs.Rounds.{run}
 use Rattle.model.specs.Paths.{shortest, hasPath}
 use Rattle.model.specs.Stores.{storeWords, tableOf, layout, refuse, beyond}
-use Rattle.model.specs.Files.{sets, fileLength}
+use Rattle.model.specs.Contents.{sets}
+use Rattle.model.specs.Files.{fileLength}
 use Rattle.model.specs.Calls.{overwrite, maxAllowance, decideGrounds, decisionOf, declined, decideAnswer, Shortest, shortestGrounds, shortestAnswer, writeGrounds}
 use Rattle.model.proofs.Bounds.{by-cond, any-find}
 use Rattle.model.proofs.SetLaws.{setOf-in, single-in}
 use Rattle.model.proofs.ListLaws.{length-overwrite}
-use Rattle.model.proofs.FileLaws.{sets-each}
+use Rattle.model.proofs.ContentLaws.{sets-each}
 use Rattle.model.proofs.StoreLaws.{Holds, length-layout, overwrite-holds, below-beyond, Clean, clean-malformed, holds-sets, holds-clean}
 use Rattle.model.proofs.CallLaws.{write-refusal}
 use Rattle.model.proofs.Acceptance.{Store, store-accepted}

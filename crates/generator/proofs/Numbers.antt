@@ -5,7 +5,7 @@
 --   numbering-none, -more, -all                   before its first turn; a turn; when it is done
 --   front-numbers, -long, -inside                 the front that is lent on is the numbers
 --   seed-12345                                    the first two sums of one seed, computed
-use Prim.Native.Nat.{ℕ, zero, suc, _+_, _*_, _-_, _%_, _^_, _≤_, _<_}
+use Prim.Native.Nat.{ℕ, zero, suc, _+_, _-_, _%_, _^_, _≤_, _<_}
 use native.Mathlib.Nat.{le-antisymm}
 use native.Mathlib.Numerals.{add-one}
 use native.Mathlib.Omega.{arith}

@@ -9,14 +9,14 @@
 --   rowing-none, -more, -all
 --   holds-overwrite                             a store that holds t, the words past a table as before, is t's layout written over what was there
 use Prim.Native.Nat.{ℕ, _+_, _*_, _-_, _≤_, _<_}
-use native.Mathlib.Nat.{le-antisymm, le-of-eq, add-zero, mul-zero}
+use native.Mathlib.Nat.{le-antisymm, le-of-eq}
 use native.Mathlib.Numerals.{add-one}
 use native.Mathlib.Omega.{arith}
 use mathlib.Core.Path.{_≡_, refl, sym, ap, ap₂, _∙_}
 use mathlib.Core.List.{List, _++_, append-assoc}
 use lib.ListN.{length, getD, set, take, drop, length-set, take-append-drop}
 use lib.Seq.{paste, paste-zero, paste-suc, length-paste, length-paste-head, take-paste, drop-paste, length-take-le, take-all, take-append-add, drop-drop}
-use Rattle.model.specs.Sets.{WORDS, maxStates, Set}
+use Rattle.model.specs.Sets.{WORDS, Set}
 use Rattle.model.specs.Tables.{Table}
 use Rattle.model.specs.Stores.{rowAt, storeWords, setAt, concat, layout}
 use Rattle.model.specs.Calls.{overwrite}

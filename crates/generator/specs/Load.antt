@@ -7,13 +7,13 @@
 --   load seed n f        the table
 --   generateGrounds, GenerateAnswer, generateAnswer, generateBuffer     the grounds in order, the answer, the store at exit
 use Prim.Native.Nat.{ℕ, zero, suc, _+_, _*_, _-_, _%_, _^_}
-use mathlib.Core.Bool.{Bool, cond}
+use mathlib.Core.Bool.{cond}
 use mathlib.Core.List.{List, [], _∷_, _++_}
 use lib.Dec.{eqb, ltb}
 use lib.ListN.{length, getD}
 use Rattle.model.specs.Sets.{Set, any, setOf, single}
 use Rattle.model.specs.Tables.{Table}
-use Rattle.model.specs.Stores.{storeWords, layout, refuse, badStates}
+use Rattle.model.specs.Stores.{layout, Ground, refuse, badStates, storeGround}
 use Rattle.model.specs.Calls.{overwrite}
 
 abbrev pub maxFanOut : ℕ
@@ -51,8 +51,8 @@ load seed n f = tableFrom (numbers seed (55 + n * f)) n f
 pub record GenerateAnswer : Type 0 where
   pub refusal : ℕ  -- 0 where the store is filled
 
-unfoldable pub generateGrounds : ℕ → ℕ → ℕ → List (Bool × ℕ)
-generateGrounds n f room = (ltb room storeWords, 10) ∷ (badStates n, 14) ∷ (ltb maxFanOut f, 22) ∷ []
+unfoldable pub generateGrounds : ℕ → ℕ → ℕ → List Ground
+generateGrounds n f room = storeGround room ∷ (badStates n, 14) ∷ (ltb maxFanOut f, 22) ∷ []
 
 unfoldable pub generateAnswer : ℕ → ℕ → ℕ → GenerateAnswer
 generateAnswer n f room = record { refusal = refuse (generateGrounds n f room) }

@@ -10,7 +10,8 @@ use mathlib.Core.List.{List}
 use lib.ListN.{drop}
 use Rattle.model.specs.Sets.{maxStates}
 use Rattle.model.specs.Stores.{storeWords, tableOf}
-use Rattle.model.specs.Files.{sets, fileLength}
+use Rattle.model.specs.Contents.{sets}
+use Rattle.model.specs.Files.{fileLength}
 use Rattle.model.specs.Calls.{maxAllowance, decideAnswer, shortestAnswer, writeAnswer}
 use Rattle.generator.specs.Load.{load}
 use Rattle.generator.specs.declared.Generated.{Generated}

@@ -1,16 +1,17 @@
-// The calls for C (include/shuntberry.h). Each only calls the call of the same name and lays its answer out in a struct of 01's
-// numbers: `refusal` is 0 where the call was not declined, and every other field is 0 where it was. An answer of the refusal alone is
-// just that number.
+// The calls for C (include/shuntberry.h). Each only calls the call of the same name and lays its answer out in a struct of the
+// specification's numbers (docs/SPECIFICATION.md, "Refusals"): `refusal` is 0 where the call was not declined, and every other field is 0
+// where it was. An answer of the refusal alone is just that number.
 ghost use mathlib.Core.Path.{_≡_};
 ghost use Prim.Native.Nat.{_≤_};
 ghost use lib.ListN.{length};
 ghost use Rattle.model.specs.Sets.{maxStates};
-ghost use Rattle.model.specs.Calls.{decideAnswer, decideBuffer, shortestAnswer, shortestBuffer, readAnswer, readBuffer, maxFile, writeAnswer, writeBuffer};
+ghost use Rattle.model.specs.Files.{maxFile};
+ghost use Rattle.model.specs.Calls.{decideAnswer, decideBuffer, shortestAnswer, shortestBuffer, readAnswer, readBuffer, writeAnswer, writeBuffer};
 ghost use Rattle.model.proofs.Ranges.{DecisionRange, ReadRange};
 ghost use Rattle.rounds.specs.Answers.{answerOf};
 ghost use Rattle.paths.specs.Answers.{shortestOf};
 ghost use Rattle.block_file.specs.ReadAnswers.{readOf};
-ghost use Rattle.block_file.specs.Answers.{writtenOf};
+ghost use Rattle.block_file.specs.WriteAnswers.{writtenOf};
 ghost use Rattle.generator.specs.Load.{generateAnswer, generateBuffer};
 ghost use Rattle.generator.specs.Answers.{generatedOf};
 ghost use Rattle.shuntberry.specs.Fields.{decisionFields, shortestFields, tableFields, fileFields};

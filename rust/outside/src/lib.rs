@@ -1,10 +1,10 @@
-//! Implementations of document 01 (the specification, which is not in this repository) that share
+//! Implementations of the specification (docs/SPECIFICATION.md) that share
 //! nothing with the proved library, to test it from outside and to measure it against.
 //!
 //! The tests hold a library (`calls`) to what `expected` says. That rests on plain implementations,
-//! each written from 01's text and without use of the others:
+//! each written from the specification's text and without use of the others:
 //!
-//! - `rounds`: the rounds and backward elimination, as 01 writes them, on lists of booleans;
+//! - `rounds`: the rounds and backward elimination, as the specification writes them, on lists of booleans;
 //! - `search`: a depth-first search for the verdict, a breadth-first one for the smallest path, and
 //!   all sequences of states in order, for small tables;
 //! - `blocks`: block files, to and from bytes;
@@ -13,7 +13,7 @@
 //! `peer` is an optimised implementation of the four calls on four-word sets: what the library is
 //! measured against, and a library that the tests themselves can be tested with.
 //!
-//! `table` is what all of them speak of, `named` the tables of 01 with its figures typed in,
+//! `table` is what all of them speak of, `named` the specification's tables with their figures typed in,
 //! `generate` makes tables at random, `families` those to measure on, `damage` files that earn refusals,
 //! `buffer` lent buffers with guards, and `examine` is the tests.
 

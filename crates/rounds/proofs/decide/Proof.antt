@@ -1,5 +1,4 @@
 -- `decide`: the grounds, then the answer for each ending of the rounds.
-use mathlib.Core.Path.{_≡_}
 use borrow.Author.Needs.{needs}
 use Rattle.paths.proofs.Groups.{holds-table}
 use Rattle.rounds.specs.declared.Ending.the-variants.{Safe, Unsafe, Undecided}

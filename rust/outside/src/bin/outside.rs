@@ -1,4 +1,4 @@
-//! The outside tests: tables and files at random, and those of document 01, through the library's four
+//! The outside tests: tables and files at random, and those of the specification, through the library's four
 //! calls, held to implementations that share nothing with it.
 //!
 //!     outside [--peer] [--seed S] [--count N] [--case I]
@@ -207,7 +207,7 @@ fn earned_each_refusal(tally: &Tally, count: u64) -> bool {
     false
 }
 
-/// Refusals of document 01's table that no case earned.
+/// Refusals of the specification's table that no case earned.
 fn unearned_refusals(tally: &Tally) -> Vec<String> {
     let table: [(&str, &[u32]); 4] = [
         ("refusal by decide", &[10, 14, 15, 17, 20, 21]),
