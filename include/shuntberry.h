@@ -1,8 +1,8 @@
 /*
  * Shuntberry: is a forbidden state of a dialogue table reachable, and by which steps?
  *
- * Four calls: decide, shortest path, read and write. Link target/staticlib/libshuntberry.a, which
- * `rt staticlib shuntberry` makes. Nothing is allocated, nothing is kept between calls, and no call
+ * Five calls: decide, shortest path, read, write and generate. Link target/staticlib/libshuntberry.a,
+ * which `rt staticlib shuntberry` makes. Nothing is allocated, nothing is kept between calls, and no call
  * fails other than by a refusal number. Calls may be made from several threads at once, as long as no
  * buffer that one of them writes is lent to another. A call takes less than 256 KiB of stack
  * (tests/outside measures it on the longest path).
@@ -19,7 +19,7 @@
  * given anything: what it does not accept, it refuses.
  *
  * A REFUSED call has a refusal number in `refusal`, 0 in all other fields, and every buffer is as it
- * was before. Where several grounds apply, the smallest number is given; for 12 and 13 the blocks are
+ * was before. (generate returns the number itself.) Where several grounds apply, the smallest number is given; for 12 and 13 the blocks are
  * taken in order, 12 before 13 in each.
  */
 #ifndef SHUNTBERRY_H
@@ -42,6 +42,7 @@ extern "C" {
 #define SHUNTBERRY_PATH_BYTES 256    /* the least length of a path buffer, in bytes */
 #define SHUNTBERRY_BLOCK_BYTES 512   /* a file is whole blocks of this many bytes */
 #define SHUNTBERRY_FILE_BYTES 10752  /* the length of the largest file, 21 blocks */
+#define SHUNTBERRY_MAX_FAN_OUT 16    /* the greatest fan-out of a generated table */
 
 /* ---- Where the sets stand in a store, as the index of their first word ---- */
 
@@ -58,13 +59,14 @@ extern "C" {
 #define SHUNTBERRY_BLOCK_NUMBER 12      /* block k does not hold the number k (read) */
 #define SHUNTBERRY_BLOCK_CHECK 13       /* a block's stored check is not its check (read) */
 #define SHUNTBERRY_STATES 14            /* n is 0 or over 256 (all calls) */
-#define SHUNTBERRY_GROUPS 15            /* g is over 64 (all calls) */
+#define SHUNTBERRY_GROUPS 15            /* g is over 64 (all calls but generate) */
 #define SHUNTBERRY_BLOCK_COUNT 16       /* the file has too few or too many blocks for its n and g (read) */
-#define SHUNTBERRY_STRAY_BIT 17         /* a set holds a state from n up, or a word of an unused group or row is not 0 (all calls) */
+#define SHUNTBERRY_STRAY_BIT 17         /* a set holds a state from n up, or a word of an unused group or row is not 0 (all calls but generate) */
 #define SHUNTBERRY_FILLER 18            /* a byte past the contents is not 0 (read) */
 #define SHUNTBERRY_OUTPUT_SHORT 19      /* the output is shorter than the file (write) */
 #define SHUNTBERRY_ALLOWANCE 20         /* the allowance is over 256 (decide) */
 #define SHUNTBERRY_PATH_SHORT 21        /* the path buffer has under 256 bytes (decide, shortest path) */
+#define SHUNTBERRY_FAN_OUT 22           /* the fan-out is over 16 (generate) */
 
 /* ---- Verdicts: only where `refusal` is 0. A refused call has 0 here too, so test `refusal` first. ---- */
 
@@ -144,6 +146,18 @@ struct shuntberry_file {
  */
 struct shuntberry_file shuntberry_write(const uint64_t *store, size_t store_len, size_t n, size_t g, uint8_t *output,
                                         size_t output_len);
+
+/*
+ * Fills the first 1,288 words of `store` with the table that a seed gives, and touches no other word:
+ * n states, of which state 0 is initial and state n - 1 forbidden, no groups, and for each state in
+ * turn the next `fan_out` of a sequence of numbers, each modulo n, as its successors. Every call
+ * accepts the table, with g = 0. The numbers are 32 bits wide: the first is the seed, each of the next
+ * 54 the one before plus 2,654,435,769, and each from the 56th on the sum of the numbers 24 and 55
+ * places back, all modulo 2^32; the states take those from the 56th on.
+ *
+ * Returns 0, or refuses with 10, 14 or 22; the store is then as it was before.
+ */
+uint32_t shuntberry_generate(uint32_t seed, size_t n, size_t fan_out, uint64_t *store, size_t store_len);
 
 #ifdef __cplusplus
 }

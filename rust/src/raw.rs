@@ -1,4 +1,4 @@
-//! The four calls as the library exports them for C; `include/shuntberry.h` has a comment for each
+//! The calls as the library exports them for C; `include/shuntberry.h` has a comment for each
 //! function and field. A refused call has 0 in every field but `refusal`: a verdict of 0 is *safe* only
 //! where `refusal` is 0.
 
@@ -74,4 +74,12 @@ unsafe extern "C" {
         output: *mut u8,
         output_len: usize,
     ) -> File;
+
+    pub fn shuntberry_generate(
+        seed: u32,
+        n: usize,
+        fan_out: usize,
+        store: *mut u64,
+        store_len: usize,
+    ) -> u32;
 }
