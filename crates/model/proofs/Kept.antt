@@ -24,7 +24,8 @@ use Rattle.model.specs.Tables.{Table, coverOf, cover}
 use Rattle.model.specs.Rounds.{Outcome, safe, unsafe, undecided, run, backwardNumber}
 use Rattle.model.specs.Paths.{isPath, shortest, hasPath, smallestPath}
 use Rattle.model.specs.Stores.{groupAt, setAt, tableOf, beyond, refuse}
-use Rattle.model.specs.Files.{le16At, fileLength, contentsOf}
+use Rattle.model.specs.Blocks.{le16At, contentsOf}
+use Rattle.model.specs.Files.{fileLength}
 use Rattle.model.specs.Calls.{overwrite, Decision, release, decideGrounds, decisionOf, declined, decideAnswer, decideBuffer, Shortest, shortestGrounds, shortestAnswer, shortestBuffer, TableRead, readRefusal, readAnswer, readBuffer, Written, writeGrounds, writeAnswer, writeBuffer}
 use Rattle.model.specs.Promises.{Operations, StopsFirst, IsSmallest, Carries, Demand2, Demand3, SameAnswer, PathAnswer, Accepted, Promises, Untouched, Declined}
 use Rattle.model.specs.Sizes.{Sizes}
@@ -343,6 +344,7 @@ sizes =
       row-at = λ s. refl;
       greatest-allowance = refl;
       release-allowance = refl;
+      block = refl;
       most-blocks = refl;
       largest-file = refl;
     }

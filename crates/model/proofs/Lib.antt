@@ -18,3 +18,4 @@ pub mod Acceptance
 pub mod FirstWords
 pub mod Kept
 pub mod Ranges
+pub mod BlockCheck
