@@ -26,9 +26,10 @@ use Rattle.model.specs.Stores.{groupAt, rowAt, setAt, tableOf, concat, refuse, 
 use Rattle.model.specs.Blocks.{le16, blocksFor, checkOf, blockOf}
 use Rattle.model.specs.Contents.{setWidth, sets, contents, contentLength}
 use Rattle.model.specs.Files.{fileLength, fileOf}
-use Rattle.model.specs.Calls.{overwrite, Written, writeGrounds, writeAnswer, writeBuffer}
+use Rattle.model.specs.Calls.{overwrite, Written, outputGround, writeGrounds, writeAnswer, writeBuffer}
 use Rattle.model.proofs.Bounds.{by-cond, length-tabulate, getD-tabulate}
-use Rattle.model.proofs.ListLaws.{getD-behind, getD-past, div-below, mod-below, length-concat, tabulate-next, concat-next, overwrite-front, overwrite-more, overwrite-set, refuse-none, refuse-skip, refuse-take, refuse-append}
+use Rattle.model.proofs.ListLaws.{getD-behind, getD-past, div-below, mod-below, length-concat, tabulate-next, concat-next, overwrite-front, overwrite-more, overwrite-set}
+use Rattle.model.proofs.GroundLaws.{refuse-none, refuse-skip, refuse-take, refuse-append}
 use Rattle.model.proofs.BlockLaws.{checkOf-cong, block-unique, framed-is, blockOf-is}
 use Rattle.model.proofs.ContentLaws.{byte-number, sets-each, length-contents, contents-header, contents-set}
 use Rattle.model.proofs.StoreLaws.{getD-setAt, row-is}
@@ -259,7 +260,7 @@ module _ (store : List ℕ) (n g : ℕ) (out : List ℕ) where
     declined-shared f = declined k (refuse-append (sharedGrounds store n g) _ e f) f
 
     module _ (z : k ≡ 0) where
-      room-left : refuse (writeGrounds store n g (length out)) ≡ refuse ((ltb (length out) (fileLength n g), 19) ∷ [])
+      room-left : refuse (writeGrounds store n g (length out)) ≡ refuse (outputGround n g (length out) ∷ [])
       unfolding writeGrounds
       room-left = store-accepted store n g _ (accepted-store store n g [] (sym e ∙ z) .0)
 

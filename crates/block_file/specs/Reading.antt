@@ -2,7 +2,6 @@
 --
 --   HasSet input w at          w bytes of a set stand in the contents from `at` on
 --   HasTable input n g         n and g are in bounds, and their table stands in the contents
---   contentGrounds input n g   the grounds behind those of the blocks, for a file that says n and g
 --   overwriteFrom at xs old    xs written from `at` on over a buffer that held old, the rest of it untouched
 --   groupOf t j, rowOf t s     the sets of a table's layout at the places of group j and of row s
 use Prim.Native.Nat.{ℕ, _+_, _*_, _/_, _≤_}
@@ -25,16 +24,6 @@ pub record HasTable (input : List ℕ) (n g : ℕ) : Type 0 where
   pub states : n ≤ maxStates
   pub groups : g ≤ maxGroups
   pub inside : contentLength n g ≤ 508 * (length input / 512)
-
--- In the model's readRefusal these are its grounds `late`.
-unfoldable pub contentGrounds : List ℕ → ℕ → ℕ → List (Bool × ℕ)
-contentGrounds input n g =
-    (badStates n, 14)
-    ∷ (ltb maxGroups g, 15)
-    ∷ (not (eqb (length input / 512) (blocksFor (contentLength n g))), 16)
-    ∷ (any (2 + g + n) (λ k. beyond n (setNumber (contentsOf input) n k)), 17)
-    ∷ (nonZero (contentsOf input) (contentLength n g) (508 * (length input / 512)), 18)
-    ∷ []
 
 unfoldable pub overwriteFrom : ℕ → List ℕ → List ℕ → List ℕ
 overwriteFrom at xs old = take at old ++ overwrite xs (drop at old)

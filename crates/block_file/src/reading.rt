@@ -19,10 +19,10 @@ ghost use lib.Dec.{ltb};
 ghost use lib.ListN.{length, getD};
 ghost use Rattle.model.specs.Sets.{WORDS, maxStates, member, number, any};
 ghost use Rattle.model.specs.Stores.{maxGroups, groupAt, rowAt, storeWords, concat, layout, refuse, beyond, nonZero};
-ghost use Rattle.model.specs.Blocks.{part, contentsOf, blockFault};
+ghost use Rattle.model.specs.Blocks.{blockBytes, contentBytes, contentsOf, blockGrounds};
 ghost use Rattle.model.specs.Contents.{setWidth, setIn, setNumber, tableIn};
-ghost use Rattle.model.specs.Calls.{overwrite, firstFault, readRefusal, readAnswer, readBuffer};
-ghost use Rattle.block_file.specs.Reading.{HasSet, HasTable, overwriteFrom, groupOf, rowOf, contentGrounds};
+ghost use Rattle.model.specs.Calls.{overwrite, blocksGrounds, contentGrounds, readGrounds, readAnswer, readBuffer};
+ghost use Rattle.block_file.specs.Reading.{HasSet, HasTable, overwriteFrom, groupOf, rowOf};
 ghost use Rattle.block_file.specs.ReadAnswers.{readOf};
 use crate::blocks::BLOCK;
 use crate::blocks::CHECK_AT;
@@ -71,7 +71,7 @@ pub fn read(input: &[u8], store: &mut [u64]) -> TableRead
 
 // Why a file is declined where the store has `room` words, or 0.
 fn refusal(input: &[u8], room: usize) -> u8
-    ensures { λ r. ⌜ r ≡ readRefusal (now (input .entry)) room ⌝ }
+    ensures { λ r. ⌜ r ≡ refuse (readGrounds (now (input .entry)) room) ⌝ }
 {
     if room < STORE_WORDS {
         return 10;
@@ -96,7 +96,7 @@ fn refusal(input: &[u8], room: usize) -> u8
 
 // What is wrong with the first block that has a fault, or 0.
 fn first_fault(input: &[u8]) -> u8
-    ensures { λ r. ⌜ r ≡ firstFault (length (now (input .entry)) / 512) (λ k. blockFault (part (now (input .entry)) k) k) ⌝ }
+    ensures { λ r. ⌜ r ≡ refuse (blocksGrounds (now (input .entry))) ⌝ }
 {
     for k in 0..input.len() / BLOCK {
         let a = BLOCK * k;
@@ -111,8 +111,8 @@ fn first_fault(input: &[u8]) -> u8
 
 // What is wrong with block k, or 0.
 fn block_fault(block: &[u8], k: usize) -> u8
-    requires { ⌜ length (now block) ≡ 512 ⌝ }
-    ensures { λ r. ⌜ r ≡ blockFault (now (block .entry)) k ⌝ }
+    requires { ⌜ length (now block) ≡ blockBytes ⌝ }
+    ensures { λ r. ⌜ r ≡ refuse (blockGrounds (now (block .entry)) k) ⌝ }
 {
     let number = le16_at(block, 0);
     let check = le16_at(block, CHECK_AT) as u64;
@@ -178,7 +178,7 @@ fn is_set_beyond(input: &[u8], n: usize, w: usize, k: usize) -> bool
 
 // Some byte of the contents from `from` on and before `to` is not 0.
 fn non_zero(input: &[u8], from: usize, to: usize) -> bool
-    requires { ⌜ (from ≤ to) × (to ≤ 508 * (length (now input) / 512)) ⌝ }
+    requires { ⌜ (from ≤ to) × (to ≤ contentBytes * (length (now input) / blockBytes)) ⌝ }
     ensures { λ r. ⌜ r ≡ nonZero (contentsOf (now (input .entry))) from to ⌝ }
 {
     for i in from..to {
@@ -193,7 +193,7 @@ fn non_zero(input: &[u8], from: usize, to: usize) -> bool
 
 // Byte i of the contents joined.
 fn content(input: &[u8], i: usize) -> u8
-    requires { ⌜ i < 508 * (length (now input) / 512) ⌝ }
+    requires { ⌜ i < contentBytes * (length (now input) / blockBytes) ⌝ }
     ensures { λ r. ⌜ r ≡ getD (contentsOf (now (input .entry))) i 0 ⌝ }
 {
     input[BLOCK * (i / CONTENT) + (CONTENT_AT + i % CONTENT)]

@@ -22,7 +22,7 @@ use lib.Dec.{eqb, ltb}
 use lib.ListN.{getD}
 use Rattle.model.specs.Sets.{all}
 use Rattle.model.specs.Stores.{refuse}
-use Rattle.model.specs.Blocks.{blockBytes, checkAt, modulus, le16At, weighted, checkOf, blockFault}
+use Rattle.model.specs.Blocks.{blockBytes, checkAt, modulus, le16At, weighted, checkOf, blockGrounds}
 use Rattle.model.specs.Intact.{checkFrom, Intact, Block, DifferInOne, Exchanged, Detects}
 use Rattle.model.proofs.Bounds.{or-true, not-true, is-false, decided, by-cond, lt-or-ge, below-suc, all-at}
 use Rattle.model.proofs.ListLaws.{getD-past}
@@ -265,8 +265,8 @@ module _ (block : List ℕ) where
   abbrev test : Bool
   test = eqb (le16At block checkAt) (checkOf block)
 
-  fault-is : blockFault block (le16At block 0) ≡ cond test 0 13
-  unfolding blockFault refuse
+  fault-is : refuse (blockGrounds block (le16At block 0)) ≡ cond test 0 13
+  unfolding blockGrounds refuse
   fault-is = rw (eq-eqb (le16At block 0) (le16At block 0) refl) (go test)
     where
       go : (b : Bool) → _≡_ {A = ℕ} (cond (not b) 13 0) (cond b 0 13)
@@ -283,10 +283,10 @@ module _ (block : List ℕ) where
   fault-true true e = refl
   fault-true false e = absurd (omega arith)
 
-  intact-read : Intact 0 block ↔ (blockFault block (le16At block 0) ≡ 0)
+  intact-read : Intact 0 block ↔ (refuse (blockGrounds block (le16At block 0)) ≡ 0)
   intact-read = (λ h. fault-is ∙ ap (λ (b : Bool). cond b 0 13) (intact-test h), λ e. test-intact (fault-true test (sym fault-is ∙ e)))
 
-  damaged-read : (Intact 0 block → ⊥) ↔ (blockFault block (le16At block 0) ≡ 13)
+  damaged-read : (Intact 0 block → ⊥) ↔ (refuse (blockGrounds block (le16At block 0)) ≡ 13)
   damaged-read = (
     λ f. fault-is ∙ ap (λ (b : Bool). cond b 0 13) (is-false test (λ e. f (test-intact e))),
     λ e h. let z = intact-read .0 h in omega arith,

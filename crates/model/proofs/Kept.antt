@@ -24,9 +24,8 @@ use Rattle.model.specs.Tables.{Table, coverOf, cover}
 use Rattle.model.specs.Rounds.{Outcome, safe, unsafe, undecided, run, backwardNumber}
 use Rattle.model.specs.Paths.{isPath, shortest, hasPath, smallestPath}
 use Rattle.model.specs.Stores.{groupAt, setAt, tableOf, beyond, refuse}
-use Rattle.model.specs.Blocks.{le16At, contentsOf}
 use Rattle.model.specs.Files.{fileLength}
-use Rattle.model.specs.Calls.{overwrite, Decision, release, decideGrounds, decisionOf, declined, decideAnswer, decideBuffer, Shortest, shortestGrounds, shortestAnswer, shortestBuffer, TableRead, readRefusal, readAnswer, readBuffer, Written, writeGrounds, writeAnswer, writeBuffer}
+use Rattle.model.specs.Calls.{overwrite, Decision, release, decideGrounds, decisionOf, declined, decideAnswer, decideBuffer, Shortest, shortestGrounds, shortestAnswer, shortestBuffer, TableRead, statesIn, groupsIn, readGrounds, readAnswer, readBuffer, Written, writeGrounds, writeAnswer, writeBuffer}
 use Rattle.model.specs.Promises.{Operations, StopsFirst, IsSmallest, Carries, Demand2, Demand3, SameAnswer, PathAnswer, Accepted, Promises, Untouched, Declined}
 use Rattle.model.specs.Sizes.{Sizes}
 use Rattle.model.proofs.Bounds.{decided, by-cond, clash, in-tabulate}
@@ -300,7 +299,7 @@ untouched =
           (by-cond (λ (a : Shortest). eqb (refuse (shortestGrounds store n g (length path))) 0 ≡ true → (a .refusal ≡ 0 → ⊥) → cond (eqb (a .found) 1) (overwrite (smallestPath (tableOf store n g)) path) path ≡ path)
           (hasPath (tableOf store n g)) _ _ (λ h q f. absurd (f refl)) (λ h q f. refl))
           (λ q f. refl);
-      read = λ input store f. rw (ne-eqb (readRefusal input (length store)) 0 (λ e. f (read-refusal input (length store) ∙ e)));
+      read = λ input store f. rw (ne-eqb (refuse (readGrounds input (length store))) 0 (λ e. f (read-refusal input (length store) ∙ e)));
       write = λ store n g output f. rw (ne-eqb ((writeAnswer store n g (length output)) .refusal) 0 f);
     }
 
@@ -324,9 +323,8 @@ declines =
           declining (λ (a : Shortest). a .refusal) k (pathFound t (hasPath t)) (record { refusal = k; found = 0; steps = 0 })
           (path-not-refused t (hasPath t));
       read = λ input room.
-          let k = readRefusal input room in
-          let bytes = contentsOf input in
-          declining (λ (a : TableRead). a .refusal) k (record { refusal = 0; n = le16At bytes 0; g = le16At bytes 2 }) (record { refusal = k; n = 0; g = 0 }) refl;
+          let k = refuse (readGrounds input room) in
+          declining (λ (a : TableRead). a .refusal) k (record { refusal = 0; n = statesIn input; g = groupsIn input }) (record { refusal = k; n = 0; g = 0 }) refl;
       write = λ store n g room.
           let k = refuse (writeGrounds store n g room) in
           declining (λ (a : Written). a .refusal) k (record { refusal = 0; length = fileLength n g }) (record { refusal = k; length = 0 }) refl;

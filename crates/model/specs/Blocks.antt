@@ -7,13 +7,13 @@
 --   blocksFor l                  how many blocks hold l bytes of content
 --   blockOf bytes k              block k of a file with these contents
 --   part input k                 the bytes of block k; contentsOf input: the contents of a file's blocks, joined
---   blockFault block k           what is wrong with a block that should be block k: grounds 12 and 13, or 0
+--   blockGrounds block k         the grounds 12 and 13 of a block that should be block k
 use Prim.Native.Nat.{ℕ, zero, suc, _+_, _*_, _-_, _/_, _%_}
 use mathlib.Core.Bool.{not}
 use mathlib.Core.List.{List, [], _∷_, _++_}
 use lib.Dec.{eqb}
 use lib.ListN.{length, getD, take, drop, replicate}
-use Rattle.model.specs.Stores.{concat, refuse}
+use Rattle.model.specs.Stores.{concat, Ground}
 
 abbrev pub blockBytes : ℕ
 blockBytes = 512
@@ -65,10 +65,6 @@ part input k = take blockBytes (drop (blockBytes * k) input)
 unfoldable pub contentsOf : List ℕ → List ℕ
 contentsOf input = concat (length input / blockBytes) (λ k. take contentBytes (drop contentAt (part input k)))
 
--- Block k holds number k and its own check.
-unfoldable pub blockFault : List ℕ → ℕ → ℕ
-blockFault block k =
-    refuse
-    ((not (eqb (le16At block 0) k), 12)
-    ∷ (not (eqb (le16At block checkAt) (checkOf block)), 13)
-    ∷ [])
+-- It does not hold the number k, or not its own check.
+unfoldable pub blockGrounds : List ℕ → ℕ → List Ground
+blockGrounds block k = (not (eqb (le16At block 0) k), 12) ∷ (not (eqb (le16At block checkAt) (checkOf block)), 13) ∷ []

@@ -13,7 +13,8 @@ use mathlib.Core.Path.{_≡_}
 use mathlib.Core.Logic.{_↔_}
 use mathlib.Core.List.{List}
 use lib.ListN.{length, getD}
-use Rattle.model.specs.Blocks.{blockBytes, checkAt, modulus, le16At, weighted, blockFault}
+use Rattle.model.specs.Stores.{refuse}
+use Rattle.model.specs.Blocks.{blockBytes, checkAt, modulus, le16At, weighted, blockGrounds}
 
 abbrev pub checkFrom : ℕ → List ℕ → ℕ
 checkFrom start block = (start + weighted block checkAt) % modulus
@@ -43,5 +44,5 @@ pub record Detects : Type 0 where
   pub one-byte : (start : ℕ) (a b : List ℕ) → Block a → Block b → DifferInOne a b → Intact start a → Intact start b → ⊥
   pub exchange : (start : ℕ) (a b : List ℕ) → Block a → Block b → Exchanged a b → Intact start a → Intact start b → ⊥
   -- a block that should have the number that it holds: read finds nothing wrong with it, or gives 13
-  pub intact-read : (block : List ℕ) → Intact 0 block ↔ (blockFault block (le16At block 0) ≡ 0)
-  pub damaged-read : (block : List ℕ) → (Intact 0 block → ⊥) ↔ (blockFault block (le16At block 0) ≡ 13)
+  pub intact-read : (block : List ℕ) → Intact 0 block ↔ (refuse (blockGrounds block (le16At block 0)) ≡ 0)
+  pub damaged-read : (block : List ℕ) → (Intact 0 block → ⊥) ↔ (refuse (blockGrounds block (le16At block 0)) ≡ 13)

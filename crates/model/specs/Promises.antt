@@ -28,7 +28,7 @@ use Rattle.model.specs.Tables.{Table, post, hold, coverOf, cover, notFor
 use Rattle.model.specs.Rounds.{Round, forwardStep, backwardStep, firstRound, nextRound, isSafe, isUnsafe, safe, unsafe, undecided, run, eliminated, backwardNumber}
 use Rattle.model.specs.Paths.{isPath, smallestPath}
 use Rattle.model.specs.Stores.{storeWords, tableOf, refuse}
-use Rattle.model.specs.Calls.{overwrite, Decision, release, decideGrounds, decisionOf, decideAnswer, decideBuffer, Shortest, shortestGrounds, shortestAnswer, shortestBuffer, readRefusal, readAnswer, readBuffer, writeGrounds, writeAnswer, writeBuffer}
+use Rattle.model.specs.Calls.{overwrite, Decision, release, decideGrounds, decisionOf, decideAnswer, decideBuffer, Shortest, shortestGrounds, shortestAnswer, shortestBuffer, readGrounds, readAnswer, readBuffer, writeGrounds, writeAnswer, writeBuffer}
 
 -- ---- the operations, for states that a set can hold
 
@@ -258,7 +258,7 @@ pub record Declined : Type 0 where
       → shortestAnswer store n g room ≡ record { refusal = refuse (shortestGrounds store n g room); found = 0; steps = 0 }
   pub read : (input : List ℕ) (room : ℕ)
       → ((readAnswer input room) .refusal ≡ 0 → ⊥)
-      → readAnswer input room ≡ record { refusal = readRefusal input room; n = 0; g = 0 }
+      → readAnswer input room ≡ record { refusal = refuse (readGrounds input room); n = 0; g = 0 }
   pub write : (store : List ℕ) (n g room : ℕ)
       → ((writeAnswer store n g room) .refusal ≡ 0 → ⊥)
       → writeAnswer store n g room ≡ record { refusal = refuse (writeGrounds store n g room); length = 0 }

@@ -3,14 +3,14 @@ use mathlib.Core.Path.{sym, ap, _∙_}
 use mathlib.Core.Bool.{not}
 use borrow.Author.Needs.{needs}
 use borrow.Author.Tests.{eq-eqb, ne-eqb}
-use Rattle.model.specs.Blocks.{blockFault}
-use Rattle.model.proofs.ListLaws.{refuse-skip, refuse-take}
-use Rattle.model.proofs.CallLaws.{clear-blockFault}
+use Rattle.model.specs.Blocks.{blockGrounds}
+use Rattle.model.proofs.GroundLaws.{refuse-skip, refuse-take, clear-refuse}
+use Rattle.model.proofs.CallLaws.{right-block}
 use Rattle.block_file.proofs.reading.block_fault.Statement.{statement}
 use Rattle.block_file.proofs.reading.block_fault.Tie as tie
 
 pub block-fault-spec : {M : Type 1} → statement M
-unfolding blockFault
+unfolding blockGrounds
 block-fault-spec =
     tie.close
     (tie.spec
@@ -26,6 +26,6 @@ block-fault-spec =
     (λ c.
     let sum = c .before .before in
     sym
-    (clear-blockFault _ _
+    (clear-refuse _ (right-block _ _
     (sym (sum .before .before .le16-at .ensures) ∙ c .before .if1 .left)
-    (sym (sum .before .le16-at2 .ensures) ∙ c .if2 .left ∙ sum .check-of .ensures))))
+    (sym (sum .before .le16-at2 .ensures) ∙ c .if2 .left ∙ sum .check-of .ensures)))))
