@@ -342,6 +342,7 @@ sizes =
       row-at = λ s. refl;
       greatest-allowance = refl;
       release-allowance = refl;
+      block = refl;
       most-blocks = refl;
       largest-file = refl;
     }

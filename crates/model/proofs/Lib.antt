@@ -19,3 +19,4 @@ pub mod RoundTrips
 pub mod FirstWords
 pub mod Kept
 pub mod Ranges
+pub mod BlockCheck

@@ -8,5 +8,6 @@ pub mod Contents
 pub mod Files
 pub mod Calls
 pub mod Sizes
+pub mod Intact
 pub mod Promises
 pub mod RoundTrip

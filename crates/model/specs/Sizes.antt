@@ -4,7 +4,7 @@ use Prim.Native.Nat.{ℕ, _+_, _*_}
 use mathlib.Core.Path.{_≡_}
 use Rattle.model.specs.Sets.{WORDS, maxStates}
 use Rattle.model.specs.Stores.{maxGroups, storeWords, forbiddenAt, groupAt, rowAt}
-use Rattle.model.specs.Blocks.{blocksFor}
+use Rattle.model.specs.Blocks.{blockBytes, blocksFor}
 use Rattle.model.specs.Contents.{contentLength}
 use Rattle.model.specs.Files.{maxFile}
 use Rattle.model.specs.Calls.{maxAllowance, release}
@@ -19,5 +19,6 @@ pub record Sizes : Type 0 where
   pub row-at : (s : ℕ) → rowAt s ≡ 264 + 4 * s
   pub greatest-allowance : maxAllowance ≡ 256
   pub release-allowance : release ≡ 256
+  pub block : blockBytes ≡ 512
   pub most-blocks : blocksFor (contentLength maxStates maxGroups) ≡ 21
   pub largest-file : maxFile ≡ 10752

@@ -15,9 +15,11 @@
 //!
 //! `table` is what all of them speak of, `named` the specification's tables with their figures typed in,
 //! `generate` makes tables at random, `families` those to measure on, `damage` files that earn refusals,
-//! `buffer` lent buffers with guards, and `examine` is the tests.
+//! `buffer` lent buffers with guards, and `examine` is the tests; `block_check` are those of damaged
+//! blocks.
 
 pub mod accept;
+pub mod block_check;
 pub mod blocks;
 pub mod buffer;
 pub mod calls;

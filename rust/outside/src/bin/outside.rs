@@ -1,5 +1,5 @@
-//! The outside tests: tables and files at random, and those of the specification, through the library's four
-//! calls, held to implementations that share nothing with it.
+//! The outside tests: tables and files at random, those of the specification, and damaged blocks, through the
+//! library's four calls, held to implementations that share nothing with it.
 //!
 //!     outside [--peer] [--seed S] [--count N] [--case I]
 //!
@@ -13,6 +13,7 @@ use std::sync::Mutex;
 use std::sync::atomic::{AtomicU64, Ordering};
 use std::time::Instant;
 
+use shuntberry_outside::block_check;
 use shuntberry_outside::calls::Calls;
 use shuntberry_outside::examine::{self, Outcome, Tally};
 use shuntberry_outside::generate::Random;
@@ -121,6 +122,10 @@ fn run(libraries: &[&dyn Calls], options: &Options) -> (Tally, Vec<String>, f64)
         let examined = caught(|| examine::named_tables(libraries, &mut random, &mut tally));
         if let Err(fault) = examined {
             let fault = format!("named tables: {fault}");
+            failures.lock().expect("no thread yet").push(fault);
+        }
+        if let Err(fault) = caught(|| block_check::block_checks(libraries, &mut random)) {
+            let fault = format!("damaged blocks: {fault}");
             failures.lock().expect("no thread yet").push(fault);
         }
     }
