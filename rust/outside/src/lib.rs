@@ -16,7 +16,7 @@
 //! `table` is what all of them speak of, `named` the specification's tables with their figures typed in,
 //! `generate` makes tables at random, `families` those to measure on, `damage` files that earn refusals,
 //! `buffer` lent buffers with guards, and `examine` is the tests; `block_check` are those of damaged
-//! blocks.
+//! blocks, `regroup` those of groups put another way.
 
 pub mod accept;
 pub mod block_check;
@@ -30,6 +30,7 @@ pub mod families;
 pub mod generate;
 pub mod named;
 pub mod peer;
+pub mod regroup;
 pub mod rounds;
 pub mod search;
 pub mod table;

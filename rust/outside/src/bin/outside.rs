@@ -18,6 +18,7 @@ use shuntberry_outside::calls::Calls;
 use shuntberry_outside::examine::{self, Outcome, Tally};
 use shuntberry_outside::generate::Random;
 use shuntberry_outside::peer::{Looks, Peer};
+use shuntberry_outside::regroup;
 
 const SEED: u64 = 20_260_401;
 const COUNT: u64 = 40_000;
@@ -126,6 +127,10 @@ fn run(libraries: &[&dyn Calls], options: &Options) -> (Tally, Vec<String>, f64)
         }
         if let Err(fault) = caught(|| block_check::block_checks(libraries, &mut random)) {
             let fault = format!("damaged blocks: {fault}");
+            failures.lock().expect("no thread yet").push(fault);
+        }
+        if let Err(fault) = caught(|| regroup::regrouped_tables(libraries, &mut random)) {
+            let fault = format!("groups put another way: {fault}");
             failures.lock().expect("no thread yet").push(fault);
         }
     }
