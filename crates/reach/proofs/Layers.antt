@@ -1,9 +1,11 @@
 -- The search by layers: what is found after k turns, and the layer that is new.
 --
+--   iterate-grows                    steps from below only grow
 --   reachBy-mono, reachBy-proper     the step grows with the set, and gives a proper set
 --   before store X k                 the states that fewer than k steps lead to from X; before-grows, before-mono: more with k
 --   Layered store X k found layer    after k turns: what at most k steps lead to, and what no fewer do
 --   layered-start, layered-turn      where it starts, and a turn
+--   layer-in                         the layer is found, and was not before
 --   layered-all                      what is found is what was found before and the layer
 --   layered-less                     a layer with a state makes more found; layered-expanded: what was looked at already
 --   layered-end                      with an empty layer, what is found is the least solution; layered-still: and no step finds more
@@ -36,6 +38,11 @@ successorsBy-split store {X} {Y} {Z} f s h =
     let w = image-in _ Y maxStates h in
     ⊎-elim (λ i. inl (in-image _ X maxStates (w .1) i (w .3))) (λ i. inr (in-image _ Z maxStates (w .1) i (w .3))) (f (w .0) (w .2))
 
+-- steps from below only grow
+pub iterate-grows : (f : Set → Set) → ((Y Z : Set) → Y ⊆ Z → f Y ⊆ f Z) → (k : ℕ) → iterate f empty k ⊆ iterate f empty (suc k)
+unfolding iterate
+iterate-grows f mono = iterate-has (λ Y. Y ⊆ f Y) f empty (λ s h. absurd (empty-in h)) (λ Y i. mono Y (f Y) i)
+
 module _ (store : List ℕ) (X : Set) where
   pub reachBy-mono : (Y Z : Set) → Y ⊆ Z → reachBy store X Y ⊆ reachBy store X Z
   unfolding reachBy
@@ -53,9 +60,7 @@ module _ (store : List ℕ) (X : Set) where
   before-proper = iterate-has Proper (reachBy store X) empty (setOf-proper _) (λ Y h. reachBy-proper Y)
 
   pub before-grows : (k : ℕ) → before k ⊆ before (suc k)
-  unfolding iterate
-  before-grows =
-      iterate-has (λ Y. Y ⊆ reachBy store X Y) (reachBy store X) empty (λ s h. absurd (empty-in h)) (λ Y i. reachBy-mono Y (reachBy store X Y) i)
+  before-grows = iterate-grows (reachBy store X) reachBy-mono
 
   pub before-mono : (j k : ℕ) → j ≤ k → before j ⊆ before k
   before-mono j = le-ind (λ k. before j ⊆ before k) (λ s h. h) (λ k l i s h. before-grows k s (i s h))
@@ -74,7 +79,7 @@ module _ (store : List ℕ) (X : Set) where
       }
 
   module _ {k : ℕ} {found layer : Set} (so : Layered store X k found layer) where
-    layer-in : (s : ℕ) → In layer s → In found s × (In (before store X k) s → ⊥)
+    pub layer-in : (s : ℕ) → In layer s → In found s × (In (before store X k) s → ⊥)
     layer-in s h = difference-in (⊆-of-eq (so .layer-is) s h)
 
     older : before store X k ⊆ found

@@ -1,6 +1,7 @@
 -- What a set reaches: the least solution, as the ends of walks, and as the code works it out over the words of a store.
 --
 --   reachStep-mono, -proper, -within     the step grows with the set, and gives a proper set of states of the table
+--   in-step, iterate-within              a step out of a state; k steps give states of the table only
 --   walks-more, end-more                 a walk with one step more
 --   reachable-is                         specs/Reached: n steps from below give the least solution, which has the ends of the walks from X
 --   successorsBy-is, reachBy-is          for states of the table the store's words give post and the step
@@ -48,7 +49,7 @@ module _ (t : Table) (X : Set) where
   unfolding reachStep
   in-step h i r = in-union (inr (in-post (t .n) (t .row) (firstStates-in h) i r))
 
-  reachStep-mono : (Y Z : Set) → Y ⊆ Z → reachStep t X Y ⊆ reachStep t X Z
+  pub reachStep-mono : (Y Z : Set) → Y ⊆ Z → reachStep t X Y ⊆ reachStep t X Z
   unfolding reachStep
   reachStep-mono Y Z i s h = in-union (⊎-elim (λ a. inl a) (λ b. inr (post-mono (t .n) (t .row) Y Z i s b)) (union-in h))
 
