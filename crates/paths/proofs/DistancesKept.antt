@@ -9,19 +9,19 @@ use Prim.Native.Nat.{ℕ, suc, _+_, _-_, _≤_, _<_, suc-le-suc}
 use native.Mathlib.Nat.{le-of-suc-le-suc}
 use native.Mathlib.Omega.{arith}
 use mathlib.Core.Path.{_≡_, refl, sym, ap, _∙_, subst}
-use mathlib.Core.Logic.{_⊎_, _↔_, inl, inr, ⊎-elim}
+use mathlib.Core.Logic.{_⊎_, _↔_, inl, inr}
 use mathlib.Core.Bool.{Bool, true, false, cond, not, _&&_, false≢true}
 use mathlib.Core.List.{List, [], _∷_, _++_}
 use borrow.Author.Tests.{not-false, eqb-true, eqb-false, ne-eqb, leb-true, le-leb, ltb-false}
 use lib.Dec.{eqb, leb, ltb, lit<}
-use lib.ListN.{length, getD, take, drop}
+use lib.ListN.{length, getD, drop}
 use lib.Seq.{getD-drop}
-use Rattle.model.specs.Sets.{maxStates, tabulate, member, meets, any}
+use Rattle.model.specs.Sets.{maxStates, tabulate, member}
 use Rattle.model.specs.Tables.{Table}
 use Rattle.model.specs.Paths.{leads, isPath, reaching, unreachable, distance}
 use Rattle.model.specs.Stores.{tableOf, refuse, sharedGrounds}
 use Rattle.model.specs.Calls.{overwrite}
-use Rattle.model.proofs.Bounds.{and-true, and-intro, not-true, is-false, clash, by-cond, any-intro, any-find, length-tabulate, getD-tabulate}
+use Rattle.model.proofs.Bounds.{and-true, and-intro, not-true, by-cond, any-intro, any-find, length-tabulate, getD-tabulate}
 use Rattle.model.proofs.ListLaws.{getD-behind, length-overwrite, overwrite-front}
 use Rattle.model.proofs.SetLaws.{In, in-bound, in-firstStates, firstStates-in, in-meets, meets-in}
 use Rattle.model.proofs.WellFormed.{WellFormed}

@@ -7,13 +7,13 @@
 --   withinBy, within-found    and what the first layer with a forbidden state tells
 use Prim.Native.Nat.{ℕ, zero, suc, _+_, _≤_, _<_, suc-le-suc}
 use native.Mathlib.Omega.{arith}
-use mathlib.Core.Path.{_≡_, refl, sym, ap, _∙_, subst}
-use mathlib.Core.Logic.{inl, inr, ⊎-elim}
+use mathlib.Core.Path.{_≡_, sym, ap, _∙_, subst}
+use mathlib.Core.Logic.{inl, ⊎-elim}
 use mathlib.Core.Bool.{Bool, true, false, not, _&&_}
 use mathlib.Core.List.{List}
 use borrow.Author.Tests.{eqb-false, ne-eqb, ltb-true, ltb-false, leb-true, le-leb}
 use lib.Dec.{eqb, leb, ltb}
-use Rattle.model.specs.Sets.{maxStates, Set, first, any, member, empty, meets, firstStates}
+use Rattle.model.specs.Sets.{maxStates, Set, first, member, empty, meets}
 use Rattle.model.specs.Tables.{Table}
 use Rattle.model.specs.Rounds.{iterate}
 use Rattle.model.specs.Paths.{reaching, unreachable, distance}

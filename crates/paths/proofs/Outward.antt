@@ -3,7 +3,7 @@
 --   Outward                      after k turns: the layers so far (reach, Layers), none of which before the last holds a state of Y
 --   outward-start, outward-turn, outward-below      where it starts; a turn; k is below the states that a set can hold
 --   outward-hit, outward-end     the first layer with a state of Y is the last; there is none where the last brings nothing new
-use Prim.Native.Nat.{ℕ, zero, suc, _+_, _≤_, _<_, zero-le}
+use Prim.Native.Nat.{ℕ, suc, _+_, _≤_, _<_, zero-le}
 use native.Mathlib.Numerals.{add-one}
 use native.Mathlib.Omega.{arith}
 use mathlib.Core.Path.{_≡_, sym, ap, _∙_, subst}
@@ -14,7 +14,7 @@ use borrow.Author.Tests.{lt-ltb}
 use Rattle.model.specs.Sets.{maxStates, Set, empty, union, difference, subset, meets, size}
 use Rattle.model.specs.Rounds.{iterate}
 use Rattle.model.proofs.Bounds.{is-false, clash, lt-or-ge, first-is, first-none}
-use Rattle.model.proofs.SetLaws.{Proper, In, empty-in, _⊆_, ⊆-of-eq, in-meets, meets-in}
+use Rattle.model.proofs.SetLaws.{Proper, empty-in, _⊆_, ⊆-of-eq, in-meets, meets-in}
 use Rattle.model.proofs.Counting.{size-most}
 use Rattle.table.specs.Rows.{successorsBy}
 use Rattle.reach.proofs.Layers.{before, before-mono, Layered, layered-start, layered-turn, layered-all, layered-less, layered-still, layer-in}

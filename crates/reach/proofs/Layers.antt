@@ -9,13 +9,13 @@
 --   layered-all                      what is found is what was found before and the layer
 --   layered-less                     a layer with a state makes more found; layered-expanded: what was looked at already
 --   layered-end                      with an empty layer, what is found is the least solution; layered-still: and no step finds more
-use Prim.Native.Nat.{ℕ, zero, suc, _≤_, _<_}
+use Prim.Native.Nat.{ℕ, suc, _≤_, _<_}
 use native.Mathlib.Decide.{le-ind}
-use mathlib.Core.Path.{_≡_, refl, sym, ap, ap₂, _∙_, subst}
+use mathlib.Core.Path.{_≡_, sym, ap, _∙_}
 use mathlib.Core.Logic.{_⊎_, inl, inr, ⊎-elim}
 use mathlib.Core.Bool.{true, false}
 use mathlib.Core.List.{List}
-use Rattle.model.specs.Sets.{maxStates, Set, empty, union, difference, subset, size, image}
+use Rattle.model.specs.Sets.{maxStates, Set, empty, union, difference, subset, size}
 use Rattle.model.specs.Rounds.{iterate}
 use Rattle.model.specs.Promises.{IsLeast}
 use Rattle.model.proofs.SetLaws.{Proper, setOf-proper, In, in-or-out, empty-in, in-union, union-in, in-difference, difference-in, _⊆_, ⊆-of-eq, subset-in, in-subset, subset-not, same-set, in-image, image-in}

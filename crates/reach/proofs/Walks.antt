@@ -9,16 +9,16 @@
 --   reaching                             specs/Reached
 use Prim.Native.Nat.{ℕ, zero, suc}
 use mathlib.Core.Path.{_≡_, refl, sym, ap, _∙_, subst}
-use mathlib.Core.Logic.{_↔_, inl, inr, ⊎-elim}
-use mathlib.Core.Bool.{true, _&&_}
+use mathlib.Core.Logic.{inl, inr, ⊎-elim}
+use mathlib.Core.Bool.{true}
 use mathlib.Core.List.{List, [], _∷_, _++_}
-use Rattle.model.specs.Sets.{Set, member, empty, union, subset, firstStates}
+use Rattle.model.specs.Sets.{Set, member, empty, union, firstStates}
 use Rattle.model.specs.Tables.{Table, post}
 use Rattle.model.specs.Rounds.{iterate}
 use Rattle.model.specs.Stores.{tableOf}
 use Rattle.model.specs.Promises.{IsLeast}
 use Rattle.model.proofs.Bounds.{and-true, and-intro}
-use Rattle.model.proofs.SetLaws.{Proper, setOf-proper, In, empty-in, in-union, union-in, firstStates-in, _⊆_, ⊆-of-eq, subset-in, in-subset, same-set}
+use Rattle.model.proofs.SetLaws.{Proper, setOf-proper, In, empty-in, in-union, union-in, firstStates-in, _⊆_, ⊆-of-eq, subset-in, same-set}
 use Rattle.model.proofs.WellFormed.{WellFormed}
 use Rattle.model.proofs.Fixpoints.{iterate-has, from-below}
 use Rattle.model.proofs.CoverLaws.{in-post, post-in, post-mono}

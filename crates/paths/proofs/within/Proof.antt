@@ -42,13 +42,13 @@ within-spec =
     within-yes _ _ _ _ (d .before .refusal .ensures) (d .if1 .left)
     (sym (told (c .before .before .before .before))
     ∙ ap (λ (f : Found). withinBy f (d .before .before .before .args .k)) (c .before .before .steps .given .1)
-    ∙ le-leb _ _ (c .if2 .taken)))
+    ∙ le-leb (c .before .before .steps .given .0 .0) (d .before .before .before .args .k) (omega (arith, c .if2 .taken))))
     (λ c.
     let d = c .before .before .before .before .before .before .before in
     within-no _ _ _ _ (d .before .refusal .ensures) (d .if1 .left)
     (sym (told (c .before .before .before .before))
     ∙ ap (λ (f : Found). withinBy f (d .before .before .before .args .k)) (c .before .before .steps .given .1)
-    ∙ lt-leb _ _ (c .if2 .left)))
+    ∙ lt-leb (c .before .before .steps .given .0 .0) (d .before .before .before .args .k) (omega (arith, c .if2 .left))))
     (λ c.
     let d = c .before .before .before .before .before in
     within-no _ _ _ _ (d .before .refusal .ensures) (d .if1 .left)
