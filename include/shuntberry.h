@@ -1,8 +1,8 @@
 /*
  * Shuntberry: is a forbidden state of a dialogue table reachable, and by which steps?
  *
- * Five calls: decide, shortest path, read, write and generate. Link target/staticlib/libshuntberry.a,
- * which `rt staticlib shuntberry` makes. Nothing is allocated, nothing is kept between calls, and no call
+ * The calls: decide, shortest path, distances, within, read, write and generate. Link
+ * target/staticlib/libshuntberry.a, which `rt staticlib shuntberry` makes. Nothing is allocated, nothing is kept between calls, and no call
  * fails other than by a refusal number. Calls may be made from several threads at once, as long as no
  * buffer that one of them writes is lent to another. A call takes less than 256 KiB of stack
  * (tests/outside measures it on the longest path).
@@ -40,6 +40,7 @@ extern "C" {
 #define SHUNTBERRY_SET_WORDS 4       /* words of a set */
 #define SHUNTBERRY_STORE_WORDS 1288  /* the least length of a store, in words */
 #define SHUNTBERRY_PATH_BYTES 256    /* the least length of a path buffer, in bytes */
+#define SHUNTBERRY_UNREACHABLE 65535 /* the distance of a state from which no forbidden state can be reached */
 #define SHUNTBERRY_BLOCK_BYTES 512   /* a file is whole blocks of this many bytes */
 #define SHUNTBERRY_FILE_BYTES 10752  /* the length of the largest file, 21 blocks */
 #define SHUNTBERRY_MAX_FAN_OUT 16    /* the greatest fan-out of a generated table */
@@ -67,6 +68,8 @@ extern "C" {
 #define SHUNTBERRY_ALLOWANCE 20         /* the allowance is over 256 (decide) */
 #define SHUNTBERRY_PATH_SHORT 21        /* the path buffer has under 256 bytes (decide, shortest path) */
 #define SHUNTBERRY_FAN_OUT 22           /* the fan-out is over 16 (generate) */
+
+#define SHUNTBERRY_DISTANCES_SHORT 23   /* the distance buffer has fewer than n places (distances) */
 
 /* ---- Verdicts: only where `refusal` is 0. A refused call has 0 here too, so test `refusal` first. ---- */
 
@@ -116,6 +119,32 @@ struct shuntberry_shortest {
  */
 struct shuntberry_shortest shuntberry_shortest_path(const uint64_t *store, size_t store_len, size_t n, size_t g,
                                                     uint8_t *path, size_t path_len);
+
+/*
+ * Writes the distance of each state, which is the number of steps from it to the nearest forbidden
+ * state, at the front of `distances`: one place for each of the n states, SHUNTBERRY_UNREACHABLE where
+ * no forbidden state can be reached. Places past n are not touched. The store is never changed.
+ * `distances_len` is the number of places. Returns 0, or the number of the refusal.
+ *
+ * Refuses with 10, 14, 15, 17 or 23.
+ */
+uint32_t shuntberry_distances(const uint64_t *store, size_t store_len, size_t n, size_t g, uint16_t *distances,
+                              size_t distances_len);
+
+/* What shuntberry_within answers. */
+struct shuntberry_within {
+    uint32_t refusal; /* 0, or the number of the refusal */
+    uint32_t within;  /* where refusal is 0: 1 if there is a path of at most k steps, else 0. A refused call has 0 here too */
+};
+
+/*
+ * Is there a path of at most k steps from an initial to a forbidden state? For every k: for 0 it asks
+ * for a state that is initial and forbidden. The search goes outward from the initial states and stops
+ * at the first forbidden one, or when no new state is found. The store is never changed.
+ *
+ * Refuses with 10, 14, 15 or 17.
+ */
+struct shuntberry_within shuntberry_within(const uint64_t *store, size_t store_len, size_t n, size_t g, size_t k);
 
 /* What shuntberry_read answers. */
 struct shuntberry_table {

@@ -1,9 +1,11 @@
 -- The structs of the calls for C, as the model's answers: field by field, under the same names.
 --
---   decisionFields, shortestFields, tableFields, fileFields     what decide, shortest path, read and write return
+--   decisionFields, shortestFields, withinFields, tableFields, fileFields     what decide, shortest path, within, read and write return
 use Rattle.model.specs.Calls.{Decision, Shortest, TableRead, Written}
+use Rattle.paths.specs.Within.{Answer}
 use Rattle.shuntberry.specs.declared.DecisionFields.{DecisionFields}
 use Rattle.shuntberry.specs.declared.ShortestFields.{ShortestFields}
+use Rattle.shuntberry.specs.declared.WithinFields.{WithinFields}
 use Rattle.shuntberry.specs.declared.TableFields.{TableFields}
 use Rattle.shuntberry.specs.declared.FileFields.{FileFields}
 
@@ -14,6 +16,9 @@ decisionFields r =
 
 abbrev pub shortestFields : ShortestFields → Shortest
 shortestFields r = record { refusal = r .refusal; found = r .found; steps = r .steps }
+
+abbrev pub withinFields : WithinFields → Answer
+withinFields r = record { refusal = r .refusal; within = r .within }
 
 abbrev pub tableFields : TableFields → TableRead
 tableFields r = record { refusal = r .refusal; n = r .n; g = r .g }
