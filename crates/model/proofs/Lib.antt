@@ -17,5 +17,6 @@ pub mod Acceptance
 pub mod CallLaws
 pub mod RoundTrips
 pub mod FirstWords
+pub mod Drafts
 pub mod Kept
 pub mod Ranges

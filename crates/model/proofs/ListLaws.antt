@@ -13,7 +13,7 @@
 --   overwrite-append, overwrite-more          written over in two parts, the second where the buffer is lent from there on
 --   overwrite-set                             one element more
 use Prim.Native.Nat.{ℕ, zero, suc, _+_, _*_, _-_, _/_, _%_, _≤_, _<_}
-use native.Mathlib.Nat.{not-suc-le-zero, zero-mul, mul-zero, mul-suc, mul-comm, mul-le-mul-left, le-of-eq, div-add-mod, div-lt-iff-lt-mul, mod-lt, eq-zero-or-pos}
+use native.Mathlib.Nat.{not-suc-le-zero, zero-mul, mul-zero, mul-suc, mul-comm, mul-le-mul-left, le-of-eq, div-lt-iff-lt-mul, mod-lt, eq-zero-or-pos}
 use native.Mathlib.Numerals.{add-one}
 use native.Mathlib.Omega.{arith}
 use mathlib.Core.Path.{_≡_, refl, sym, ap, ap₂, _∙_, subst}

@@ -9,3 +9,4 @@ pub mod Files
 pub mod Calls
 pub mod Promises
 pub mod RoundTrip
+pub mod Draft
