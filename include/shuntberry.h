@@ -7,16 +7,18 @@
  * buffer that one of them writes is lent to another. A call takes less than 256 KiB of stack
  * (tests/outside measures it on the longest path).
  *
- * A TABLE has n states, numbered 0 to n - 1, with n from 1 to 256, and g groups, with g from 0 to 64.
+ * A TABLE has n states, numbered 0 to n - 1, with n from 0 to 256, and g groups, with g from 0 to 64;
+ * a table without states, an untouched draft, has no groups either, and its file has no bytes.
  * A SET of states is four words: state s is the bit of value 2^(s % 64) in word s / 64.
  * A STORE is at least SHUNTBERRY_STORE_WORDS words: the initial set, the forbidden set, 64 groups,
  * and for each of 256 states the set of its successors (the offsets are below). The words of groups
  * from g up and of rows from n up are 0. Words past the first 1,288 are neither read nor written.
  *
  * Each buffer is a pointer and the number of its elements. As with any C buffer, the pointer must be
- * valid for that many elements, aligned for its type and not null (also where the length is 0), and
- * a buffer that a call writes must not overlap another one of that call. Beyond that a call may be
- * given anything: what it does not accept, it refuses.
+ * valid for that many elements and aligned for its type, and a buffer that a call writes must not
+ * overlap another one of that call. Of no elements nothing is read or written, so there the pointer may
+ * be anything, null included (tests/outside tries it). Beyond that a call may be given anything: what
+ * it does not accept, it refuses.
  *
  * A REFUSED call has a refusal number in `refusal`, 0 in all other fields, and every buffer is as it
  * was before. (generate returns the number itself.) Where several grounds apply, the smallest number is given; for 12 and 13 the blocks are
@@ -56,10 +58,10 @@ extern "C" {
 
 #define SHUNTBERRY_ACCEPTED 0           /* the call was not refused */
 #define SHUNTBERRY_STORE_SHORT 10       /* the store has under 1,288 words (all calls) */
-#define SHUNTBERRY_INPUT_LENGTH 11      /* the input's length is 0, no multiple of 512, or over 10,752 (read) */
+#define SHUNTBERRY_INPUT_LENGTH 11      /* the input's length is no multiple of 512, or over 10,752 (read) */
 #define SHUNTBERRY_BLOCK_NUMBER 12      /* block k does not hold the number k (read) */
 #define SHUNTBERRY_BLOCK_CHECK 13       /* a block's stored check is not its check (read) */
-#define SHUNTBERRY_STATES 14            /* n is 0 or over 256 (all calls) */
+#define SHUNTBERRY_STATES 14            /* n is over 256, or 0 with g above 0, in a block or in generate (all calls) */
 #define SHUNTBERRY_GROUPS 15            /* g is over 64 (all calls but generate) */
 #define SHUNTBERRY_BLOCK_COUNT 16       /* the file has too few or too many blocks for its n and g (read) */
 #define SHUNTBERRY_STRAY_BIT 17         /* a set holds a state from n up, or a word of an unused group or row is not 0 (all calls but generate) */
@@ -155,7 +157,8 @@ struct shuntberry_table {
 
 /*
  * Reads a block file into the first 1,288 words of `store`; no other word is touched. The input is
- * never changed.
+ * never changed. An input of no bytes is an untouched draft: n and g are 0, and so is each of those words.
+ * So a read that failed must not be passed on as one of no bytes.
  *
  * Refuses with 10, 11, 12, 13, 14, 15, 16, 17 (of set bytes only) or 18.
  */
@@ -164,7 +167,7 @@ struct shuntberry_table shuntberry_read(const uint8_t *input, size_t input_len, 
 /* What shuntberry_write answers. */
 struct shuntberry_file {
     uint32_t refusal; /* 0, or the number of the refusal */
-    uint32_t length;  /* the length of the file in bytes, a multiple of 512 */
+    uint32_t length;  /* the length of the file in bytes, a multiple of 512; 0 for a draft */
 };
 
 /*

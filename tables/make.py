@@ -106,7 +106,8 @@ def blocks(content):
 
 
 def encode(table):
-    return b"".join(blocks(contents(table)))
+    """The draft, a table without states, is a file of no bytes."""
+    return b"".join(blocks(contents(table))) if table.n else b""
 
 
 # ---- What `check` prints
@@ -145,6 +146,8 @@ TYPED = {
     "e": (E, "states 3 groups 0\nsafe refinements 1\ninvariant 1: 0\n"),
     "f": (F, "states 1 groups 0\nunsafe refinements 0\npath 0\n"),
     "g": (G, "states 1 groups 0\nsafe refinements 0\ninvariant 0: none\n"),
+    # An untouched draft, which an editor saves as an empty file.
+    "empty": (Table(0, set(), set(), set()), "states 0 groups 0\nsafe refinements 0\ninvariant 0: none\n"),
     # The ninth table of the design: its count is 2 where a new Z replaces the list.
     "ninth": (
         Table(4, {0}, {2}, {(0, 0), (0, 1), (1, 3), (2, 3), (3, 0), (3, 2)}, [{0}]),
@@ -179,7 +182,6 @@ def refused():
     content = contents(E)
     corrupt = with_byte(h1, 100, h1[100] ^ 1)
     return {
-        "empty": (b"", 11),
         "short": (e[:-1], 11),
         "long": (encode(LARGEST) + bytes(1), 11),
         "too-many-blocks": (encode(LARGEST) + sealed(21, b""), 11),
@@ -190,6 +192,8 @@ def refused():
         "bad-check-high-byte": (with_byte(e, 511, 1), 13),
         "bad-check-then-bad-number": (corrupt[:BLOCK] + with_byte(h1, BLOCK, 7)[BLOCK:], 13),
         "no-states": (sealed(0, two(0) + content[2:]), 14),
+        "no-states-no-groups": (sealed(0, b""), 14),
+        "no-states-and-too-many-groups": (sealed(0, two(0) + two(65)), 14),
         "too-many-states": (sealed(0, two(257) + content[2:]), 14),
         "too-many-states-and-groups": (sealed(0, two(257) + two(65)), 14),
         "too-many-groups": (sealed(0, two(3) + two(65) + content[4:]), 15),

@@ -15,6 +15,7 @@ H_STEPS = {(0, 59), (59, 0), (58, 60)}
 H = Table(61, {0}, {60}, H_STEPS)
 H_GROUP = Table(61, {0}, {60}, H_STEPS, [{0, 59}])
 NINTH = Table(4, {0}, {2}, {(0, 0), (0, 1), (1, 3), (2, 3), (3, 0), (3, 2)}, [{0}])
+DRAFT = Table(0, set(), set(), set())
 KEPT = ", the rest unchanged"
 
 
@@ -30,12 +31,12 @@ def answer(table, allowance):
 
 def decide_test():
     lines = []
-    for name, table in [("A", A), ("B", B), ("D", D), ("E", E), ("F", F), ("G", G), ("H", H), ("H with a group", H_GROUP), ("ninth", NINTH)]:
+    for name, table in [("A", A), ("B", B), ("D", D), ("E", E), ("F", F), ("G", G), ("draft", DRAFT), ("H", H), ("H with a group", H_GROUP), ("ninth", NINTH)]:
         for allowance in (0, 1, 2, 3, 256):
             lines.append(f"{name} {allowance}: {answer(table, allowance)}{KEPT}")
     for name, allowance, refusal in [
         ("store of 1287", 0, 10), ("store of 1287 and all else", 257, 10),
-        ("n 0", 0, 14), ("n 257", 0, 14), ("n 257 and all else", 257, 14),
+        ("n 0 g 1", 0, 14), ("n 0 g 65 and all else", 257, 14), ("state 5 of 0", 0, 17), ("n 257", 0, 14), ("n 257 and all else", 257, 14),
         ("g 65", 0, 15), ("g 65 and all else", 257, 15),
         ("state 5 of 5", 0, 17), ("state 5 of 5 and all else", 257, 17),
         ("allowance 257", 257, 20), ("allowance 257 and path buffer of 255", 257, 20),
@@ -129,14 +130,15 @@ def write(store, words, n, g, room):
     """The file, or the refusal."""
     if words < 1288:
         return 10
-    if not 1 <= n <= 256:
+    if n > 256 or n == 0 and g > 0:
         return 14
     if g > 64:
         return 15
     used = store[:2 + g] + store[66:66 + n]
     if any(s >= n for states in used for s in states) or any(store[2 + g:66] + store[66 + n:]):
         return 17
-    file = b"".join(make.blocks(make.two(n) + make.two(g) + b"".join(make.set_bytes(states, n) for states in used)))
+    contents = make.two(n) + make.two(g) + b"".join(make.set_bytes(states, n) for states in used)
+    file = b"".join(make.blocks(contents)) if n else b""
     return 19 if room < len(file) else file
 
 
@@ -148,7 +150,9 @@ def read(data, words):
     """n, g and the store, or the refusal."""
     if words < 1288:
         return 10
-    if len(data) == 0 or len(data) % 512 or len(data) > 10_752:
+    if len(data) == 0:
+        return 0, 0, [set()] * 322
+    if len(data) % 512 or len(data) > 10_752:
         return 11
     split = [data[at:at + 512] for at in range(0, len(data), 512)]
     for k, block in enumerate(split):
@@ -234,6 +238,8 @@ def files_test():
                 (1288, 3, 0, 10800), (1288, 3, 0, 512), (1288, 3, 0, 511), (1288, 3, 0, 0), (1287, 3, 0, 512), (1287, 0, 65, 511),
                 (1288, 0, 0, 512), (1288, 257, 0, 10752), (1288, 0, 65, 511), (1288, 3, 64, 512), (1288, 3, 65, 512),
                 (1288, 2, 65, 511), (1288, 2, 0, 512), (1288, 2, 0, 511)),
+        *writes("write a draft", store_of(DRAFT),
+                (1288, 0, 0, 0), (1300, 0, 0, 512), (1287, 0, 0, 0), (1288, 0, 1, 512), (1288, 0, 65, 0)),
         "read E",
         *reads(e_file, (512, 1288, {}), (512, 1300, {}), (512, 1287, {}), (0, 1287, {}),
                (0, 1288, {}), (511, 1288, {}), (513, 1288, {}), (511, 1288, {0: 1})),

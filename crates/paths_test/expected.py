@@ -34,7 +34,7 @@ def refusal(words, n, g, initial, forbidden, groups, steps, room):
     """01's grounds by number, those of shortest path."""
     if words < STORE_WORDS:
         return 10
-    if n == 0 or n > GREATEST_N:
+    if n == 0 and g > 0 or n > GREATEST_N:
         return 14
     if g > GREATEST_G:
         return 15
@@ -109,6 +109,7 @@ report("corridor, 255 bytes", 256, 0, CORRIDOR, room=255)
 report("B, 300 bytes", 5, 0, B, room=300)
 report("B, 255 bytes", 5, 0, B, room=255)
 report("B, n 0", 0, 0, B)
+report("B, n 0, g 1", 0, 1, B)
 report("B, n 257", 257, 0, B)
 report("B, n 4", 4, 0, B)
 report("B, g 64", 5, 64, B)

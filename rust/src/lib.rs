@@ -5,7 +5,7 @@
 //! refuses with a number ([`Refused`]), and every buffer is then as it was before.
 //!
 //! A table has `n` states, numbered 0 to `n` − 1 ([`MAX_STATES`] at most), and `g` groups
-//! ([`MAX_GROUPS`] at most). It stands in a store of at least [`STORE_WORDS`] words of 64 bits, as
+//! ([`MAX_GROUPS`] at most); one without states, an untouched draft, has no groups. It stands in a store of at least [`STORE_WORDS`] words of 64 bits, as
 //! sets of four words each: the initial set at [`INITIAL`], the forbidden set at [`FORBIDDEN`], group
 //! j at [`group`]`(j)`, the successors of state s at [`row`]`(s)`. The words of groups from g up and
 //! of rows from n up are 0; words past the first 1,288 are neither read nor written.
@@ -34,7 +34,7 @@
 //!
 //! // A table of 300 states is refused.
 //! let refused = decide(&store, 300, 0, MAX_ALLOWANCE, &mut path).unwrap_err();
-//! assert_eq!(refused.to_string(), "refused 14: n is 0 or over 256");
+//! assert_eq!(refused.to_string(), "refused 14: n is over 256, or 0 with groups or in a block");
 //! # Ok::<(), shuntberry::Refused>(())
 //! ```
 
@@ -138,10 +138,10 @@ impl Refused {
     pub fn message(self) -> &'static str {
         match self.0 {
             10 => "the store has under 1,288 words",
-            11 => "the input's length is 0, no multiple of 512, or over 10,752",
+            11 => "the input's length is no multiple of 512, or over 10,752",
             12 => "a block does not hold its own number",
             13 => "a block's stored check is not its check",
-            14 => "n is 0 or over 256",
+            14 => "n is over 256, or 0 with groups or in a block",
             15 => "g is over 64",
             16 => "the number of blocks is not that of a file with this n and g",
             17 => "a set holds a state from n up, or a word of an unused group or row is not 0",
@@ -296,7 +296,8 @@ pub fn within(store: &[u64], n: usize, g: usize, k: usize) -> Result<bool, Refus
     Ok(answer.within != 0)
 }
 
-/// Reads a block file into the first [`STORE_WORDS`] words of `store`; no other word is touched.
+/// Reads a block file into the first [`STORE_WORDS`] words of `store`; no other word is touched. An
+/// input of no bytes is an untouched draft: `n` and `g` are 0, and so is each of those words.
 ///
 /// Refused with 10, 11, 12, 13, 14, 15, 16, 17 or 18.
 pub fn read(input: &[u8], store: &mut [u64]) -> Result<TableRead, Refused> {

@@ -144,12 +144,42 @@ static void refusals(void)
     require(shuntberry_generate(0, 1, SHUNTBERRY_MAX_FAN_OUT + 1, other, words) == SHUNTBERRY_FAN_OUT, "a fan-out over 16");
 }
 
+/* An empty buffer as C and C++ have it: null and 0, for each buffer of each call; and an untouched draft. */
+static void nothing(void)
+{
+    const size_t words = SHUNTBERRY_STORE_WORDS, most = SHUNTBERRY_MAX_ALLOWANCE, room = SHUNTBERRY_PATH_BYTES;
+    static uint64_t draft[SHUNTBERRY_STORE_WORDS];
+
+    require(shuntberry_decide(NULL, 0, STATES, 0, most, path, room).refusal == SHUNTBERRY_STORE_SHORT, "decide, no store");
+    require(shuntberry_decide(store, words, STATES, 0, most, NULL, 0).refusal == SHUNTBERRY_PATH_SHORT, "decide, no path");
+    require(shuntberry_decide(NULL, 0, 0, 0, 0, NULL, 0).refusal == SHUNTBERRY_STORE_SHORT, "decide, nothing");
+    require(shuntberry_shortest_path(NULL, 0, STATES, 0, path, room).refusal == SHUNTBERRY_STORE_SHORT, "path, no store");
+    require(shuntberry_shortest_path(store, words, STATES, 0, NULL, 0).refusal == SHUNTBERRY_PATH_SHORT, "path, no path");
+    require(shuntberry_read(file, sizeof file, NULL, 0).refusal == SHUNTBERRY_STORE_SHORT, "read, no store");
+    require(shuntberry_read(NULL, 0, NULL, 0).refusal == SHUNTBERRY_STORE_SHORT, "read, nothing");
+    require(shuntberry_write(NULL, 0, STATES, 0, file, sizeof file).refusal == SHUNTBERRY_STORE_SHORT, "write, no store");
+    require(shuntberry_write(store, words, STATES, 0, NULL, 0).refusal == SHUNTBERRY_OUTPUT_SHORT, "write, no output");
+
+    memset(other, PAINT, sizeof other);
+    struct shuntberry_table table = shuntberry_read(NULL, 0, other, words);
+    require(table.refusal == SHUNTBERRY_ACCEPTED && table.n == 0 && table.g == 0, "read of no bytes");
+    require(memcmp(other, draft, sizeof draft) == 0, "read of no bytes makes each word 0");
+    struct shuntberry_file written = shuntberry_write(draft, words, 0, 0, NULL, 0);
+    require(written.refusal == SHUNTBERRY_ACCEPTED && written.length == 0, "write of a draft");
+    struct shuntberry_decision decision = shuntberry_decide(draft, words, 0, 0, 0, path, room);
+    require(decision.refusal == SHUNTBERRY_ACCEPTED && decision.verdict == SHUNTBERRY_SAFE && decision.count == 0 &&
+                decision.size == 0 && decision.steps == 0,
+            "decide on a draft");
+    require(shuntberry_decide(draft, words, 0, 1, 0, path, room).refusal == SHUNTBERRY_STATES, "groups without states");
+}
+
 static void *on_painted_stack(void *unused)
 {
     (void)unused;
     answers();
     load();
     refusals();
+    nothing();
     return NULL;
 }
 

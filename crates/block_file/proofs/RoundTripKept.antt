@@ -1,6 +1,6 @@
 -- The round trips of the calls: the model's, by the contracts of read and write.
 use Prim.Native.Nat.{ℕ}
-use mathlib.Core.Path.{_≡_, sym, ap, ap₂, _∙_, subst}
+use mathlib.Core.Path.{_≡_, sym, ap, ap₂, _∙_}
 use mathlib.Core.List.{List}
 use lib.ListN.{length, take}
 use Rattle.model.specs.Calls.{readAnswer, readBuffer, writeAnswer, writeBuffer}
@@ -8,7 +8,6 @@ use Rattle.model.specs.Calls.{TableRead as ReadNumbers, Written as WriteNumbers
 use Rattle.model.proofs.RoundTrips.{round-trips}
 use Rattle.model.proofs.Kept.{untouched}
 use Rattle.block_file.specs.WriteAnswers.{writtenOf}
-use Rattle.block_file.specs.ReadAnswers.{readOf}
 use Rattle.block_file.specs.RoundTripCalls.{CallsRoundTrip, CallsDeclined}
 
 pub calls-round-trip : CallsRoundTrip

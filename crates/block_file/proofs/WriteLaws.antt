@@ -9,30 +9,29 @@
 --   blockFront, block-written            a block up to its check, and with it
 --   blocksOf, blocks-none, blocks-more   a loop that writes blocks
 --   held                                 where no shared ground holds, the store is long enough and n and g are in bounds
---   declined-shared, declined-room, written   what the contract of write says of each of its answers
+--   declined-shared, draft-written, declined-room, written   the contract of `write` in each case
 use Prim.Native.Nat.{ℕ, zero, suc, _+_, _*_, _-_, _/_, _%_, _^_, _≤_, _<_}
 use native.Mathlib.Nat.{div-add-mod}
 use native.Mathlib.Omega.{arith}
 use mathlib.Core.Path.{_≡_, refl, sym, ap, ap₂, _∙_, subst}
 use mathlib.Core.List.{List, [], _∷_, _++_}
-use borrow.Author.Tests.{lt-ltb, le-ltb, eqb-true}
-use lib.Dec.{eqb, ltb}
+use borrow.Author.Tests.{lt-ltb, ne-eqb}
 use lib.ListN.{set, length, getD, take, drop, List·getD-append}
 use Rattle.model.specs.Sets.{WORDS, maxStates, Set, member, number}
 use Rattle.model.specs.Stores.{forbiddenAt, groupAt, rowAt, setAt, tableOf, concat, refuse, sharedGrounds}
 use Rattle.model.specs.Blocks.{blockBytes, contentBytes, checkAt, le16, blocksFor, checkOf, blockOf}
 use Rattle.model.specs.Contents.{setWidth, sets, headerBytes, contents, contentLength}
-use Rattle.model.specs.Files.{fileLength, fileOf}
-use Rattle.model.specs.Calls.{overwrite, Written as WriteAnswer, outputGround, writeGrounds, writeAnswer, writeBuffer}
-use Rattle.model.proofs.Bounds.{by-cond, length-tabulate, getD-tabulate}
+use Rattle.model.specs.Files.{blockFile, fileOf, fileLength}
+use Rattle.model.specs.Calls.{overwrite, writeGrounds, writeAnswer, writeBuffer}
+use Rattle.model.proofs.Bounds.{length-tabulate, getD-tabulate}
 use Rattle.model.proofs.ListLaws.{getD-behind, getD-past, div-below, mod-below, length-concat, concat-next, overwrite-front, overwrite-set}
-use Rattle.model.proofs.GroundLaws.{refuse-none, refuse-skip, refuse-take, refuse-append}
+use Rattle.model.proofs.GroundLaws.{refuse-take, refuse-append}
 use Rattle.model.proofs.BlockLaws.{checkOf-cong, block-unique, framed-is, blockOf-is}
 use Rattle.model.proofs.ContentLaws.{byte-number, sets-each, length-contents, contents-header, contents-set}
 use Rattle.model.proofs.StoreLaws.{getD-setAt, row-is}
-use Rattle.model.proofs.CallLaws.{write-refusal, writable, write-answer, write-buffer}
-use Rattle.model.proofs.Acceptance.{accepted-store, store-accepted}
-use Rattle.block_file.specs.declared.writing.Written.{Written}
+use Rattle.model.proofs.FileLaws.{file-draft, file-blocks, length-draft, length-blocks}
+use Rattle.model.proofs.CallLaws.{Writable, write-answer, write-buffer}
+use Rattle.model.proofs.Acceptance.{Store, accepted-store, store-accepted}
 use Rattle.block_file.specs.declared.writing.Written.the-variants.{File, Refused}
 use Rattle.block_file.specs.WriteAnswers.{CalledWrite}
 use Rattle.block_file.specs.Places.{placeOf}
@@ -202,45 +201,54 @@ pub held : (store : List ℕ) (n g k : ℕ) → k ≡ refuse (sharedGrounds stor
 held store n g k e z = let s = accepted-store store n g [] (sym e ∙ z) .0 in record { long = s .long; small = s .small; few = s .few }
 
 module _ (store : List ℕ) (n g : ℕ) (out : List ℕ) where
-  abbrev Wrote : Written → List ℕ → Type 0
-  Wrote r after = CalledWrite store n g out r after
-
   -- a ground k holds
-  declined : (k : ℕ) → k ≡ refuse (writeGrounds store n g (length out)) → (k ≡ 0 → ⊥) → Wrote (Refused k) out
+  declined : (k : ℕ) → k ≡ refuse (writeGrounds store n g (length out)) → (k ≡ 0 → ⊥) → CalledWrite store n g out (Refused k) out
   unfolding writeAnswer writeBuffer
-  declined k e f =
-      let first = refuse (writeGrounds store n g (length out)) in
-      let answered = (writeAnswer store n g (length out)) .refusal in (
-        by-cond (λ (a : WriteAnswer). record { refusal = k; length = 0 } ≡ a) (eqb first 0) _ _ (λ q. absurd (f (e ∙ eqb-true first 0 q)))
-            (λ q. ap (λ (x : ℕ). record { refusal = x; length = 0 }) e),
-        by-cond (λ (ys : List ℕ). out ≡ ys) (eqb answered 0) _ out
-            (λ q. absurd (f (e ∙ sym (write-refusal store n g (length out)) ∙ eqb-true answered 0 q))) (λ q. refl),
-      )
+  declined k e f = let no = ne-eqb k 0 f in (rw (← e, no), rw (← e, no, no), rw (← e, no, no))
+
+  -- none holds, and l bytes are written
+  accepted : {l : ℕ} {after : List ℕ} → Writable store n g (length out) → l ≡ fileLength n g → after ≡ overwrite (fileOf (tableOf store n g)) out
+      → CalledWrite store n g out (File l) after
+  accepted w e f =
+      let answer = write-answer store n g (length out) w in
+      (ap (λ (m : ℕ). record { refusal = 0; length = m }) e ∙ sym answer, f ∙ sym (write-buffer store n g out w), rw answer)
 
   -- k is the first of the grounds that the calls share, or 0
   module _ (k : ℕ) (e : k ≡ refuse (sharedGrounds store n g)) where
-    pub declined-shared : (k ≡ 0 → ⊥) → Wrote (Refused k) out
+    pub declined-shared : (k ≡ 0 → ⊥) → CalledWrite store n g out (Refused k) out
     unfolding writeGrounds
     declined-shared f = declined k (refuse-append (sharedGrounds store n g) _ e f) f
 
     module _ (z : k ≡ 0) where
-      room-left : refuse (writeGrounds store n g (length out)) ≡ refuse (outputGround n g (length out) ∷ [])
-      unfolding writeGrounds
-      room-left = store-accepted store n g _ (accepted-store store n g [] (sym e ∙ z) .0)
+      table-held : Store store n g
+      table-held = accepted-store store n g [] (sym e ∙ z) .0
 
-      pub declined-room : (blocks : ℕ) → blocks ≡ blocksFor (contentLength n g) → length out < blockBytes * blocks → Wrote (Refused 19) out
-      declined-room blocks b h = declined 19 (sym (room-left ∙ refuse-take _ 19 _ (lt-ltb (length out) (fileLength n g) (omega arith)))) (λ x. omega arith)
+      pub draft-written : n ≡ 0 → CalledWrite store n g out (File 0) out
+      unfolding overwrite tableOf
+      draft-written d =
+          let none = length-draft n g d in
+          accepted (record { held = table-held; fits = omega (arith, none) }) (sym none)
+          (ap (λ xs. overwrite xs out) (sym (file-draft (tableOf store n g) d)))
 
-      pub written : (blocks : ℕ) (after : List ℕ) → blocks ≡ blocksFor (contentLength n g) → blockBytes * blocks ≤ length out
-          → after ≡ overwrite (concat blocks (blockOf (contents (tableOf store n g)))) out
-          → Wrote (File (blockBytes * blocks)) after
-      unfolding fileOf tableOf
-      written blocks after b h w =
-          let t = tableOf store n g in
-          let ok = writable store n g (length out) (room-left ∙ refuse-skip _ 19 _ (le-ltb (length out) (fileLength n g) (omega arith)) ∙ refuse-none) in
-          let size = ap (λ (l : ℕ). blocksFor l) (length-contents t (length-tabulate _ g)) in (
-            ap (λ (m : ℕ). record { refusal = 0; length = blockBytes * m }) b ∙ sym (write-answer store n g (length out) ok),
-            w
-                ∙ ap (λ (m : ℕ). overwrite (concat m (blockOf (contents t))) out) (b ∙ sym size)
-                ∙ sym (write-buffer store n g out ok),
-          )
+      module _ (some : n ≡ 0 → ⊥) (blocks : ℕ) (b : blocks ≡ blocksFor (contentLength n g)) where
+        size : fileLength n g ≡ blockBytes * blocks
+        size = length-blocks n g some ∙ ap (λ (m : ℕ). blockBytes * m) (sym b)
+
+        pub declined-room : length out < blockBytes * blocks → CalledWrite store n g out (Refused 19) out
+        unfolding writeGrounds
+        declined-room h =
+            declined 19
+            (sym
+            (store-accepted store n g _ table-held ∙ refuse-take _ 19 _ (lt-ltb (length out) (fileLength n g) (omega (arith, size)))))
+            (λ x. omega arith)
+
+        pub written : (after : List ℕ) → blockBytes * blocks ≤ length out → after ≡ overwrite (concat blocks (blockOf (contents (tableOf store n g)))) out
+            → CalledWrite store n g out (File (blockBytes * blocks)) after
+        unfolding blockFile tableOf
+        written after h w =
+            let t = tableOf store n g in
+            let many = ap (λ (l : ℕ). blocksFor l) (length-contents t (length-tabulate _ g)) in
+            accepted (record { held = table-held; fits = omega (arith, size) }) (sym size)
+            (w
+            ∙ ap (λ (m : ℕ). overwrite (concat m (blockOf (contents t))) out) (b ∙ sym many)
+            ∙ ap (λ xs. overwrite xs out) (sym (file-blocks t some)))

@@ -1,10 +1,13 @@
 -- The call `read` in the specification's numbers.
 --
 --   readOf r         its answer: `refusal` is 0 and n and g those of the table, or `refusal` is the number and n and g are 0
+--   isRefused r      the case in which it is declined
 --   CalledRead       a call and what it gave: its contract
 use Prim.Native.Nat.{ℕ}
 use mathlib.Core.Path.{_≡_}
+use mathlib.Core.Bool.{Bool, true, false, not}
 use mathlib.Core.List.{List}
+use lib.Dec.{eqb}
 use lib.ListN.{length}
 use Rattle.model.specs.Calls.{TableRead as ReadAnswer, readAnswer, readBuffer}
 use Rattle.block_file.specs.declared.reading.TableRead.{TableRead}
@@ -14,6 +17,14 @@ abbrev pub readOf : TableRead → ReadAnswer
 readOf (Table n g) = record { refusal = 0; n = n; g = g }
 readOf (Refused k) = record { refusal = k; n = 0; g = 0 }
 
+-- A draft and a refusal numbered 0 would have the same numbers: this tells them apart.
+abbrev pub isRefused : TableRead → Bool
+isRefused (Table n g) = false
+isRefused (Refused k) = true
+
 -- The store before the call and after it.
 abbrev pub CalledRead : List ℕ → List ℕ → TableRead → List ℕ → Type 0
-CalledRead input before r after = (readOf r ≡ readAnswer input (length before)) × (after ≡ readBuffer input before)
+CalledRead input before r after =
+    (readOf r ≡ readAnswer input (length before))
+    × (after ≡ readBuffer input before)
+    × (isRefused r ≡ not (eqb ((readAnswer input (length before)) .refusal) 0))

@@ -1,4 +1,4 @@
-// What reading and writing a file share (01, "Blocks").
+// What reading and writing a file share (the specification, "Files").
 //
 //   BLOCK, CONTENT, CONTENT_AT, CHECK_AT     a block's bytes, those of its content, and where its content and its check begin
 //   HEADER                                   the content bytes of n and g, which stand before the sets

@@ -1,4 +1,4 @@
-// Files of blocks (01, "Blocks"): the calls `read` and `write`.
+// Files of blocks (the specification, "Files"): the calls `read` and `write`.
 mod blocks;
 mod reading;
 mod writing;

@@ -1,4 +1,4 @@
-// The call `read` (01, "Blocks"): a file is looked at whole, ground after ground in 01's order, and only then put into the lent store.
+// The call `read`: a file is looked at whole, ground after ground in their order, and only then put into the lent store.
 //
 //   TableRead, read                  n and g of the table that is now in the store, or why the file is declined
 //   refusal                          the first ground that holds, or 0
@@ -46,13 +46,17 @@ pub enum TableRead {
     Refused(u8),
 }
 
-// Nothing is put into the store before the last ground has been looked at.
+// Nothing is put into the store before the last ground has been looked at. An input of no bytes is an untouched draft.
 pub fn read(input: &[u8], store: &mut [u64]) -> TableRead
     ensures { λ r. ⌜ CalledRead (now (input .entry)) (now (store .entry)) r (now (store .exit)) ⌝ }
 {
     let fault = refusal(input, store.len());
     if fault != 0 {
         return TableRead::Refused(fault);
+    }
+    if input.len() == 0 {
+        clear(store);
+        return TableRead::Table { n: 0, g: 0 };
     }
     let n = le16_at(input, CONTENT_AT);
     let g = le16_at(input, CONTENT_AT + 2);
@@ -62,7 +66,7 @@ pub fn read(input: &[u8], store: &mut [u64]) -> TableRead
 
 // ---- grounds
 
-// Why a file is declined where the store has `room` words, or 0.
+// Why an input is declined where the store has `room` words, or 0. One of no bytes has no other ground.
 fn refusal(input: &[u8], room: usize) -> u8
     ensures { λ r. ⌜ r ≡ refuse (readGrounds (now (input .entry)) room) ⌝ }
 {
@@ -70,7 +74,7 @@ fn refusal(input: &[u8], room: usize) -> u8
         return 10;
     }
     if input.len() == 0 {
-        return 11;
+        return 0;
     }
     if input.len() % BLOCK != 0 {
         return 11;

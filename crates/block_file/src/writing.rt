@@ -1,4 +1,4 @@
-// The call `write` (01, "Blocks"): the file of a table, straight from the store to the lent output.
+// The call `write`: the file of a table, straight from the store to the lent output.
 //
 //   Written, write                 the file at the front of the output and its length, or why it is declined
 //   write_blocks, write_block      the first so many blocks; one block: its number, its content, its check
@@ -36,13 +36,16 @@ pub enum Written {
     Refused(u8),
 }
 
-// Nothing is written before the last ground of refusal has been tested.
+// Nothing is written before the last ground of refusal has been tested. A draft is a file of no bytes, for which no output is too short.
 pub fn write(store: &[u64], n: usize, g: usize, output: &mut [u8]) -> Written
     ensures { λ r. ⌜ CalledWrite (now (store .entry)) n g (now (output .entry)) r (now (output .exit)) ⌝ }
 {
     let declined = refusal(store, n, g);
     if declined != 0 {
         return Written::Refused(declined);
+    }
+    if n == 0 {
+        return Written::File(0);
     }
     let l = content_length(n, g);
     let blocks = blocks_for(l);

@@ -1,3 +1,4 @@
+pub mod Counting
 pub mod Texts
 pub mod Reports
 pub mod ReportedKept

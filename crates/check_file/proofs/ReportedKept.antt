@@ -6,10 +6,11 @@
 --   longer-refused   a file longer than the largest gets 11, and so does its part that fills `input_room`
 use Prim.Native.Nat.{ℕ, _<_}
 use native.Mathlib.Nat.{le-refl}
+use native.Mathlib.Omega.{arith}
 use mathlib.Core.Path.{_≡_, sym, ap, _∙_}
 use mathlib.Core.Bool.{cond, or-true}
 use mathlib.Core.List.{List, [], _∷_}
-use borrow.Author.Tests.{lt-ltb}
+use borrow.Author.Tests.{lt-ltb, ne-eqb}
 use lib.Dec.{eqb}
 use lib.ListN.{length}
 use Rattle.model.specs.Sets.{maxStates}
@@ -54,4 +55,4 @@ module _ (input : List ℕ) (bytes : Bounded 256 input) (e : (readAnswer input s
 
 pub longer-refused : (input : List ℕ) → maxFile < length input → checkText input ≡ refusedText 11
 unfolding checkText readAnswer readGrounds fileGrounds badLength refuse
-longer-refused input h = rw (lt-ltb maxFile (length input) h, or-true)
+longer-refused input h = rw (ne-eqb (length input) 0 (λ e. omega arith), lt-ltb maxFile (length input) h, or-true)

@@ -1,4 +1,4 @@
--- What the program prints for a file (01, "The program").
+-- What the program prints for a file (the specification, "The program").
 --
 --   zeroStore, zeroPath    the store and the path buffer that the program lends, all 0
 --   tableText store n g    what is printed for the table that a store holds: the report of a release check on it
@@ -7,7 +7,7 @@ use Prim.Native.Nat.{ℕ}
 use mathlib.Core.Bool.{cond}
 use mathlib.Core.List.{List}
 use lib.Dec.{eqb}
-use lib.ListN.{length, replicate}
+use lib.ListN.{replicate}
 use Rattle.model.specs.Sets.{maxStates}
 use Rattle.model.specs.Stores.{storeWords}
 use Rattle.model.specs.Calls.{release, decideAnswer, decideBuffer, readAnswer, readBuffer}

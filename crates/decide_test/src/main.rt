@@ -116,6 +116,12 @@ fn table_g() {
     try_allowances(b"G", &t, 1, 0);
 }
 
+// No states.
+fn table_draft() {
+    let t = [0u64; STORE_WORDS];
+    try_allowances(b"draft", &t, 0, 0);
+}
+
 // The specification gives n and g of H alone. Here 58 leads to the forbidden state and shares a cover with the states that a session goes through, till a
 // group parts them.
 fn table_h() {
@@ -140,7 +146,9 @@ fn table_ninth() {
 
 // Each refusal alone, then with every later ground holding as well. `stray` has one state, 5, in the initial set.
 fn refusals(empty: &[u64], stray: &[u64]) {
-    try_one(b"n 0", empty, 0, 0, 0);
+    try_one(b"n 0 g 1", empty, 0, 1, 0);
+    try_short(b"n 0 g 65 and all else", stray, 0, 65, 257);
+    try_one(b"state 5 of 0", stray, 0, 0, 0);
     try_one(b"n 257", empty, 257, 0, 0);
     try_short(b"n 257 and all else", stray, 257, 65, 257);
     try_one(b"g 65", empty, 5, 65, 0);
@@ -180,6 +188,7 @@ fn main() {
     table_e();
     table_f();
     table_g();
+    table_draft();
     table_h();
     table_ninth();
     short_store();

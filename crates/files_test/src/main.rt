@@ -1,6 +1,6 @@
-// The calls read and write (01, "Blocks"): the file of E byte for byte, what is accepted, each refusal alone and beside a later one, the
+// The calls read and write: the file of E byte for byte, what is accepted, each refusal alone and beside a later one, the
 // edges, and round trips. A buffer holds sevens before a call; after it, all that the answer does not account for is looked at.
-// tests/expected.py works out what this must print, from 01's text.
+// tests/expected.py works out what this must print, from the specification's text.
 //
 // Places in the file of E, of one block: number 0 1, n 2 3, g 4 5, initial set 6, forbidden set 7, rows 8 9 10, filler 11 to 509,
 // check 510 511. In that of H the last row ends at 509, and nothing is filler. With a group, which has 22 to 29, H has a second block:
@@ -193,6 +193,17 @@ fn write_e(e: &[u64]) {
     try_write(e, 1288, 2, 0, 511);
 }
 
+// No output is too short for it; then 10, and 14 for groups without states.
+fn write_draft() {
+    let t = [0u64; 1300];
+    text(b"write a draft\n");
+    try_write(&t, 1288, 0, 0, 0);
+    try_write(&t, 1300, 0, 0, 512);
+    try_write(&t, 1287, 0, 0, 0);
+    try_write(&t, 1288, 0, 1, 512);
+    try_write(&t, 1288, 0, 65, 0);
+}
+
 // At last beside no input at all.
 fn read_stores(e: &[u64]) {
     text(b"read E\n");
@@ -206,7 +217,7 @@ fn read_e(e: &[u64], at: usize, value: u8, at2: usize, value2: u8) {
     try_file(e, 3, 0, 512, 1288, at, value, at2, value2);
 }
 
-// At last beside a wrong number.
+// No bytes, which are a draft; then too few and too many; at last beside a wrong number.
 fn read_lengths(e: &[u64]) {
     try_file(e, 3, 0, 0, 1288, NOWHERE, 0, NOWHERE, 0);
     try_file(e, 3, 0, 511, 1288, NOWHERE, 0, NOWHERE, 0);
@@ -258,6 +269,7 @@ fn read_contents(e: &[u64]) {
 fn try_e(e: &[u64]) {
     print_e(e);
     write_e(e);
+    write_draft();
     read_stores(e);
     read_lengths(e);
     read_blocks(e);

@@ -3,13 +3,12 @@
 --   Store                  a store that holds a table: grounds 10, 14, 15 and 17 do not hold; well-formed: its table is well formed
 --   accepted-store         from the grounds that the calls share; store-accepted: and back
 --   Check, check-of        the same with grounds 20 and 21, of an accepted check
-use Prim.Native.Nat.{ℕ, _≤_, _<_}
-use native.Mathlib.Omega.{arith}
+use Prim.Native.Nat.{ℕ, _≤_}
 use mathlib.Core.Path.{_≡_, refl, sym, ap, subst}
 use mathlib.Core.Logic.{⊎-elim}
-use mathlib.Core.Bool.{Bool, false, cond}
+use mathlib.Core.Bool.{Bool, true, false, not, _&&_, cond}
 use mathlib.Core.List.{List, [], _++_}
-use borrow.Author.Tests.{ltb-false, le-ltb, eqb-true, eqb-false, ne-eqb}
+use borrow.Author.Tests.{ltb-false, le-ltb, eqb-true, eq-eqb, not-false}
 use lib.Dec.{eqb, ltb}
 use lib.ListN.{length}
 use Rattle.model.specs.Sets.{maxStates, Set, firstStates}
@@ -28,7 +27,7 @@ use Rattle.model.proofs.WellFormed.{WellFormed}
 
 pub record Store (store : List ℕ) (n g : ℕ) : Type 0 where
   pub long : storeWords ≤ length store
-  pub some : 0 < n
+  pub draft : n ≡ 0 → g ≡ 0  -- without states, without groups
   pub small : n ≤ maxStates
   pub few : g ≤ maxGroups
   pub clean : malformed store n g ≡ false
@@ -40,29 +39,30 @@ unfolding badStates
 accepted-store store n g later e =
     let parts = refuse-clear (sharedGrounds store n g) later refl e in
     let clear = parts .0 in
-    let states = or-false (eqb n 0) (ltb maxStates n) (clear .1 .0) in (
+    let states = or-false (eqb n 0 && not (eqb g 0)) (ltb maxStates n) (clear .1 .0) in (
       record {
         long = ltb-false (length store) storeWords (clear .0);
-        some = positive n (eqb-false n 0 (states .0));
+        draft = λ e. eqb-true g 0 (not-false (eqb g 0) (rw (eq-eqb n 0 e) at (states .0)));
         small = ltb-false maxStates n (states .1);
         few = ltb-false maxGroups g (clear .1 .1 .0);
         clean = clear .1 .1 .1 .0;
       },
       parts .1,
     )
-  where
-    positive : (m : ℕ) → (m ≡ 0 → ⊥) → 0 < m
-    positive m f = omega arith
+
+pub states-pass : (n g : ℕ) → (n ≡ 0 → g ≡ 0) → n ≤ maxStates → badStates n g ≡ false
+unfolding badStates
+states-pass n g draft small =
+    ⊎-elim
+    (λ (q : eqb n 0 ≡ true). rw (q, eq-eqb g 0 (draft (eqb-true n 0 q))) (le-ltb maxStates n small))
+    (λ (q : eqb n 0 ≡ false). rw q (le-ltb maxStates n small))
+    (decided (eqb n 0))
 
 -- and back: where none of the shared grounds holds, those that the call adds decide
 pub store-accepted : (store : List ℕ) (n g : ℕ) (later : List Ground) → Store store n g → refuse (sharedGrounds store n g ++ later) ≡ refuse later
-unfolding badStates
 store-accepted store n g later s =
     refuse-behind (sharedGrounds store n g) later
-    (le-ltb (length store) storeWords (s .long), (rw (ne-eqb n 0 (not-zero (s .some))) (le-ltb maxStates n (s .small)), (le-ltb maxGroups g (s .few), (s .clean, tt))))
-  where
-    not-zero : 0 < n → n ≡ 0 → ⊥
-    not-zero h e = omega arith
+    (le-ltb (length store) storeWords (s .long), (states-pass n g (s .draft) (s .small), (le-ltb maxGroups g (s .few), (s .clean, tt))))
 
 pub well-formed : (store : List ℕ) (n g : ℕ) → Store store n g → WellFormed (tableOf store n g)
 unfolding tableOf

@@ -10,7 +10,7 @@
 --   framed, framed-is                         so are the bytes of a content between their number and their check
 --   length-part, getD-part, part-bounded      the blocks of an input; concat-part: joined, they are the input
 --   length-contentsOf, getD-contentsOf(-at)   the contents of an input, by block and by place; contentsOf-bounded
-use Prim.Native.Nat.{ℕ, zero, suc, _+_, _*_, _-_, _/_, _%_, _≤_, _<_}
+use Prim.Native.Nat.{ℕ, zero, suc, _+_, _*_, _-_, _/_, _%_, _<_}
 use native.Mathlib.Nat.{add-zero, zero-add, div-add-mod}
 use native.Mathlib.Omega.{arith}
 use mathlib.Core.Path.{_≡_, refl, sym, ap, ap₂, _∙_, subst}

@@ -2,25 +2,29 @@
 --
 --   Writable, writable                          no ground of write holds; writable-room: the last of them
 --   write-refusal, write-answer, write-buffer   the refusal of any answer; the answer and the output where nothing is refused
---   Readable                                    no ground of read holds, and n and g are those of the input
+--   Readable                                    no ground of read holds of a file with a block, and n and g are those of the input
 --   blocks-clear                                no ground of the blocks holds, if nothing is refused
 --   clear-block, right-block                    no ground of a block holds exactly if its number and its check are right
---   readable, readable-clear                    from the grounds, and back
+--   readable                                    where nothing is refused the input has no bytes or is readable
+--   draft-refusal, readable-refusal             and back
 --   read-refusal, read-answer, read-buffer      the refusal of any answer; the answer and the store where nothing is refused
+--   no-bytes, draft-says                        what an input of no bytes says
 use Prim.Native.Nat.{ℕ, _+_, _*_, _/_, _%_, _≤_, _<_}
-use mathlib.Core.Path.{_≡_, refl, sym, ap, ap₂, _∙_, subst}
-use mathlib.Core.Bool.{false, not, cond}
+use native.Mathlib.Omega.{arith}
+use mathlib.Core.Path.{_≡_, refl, sym, ap, _∙_, subst}
+use mathlib.Core.Logic.{_⊎_, inl, inr, ⊎-elim}
+use mathlib.Core.Bool.{true, false, not, cond}
 use mathlib.Core.List.{List, [], _∷_, _++_}
 use borrow.Author.Tests.{ltb-false, le-ltb, eqb-true, eqb-false, eq-eqb, ne-eqb, not-false}
 use lib.Dec.{eqb, ltb}
 use lib.ListN.{length, getD}
 use Rattle.model.specs.Sets.{maxStates, number}
-use Rattle.model.specs.Stores.{maxGroups, storeWords, tableOf, layout, Ground, refuse, beyond, badStates, storeGround}
+use Rattle.model.specs.Stores.{maxGroups, storeWords, tableOf, concat, layout, Ground, refuse, beyond, storeGround}
 use Rattle.model.specs.Blocks.{blockBytes, contentBytes, checkAt, le16At, checkOf, blocksFor, part, contentsOf, blockGrounds}
 use Rattle.model.specs.Contents.{contentLength, setNumber, tableIn}
 use Rattle.model.specs.Files.{fileOf, fileLength, maxFile}
 use Rattle.model.specs.Calls.{overwrite, TableRead, statesIn, groupsIn, badLength, blocksGrounds, contentGrounds, fileGrounds, readGrounds, readAnswer, readBuffer, Written, outputGround, writeGrounds, writeAnswer, writeBuffer}
-use Rattle.model.proofs.Bounds.{by-cond, any-none, or-false, no-any}
+use Rattle.model.proofs.Bounds.{by-cond, decided, any-none, or-false, no-any}
 use Rattle.model.proofs.GroundLaws.{Clear, refuse-none, refuse-skip, clear-refuse, refuse-clear, clear-append, clear-concat, concat-clear, numbered-concat}
 use Rattle.model.proofs.StoreLaws.{nonZero-zero, zero-nonZero}
 use Rattle.model.proofs.Acceptance.{Store, accepted-store, store-accepted}
@@ -92,10 +96,6 @@ pub blocks-clear : (input : List ℕ) (later : List Ground) → refuse (blocksGr
 unfolding blocksGrounds blockGrounds
 blocks-clear input later = refuse-clear (blocksGrounds input) later (numbered-concat (λ k. blockGrounds (part input k) k) (λ k. refl) (length input / blockBytes))
 
-pub states-pass : (n : ℕ) → (n ≡ 0 → ⊥) → n ≤ maxStates → badStates n ≡ false
-unfolding badStates
-states-pass n some h = rw (ne-eqb n 0 some) (le-ltb maxStates n h)
-
 module _ (input : List ℕ) (room : ℕ) where
   pub read-refusal : (readAnswer input room) .refusal ≡ refuse (readGrounds input room)
   unfolding readAnswer
@@ -103,26 +103,26 @@ module _ (input : List ℕ) (room : ℕ) where
       let k = refuse (readGrounds input room) in
       by-cond (λ (a : TableRead). a .refusal ≡ k) (eqb k 0) _ _ (λ q. sym (eqb-true k 0 q)) (λ q. refl)
 
-  pub readable : refuse (readGrounds input room) ≡ 0 → Readable input room (statesIn input) (groupsIn input)
-  unfolding readGrounds fileGrounds badLength blocksGrounds contentGrounds badStates
-  readable e =
+  -- a file with any block
+  file-readable : storeWords ≤ room → (length input ≡ 0 → ⊥) → refuse (fileGrounds input) ≡ 0 → Readable input room (statesIn input) (groupsIn input)
+  unfolding fileGrounds badLength blocksGrounds contentGrounds
+  file-readable fits present e =
       let bytes = contentsOf input in
       let n = statesIn input in
       let g = groupsIn input in
       let m = length input / blockBytes in
-      let early = refuse-clear (storeGround room ∷ (badLength input, 11) ∷ []) _ refl e in
+      let early = refuse-clear ((badLength input, 11) ∷ []) _ refl e in
       let blocks = blocks-clear input (contentGrounds input n g) (early .1) in
       let late = refuse-clear (contentGrounds input n g) [] refl (blocks .1) .0 in
-      let long = or-false _ (ltb maxFile (length input)) (early .0 .1 .0) in
-      let odd = or-false (eqb (length input) 0) (not (eqb (length input % blockBytes) 0)) (long .0) in
+      let size = or-false (not (eqb (length input % blockBytes) 0)) (ltb maxFile (length input)) (early .0 .0) in
       let states = or-false (eqb n 0) (ltb maxStates n) (late .0) in
       let right : (k : ℕ) → k < m → (le16At (part input k) 0 ≡ k) × (le16At (part input k) checkAt ≡ checkOf (part input k)) =
       λ k h. clear-block (part input k) k (concat-clear (λ j. blockGrounds (part input j) j) m (blocks .0) k h) in
       record {
-        fits = ltb-false room storeWords (early .0 .0);
-        present = eqb-false (length input) 0 (odd .0);
-        whole = eqb-true (length input % blockBytes) 0 (not-false _ (odd .1));
-        short = ltb-false maxFile (length input) (long .1);
+        fits = fits;
+        present = present;
+        whole = eqb-true (length input % blockBytes) 0 (not-false _ (size .0));
+        short = ltb-false maxFile (length input) (size .1);
         number = λ k h. right k h .0;
         check = λ k h. right k h .1;
         n-is = refl;
@@ -135,6 +135,21 @@ module _ (input : List ℕ) (room : ℕ) where
         filler = nonZero-zero bytes (contentLength n g) (contentBytes * m) (late .1 .1 .1 .1 .0);
       }
 
+  pub readable : refuse (readGrounds input room) ≡ 0 → (storeWords ≤ room) × ((length input ≡ 0) ⊎ Readable input room (statesIn input) (groupsIn input))
+  unfolding readGrounds
+  readable e =
+      let first = refuse-clear (storeGround room ∷ []) _ refl e in
+      let fits = ltb-false room storeWords (first .0 .0) in (
+        fits,
+        ⊎-elim (λ (q : eqb (length input) 0 ≡ true). inl (eqb-true (length input) 0 q))
+            (λ (q : eqb (length input) 0 ≡ false). inr (file-readable fits (eqb-false (length input) 0 q) (rw q at (first .1))))
+            (decided (eqb (length input) 0)),
+      )
+
+  pub draft-refusal : storeWords ≤ room → length input ≡ 0 → refuse (readGrounds input room) ≡ 0
+  unfolding readGrounds
+  draft-refusal h e = clear-refuse (readGrounds input room) (le-ltb room storeWords h, rw (eq-eqb (length input) 0 e) tt)
+
   pub readable-refusal : (n g : ℕ) → Readable input room n g → refuse (readGrounds input room) ≡ 0
   unfolding readGrounds fileGrounds badLength blocksGrounds contentGrounds
   readable-refusal n g r =
@@ -142,13 +157,13 @@ module _ (input : List ℕ) (room : ℕ) where
       let m = length input / blockBytes in
       clear-refuse (readGrounds input room) (
         le-ltb room storeWords (r .fits),
-        (
-          rw (ne-eqb (length input) 0 (r .present), eq-eqb (length input % blockBytes) 0 (r .whole)) (le-ltb maxFile (length input) (r .short)),
+        rw (ne-eqb (length input) 0 (r .present)) (
+          rw (eq-eqb (length input % blockBytes) 0 (r .whole)) (le-ltb maxFile (length input) (r .short)),
           clear-append (blocksGrounds input) (contentGrounds input (statesIn input) (groupsIn input))
               (clear-concat (λ j. blockGrounds (part input j) j) m (λ k h. right-block (part input k) k (r .number k h) (r .check k h)))
               (subst (λ (a : ℕ). Clear (contentGrounds input a (groupsIn input))) (sym (r .n-is))
               (subst (λ (b : ℕ). Clear (contentGrounds input n b)) (sym (r .g-is)) (
-                states-pass n (r .some) (r .small),
+                rw (ne-eqb n 0 (r .some)) (le-ltb maxStates n (r .small)),
                 (
                   le-ltb maxGroups g (r .few),
                   (
@@ -163,14 +178,21 @@ module _ (input : List ℕ) (room : ℕ) where
         ),
       )
 
-  pub read-answer : (n g : ℕ) → Readable input room n g → readAnswer input room ≡ record { refusal = 0; n = n; g = g }
+  pub read-answer : refuse (readGrounds input room) ≡ 0 → readAnswer input room ≡ record { refusal = 0; n = statesIn input; g = groupsIn input }
   unfolding readAnswer
-  read-answer n g r =
-      chosen (refuse (readGrounds input room)) _ _ (readable-refusal n g r)
-      ∙ ap₂ (λ (a b : ℕ). record { refusal = 0; n = a; g = b }) (r .n-is) (r .g-is)
+  read-answer e = chosen (refuse (readGrounds input room)) _ _ e
 
-pub read-buffer : (input store : List ℕ) (n g : ℕ) → Readable input (length store) n g → readBuffer input store ≡ overwrite (layout (tableIn (contentsOf input) n g)) store
+pub read-buffer : (input store : List ℕ) → refuse (readGrounds input (length store)) ≡ 0
+    → readBuffer input store ≡ overwrite (layout (tableIn (contentsOf input) (statesIn input) (groupsIn input))) store
 unfolding readBuffer
-read-buffer input store n g r =
-    chosen (refuse (readGrounds input (length store))) _ store (readable-refusal input (length store) n g r)
-    ∙ ap₂ (λ (a b : ℕ). overwrite (layout (tableIn (contentsOf input) a b)) store) (r .n-is) (r .g-is)
+read-buffer input store e = chosen (refuse (readGrounds input (length store))) _ store e
+
+-- ---- an input of no bytes
+
+pub no-bytes : (input : List ℕ) → length input ≡ 0 → input ≡ []
+no-bytes [] e = refl
+no-bytes (x ∷ xs) e = absurd (omega arith)
+
+pub draft-says : (input : List ℕ) → length input ≡ 0 → (statesIn input ≡ 0) × (groupsIn input ≡ 0)
+unfolding contentsOf concat
+draft-says input e = let none = no-bytes input e in (ap (λ (xs : List ℕ). statesIn xs) none, ap (λ (xs : List ℕ). groupsIn xs) none)

@@ -4,17 +4,17 @@
 --   malformed-same, grounds-same            ground 17, and the shared grounds, of both
 --   same-call                               what is made of the grounds and, where none holds, of the table, is the same
 --   first-words                             specs/Promises
-use Prim.Native.Nat.{ℕ, _+_, _*_, _≤_, _<_}
+use Prim.Native.Nat.{ℕ, _+_, _≤_, _<_}
 use native.Mathlib.Omega.{arith}
 use mathlib.Core.Path.{_≡_, refl, sym, ap, ap₂, _∙_, fun-ext}
 use mathlib.Core.Logic.{⊎-elim}
-use mathlib.Core.Bool.{Bool, true, false, cond, not, _&&_, _||_}
-use mathlib.Core.List.{List, [], _∷_, _++_}
+use mathlib.Core.Bool.{true, false, cond, not, _&&_, _||_}
+use mathlib.Core.List.{List, _++_}
 use borrow.Author.Tests.{ltb-true, ltb-false, le-ltb, eqb-true}
 use lib.Dec.{eqb, leb, ltb, lit≤}
 use lib.ListN.{length, getD, take, drop, take-append-drop}
 use lib.Seq.{length-take-le, getD-take}
-use Rattle.model.specs.Sets.{WORDS, maxStates, Set, empty}
+use Rattle.model.specs.Sets.{WORDS, maxStates, empty}
 use Rattle.model.specs.Tables.{Table}
 use Rattle.model.specs.Rounds.{run}
 use Rattle.model.specs.Paths.{shortest, hasPath, smallestPath}
@@ -30,9 +30,9 @@ nonZero-cong : (xs ys : List ℕ) (from to : ℕ) → ((i : ℕ) → i < to → 
 unfolding nonZero
 nonZero-cong xs ys from to e = any-cong _ _ to (λ i h. ap (λ (x : ℕ). leb from i && not (eqb x 0)) (e i h))
 
-states-le : (n : ℕ) → badStates n ≡ false → n ≤ maxStates
+states-le : (n g : ℕ) → badStates n g ≡ false → n ≤ maxStates
 unfolding badStates
-states-le n e = ltb-false maxStates n (or-false (eqb n 0) (ltb maxStates n) e .1)
+states-le n g e = ltb-false maxStates n (or-false (eqb n 0 && not (eqb g 0)) (ltb maxStates n) e .1)
 
 module _ (store other : List ℕ) (long : storeWords ≤ length store) (long′ : storeWords ≤ length other) (e : take storeWords store ≡ take storeWords other) where
   same-word : (i : ℕ) → i < storeWords → getD store i 0 ≡ getD other i 0
@@ -83,13 +83,13 @@ module _ (store other : List ℕ) (long : storeWords ≤ length store) (long′ 
   grounds-same n g later =
       rw (le-ltb (length store) storeWords long, le-ltb (length other) storeWords long′)
       (⊎-elim
-      (λ (b : badStates n ≡ true). rw b)
-      (λ (b : badStates n ≡ false).
+      (λ (b : badStates n g ≡ true). rw b)
+      (λ (b : badStates n g ≡ false).
       ⊎-elim
       (λ (c : ltb maxGroups g ≡ true). rw (b, c))
-      (λ (c : ltb maxGroups g ≡ false). rw (b, c, malformed-same n g (states-le n b) (ltb-false maxGroups g c)))
+      (λ (c : ltb maxGroups g ≡ false). rw (b, c, malformed-same n g (states-le n g b) (ltb-false maxGroups g c)))
       (decided (ltb maxGroups g)))
-      (decided (badStates n)))
+      (decided (badStates n g)))
 
   -- f is given the first ground that holds, and the table, which it reads only where there is none
   pub same-call : {A : Type 0} (f : ℕ → Table → A) (n g : ℕ) (later : List Ground) → ((k : ℕ) (t u : Table) → eqb k 0 ≡ false → f k t ≡ f k u)

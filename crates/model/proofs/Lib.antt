@@ -17,6 +17,7 @@ pub mod Acceptance
 pub mod CallLaws
 pub mod RoundTrips
 pub mod FirstWords
+pub mod Drafts
 pub mod Kept
 pub mod Ranges
 pub mod BlockCheck

@@ -6,6 +6,7 @@
 --   write-range             write's length
 use Prim.Native.Nat.{ℕ, _≤_}
 use native.Mathlib.Omega.{arith}
+use mathlib.Core.Logic.{⊎-elim}
 use mathlib.Core.List.{List}
 use borrow.Author.Tests.{eqb-true}
 use lib.Dec.{eqb}
@@ -22,7 +23,7 @@ use Rattle.model.proofs.Counting.{size-most}
 use Rattle.model.proofs.Fixpoints.{backward-is}
 use Rattle.model.proofs.RoundLaws.{countOf, count-backward}
 use Rattle.model.proofs.FileLaws.{fileLength-most}
-use Rattle.model.proofs.CallLaws.{writable, readable}
+use Rattle.model.proofs.CallLaws.{writable, readable, draft-says}
 use Rattle.model.proofs.Acceptance.{accepted-store}
 
 -- ---- decide and shortest path
@@ -73,8 +74,10 @@ unfolding readAnswer
 read-range input room =
     by-cond ReadRange (eqb (refuse (readGrounds input room)) 0) _ _
     (λ q.
-    let r = readable input room (eqb-true (refuse (readGrounds input room)) 0 q) in
-    record { n = r .small; g = r .few })
+    ⊎-elim
+    (λ none. let says = draft-says input none in record { n = omega (arith, says .0); g = omega (arith, says .1) })
+    (λ r. record { n = r .small; g = r .few })
+    (readable input room (eqb-true (refuse (readGrounds input room)) 0 q) .1))
     (λ q. record { n = omega arith; g = omega arith })
 
 pub write-range : (store : List ℕ) (n g room : ℕ) → (writeAnswer store n g room) .length ≤ maxFile

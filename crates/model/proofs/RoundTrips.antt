@@ -1,14 +1,15 @@
 -- The proof of the round trips (specs/RoundTrip.antt).
 --
---   Storable t g, readable-file     a table that a file can hold; read takes its file, and finds its n, g and sets (read-n, read-g, read-set)
+--   Storable t g, readable-file     a table that a file can hold; read takes its blocks, and finds its n, g and sets (read-n, read-g, read-set)
 --   storable, read-holds            an accepted store holds such a table, and also holds the table that is read from its file
 --   write-read                      so a table that is written is read again
 --   contents-table, file-table      a table that was read has the contents and the file that it was read from
---   laid, filled-writable           laid out in a store it is accepted by write, and file-filled: has that file
---   read-write                      so an input that is read is written again
+--   laid, filled-held               laid out in a store it is accepted by write, and file-filled: has that file
+--   write-draft, write-blocks       an input of no bytes, or of blocks, that is read, is written again; read-write: either
 --   file-sizes                      the lengths of contents and files
 --   round-trips                     both
 use Prim.Native.Nat.{ℕ, _+_, _*_, _/_, _^_, _≤_, _<_}
+use native.Mathlib.Nat.{eq-zero-or-pos}
 use native.Mathlib.Omega.{arith}
 use mathlib.Core.Path.{_≡_, refl, sym, ap, ap₂, _∙_, subst}
 use mathlib.Core.Logic.{⊎-elim}
@@ -19,56 +20,56 @@ use lib.Dec.{ltb}
 use lib.ListN.{length, getD, take}
 use Rattle.model.specs.Sets.{WORDS, maxStates, Set, tabulate, member, number, empty}
 use Rattle.model.specs.Tables.{Table}
-use Rattle.model.specs.Stores.{maxGroups, forbiddenAt, groupAt, rowAt, storeWords, setAt, tableOf, concat, layout, beyond}
+use Rattle.model.specs.Stores.{maxGroups, forbiddenAt, groupAt, rowAt, storeWords, setAt, tableOf, concat, layout, refuse, beyond}
 use Rattle.model.specs.Blocks.{blockBytes, contentBytes, checkAt, le16, le16At, checkOf, blocksFor, blockOf, part, contentsOf}
 use Rattle.model.specs.Contents.{setWidth, sets, headerBytes, contents, contentLength, setNumber, tableIn}
-use Rattle.model.specs.Files.{fileOf, fileLength, maxFile}
-use Rattle.model.specs.Calls.{overwrite, TableRead, Written, readBuffer, writeBuffer}
+use Rattle.model.specs.Files.{blockFile, blockFileLength, fileOf, fileLength, maxFile}
+use Rattle.model.specs.Calls.{overwrite, TableRead, statesIn, groupsIn, readGrounds, readBuffer, Written, writeBuffer}
 use Rattle.model.specs.RoundTrip.{Bounded, WriteRead, ReadWrite, RoundTrips, FileSizes}
 use Rattle.model.proofs.Bounds.{by-cond, lt-or-ge, length-tabulate, getD-tabulate}
 use Rattle.model.proofs.SetLaws.{In}
 use Rattle.model.proofs.ListLaws.{getD-past, concat-cong, length-overwrite, take-overwrite}
 use Rattle.model.proofs.BlockLaws.{le16At-le16, IsBlock, block-unique, block-number, block-check, is-block, blockOf-is, length-part, part-bounded, concat-part, length-contentsOf, getD-contentsOf, contentsOf-bounded}
-use Rattle.model.proofs.ContentLaws.{setIn-proper, tableIn-row, number-setIn, setIn-is, sets-group, sets-row, sets-each, length-contents, contents-header, contents-set, contents-cong, header-pairs, by-content}
-use Rattle.model.proofs.FileLaws.{length-fileOf, part-fileOf, contentsOf-fileOf, fileLength-most}
+use Rattle.model.proofs.ContentLaws.{setIn-proper, setIn-below, tableIn-row, number-setIn, setIn-is, sets-group, sets-row, sets-each, length-contents, contents-header, contents-set, contents-cong, header-pairs, by-content}
+use Rattle.model.proofs.FileLaws.{length-blockFile, part-blockFile, contentsOf-blockFile, file-draft, file-blocks, length-draft, length-blocks, length-fileOf, fileLength-most}
 use Rattle.model.proofs.StoreLaws.{setAt-proper, row-is, empty-proper, setAt-empty, Holds, holds-layout, Laid, length-layout, overwrite-holds, holds-sets, Within, beyond-below, below-beyond, malformed-clean, clean-malformed, holds-clean}
-use Rattle.model.proofs.CallLaws.{Writable, write-refusal, writable, write-answer, write-buffer, Readable, read-refusal, readable, read-answer, read-buffer}
+use Rattle.model.proofs.Acceptance.{Store}
+use Rattle.model.proofs.CallLaws.{Writable, write-refusal, writable, write-answer, write-buffer, Readable, read-refusal, readable, draft-refusal, readable-refusal, read-answer, read-buffer, no-bytes, draft-says}
 
 -- ---- the file of a table, read
 
 record Storable (t : Table) (g : ℕ) : Type 0 where
   many : length (t .groups) ≡ g
-  some : t .n ≡ 0 → ⊥
   small : t .n ≤ maxStates
   few : g ≤ maxGroups
   within : (k : ℕ) → k < 2 + g + t .n → Within (t .n) (getD (sets t) k [])
 
-module _ (t : Table) (g : ℕ) (ok : Storable t g) where
-  read-n : le16At (contentsOf (fileOf t)) 0 ≡ t .n
+module _ (t : Table) (g : ℕ) (ok : Storable t g) (some : t .n ≡ 0 → ⊥) where
+  read-n : le16At (contentsOf (blockFile t)) 0 ≡ t .n
   read-n =
-      le16At-le16 (contentsOf (fileOf t)) 0 (t .n) (omega (arith, ok .small))
-      (contentsOf-fileOf t 0 ∙ contents-header t (ok .many) 0 (omega arith))
-      (contentsOf-fileOf t 1 ∙ contents-header t (ok .many) 1 (omega arith))
+      le16At-le16 (contentsOf (blockFile t)) 0 (t .n) (omega (arith, ok .small))
+      (contentsOf-blockFile t 0 ∙ contents-header t (ok .many) 0 (omega arith))
+      (contentsOf-blockFile t 1 ∙ contents-header t (ok .many) 1 (omega arith))
 
-  read-g : le16At (contentsOf (fileOf t)) 2 ≡ g
+  read-g : le16At (contentsOf (blockFile t)) 2 ≡ g
   read-g =
-      le16At-le16 (contentsOf (fileOf t)) 2 g (omega (arith, ok .few))
-      (contentsOf-fileOf t 2 ∙ contents-header t (ok .many) 2 (omega arith))
-      (contentsOf-fileOf t 3 ∙ contents-header t (ok .many) 3 (omega arith))
+      le16At-le16 (contentsOf (blockFile t)) 2 g (omega (arith, ok .few))
+      (contentsOf-blockFile t 2 ∙ contents-header t (ok .many) 2 (omega arith))
+      (contentsOf-blockFile t 3 ∙ contents-header t (ok .many) 3 (omega arith))
 
-  read-set : (k : ℕ) → k < 2 + g + t .n → setNumber (contentsOf (fileOf t)) (t .n) k ≡ getD (sets t) k []
+  read-set : (k : ℕ) → k < 2 + g + t .n → setNumber (contentsOf (blockFile t)) (t .n) k ≡ getD (sets t) k []
   unfolding setNumber
   read-set k h =
       let w = setWidth (t .n) in
-      setIn-is (contentsOf (fileOf t)) w (headerBytes + w * k) (getD (sets t) k []) (ok .within k h .proper)
+      setIn-is (contentsOf (blockFile t)) w (headerBytes + w * k) (getD (sets t) k []) (ok .within k h .proper)
       (λ s l. omega (arith, ok .within k h .below s l))
-      (λ j l. contentsOf-fileOf t (headerBytes + w * k + j) ∙ contents-set t (ok .many) k j h l)
+      (λ j l. contentsOf-blockFile t (headerBytes + w * k + j) ∙ contents-set t (ok .many) k j h l)
 
-  readable-file : (room : ℕ) → storeWords ≤ room → Readable (fileOf t) room (t .n) g
+  readable-file : (room : ℕ) → storeWords ≤ room → Readable (blockFile t) room (t .n) g
   readable-file room h =
-      let long = length-fileOf t (ok .many) in
-      let short = fileLength-most (t .n) g (ok .small) (ok .few) in
-      let block : (k : ℕ) → k < length (fileOf t) / blockBytes → part (fileOf t) k ≡ blockOf (contents t) k = λ k l. part-fileOf t (ok .many) k (omega arith) in
+      let long = length-blockFile t (ok .many) in
+      let short = subst (λ (l : ℕ). l ≤ maxFile) (length-blocks (t .n) g some) (fileLength-most (t .n) g (ok .small) (ok .few)) in
+      let block : (k : ℕ) → k < length (blockFile t) / blockBytes → part (blockFile t) k ≡ blockOf (contents t) k = λ k l. part-blockFile t (ok .many) k (omega arith) in
       record {
         fits = h;
         present = λ e. omega arith;
@@ -78,12 +79,12 @@ module _ (t : Table) (g : ℕ) (ok : Storable t g) where
         check = λ k l. ap (λ b. le16At b checkAt) (block k l) ∙ block-check (blockOf-is (contents t) k) ∙ ap checkOf (sym (block k l));
         n-is = read-n;
         g-is = read-g;
-        some = ok .some;
+        some = some;
         small = ok .small;
         few = ok .few;
         blocks = omega arith;
         within = λ k l. below-beyond (t .n) _ (λ s i. ok .within k l .below s (subst (λ (X : Set). In X s) (read-set k l) i));
-        filler = λ i a b. contentsOf-fileOf t i ∙ getD-past (contents t) i 0 (omega (arith, length-contents t (ok .many)));
+        filler = λ i a b. contentsOf-blockFile t i ∙ getD-past (contents t) i 0 (omega (arith, length-contents t (ok .many)));
       }
 
 -- ---- write, then read
@@ -98,7 +99,6 @@ module _ (store : List ℕ) (n g room : ℕ) (words : Bounded (2 ^ 64) store) (w
       λ at h e. record { proper = setAt-proper store at (omega (arith, w .held .long)) words; below = beyond-below n (setAt store at) e } in
       record {
         many = length-tabulate _ g;
-        some = λ e. omega (arith, w .held .some);
         small = small;
         few = w .held .few;
         within =
@@ -142,22 +142,40 @@ module _ (store : List ℕ) (n g : ℕ) (out other : List ℕ) (words : Bounded 
       ap (take (fileLength n g)) (write-buffer store n g out w)
       ∙ take-overwrite (fileOf (tableOf store n g)) out (fileLength n g) (length-fileOf (tableOf store n g) (length-tabulate _ g))
 
+  -- a file that read takes, and that has n, g and the sets of the store
+  reads-back : (file : List ℕ) → refuse (readGrounds file (length other)) ≡ 0 → statesIn file ≡ n → groupsIn file ≡ g
+      → ((k : ℕ) → k < 2 + g + n → setNumber (contentsOf file) n k ≡ getD (sets (tableOf store n g)) k []) → WriteRead store n g file other
+  reads-back file e p q sets-are =
+      record {
+        answer = read-answer file (length other) e ∙ ap₂ (λ (a b : ℕ). record { refusal = 0; n = a; g = b }) p q;
+        buffer =
+            read-buffer file other e
+            ∙ ap₂ (λ (a b : ℕ). overwrite (layout (tableIn (contentsOf file) a b)) other) p q
+            ∙ ap (λ xs. overwrite xs other) (holds-layout store _ (read-holds store n g (length out) words w (contentsOf file) sets-are));
+      }
+
   write-read : storeWords ≤ length other → WriteRead store n g (take (fileLength n g) (writeBuffer store n g out)) other
-  unfolding tableOf
+  unfolding tableOf setNumber
   write-read h =
       let t = tableOf store n g in
       let ok = storable store n g (length out) words w in
-      let r = readable-file t g ok (length other) h in
-      let held = read-holds store n g (length out) words w (contentsOf (fileOf t)) (read-set t g ok) in
       subst (λ (file : List ℕ). WriteRead store n g file other) (sym file-is)
-      (record {
-        answer = read-answer (fileOf t) (length other) n g r;
-        buffer = read-buffer (fileOf t) other n g r ∙ ap (λ xs. overwrite xs other) (holds-layout store _ held);
-      })
+      (⊎-elim
+      (λ (e : n ≡ 0).
+      subst (λ (file : List ℕ). WriteRead store n g file other) (sym (file-draft t e))
+      (reads-back [] (draft-refusal [] (length other) h refl) (draft-says [] refl .0 ∙ sym e) (draft-says [] refl .1 ∙ sym (w .held .draft e))
+      (λ k l. setIn-is (contentsOf []) (setWidth n) (headerBytes + setWidth n * k) (getD (sets t) k []) (ok .within k l .proper)
+      (λ s m. omega (arith, ok .within k l .below s m)) (λ j m. absurd (omega arith)))))
+      (λ (l : 0 < n).
+      let some : n ≡ 0 → ⊥ = λ e. omega arith in
+      let r = readable-file t g ok some (length other) h in
+      subst (λ (file : List ℕ). WriteRead store n g file other) (sym (file-blocks t some))
+      (reads-back (blockFile t) (readable-refusal (blockFile t) (length other) n g r) (read-n t g ok some) (read-g t g ok some) (read-set t g ok some)))
+      (eq-zero-or-pos n))
 
 -- ---- read, then write
 
-module _ (input : List ℕ) (room n g : ℕ) (u : Bounded 256 input) (r : Readable input room n g) where
+module _ (input : List ℕ) (n g : ℕ) where
   abbrev table : Table
   table = tableIn (contentsOf input) n g
 
@@ -170,41 +188,6 @@ module _ (input : List ℕ) (room n g : ℕ) (u : Bounded 256 input) (r : Readab
   sets-table =
       sets-each table many-groups (λ k X. X ≡ setNumber (contentsOf input) n k) refl refl
       (λ j h. getD-tabulate (λ i. setNumber (contentsOf input) n (2 + i)) g j [] h) (λ s h. tableIn-row (contentsOf input) n g s h)
-
-  contents-table : (i : ℕ) → getD (contents table) i 0 ≡ getD (contentsOf input) i 0
-  unfolding tableIn setNumber
-  contents-table i =
-      let bytes = contentsOf input in
-      let w = setWidth n in
-      let small = contentsOf-bounded input u in
-      let fits : 8 * w ≤ maxStates = omega (arith, r .small) in
-      ⊎-elim
-      (by-content (λ j. getD (contents table) j 0 ≡ getD bytes j 0) w (2 + g + n)
-      (λ j h.
-      contents-header table many-groups j h
-      ∙ ap₂ (λ (a b : ℕ). getD (le16 a ++ le16 b) j 0) (sym (r .n-is)) (sym (r .g-is))
-      ∙ header-pairs bytes small j h)
-      (λ k j h l.
-      contents-set table many-groups k j h l
-      ∙ ap (λ (X : Set). number (member X) (8 * j) 8) (sets-table k h)
-      ∙ number-setIn bytes w (headerBytes + w * k) fits small j l)
-      i)
-      (λ h.
-      getD-past (contents table) i 0 (omega (arith, length-contents table many-groups))
-      ∙ sym (⊎-elim (r .filler i h) (λ l. getD-past bytes i 0 (omega (arith, length-contentsOf input))) (lt-or-ge i (contentBytes * (length input / blockBytes)))))
-      (lt-or-ge i (contentLength n g))
-
-  part-is : (k : ℕ) → k < length input / blockBytes → IsBlock (contents table) k (part input k)
-  part-is k h =
-      is-block (contents table) k (part input k) (length-part input k h) (part-bounded input k u) (r .number k h) (r .check k h)
-      (λ i l. sym (getD-contentsOf input k i h l) ∙ sym (contents-table (contentBytes * k + i)))
-
-  file-table : fileOf table ≡ input
-  unfolding fileOf tableIn
-  file-table =
-      ap (λ (m : ℕ). concat m (blockOf (contents table))) (ap (λ (l : ℕ). blocksFor l) (length-contents table many-groups) ∙ sym (r .blocks))
-      ∙ concat-cong _ _ (length input / blockBytes) (λ k h. block-unique (blockOf-is (contents table) k) (part-is k h))
-      ∙ concat-part input (r .whole)
 
   laid : Laid table
   unfolding tableIn setNumber
@@ -222,51 +205,115 @@ module _ (input : List ℕ) (room n g : ℕ) (u : Bounded 256 input) (r : Readab
             by-cond (λ (X : Set). length X ≡ WORDS) (ltb s n) _ empty (λ q. (setIn-proper bytes w (headerBytes + w * (2 + g + s))) .long) (λ q. empty-proper .long);
       }
 
-module _ (input store : List ℕ) (n g : ℕ) (u : Bounded 256 input) (r : Readable input (length store) n g) where
+module _ (input : List ℕ) (room n g : ℕ) (u : Bounded 256 input) (r : Readable input room n g) where
+  contents-table : (i : ℕ) → getD (contents (table input n g)) i 0 ≡ getD (contentsOf input) i 0
+  unfolding tableIn setNumber
+  contents-table i =
+      let bytes = contentsOf input in
+      let w = setWidth n in
+      let small = contentsOf-bounded input u in
+      let fits : 8 * w ≤ maxStates = omega (arith, r .small) in
+      ⊎-elim
+      (by-content (λ j. getD (contents (table input n g)) j 0 ≡ getD bytes j 0) w (2 + g + n)
+      (λ j h.
+      contents-header (table input n g) (many-groups input n g) j h
+      ∙ ap₂ (λ (a b : ℕ). getD (le16 a ++ le16 b) j 0) (sym (r .n-is)) (sym (r .g-is))
+      ∙ header-pairs bytes small j h)
+      (λ k j h l.
+      contents-set (table input n g) (many-groups input n g) k j h l
+      ∙ ap (λ (X : Set). number (member X) (8 * j) 8) (sets-table input n g k h)
+      ∙ number-setIn bytes w (headerBytes + w * k) fits small j l)
+      i)
+      (λ h.
+      getD-past (contents (table input n g)) i 0 (omega (arith, length-contents (table input n g) (many-groups input n g)))
+      ∙ sym (⊎-elim (r .filler i h) (λ l. getD-past bytes i 0 (omega (arith, length-contentsOf input))) (lt-or-ge i (contentBytes * (length input / blockBytes)))))
+      (lt-or-ge i (contentLength n g))
+
+  part-is : (k : ℕ) → k < length input / blockBytes → IsBlock (contents (table input n g)) k (part input k)
+  part-is k h =
+      is-block (contents (table input n g)) k (part input k) (length-part input k h) (part-bounded input k u) (r .number k h) (r .check k h)
+      (λ i l. sym (getD-contentsOf input k i h l) ∙ sym (contents-table (contentBytes * k + i)))
+
+  file-table : blockFile (table input n g) ≡ input
+  unfolding blockFile tableIn
+  file-table =
+      ap (λ (m : ℕ). concat m (blockOf (contents (table input n g)))) (ap (λ (l : ℕ). blocksFor l) (length-contents (table input n g) (many-groups input n g)) ∙ sym (r .blocks))
+      ∙ concat-cong _ _ (length input / blockBytes) (λ k h. block-unique (blockOf-is (contents (table input n g)) k) (part-is k h))
+      ∙ concat-part input (r .whole)
+
+-- the store that read leaves
+module _ (input store : List ℕ) (n g : ℕ) where
   abbrev filled : List ℕ
   filled = overwrite (layout (tableIn (contentsOf input) n g)) store
 
   filled-holds : Holds filled (tableIn (contentsOf input) n g)
-  filled-holds = overwrite-holds (tableIn (contentsOf input) n g) (laid input (length store) n g u r) store
+  filled-holds = overwrite-holds (tableIn (contentsOf input) n g) (laid input n g) store
 
-  filled-writable : (room : ℕ) → length input ≤ room → Writable filled n g room
-  unfolding tableIn
-  filled-writable room h =
-      let t = tableIn (contentsOf input) n g in
-      let size = length-layout t (laid input (length store) n g u r) in
-      record {
-        held =
-            record {
-              long = omega (arith, length-overwrite (layout t) store (omega (arith, r .fits)), r .fits);
-              some = omega (arith, r .some);
-              small = r .small;
-              few = r .few;
-              clean =
-                  clean-malformed filled n g
-                  (holds-clean filled t filled-holds (length-tabulate _ g) (r .few) (r .small)
-                  (λ k l. ap (beyond n) (sets-table input (length store) n g u r k l) ∙ r .within k l));
-            };
-        fits = omega (arith, r .blocks);
-      }
+  module _ (small : n ≤ maxStates) (few : g ≤ maxGroups) where
+    filled-held : storeWords ≤ length store → (n ≡ 0 → g ≡ 0)
+        → ((k : ℕ) → k < 2 + g + n → beyond n (setNumber (contentsOf input) n k) ≡ false) → Store filled n g
+    unfolding tableIn
+    filled-held fits draft within =
+        let t = tableIn (contentsOf input) n g in
+        let size = length-layout t (laid input n g) in
+        record {
+          long = omega (arith, length-overwrite (layout t) store (omega arith));
+          draft = draft;
+          small = small;
+          few = few;
+          clean =
+              clean-malformed filled n g
+              (holds-clean filled t filled-holds (length-tabulate _ g) few small (λ k l. ap (beyond n) (sets-table input n g k l) ∙ within k l));
+        }
 
-  file-filled : fileOf (tableOf filled n g) ≡ input
-  unfolding tableOf tableIn fileOf
-  file-filled =
-      let t = tableIn (contentsOf input) n g in
-      ap (λ bytes. concat (blocksFor (length bytes)) (blockOf bytes))
-      (contents-cong (tableOf filled n g) t refl (length-tabulate _ g ∙ sym (length-tabulate _ g))
-      (holds-sets filled t filled-holds (length-tabulate _ g) (r .few) (r .small)))
-      ∙ file-table input (length store) n g u r
+    file-filled : (n ≡ 0 → ⊥) → fileOf (tableOf filled n g) ≡ blockFile (tableIn (contentsOf input) n g)
+    unfolding tableOf tableIn blockFile
+    file-filled some =
+        let t = tableIn (contentsOf input) n g in
+        file-blocks (tableOf filled n g) some
+        ∙ ap (λ bytes. concat (blocksFor (length bytes)) (blockOf bytes))
+        (contents-cong (tableOf filled n g) t refl (length-tabulate _ g ∙ sym (length-tabulate _ g)) (holds-sets filled t filled-holds (length-tabulate _ g) few small))
 
-  read-write : (out : List ℕ) → length input ≤ length out → ReadWrite (readBuffer input store) n g input out
-  read-write out h =
-      let w = filled-writable (length out) h in
-      let size : fileLength n g ≡ length input = omega (arith, r .blocks, r .whole) in
-      subst (λ (xs : List ℕ). ReadWrite xs n g input out) (sym (read-buffer input store n g r))
-      (record {
-        answer = write-answer filled n g (length out) w ∙ ap (λ (l : ℕ). record { refusal = 0; length = l }) size;
-        buffer = write-buffer filled n g out w ∙ ap (λ xs. overwrite xs out) file-filled;
-      })
+    -- a store that write takes, and whose file is the input
+    writes-back : (out : List ℕ) → length input ≤ length out → Store filled n g → fileLength n g ≡ length input → fileOf (tableOf filled n g) ≡ input
+        → ReadWrite filled n g input out
+    writes-back out h held size file =
+        let w : Writable filled n g (length out) = record { held = held; fits = omega arith } in
+        record {
+          answer = write-answer filled n g (length out) w ∙ ap (λ (l : ℕ). record { refusal = 0; length = l }) size;
+          buffer = write-buffer filled n g out w ∙ ap (λ xs. overwrite xs out) file;
+        }
+
+module _ (input store out : List ℕ) (u : Bounded 256 input) (h : length input ≤ length out) where
+  abbrev n : ℕ
+  n = statesIn input
+
+  abbrev g : ℕ
+  g = groupsIn input
+
+  write-draft : storeWords ≤ length store → length input ≡ 0 → ReadWrite (filled input store n g) n g input out
+  unfolding tableOf setNumber
+  write-draft fits e =
+      let says = draft-says input e in
+      let small : n ≤ maxStates = omega (arith, says .0) in
+      let few : g ≤ maxGroups = omega (arith, says .1) in
+      let held =
+      filled-held input store n g small few fits (λ z. says .1)
+      (λ k l. below-beyond n _ (λ s m. omega (arith, says .0, setIn-below (contentsOf input) (setWidth n) (headerBytes + setWidth n * k) s m))) in
+      writes-back input store n g small few out h held (length-draft n g (says .0) ∙ sym e)
+      (file-draft (tableOf (filled input store n g) n g) (says .0) ∙ sym (no-bytes input e))
+
+  write-blocks : Readable input (length store) n g → ReadWrite (filled input store n g) n g input out
+  write-blocks r =
+      let held = filled-held input store n g (r .small) (r .few) (r .fits) (λ z. absurd (r .some z)) (r .within) in
+      let size : blockFileLength n g ≡ length input = omega (arith, r .blocks, r .whole) in
+      writes-back input store n g (r .small) (r .few) out h held (length-blocks n g (r .some) ∙ size)
+      (file-filled input store n g (r .small) (r .few) (r .some) ∙ file-table input (length store) n g u r)
+
+  read-write : refuse (readGrounds input (length store)) ≡ 0 → ReadWrite (readBuffer input store) n g input out
+  read-write e =
+      let r = readable input (length store) e in
+      subst (λ (xs : List ℕ). ReadWrite xs n g input out) (sym (read-buffer input store e)) (⊎-elim (write-draft (r .0)) write-blocks (r .1))
 
 -- ---- both
 
@@ -278,9 +325,9 @@ round-trips =
           subst (λ (a : Written). WriteRead store n g (take (a .length) (writeBuffer store n g out)) other) (sym (write-answer store n g (length out) w))
           (write-read store n g out other words w h);
       read-write = λ input store out u h e.
-          let r = readable input (length store) (sym (read-refusal input (length store)) ∙ e) in
-          subst (λ (a : TableRead). ReadWrite (readBuffer input store) (a .n) (a .g) input out) (sym (read-answer input (length store) _ _ r))
-          (read-write input store _ _ u r out h);
+          let none = sym (read-refusal input (length store)) ∙ e in
+          subst (λ (a : TableRead). ReadWrite (readBuffer input store) (a .n) (a .g) input out) (sym (read-answer input (length store) none))
+          (read-write input store out u h none);
     }
 
 pub file-sizes : FileSizes

@@ -1,4 +1,4 @@
--- Laws of the store (01, "States and sets"): a set among its words, a table in a store, and ground 17.
+-- Laws of the store: a set among its words, a table in a store, and ground 17.
 --
 --   length-setAt, getD-setAt, setAt-proper    a set among the words of a store; setAt-overwrite: of a store written over
 --   getD-empty, empty-proper                  the words of the empty set are 0

@@ -1,4 +1,4 @@
--- Files of blocks: the blocks.
+-- Blocks (the specification, "Files").
 --
 --   blockBytes, contentBytes     the bytes of a block, and those of its content, which begin at contentAt; its check stands at checkAt
 --   modulus                      the prime of the check

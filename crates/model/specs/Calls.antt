@@ -1,5 +1,5 @@
--- The four calls: what each returns and leaves in its buffer, refusals included (01, "Path", "Blocks" and "What comes back when a call
--- declines"). An answer has 01's numbers; `refusal` is 0 where the call is not declined, and every other field is 0 (the invariant empty)
+-- The four calls: what each returns and leaves in its buffer, refusals included (the specification, "Paths", "Files" and "Refusals"). An
+-- answer has the specification's numbers; `refusal` is 0 where the call is not declined, and every other field is 0 (the invariant empty)
 -- where it is.
 --
 --   maxAllowance, release                  the greatest allowance, which is that of a release check
@@ -11,7 +11,7 @@
 --   Written, writeAnswer, writeBuffer      write: the buffer is the output
 --
 -- A buffer's length is the length of the list that it holds. Decide, shortest path and write are lent the store to read only.
-use Prim.Native.Nat.{ℕ, zero, suc, _+_, _*_, _/_, _%_}
+use Prim.Native.Nat.{ℕ, _+_, _*_, _/_, _%_}
 use mathlib.Core.Bool.{Bool, cond, not, _||_}
 use mathlib.Core.List.{List, [], _∷_, _++_}
 use lib.Dec.{eqb, ltb}
@@ -20,7 +20,7 @@ use Rattle.model.specs.Sets.{maxStates, Set, empty, size, any}
 use Rattle.model.specs.Tables.{Table}
 use Rattle.model.specs.Rounds.{Outcome, safe, unsafe, undecided, run}
 use Rattle.model.specs.Paths.{shortest, hasPath, smallestPath}
-use Rattle.model.specs.Stores.{maxGroups, tableOf, concat, layout, Ground, refuse, beyond, nonZero, badStates, storeGround, sharedGrounds}
+use Rattle.model.specs.Stores.{maxGroups, tableOf, concat, layout, Ground, refuse, beyond, nonZero, storeGround, sharedGrounds}
 use Rattle.model.specs.Blocks.{blockBytes, contentBytes, le16At, blocksFor, part, contentsOf, blockGrounds}
 use Rattle.model.specs.Contents.{contentLength, setNumber, tableIn}
 use Rattle.model.specs.Files.{fileOf, fileLength, maxFile}
@@ -117,12 +117,12 @@ groupsIn input = le16At (contentsOf input) 2
 unfoldable pub blocksGrounds : List ℕ → List Ground
 blocksGrounds input = concat (length input / blockBytes) (λ k. blockGrounds (part input k) k)
 
--- Those behind them, of contents that say n and g.
+-- Those behind them, of contents that say n and g: here n is not 0.
 unfoldable pub contentGrounds : List ℕ → ℕ → ℕ → List Ground
 contentGrounds input n g =
     let blocks = length input / blockBytes in
     let bytes = contentsOf input in
-    (badStates n, 14)
+    (eqb n 0 || ltb maxStates n, 14)
     ∷ (ltb maxGroups g, 15)
     ∷ (not (eqb blocks (blocksFor (contentLength n g))), 16)
     ∷ (any (2 + g + n) (λ k. beyond n (setNumber bytes n k)), 17)
@@ -130,15 +130,16 @@ contentGrounds input n g =
     ∷ []
 
 unfoldable pub badLength : List ℕ → Bool
-badLength input = eqb (length input) 0 || not (eqb (length input % blockBytes) 0) || ltb maxFile (length input)
+badLength input = not (eqb (length input % blockBytes) 0) || ltb maxFile (length input)
 
 unfoldable pub fileGrounds : List ℕ → List Ground
 fileGrounds input =
     (badLength input, 11)
     ∷ (blocksGrounds input ++ contentGrounds input (statesIn input) (groupsIn input))
 
+-- An input of no bytes is the file of a draft, and earns none of them.
 unfoldable pub readGrounds : List ℕ → ℕ → List Ground
-readGrounds input room = storeGround room ∷ fileGrounds input
+readGrounds input room = storeGround room ∷ cond (eqb (length input) 0) [] (fileGrounds input)
 
 unfoldable pub readAnswer : List ℕ → ℕ → TableRead
 readAnswer input room =

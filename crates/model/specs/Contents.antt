@@ -1,4 +1,4 @@
--- Files of blocks: the contents, a table as bytes.
+-- Contents, a table as bytes (the specification, "Files").
 --
 --   setWidth n                w, the bytes that a set takes; setBytes w X: its bytes
 --   sets t                    the sets of a table in the file's order: initial, forbidden, the groups, the rows

@@ -1,9 +1,12 @@
--- Files of blocks: the file of a table, its contents in blocks.
+-- The file of a table (the specification, "Files").
 --
+--   blockFile t               the contents of a table in blocks; blockFileLength n g: its bytes
 --   fileOf t                  the file of a table; fileLength n g: its bytes
 --   maxFile                   the length of the largest file
 use Prim.Native.Nat.{ℕ, _*_}
-use mathlib.Core.List.{List}
+use mathlib.Core.Bool.{cond}
+use mathlib.Core.List.{List, []}
+use lib.Dec.{eqb}
 use lib.ListN.{length}
 use Rattle.model.specs.Sets.{maxStates}
 use Rattle.model.specs.Tables.{Table}
@@ -11,12 +14,19 @@ use Rattle.model.specs.Stores.{maxGroups, concat}
 use Rattle.model.specs.Blocks.{blockBytes, blocksFor, blockOf}
 use Rattle.model.specs.Contents.{contents, contentLength}
 
-unfoldable pub fileOf : Table → List ℕ
-fileOf t = let bytes = contents t in concat (blocksFor (length bytes)) (blockOf bytes)
+unfoldable pub blockFile : Table → List ℕ
+blockFile t = let bytes = contents t in concat (blocksFor (length bytes)) (blockOf bytes)
 
-abbrev pub fileLength : ℕ → ℕ → ℕ
-fileLength n g = blockBytes * blocksFor (contentLength n g)
+abbrev pub blockFileLength : ℕ → ℕ → ℕ
+blockFileLength n g = blockBytes * blocksFor (contentLength n g)
+
+-- A table without states, an untouched draft, is a file of no bytes.
+unfoldable pub fileOf : Table → List ℕ
+fileOf t = cond (eqb (t .n) 0) [] (blockFile t)
+
+unfoldable pub fileLength : ℕ → ℕ → ℕ
+fileLength n g = cond (eqb n 0) 0 (blockFileLength n g)
 
 -- n and g at their greatest.
 abbrev pub maxFile : ℕ
-maxFile = fileLength maxStates maxGroups
+maxFile = blockFileLength maxStates maxGroups

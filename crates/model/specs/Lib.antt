@@ -11,3 +11,4 @@ pub mod Sizes
 pub mod Intact
 pub mod Promises
 pub mod RoundTrip
+pub mod Draft

@@ -5,6 +5,8 @@
 --   ReadWrite        the table of an input, written, gives back the length and every byte
 --   RoundTrips       both, of every call that is not declined
 --   FileSizes        how long the contents and the file of a table are, and the largest file
+--
+-- The table without states is among those of the round trips: its file has no bytes.
 use Prim.Native.Nat.{ℕ, _*_, _^_, _≤_, _<_}
 use mathlib.Core.Path.{_≡_}
 use mathlib.Core.List.{List}

@@ -1,4 +1,4 @@
--- The lent store (01, "States and sets"), and what every call asks of it ("What comes back when a call declines").
+-- The lent store, and what every call asks of it (the specification, "The store" and "Refusals").
 --
 --   maxGroups, storeWords      the greatest g, and the words that a table takes
 --   groupAt j, rowAt s         where group j and the successors of state s begin (8 + 4j and 264 + 4s); the initial set begins at 0,
@@ -87,16 +87,16 @@ malformed store n g =
     || nonZero store (groupAt g) (groupAt maxGroups)
     || nonZero store (rowAt n) storeWords
 
--- n is 0 or over the greatest.
-unfoldable pub badStates : ℕ → Bool
-badStates n = eqb n 0 || ltb maxStates n
+-- n is over the greatest, or 0 in a table that has groups. A table without states, an untouched draft, has none.
+unfoldable pub badStates : ℕ → ℕ → Bool
+badStates n g = (eqb n 0 && not (eqb g 0)) || ltb maxStates n
 
 -- For a store of `room` words.
 abbrev pub storeGround : ℕ → Ground
 storeGround room = (ltb room storeWords, 10)
 
 abbrev pub tableGrounds : List ℕ → ℕ → ℕ → List Ground
-tableGrounds store n g = (badStates n, 14) ∷ (ltb maxGroups g, 15) ∷ (malformed store n g, 17) ∷ []
+tableGrounds store n g = (badStates n g, 14) ∷ (ltb maxGroups g, 15) ∷ (malformed store n g, 17) ∷ []
 
 abbrev pub sharedGrounds : List ℕ → ℕ → ℕ → List Ground
 sharedGrounds store n g = storeGround (length store) ∷ tableGrounds store n g

@@ -150,6 +150,7 @@ fn edges_of(b: &[u64]) {
     report_300(b"B, 300 bytes", b, 5, 0);
     report_255(b"B, 255 bytes", b, 5, 0);
     report_256(b"B, n 0", b, 0, 0);
+    report_256(b"B, n 0, g 1", b, 0, 1);
     report_256(b"B, n 257", b, 257, 0);
     report_256(b"B, n 4", b, 4, 0);
     report_256(b"B, g 64", b, 5, 64);

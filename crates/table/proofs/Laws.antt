@@ -5,7 +5,6 @@
 --   beyond-none, -union, -turn, -end    a loop that joins sets, one of which may have a state from n up
 --   non-zero-start, -pass, -hit, -end   a loop that looks for a word other than 0
 --   malformed-initial, .., malformed-last   the tests of ground 17, one after the other
---   refuse-10, .., refuse-17, refuse-none   the grounds that the calls share, in their order
 use Prim.Native.Nat.{ℕ, _+_, _≤_, _<_}
 use native.Mathlib.Nat.{le-antisymm}
 use native.Mathlib.Numerals.{add-one}
@@ -169,34 +168,3 @@ module _ (store : List ℕ) (n g : ℕ) where
       → nonZero store (rowAt n) storeWords ≡ malformed store n g
   unfolding malformed
   malformed-last a b c d e = rw (a, b, c, d, e)
-
--- ---- the grounds that the calls share, in their order
-
-module _ (store : List ℕ) (n g : ℕ) where
-  pub refuse-10 : length store < storeWords → 10 ≡ refuse (sharedGrounds store n g)
-  unfolding refuse
-  refuse-10 l = rw (lt-ltb (length store) storeWords l)
-
-  module _ (long : storeWords ≤ length store) where
-    pub refuse-14-none : n ≡ 0 → 14 ≡ refuse (sharedGrounds store n g)
-    unfolding refuse badStates
-    refuse-14-none z = rw (le-ltb (length store) storeWords long, eq-eqb n 0 z)
-
-    module _ (some : n ≡ 0 → ⊥) where
-      pub refuse-14-many : maxStates < n → 14 ≡ refuse (sharedGrounds store n g)
-      unfolding refuse badStates
-      refuse-14-many l = rw (le-ltb (length store) storeWords long, ne-eqb n 0 some, lt-ltb maxStates n l)
-
-      module _ (few : n ≤ maxStates) where
-        pub refuse-15 : maxGroups < g → 15 ≡ refuse (sharedGrounds store n g)
-        unfolding refuse badStates
-        refuse-15 l = rw (le-ltb (length store) storeWords long, ne-eqb n 0 some, le-ltb maxStates n few, lt-ltb maxGroups g l)
-
-        module _ (groups : g ≤ maxGroups) where
-          pub refuse-17 : malformed store n g ≡ true → 17 ≡ refuse (sharedGrounds store n g)
-          unfolding refuse badStates
-          refuse-17 e = rw (le-ltb (length store) storeWords long, ne-eqb n 0 some, le-ltb maxStates n few, le-ltb maxGroups g groups, e)
-
-          pub refuse-none : malformed store n g ≡ false → 0 ≡ refuse (sharedGrounds store n g)
-          unfolding refuse badStates
-          refuse-none e = rw (le-ltb (length store) storeWords long, ne-eqb n 0 some, le-ltb maxStates n few, le-ltb maxGroups g groups, e)

@@ -2,3 +2,4 @@ pub mod Laws
 pub mod MapAt
 pub mod Joins
 pub mod Hold
+pub mod States

@@ -9,6 +9,8 @@
 // Functions below the calls ask for a store that is long enough; `refusal` asks for nothing.
 ghost use mathlib.Core.Path.{_≡_};
 ghost use Prim.Native.Nat.{_+_, _*_, _≤_, _<_};
+ghost use mathlib.Core.Bool.{not, _&&_};
+ghost use lib.Dec.{eqb};
 ghost use lib.ListN.{length, getD};
 ghost use mathlib.Core.List.{[]};
 ghost use Rattle.model.specs.Sets.{WORDS, maxStates, any, union, subset, image};
@@ -213,6 +215,13 @@ fn is_malformed(store: &[u64], n: usize, g: usize) -> bool
     non_zero(store, ROWS_AT + WORDS * n, STORE_WORDS)
 }
 
+// Groups but no state.
+fn is_groups_alone(n: usize, g: usize) -> bool
+    ensures { λ r. ⌜ r ≡ (eqb n 0 && not (eqb g 0)) ⌝ }
+{
+    if n == 0 { g != 0 } else { false }
+}
+
 // Why a store with n states and g groups is declined, or 0.
 pub fn refusal(store: &[u64], n: usize, g: usize) -> u8
     ensures { λ r. ⌜ r ≡ refuse (sharedGrounds (now (store .entry)) n g) ⌝ }
@@ -220,10 +229,10 @@ pub fn refusal(store: &[u64], n: usize, g: usize) -> u8
     if store.len() < STORE_WORDS {
         return 10;
     }
-    if n == 0 {
+    if MAX_STATES < n {
         return 14;
     }
-    if MAX_STATES < n {
+    if is_groups_alone(n, g) {
         return 14;
     }
     if MAX_GROUPS < g {

@@ -54,7 +54,7 @@ nonZero-none xs from to z =
 module _ (store : List ℕ) (n g allowance : ℕ) where
   -- the grounds but for 17 and 21
   abbrev plain : List (Bool × ℕ)
-  plain = (ltb (length store) storeWords, 10) ∷ (badStates n, 14) ∷ (ltb maxGroups g, 15) ∷ (ltb release allowance, 20) ∷ []
+  plain = (ltb (length store) storeWords, 10) ∷ (badStates n g, 14) ∷ (ltb maxGroups g, 15) ∷ (ltb release allowance, 20) ∷ []
 
   -- ground 17 but for the words of unused rows
   abbrev straySet : Bool

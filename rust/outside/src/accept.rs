@@ -1,6 +1,6 @@
 //! The refusals of the calls on a store, in their order, and of read's store.
 
-use crate::blocks::{BLOCK, CONTENT, contents_length};
+use crate::blocks::file_length;
 use crate::table::{MAX_GROUPS, MAX_STATES, STORE_WORDS};
 
 pub const PATH_BYTES: usize = 256;
@@ -34,8 +34,7 @@ pub fn within(store: &[u64], n: usize, g: usize) -> Result<(), u32> {
 
 pub fn write(store: &[u64], n: usize, g: usize, output_len: usize) -> Result<(), u32> {
     table(store, n, g)?;
-    let length = contents_length(n, g).div_ceil(CONTENT) * BLOCK;
-    refuse_if(output_len < length, 19)
+    refuse_if(output_len < file_length(n, g), 19)
 }
 
 /// The store that read is to fill.
@@ -46,7 +45,7 @@ pub fn read_store(store_len: usize) -> Result<(), u32> {
 /// What all but read ask of a store with n and g.
 fn table(store: &[u64], n: usize, g: usize) -> Result<(), u32> {
     refuse_if(store.len() < STORE_WORDS, 10)?;
-    refuse_if(n == 0 || n > MAX_STATES, 14)?;
+    refuse_if(n == 0 && g > 0 || n > MAX_STATES, 14)?;
     refuse_if(g > MAX_GROUPS, 15)?;
     let has = |at: usize, state: usize| store[at + state / 64] & (1 << (state % 64)) != 0;
     let past_n = |at: usize| (n..256).any(|state| has(at, state));

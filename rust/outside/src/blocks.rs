@@ -8,9 +8,20 @@ pub const BLOCK: usize = 512;
 pub const CONTENT: usize = 508;
 pub const LARGEST: usize = 10_752;
 
-/// The file of a table.
+/// The file of a table: no bytes for the draft, which has no states.
 pub fn encode(table: &Table) -> Vec<u8> {
+    if table.n == 0 {
+        return Vec::new();
+    }
     file_of(&contents(table))
+}
+
+/// The length of the file for n states and g groups.
+pub fn file_length(n: usize, g: usize) -> usize {
+    match n {
+        0 => 0,
+        _ => contents_length(n, g).div_ceil(CONTENT) * BLOCK,
+    }
 }
 
 /// The blocks of contents that may be damaged, numbered and with their checks.
@@ -61,7 +72,10 @@ pub fn contents_length(n: usize, g: usize) -> usize {
 
 /// The table in a file, or the number of the first ground to refuse it.
 pub fn decode(input: &[u8]) -> Result<Table, u32> {
-    if input.is_empty() || !input.len().is_multiple_of(BLOCK) || input.len() > LARGEST {
+    if input.is_empty() {
+        return Ok(Table::of(0, &[], &[], &[], &[]));
+    }
+    if !input.len().is_multiple_of(BLOCK) || input.len() > LARGEST {
         return Err(11);
     }
     let mut joined = Vec::new();

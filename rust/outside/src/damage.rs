@@ -169,7 +169,7 @@ fn damage_file(damage: Damage, file: &mut Vec<u8>, random: &mut Random) {
             head[BLOCK * first..].swap_with_slice(&mut tail[..BLOCK]);
         }
         Damage::Length => match random.below(6) {
-            0 => file.clear(),
+            0 => file.truncate(random.within(1, 511)),
             1 => file.truncate(file.len() - 1),
             2 => file.push(0),
             3 => file.truncate(file.len() - random.within(1, 511)),

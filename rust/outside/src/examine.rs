@@ -6,7 +6,7 @@
 use std::collections::BTreeMap;
 use std::fmt::Debug;
 
-use crate::blocks::{self, BLOCK, CONTENT};
+use crate::blocks::{self, BLOCK};
 use crate::buffer::Lent;
 use crate::calls::{
     Calls, Decision, SAFE, Shortest, TableRead, UNDECIDED, UNSAFE, Within, Written,
@@ -343,15 +343,17 @@ fn round_trips(
     let room = file.len() + random.pick(&[0, 0, 1, 512]);
     let output = random.bytes(room);
     write(library, store, (n, g), &output, expected)?;
-    let short = Expected {
-        answer: Written {
-            refusal: 19,
-            length: 0,
-        },
-        front: Vec::new(),
-    };
-    let output = &output[..file.len() - 1];
-    write(library, store, (n, g), output, &short)?;
+    // A draft has no bytes, and no output is too short for it.
+    if let Some(too_few) = file.len().checked_sub(1) {
+        let short = Expected {
+            answer: Written {
+                refusal: 19,
+                length: 0,
+            },
+            front: Vec::new(),
+        };
+        write(library, store, (n, g), &output[..too_few], &short)?;
+    }
 
     let mut written = random.bytes(file.len());
     library.write(store, n, g, &mut written);
@@ -426,7 +428,7 @@ impl Arguments {
             g,
             allowance: random.pick(&[0, 1, 256]),
             path_len: 256,
-            output_len: blocks::contents_length(n, g).div_ceil(CONTENT) * BLOCK,
+            output_len: blocks::file_length(n, g),
             places: n,
         }
     }
@@ -604,7 +606,59 @@ pub fn named_tables(libraries: &[&dyn Calls], random: &mut Random, tally: &mut T
         accepted_table(libraries, &named.table, random, tally).map_err(fault)?;
     }
     named_files(libraries, random, tally)?;
+    drafts(libraries, random, tally)?;
     edges(libraries, random, tally)
+}
+
+/// n = 0: with g 0, 1 and 65, with a stray word at each place of the store, with short buffers, and a
+/// file that says it in a block.
+fn drafts(libraries: &[&dyn Calls], random: &mut Random, tally: &mut Tally) -> Outcome {
+    let clean = named::draft().to_store();
+    let case = |store: &[u64], g, allowance, room, output, refusals: [u32; 3], random: &mut Random| {
+        let decision = expected::decide(store, 0, g, allowance, room);
+        let shortest = expected::shortest_path(store, 0, g, room);
+        let written = expected::write(store, 0, g, output);
+        let earned = [decision.answer.refusal, shortest.answer.refusal, written.answer.refusal];
+        same("the plain acceptance of n = 0", earned, refusals)?;
+        let (path, output) = (random.bytes(room), random.bytes(output));
+        libraries.iter().try_for_each(|library| {
+            decide(*library, store, (0, g, allowance), &path, &decision)?;
+            shortest_path(*library, store, (0, g), &path, &shortest)?;
+            write(*library, store, (0, g), &output, &written)
+        })
+    };
+    case(&clean, 0, 256, 256, 0, [0, 0, 0], random)?;
+    case(&clean, 0, 0, 300, 513, [0, 0, 0], random)?;
+    case(&clean[1..], 0, 256, 256, 512, [10, 10, 10], random)?;
+    case(&[], 0, 257, 0, 0, [10, 10, 10], random)?;
+    case(&clean, 1, 257, 255, 0, [14, 14, 14], random)?;
+    case(&clean, 65, 257, 255, 512, [14, 14, 14], random)?;
+    case(&clean, usize::MAX, 256, 256, 512, [14, 14, 14], random)?;
+    case(&clean, 0, 257, 255, 0, [20, 21, 0], random)?;
+    case(&clean, 0, 256, 0, 1, [21, 21, 0], random)?;
+    for at in 0..STORE_WORDS {
+        let mut stray = clean.clone();
+        stray[at] = 1 << random.below(64);
+        case(&stray, 0, 257, 255, 0, [17, 17, 17], random)?;
+    }
+    // Words past the table's are none of it.
+    let mut longer = clean.clone();
+    longer.extend(random.words(3));
+    case(&longer, 0, 256, 256, 0, [0, 0, 0], random)?;
+
+    // Read: every word of the table becomes 0, and 10 comes first.
+    for (room, refusal) in [(STORE_WORDS, 0), (STORE_WORDS + 7, 0), (STORE_WORDS - 1, 10), (0, 10)] {
+        let expected = expected::read(&[], room);
+        same("the plain read of no bytes", expected.answer.refusal, refusal)?;
+        let store = random.words(room);
+        for library in libraries {
+            read(*library, &[], &store, &expected)?;
+        }
+    }
+    for header in [[0, 0, 0, 0], [0, 0, 1, 0], [0, 0, 65, 0]] {
+        refused_file(libraries, &blocks::file_of(&header), 14, random)?;
+    }
+    accepted_table(libraries, &named::draft(), random, tally)
 }
 
 /// The specification's figures about files: E's bytes and check, H's lengths.

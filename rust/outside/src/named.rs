@@ -40,6 +40,11 @@ pub fn g() -> Table {
     Table::of(1, &[], &[], &[], &[])
 }
 
+/// An untouched draft: no states.
+pub fn draft() -> Table {
+    Table::of(0, &[], &[], &[], &[])
+}
+
 /// Without groups, or with one.
 pub fn h(groups: &[&[usize]]) -> Table {
     Table::of(61, &[0], &[60], groups, &[(0, 1), (1, 0), (2, 60)])
@@ -87,6 +92,8 @@ pub fn decided() -> Vec<Named> {
         named("E", e(), 256, safe(1, 0b1, 1), &[], None),
         named("F", f(), 256, unsafe_(0, 0), &[0], None),
         named("G", g(), 256, safe(0, 0, 0), &[], None),
+        named("draft", draft(), 256, safe(0, 0, 0), &[], Some(0)),
+        named("draft with 0", draft(), 0, safe(0, 0, 0), &[], Some(0)),
         named("ninth", ninth(), 256, unsafe_(1, 3), &[0, 1, 3, 2], None),
     ]
 }

@@ -131,7 +131,7 @@ impl<'s> Table<'s> {
         let Some(store) = store.first_chunk::<STORE_WORDS>() else {
             return Err(10);
         };
-        if n == 0 || n > MAX_STATES {
+        if n == 0 && g > 0 || n > MAX_STATES {
             return Err(14);
         }
         if g > MAX_GROUPS {
@@ -365,7 +365,10 @@ fn u16_at(bytes: &[u8], at: usize) -> usize {
 /// n and g of a file, with its contents joined in `joined`, or the refusal 11 to 18.
 fn open(input: &[u8], joined: &mut [u8; CONTENTS_ROOM]) -> Result<(usize, usize), u32> {
     let (blocks, rest) = input.as_chunks::<BLOCK>();
-    if blocks.is_empty() || !rest.is_empty() || blocks.len() > MAX_BLOCKS {
+    if input.is_empty() {
+        return Ok((0, 0));
+    }
+    if !rest.is_empty() || blocks.len() > MAX_BLOCKS {
         return Err(11);
     }
     for (k, block) in blocks.iter().enumerate() {
@@ -542,7 +545,8 @@ impl Calls for Peer {
             Err(refusal) => return Written { refusal, length: 0 },
             Ok(table) => table,
         };
-        let (_, needed) = blocks_needed(n, g);
+        // A draft has no blocks.
+        let needed = if n == 0 { 0 } else { blocks_needed(n, g).1 };
         let Some(output) = output.get_mut(..BLOCK * needed) else {
             return Written {
                 refusal: 19,

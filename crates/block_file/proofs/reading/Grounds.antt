@@ -11,34 +11,34 @@
 --   set-beyond, filler-non-zero,            what it returns then
 --   content-right
 --   header                                  n and g, read from the first block
---   small-store, no-input, part-block,      what `refusal` returns for the grounds 10 and 11
+--   small-store, no-input, part-block,      what `refusal` returns for ground 10, for no bytes, and for ground 11
 --   long-input
 --   Whole                                   neither of these holds
 --   block-wrong, blocks-right               what it returns then
---   declined                                the contract of `read` where a ground holds
---   some-block, readable-as                 where none holds, there is a header to read, and no ground holds of n and g as read from it
---   table-inside, table-read                   so the table can be filled in, and the contract holds
+--   declined, draft-read, table-read        the contract of `read` in each case; room-enough, some-block, table-inside: what it may do
 use Prim.Native.Nat.{ℕ, _+_, _*_, _-_, _/_, _%_, _≤_, _<_}
 use native.Mathlib.Nat.{add-assoc, le-antisymm}
 use native.Mathlib.Omega.{arith}
 use mathlib.Core.Path.{_≡_, refl, sym, ap, ap₂, _∙_, subst}
-use mathlib.Core.Bool.{Bool, true, false, not, cond}
+use mathlib.Core.Logic.{⊎-elim}
+use mathlib.Core.Bool.{Bool, true, false, not, _||_}
 use mathlib.Core.List.{List, [], _∷_, _++_, append-nil}
 use borrow.Author.Tests.{lt-ltb, le-ltb, eq-eqb, ne-eqb}
-use lib.Dec.{eqb}
+use lib.Dec.{eqb, ltb}
 use lib.ListN.{length, getD, take, drop}
 use Rattle.model.specs.Sets.{maxStates, any}
-use Rattle.model.specs.Stores.{maxGroups, storeWords, concat, layout, refuse, beyond, nonZero, badStates}
+use Rattle.model.specs.Stores.{maxGroups, storeWords, concat, layout, refuse, beyond, nonZero}
 use Rattle.model.specs.Blocks.{blockBytes, contentBytes, checkAt, le16At, checkOf, blocksFor, part, contentsOf, blockGrounds}
 use Rattle.model.specs.Contents.{contentLength, setNumber, tableIn}
 use Rattle.model.specs.Files.{maxFile}
 use Rattle.model.specs.Calls.{overwrite, statesIn, groupsIn, badLength, blocksGrounds, contentGrounds, fileGrounds, readGrounds, readAnswer, readBuffer}
 use Rattle.model.proofs.GroundLaws.{Clear, refuse-none, refuse-skip, refuse-take, refuse-append, refuse-behind, clear-refuse, refuse-clear, clear-next, refuse-stop}
 use Rattle.model.proofs.BlockLaws.{getD-contentsOf-at}
-use Rattle.model.proofs.CallLaws.{states-pass, right-block, blocks-clear, Readable, readable, read-answer, read-buffer}
+use Rattle.model.proofs.CallLaws.{right-block, blocks-clear, Readable, readable, draft-refusal, read-answer, read-buffer, draft-says}
+use Rattle.model.proofs.Drafts.{draft-layout}
 use Rattle.block_file.specs.declared.reading.TableRead.the-variants.{Table, Refused}
 use Rattle.block_file.specs.ReadAnswers.{CalledRead}
-use Rattle.block_file.specs.Reading.{TableInside}
+use Rattle.block_file.specs.Reading.{TableInside, cleared}
 
 -- ---- the blocks
 
@@ -101,16 +101,19 @@ pub record Sized (input : List ℕ) (n g size : ℕ) : Type 0 where
   pub is : size ≡ contentLength n g
   pub blocks : length input / blockBytes ≡ blocksFor size
 
+states-pass : (n : ℕ) → (n ≡ 0 → ⊥) → n ≤ maxStates → (eqb n 0 || ltb maxStates n) ≡ false
+states-pass n some h = rw (ne-eqb n 0 some) (le-ltb maxStates n h)
+
 module _ (input : List ℕ) (n g : ℕ) where
   abbrev pub contentRefusal : ℕ
   contentRefusal = refuse (contentGrounds input n g)
 
   pub no-states : n ≡ 0 → 14 ≡ contentRefusal
-  unfolding badStates contentGrounds
+  unfolding contentGrounds
   no-states e = sym (refuse-take _ 14 _ (rw (eq-eqb n 0 e)))
 
   pub many-states : (n ≡ 0 → ⊥) → maxStates < n → 14 ≡ contentRefusal
-  unfolding badStates contentGrounds
+  unfolding contentGrounds
   many-states some h = sym (refuse-take _ 14 _ (rw (ne-eqb n 0 some) (lt-ltb maxStates n h)))
 
   module _ (some : n ≡ 0 → ⊥) (states : n ≤ maxStates) where
@@ -167,32 +170,33 @@ module _ (input : List ℕ) (room : ℕ) where
   small-store h = sym (refuse-take _ 10 _ (lt-ltb room storeWords h))
 
   module _ (fits : storeWords ≤ room) where
-    -- ground 11 decides
-    length-wrong : badLength input ≡ true → 11 ≡ refuse (readGrounds input room)
-    unfolding readGrounds fileGrounds
-    length-wrong b = sym (refuse-skip _ 10 _ (le-ltb room storeWords fits) ∙ refuse-take _ 11 _ b)
-
-    pub no-input : length input ≡ 0 → 11 ≡ refuse (readGrounds input room)
-    unfolding badLength
-    no-input e = length-wrong (rw (eq-eqb (length input) 0 e))
+    pub no-input : length input ≡ 0 → 0 ≡ refuse (readGrounds input room)
+    no-input e = sym (draft-refusal input room fits e)
 
     module _ (some : length input ≡ 0 → ⊥) where
+      behind-store : refuse (readGrounds input room) ≡ refuse (fileGrounds input)
+      unfolding readGrounds
+      behind-store = refuse-skip _ 10 _ (le-ltb room storeWords fits) ∙ rw (ne-eqb (length input) 0 some)
+
+      -- ground 11 decides
+      length-wrong : badLength input ≡ true → 11 ≡ refuse (readGrounds input room)
+      unfolding fileGrounds
+      length-wrong b = sym (behind-store ∙ refuse-take _ 11 _ b)
+
       pub part-block : (length input % blockBytes ≡ 0 → ⊥) → 11 ≡ refuse (readGrounds input room)
       unfolding badLength
-      part-block x = length-wrong (rw (ne-eqb (length input) 0 some, ne-eqb (length input % blockBytes) 0 x))
+      part-block x = length-wrong (rw (ne-eqb (length input % blockBytes) 0 x))
 
       pub long-input : length input % blockBytes ≡ 0 → maxFile < length input → 11 ≡ refuse (readGrounds input room)
       unfolding badLength
-      long-input e h =
-          length-wrong (rw (ne-eqb (length input) 0 some, eq-eqb (length input % blockBytes) 0 e) (lt-ltb maxFile (length input) h))
+      long-input e h = length-wrong (rw (eq-eqb (length input % blockBytes) 0 e) (lt-ltb maxFile (length input) h))
 
 module _ {input : List ℕ} {room : ℕ} (w : Whole input room) {fault : ℕ} (e : fault ≡ refuse (blocksGrounds input)) where
   behind-whole : refuse (readGrounds input room) ≡ refuse (blocksGrounds input ++ contentGrounds input (statesIn input) (groupsIn input))
-  unfolding readGrounds fileGrounds badLength
+  unfolding fileGrounds badLength
   behind-whole =
-      refuse-skip _ 10 _ (le-ltb room storeWords (w .fits))
-      ∙ refuse-skip _ 11 _
-      (rw (ne-eqb (length input) 0 (w .some), eq-eqb (length input % blockBytes) 0 (w .whole)) (le-ltb maxFile (length input) (w .short)))
+      behind-store input room (w .fits) (w .some)
+      ∙ refuse-skip _ 11 _ (rw (eq-eqb (length input % blockBytes) 0 (w .whole)) (le-ltb maxFile (length input) (w .short)))
 
   pub block-wrong : (fault ≡ 0 → ⊥) → fault ≡ refuse (readGrounds input room)
   block-wrong x = refuse-append (blocksGrounds input) _ e x ∙ sym behind-whole
@@ -207,26 +211,53 @@ module _ {input : List ℕ} {room : ℕ} (w : Whole input room) {fault : ℕ} (e
 
 -- ---- the call
 
-pub declined : (input store : List ℕ) {k : ℕ} → k ≡ refuse (readGrounds input (length store)) → (k ≡ 0 → ⊥) → CalledRead input store (Refused k) store
-unfolding readAnswer readBuffer
-declined input store {k} e x = let no = ne-eqb k 0 x in (rw (← e, no), rw (← e, no))
-
+-- no ground holds
 module _ (input : List ℕ) (room : ℕ) {k : ℕ} (e : k ≡ refuse (readGrounds input room)) (z : k ≡ 0) where
-  accepted : Readable input room (le16At (contentsOf input) 0) (le16At (contentsOf input) 2)
-  accepted = readable input room (sym e ∙ z)
+  pub room-enough : storeWords ≤ room
+  room-enough = readable input room (sym e ∙ z) .0
 
-  pub some-block : blockBytes ≤ length input
-  some-block = omega (arith, accepted .present, accepted .whole)
+  module _ (some : length input ≡ 0 → ⊥) where
+    file : Readable input room (statesIn input) (groupsIn input)
+    file = ⊎-elim (λ q. absurd (some q)) (λ r. r) (readable input room (sym e ∙ z) .1)
 
-  pub readable-as : {n g : ℕ} → n ≡ le16At input 2 → g ≡ le16At input 4 → Readable input room n g
-  readable-as {n} {g} p q =
-      subst (λ (m : ℕ). Readable input room m g) (sym (p ∙ header input 0 some-block (omega arith)))
-      (subst (Readable input room _) (sym (q ∙ header input 2 some-block (omega arith))) accepted)
+    pub some-block : blockBytes ≤ length input
+    some-block = omega (arith, some, file .whole)
 
-pub table-inside : {input : List ℕ} {room n g : ℕ} → Readable input room n g → TableInside input n g
-table-inside r = record { small = r .small; few = r .few; inside = omega (arith, r .blocks) }
+    module _ {n g : ℕ} (p : n ≡ le16At input 2) (q : g ≡ le16At input 4) where
+      says : (n ≡ statesIn input) × (g ≡ groupsIn input)
+      says = (p ∙ header input 0 some-block (omega arith), q ∙ header input 2 some-block (omega arith))
 
-pub table-read : {input : List ℕ} (store : List ℕ) {n g : ℕ} {after : List ℕ} → Readable input (length store) n g
-    → after ≡ overwrite (layout (tableIn (contentsOf input) n g)) store
-    → CalledRead input store (Table n g) after
-table-read {input} store {n} {g} r e = (sym (read-answer input (length store) n g r), e ∙ sym (read-buffer input store n g r))
+      pub table-inside : TableInside input n g
+      table-inside =
+          let blocks : length input / blockBytes ≡ blocksFor (contentLength n g) =
+          file .blocks ∙ ap₂ (λ (a b : ℕ). blocksFor (contentLength a b)) (sym (says .0)) (sym (says .1)) in
+          record { small = omega (arith, says .0, file .small); few = omega (arith, says .1, file .few); inside = omega arith }
+
+-- k is the first ground that holds, or 0
+module _ (input store : List ℕ) {k : ℕ} (e : k ≡ refuse (readGrounds input (length store))) where
+  pub declined : (k ≡ 0 → ⊥) → CalledRead input store (Refused k) store
+  unfolding readAnswer readBuffer
+  declined x = let no = ne-eqb k 0 x in (rw (← e, no), rw (← e, no), rw (← e, no, no))
+
+  module _ (z : k ≡ 0) where
+    -- n and g are what the input says
+    accepted : {n g : ℕ} {after : List ℕ} → statesIn input ≡ n → groupsIn input ≡ g
+        → after ≡ overwrite (layout (tableIn (contentsOf input) n g)) store
+        → CalledRead input store (Table n g) after
+    accepted {n} {g} p q f =
+        let none = sym e ∙ z in
+        let answer = read-answer input (length store) none ∙ ap₂ (λ (a b : ℕ). record { refusal = 0; n = a; g = b }) p q in (
+          sym answer,
+          f ∙ sym (read-buffer input store none ∙ ap₂ (λ (a b : ℕ). overwrite (layout (tableIn (contentsOf input) a b)) store) p q),
+          rw answer,
+        )
+
+    pub draft-read : length input ≡ 0 → {after : List ℕ} → after ≡ cleared store → CalledRead input store (Table 0 0) after
+    unfolding cleared
+    draft-read empty f =
+        let none = draft-says input empty in
+        accepted (none .0) (none .1) (f ∙ ap (λ (xs : List ℕ). overwrite xs store) (sym (draft-layout (contentsOf input))))
+
+    pub table-read : (length input ≡ 0 → ⊥) → {n g : ℕ} → n ≡ le16At input 2 → g ≡ le16At input 4
+        → {after : List ℕ} → after ≡ overwrite (layout (tableIn (contentsOf input) n g)) store → CalledRead input store (Table n g) after
+    table-read some p q f = let header = says input (length store) e z some p q in accepted (sym (header .0)) (sym (header .1)) f

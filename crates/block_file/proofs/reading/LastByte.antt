@@ -17,7 +17,6 @@ use Rattle.model.specs.Sets.{maxStates, Set, bit, member, first}
 use Rattle.model.specs.Stores.{beyond}
 use Rattle.model.specs.Contents.{setWidth, headerBytes, setIn, setNumber}
 use Rattle.model.proofs.Bounds.{clash, decided, first-passes, lt-or-ge}
-use Rattle.model.proofs.SetLaws.{In}
 use Rattle.model.proofs.ContentLaws.{member-setIn, setIn-below}
 use Rattle.model.proofs.StoreLaws.{beyond-below, below-beyond}
 use Rattle.state_set.proofs.Bits.{bit-zero, first-bit}

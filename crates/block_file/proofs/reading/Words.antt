@@ -12,7 +12,7 @@ use mathlib.Core.Path.{_≡_, refl, sym, ap, ap₂, _∙_, subst}
 use mathlib.Core.Bool.{false}
 use mathlib.Core.List.{List}
 use lib.Bits.{bitOr, or-shifted-r}
-use lib.ListN.{length, getD}
+use lib.ListN.{getD}
 use lib.Pow.{shl-exact}
 use lib.Seq.{ext-getD}
 use mir.Syntax.{w8}

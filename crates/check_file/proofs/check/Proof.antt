@@ -1,7 +1,7 @@
 -- `check`: the text of the table that read put into the store, or of read's refusal.
 use mathlib.Core.Path.{sym, ap, _∙_}
 use borrow.Author.Needs.{needs}
-use Rattle.block_file.specs.ReadAnswers.{readOf}
+use Rattle.block_file.specs.ReadAnswers.{readOf, isRefused}
 use Rattle.check_file.proofs.Reports.{check-refused, check-read}
 use Rattle.check_file.proofs.check.Statement.{statement}
 use Rattle.check_file.proofs.check.Tie as tie
@@ -28,4 +28,5 @@ check-spec =
     let text = c .before .before in
     let refused = text .before .before .before in
     let given = refused .before .before .before in
-    check-refused _ (sym (ap readOf (refused .refusal .given .1)) ∙ given .read .ensures .0) (text .write-refused .ensures)))
+    check-refused _ (sym (ap readOf (refused .refusal .given .1)) ∙ given .read .ensures .0)
+    (sym (ap isRefused (refused .refusal .given .1)) ∙ given .read .ensures .2) (text .write-refused .ensures)))

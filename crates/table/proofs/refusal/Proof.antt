@@ -1,7 +1,9 @@
 -- `refusal`: the grounds in their order.
 use mathlib.Core.Path.{sym, _∙_}
 use borrow.Author.Needs.{needs}
-use Rattle.table.proofs.Laws.{refuse-10, refuse-14-none, refuse-14-many, refuse-15, refuse-17, refuse-none}
+use borrow.Author.Tests.{lt-ltb, le-ltb}
+use Rattle.model.proofs.GroundLaws.{refuse-none, refuse-skip, refuse-take}
+use Rattle.table.proofs.States.{bad-many, bad-alone, not-bad}
 use Rattle.table.proofs.refusal.Statement.{statement}
 use Rattle.table.proofs.refusal.Tie as tie
 
@@ -9,22 +11,34 @@ pub refusal-spec : {M : Type 1} → statement M
 refusal-spec =
     tie.close
     (tie.spec
-    (λ c. let a = c .before .before .args in refuse-10 (a .store .now) (a .n) (a .g) (c .if1 .taken))
-    (λ c. let a = c .before .before .before .args in refuse-14-none (a .store .now) (a .n) (a .g) (c .before .if1 .left) (c .if2 .taken))
-    (λ c.
-    let a = c .before .before .before .before .args in
-    refuse-14-many (a .store .now) (a .n) (a .g) (c .before .before .if1 .left) (c .before .if2 .left) (c .if3 .taken))
-    (λ c.
-    let a = c .before .before .before .before .before .args in
-    refuse-15 (a .store .now) (a .n) (a .g) (c .before .before .before .if1 .left) (c .before .before .if2 .left) (c .before .if3 .left) (c .if4 .taken))
+    (λ c. sym (refuse-take _ 10 _ (lt-ltb _ _ (c .if1 .taken))))
+    (λ c. sym (refuse-skip _ 10 _ (le-ltb _ _ (c .before .if1 .left)) ∙ refuse-take _ 14 _ (bad-many _ _ (c .if2 .taken))))
     (λ c κs. search needs)
     (λ c.
-    let d = c .before .before in
-    let a = d .before .before .before .before .before .args in
-    refuse-17 (a .store .now) (a .n) (a .g) (d .before .before .before .if1 .left) (d .before .before .if2 .left) (d .before .if3 .left) (d .if4 .left)
-    (sym (c .before .is-malformed .ensures) ∙ c .if5 .taken))
+    sym
+    (refuse-skip _ 10 _ (le-ltb _ _ (c .before .before .before .if1 .left))
+    ∙ refuse-take _ 14 _ (bad-alone _ _ (c .before .is-groups-alone .ensures) (c .if3 .taken))))
     (λ c.
-    let d = c .before .before in
-    let a = d .before .before .before .before .before .args in
-    refuse-none (a .store .now) (a .n) (a .g) (d .before .before .before .if1 .left) (d .before .before .if2 .left) (d .before .if3 .left) (d .if4 .left)
-    (sym (c .before .is-malformed .ensures) ∙ c .if5 .left)))
+    let alone = c .before .before in
+    sym
+    (refuse-skip _ 10 _ (le-ltb _ _ (alone .before .before .if1 .left))
+    ∙ refuse-skip _ 14 _ (not-bad _ _ (alone .is-groups-alone .ensures) (alone .before .if2 .left) (c .before .if3 .left))
+    ∙ refuse-take _ 15 _ (lt-ltb _ _ (c .if4 .taken))))
+    (λ c κs. search needs)
+    (λ c.
+    let groups = c .before .before in
+    let alone = groups .before .before in
+    sym
+    (refuse-skip _ 10 _ (le-ltb _ _ (alone .before .before .if1 .left))
+    ∙ refuse-skip _ 14 _ (not-bad _ _ (alone .is-groups-alone .ensures) (alone .before .if2 .left) (groups .before .if3 .left))
+    ∙ refuse-skip _ 15 _ (le-ltb _ _ (groups .if4 .left))
+    ∙ refuse-take _ 17 _ (sym (c .before .is-malformed .ensures) ∙ c .if5 .taken)))
+    (λ c.
+    let groups = c .before .before in
+    let alone = groups .before .before in
+    sym
+    (refuse-skip _ 10 _ (le-ltb _ _ (alone .before .before .if1 .left))
+    ∙ refuse-skip _ 14 _ (not-bad _ _ (alone .is-groups-alone .ensures) (alone .before .if2 .left) (groups .before .if3 .left))
+    ∙ refuse-skip _ 15 _ (le-ltb _ _ (groups .if4 .left))
+    ∙ refuse-skip _ 17 _ (sym (c .before .is-malformed .ensures) ∙ c .if5 .left)
+    ∙ refuse-none)))

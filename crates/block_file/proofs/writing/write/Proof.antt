@@ -1,6 +1,6 @@
 -- `write`: the grounds in their order, then the blocks.
 use borrow.Author.Needs.{needs}
-use Rattle.block_file.proofs.WriteLaws.{held, declined-shared, declined-room, written}
+use Rattle.block_file.proofs.WriteLaws.{held, declined-shared, draft-written, declined-room, written}
 use Rattle.block_file.proofs.writing.write.Statement.{statement}
 use Rattle.block_file.proofs.writing.write.Tie as tie
 
@@ -10,19 +10,23 @@ write-spec =
     (tie.spec
     (λ c κs. search needs)
     (λ c. declined-shared _ _ _ _ _ (c .before .refusal .ensures) (c .if1 .taken))
+    (λ c. draft-written _ _ _ _ _ (c .before .before .refusal .ensures) (c .before .if1 .left) (c .if2 .taken))
     (λ c κs.
-    let h = held (c .before .before .before .before .args .store .now) _ _ _ (c .before .refusal .ensures) (c .if1 .left) in
+    let accepted = c .before in
+    let h = held (accepted .before .before .before .before .args .store .now) _ _ _ (accepted .before .refusal .ensures) (accepted .if1 .left) in
     (h .small, h .few))
     (λ c κs. search needs)
     (λ c. search needs)
     (λ c.
-    let accepted = c .before .before .before in
-    declined-room _ _ _ _ _ (accepted .before .refusal .ensures) (accepted .if1 .left) _ (cc) (c .if2 .taken))
+    let some = c .before .before .before in
+    let accepted = some .before in
+    declined-room _ _ _ _ _ (accepted .before .refusal .ensures) (accepted .if1 .left) (some .if2 .left) _ (cc) (c .if3 .taken))
     (λ c κs.
-    let accepted = c .before .before .before .before in
+    let accepted = c .before .before .before .before .before in
     (held _ _ _ _ (accepted .before .refusal .ensures) (accepted .if1 .left), search needs, search needs))
     (λ c. search needs)
     (λ c.
     let call = c .before .before in
-    let accepted = call .before .before .before .before .before in
-    written _ _ _ _ _ (accepted .before .refusal .ensures) (accepted .if1 .left) _ _ (cc) (search needs) (call .write-blocks .ensures)))
+    let some = call .before .before .before .before .before in
+    let accepted = some .before in
+    written _ _ _ _ _ (accepted .before .refusal .ensures) (accepted .if1 .left) (some .if2 .left) _ (cc) _ (search needs) (call .write-blocks .ensures)))

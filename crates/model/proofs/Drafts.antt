@@ -1,0 +1,132 @@
+-- The proof of specs/Draft.
+--
+--   draft-layout                     the table of contents without states is laid out as words that are 0
+--   draft-safe, draft-R, draft-run   the rounds of a table without states: safe at once
+--   draft                            specs/Draft
+use Prim.Native.Nat.{ℕ, zero, suc, _+_, _≤_, zero-le}
+use native.Mathlib.Nat.{not-suc-le-zero}
+use native.Mathlib.Omega.{arith}
+use mathlib.Core.Path.{_≡_, refl, sym, ap, ap₂, _∙_}
+use mathlib.Core.Logic.{⊎-elim}
+use mathlib.Core.Bool.{Bool, true, false, cond}
+use mathlib.Core.List.{List, []}
+use borrow.Author.Tests.{le-ltb, eqb-false, ne-eqb}
+use lib.Dec.{eqb}
+use lib.ListN.{length}
+use lib.Seq.{take-all}
+use Rattle.model.specs.Sets.{WORDS, maxStates, Set, filter, member, empty, image, members, size, tabulate}
+use Rattle.model.specs.Tables.{post}
+use Rattle.model.specs.Rounds.{iterate, forward, isSafe, roundOf, firstRound, safe, settle, rounds, run}
+use Rattle.model.specs.Paths.{shortest, hasPath, smallestPath}
+use Rattle.model.specs.Stores.{forbiddenAt, groupAt, rowAt, storeWords, setAt, tableOf, layout, refuse, badStates}
+use Rattle.model.specs.Blocks.{contentsOf}
+use Rattle.model.specs.Contents.{setIn, setNumber, tableIn}
+use Rattle.model.specs.Calls.{overwrite, Decision, decisionOf, decideBuffer, Shortest, shortestGrounds, shortestAnswer}
+use Rattle.model.specs.Draft.{Draft}
+use Rattle.model.proofs.Bounds.{is-false, by-cond, length-tabulate, getD-tabulate}
+use Rattle.model.proofs.SetLaws.{setOf-cong, empty-in, union-in, firstStates-in, in-subset}
+use Rattle.model.proofs.Fixpoints.{backward-is}
+use Rattle.model.proofs.ListLaws.{getD-past}
+use Rattle.model.proofs.GroundLaws.{refuse-skip, refuse-take}
+use Rattle.model.proofs.StoreLaws.{setAt-empty, Holds, holds-layout}
+use Rattle.model.proofs.FileLaws.{file-draft, length-draft}
+use Rattle.model.proofs.Acceptance.{Store, accepted-store, well-formed, check-of}
+use Rattle.model.proofs.CallLaws.{Writable, write-answer, write-buffer, draft-refusal, read-answer, read-buffer, draft-says}
+
+-- ---- words that are 0
+
+abbrev zeros : List ℕ
+zeros = tabulate storeWords (λ i. 0)
+
+zeros-long : length zeros ≡ storeWords
+zeros-long = length-tabulate (λ (i : ℕ). 0) storeWords
+
+zeros-empty : (at : ℕ) → at + WORDS ≤ storeWords → setAt zeros at ≡ empty
+zeros-empty at h = setAt-empty zeros at (omega (arith, zeros-long)) (λ w l. getD-tabulate (λ (i : ℕ). 0) storeWords (at + w) 0 (omega arith))
+
+setNumber-none : (bytes : List ℕ) (k : ℕ) → setNumber bytes 0 k ≡ empty
+unfolding setNumber setIn empty
+setNumber-none bytes k = setOf-cong _ _ (λ s h. rw (le-ltb s 0 (omega arith)))
+
+zeros-hold : (bytes : List ℕ) → Holds zeros (tableIn bytes 0 0)
+unfolding tableIn
+zeros-hold bytes =
+    record {
+      initial = zeros-empty 0 (omega arith) ∙ sym (setNumber-none bytes 0);
+      forbidden = zeros-empty forbiddenAt (omega arith) ∙ sym (setNumber-none bytes 1);
+      group = λ j h.
+          let group : ℕ → Set = λ i. setNumber bytes 0 (2 + i) in
+          zeros-empty (groupAt j) (omega arith) ∙ sym (getD-past (tabulate 0 group) j empty (omega (arith, length-tabulate group 0)));
+      row = λ s h. zeros-empty (rowAt s) (omega arith) ∙ sym (rw (le-ltb s 0 (omega arith)));
+    }
+
+pub draft-layout : (bytes : List ℕ) → layout (tableIn bytes 0 0) ≡ tabulate storeWords (λ i. 0)
+draft-layout bytes = holds-layout zeros (tableIn bytes 0 0) (zeros-hold bytes) ∙ take-all storeWords zeros (omega (arith, zeros-long))
+
+-- ---- the rounds and the path
+
+filter-none : (n : ℕ) (p : ℕ → Bool) → ((k : ℕ) → p k ≡ false) → filter n p ≡ []
+unfolding filter
+filter-none zero p f = refl
+filter-none (suc n) p f = rw (filter-none n p f, f n)
+
+size-empty : size empty ≡ 0
+unfolding size members
+size-empty = ap length (filter-none maxStates (member empty) (λ s. is-false (member empty s) (λ e. empty-in (record { is = e }))))
+
+module _ (store : List ℕ) (held : Store store 0 0) where
+  draft-safe : isSafe (tableOf store 0 0) (firstRound (tableOf store 0 0)) ≡ true
+  unfolding tableOf isSafe post image
+  draft-safe =
+      in-subset
+      (λ s h. absurd (⊎-elim (λ a. not-suc-le-zero (firstStates-in (well-formed store 0 0 held .initial s a))) (λ b. empty-in b) (union-in h)))
+
+  draft-R : (firstRound (tableOf store 0 0)) .R ≡ empty
+  unfolding tableOf firstRound roundOf forward iterate
+  draft-R = refl
+
+  draft-run : (allowance : ℕ) → run (tableOf store 0 0) allowance ≡ safe 0 empty
+  unfolding run rounds settle
+  draft-run zero = rw (draft-safe, draft-R)
+  draft-run (suc allowance) = rw (draft-safe, draft-R)
+
+no-path : (store : List ℕ) → hasPath (tableOf store 0 0) ≡ false
+unfolding hasPath tableOf
+no-path store = le-ltb (shortest (tableOf store 0 0)) 0 zero-le
+
+-- ---- the calls
+
+pub draft : Draft
+unfolding decisionOf decideBuffer shortestAnswer overwrite tableOf badStates
+draft =
+    record {
+      read = λ store h.
+          let none = draft-refusal [] (length store) h refl in
+          let says = draft-says [] refl in (
+            read-answer [] (length store) none ∙ ap₂ (λ (a b : ℕ). record { refusal = 0; n = a; g = b }) (says .0) (says .1),
+            read-buffer [] store none
+                ∙ ap₂ (λ (a b : ℕ). overwrite (layout (tableIn (contentsOf []) a b)) store) (says .0) (says .1)
+                ∙ ap (λ xs. overwrite xs store) (draft-layout (contentsOf [])),
+          );
+      decide = λ store allowance path e.
+          let t = tableOf store 0 0 in
+          let check = check-of store 0 0 allowance (length path) (record { accepted = e }) in
+          let answer =
+          check .answer
+          ∙ ap (decisionOf t) (draft-run store (check .held) allowance)
+          ∙ ap (λ (m : ℕ). record { refusal = 0; verdict = 0; count = 0; invariant = empty; size = m; steps = 0 }) size-empty in
+          (answer, ap (λ (a : Decision). cond (eqb (a .verdict) 1) (overwrite (smallestPath t) path) path) answer);
+      backward-number = λ t e. omega (arith, backward-is t .bounded);
+      shortest-path = λ store room.
+          let k = refuse (shortestGrounds store 0 0 room) in
+          by-cond (λ (a : Shortest). a .refusal ≡ 0 → a ≡ record { refusal = 0; found = 0; steps = 0 }) (eqb k 0) _ _
+          (λ q e. rw (no-path store)) (λ q e. absurd (eqb-false k 0 q e));
+      write = λ store output e.
+          let w : Writable store 0 0 (length output) =
+          record { held = accepted-store store 0 0 [] e .0; fits = omega (arith, length-draft 0 0 refl) } in (
+            write-answer store 0 0 (length output) w ∙ ap (λ (l : ℕ). record { refusal = 0; length = l }) (length-draft 0 0 refl),
+            write-buffer store 0 0 output w ∙ ap (λ xs. overwrite xs output) (file-draft (tableOf store 0 0) refl),
+          );
+      groups-alone = λ store g later h f.
+          refuse-skip _ 10 _ (le-ltb (length store) storeWords h) ∙ refuse-take _ 14 _ (rw (ne-eqb g 0 f));
+    }
