@@ -49,6 +49,47 @@ def decide_test():
     return "".join(line + "\n" for line in lines)
 
 
+# ---- order_test: the looks of the first round, as request 3 has them
+
+def order(table):
+    z = table.states() - table.forbidden
+    listed = table.groups + [z]
+    spot = lambda s: set.intersection(table.states(), *(y for y in listed if s in y))
+    cover = lambda x: {t for s in x for t in spot(s)}
+    look, expanded = cover(z & table.initial), []
+    while look:
+        expanded += sorted(look)
+        look = cover(z & {t for s in look for t in table.row(s)}) - set(expanded)
+    return expanded
+
+
+def order_test():
+    alone = lambda n: [{s} for s in range(n)]
+    steps = lambda text: {(int(pair[0]), int(pair[1])) for pair in text.split()}
+    digits = [{s for s in range(256) if s >> b & 1 == digit} for b in range(8) for digit in (0, 1)]
+    corridor = {(s + 1, s) for s in range(255)}
+    branches = steps("57 53 74 70 71 34 35 43 08 16 61 85")
+    groups = alone(10)
+    groups[3] = {3, 8}
+    lines = [
+        f"{name}: expands {len(order(table))}:" + "".join(f" {s}" for s in order(table))
+        for name, table in [
+            ("A", A), ("A with groups", Table(3, {0}, {2}, A.steps | {(2, 1), (1, 2)}, alone(2))),
+            ("branches", Table(10, {5}, {9}, branches, alone(10))),
+            ("branches from two", Table(10, {1, 5}, {9}, branches, alone(10))),
+            ("branches, 3 with 8", Table(10, {1, 5}, {9}, branches, groups)),
+            ("G", G), ("nothing initial", Table(3, set(), {2}, steps("01 12"))),
+            ("only a forbidden state initial", Table(3, {2}, {2}, steps("01 12"))),
+            ("corridor", Table(256, {255}, set(), corridor, digits)),
+        ]
+    ]
+    # The words of a group that is not counted are not 0.
+    lines.append("corridor, its last group not counted: refused 17")
+    lines += [f"{name}: refused {refusal}" for name, refusal in [
+        ("n 0", 17), ("n 257", 14), ("g 65", 15), ("state 2 of 2", 17), ("g 65 and state 2 of 2", 15), ("store one word short, n 0", 10)]]
+    return "".join(line + "\n" for line in lines)
+
+
 # ---- generated tables, by the comment at the head of crates/test_support/src/generated.rt
 
 WORD = 2 ** 32
@@ -268,7 +309,7 @@ def files_test():
     return "".join(line + "\n" for line in lines)
 
 
-PROGRAMS = {"decide_test": decide_test, "agreement_test": agreement_test, "files_test": files_test}
+PROGRAMS = {"decide_test": decide_test, "order_test": order_test, "agreement_test": agreement_test, "files_test": files_test}
 
 if __name__ == "__main__":
     failed = False

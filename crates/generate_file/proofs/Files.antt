@@ -5,18 +5,18 @@
 use Prim.Native.Nat.{ℕ, _≤_, _<_}
 use native.Mathlib.Omega.{arith}
 use mathlib.Core.Path.{_≡_, refl, sym, ap, _∙_}
-use mathlib.Core.Bool.{true, false, not}
-use mathlib.Core.List.{List}
+use mathlib.Core.Bool.{true, false, not, cond}
+use mathlib.Core.List.{List, []}
 use borrow.Author.Tests.{eqb-true, not-false, not-true}
 use lib.Dec.{eqb}
 use lib.ListN.{length}
 use Rattle.model.specs.Stores.{storeWords, tableOf, concat}
 use Rattle.model.specs.Blocks.{blocksFor, blockOf}
-use Rattle.model.specs.Files.{fileLength, fileOf, maxFile}
+use Rattle.model.specs.Files.{blockFile, fileLength, fileOf, maxFile}
 use Rattle.model.specs.Calls.{overwrite, Written as WriteAnswer, writeAnswer, writeBuffer}
 use Rattle.model.proofs.Bounds.{length-tabulate}
 use Rattle.model.proofs.ContentLaws.{contents-cong}
-use Rattle.model.proofs.FileLaws.{fileLength-most}
+use Rattle.model.proofs.FileLaws.{length-blocks, fileLength-most}
 use Rattle.model.proofs.CallLaws.{write-refusal, writable, write-answer, write-buffer}
 use Rattle.block_file.specs.declared.writing.Written.{Written}
 use Rattle.block_file.specs.declared.writing.Written.the-variants.{File, Refused}
@@ -37,6 +37,9 @@ written-file (Refused k) l h e = absurd (none (ap (λ (a : WriteAnswer). a .leng
     none : 0 ≡ l → 0 < l → ⊥
     none z p = omega arith
 
+not-none : {n : ℕ} → n ≡ 0 → 0 < n → ⊥
+not-none z h = omega arith
+
 module _ (seed n f : ℕ) (lent store : List ℕ) (r : Generated) (called : CalledGenerate seed n f lent r store) (long : length lent ≡ storeWords) where
   -- what the call told of the store that it was lent
   told : isRefused r ≡ not (eqb (refused n f) 0)
@@ -52,16 +55,16 @@ module _ (seed n f : ℕ) (lent store : List ℕ) (r : Generated) (called : Call
 
     pub made-file : (out : List ℕ) (w : Written) (out′ : List ℕ) → maxFile ≤ length out → writtenOf w ≡ writeAnswer store n 0 (length out)
         → out′ ≡ writeBuffer store n 0 out → (w ≡ fileMade n f) × (out′ ≡ fileBuffer seed n f out)
-    unfolding fileMade fileBuffer fileOf tableOf load tableFrom
+    unfolding fileMade fileBuffer fileOf blockFile tableOf load tableFrom
     made-file out w out′ room answer buffer =
         let kept = ap isRefused filled in
         let fits : fileLength n 0 ≤ length out = omega (arith, fileLength-most n 0 (held .small) (omega arith)) in
         let accepted = loads .accepted seed n f lent r store called kept .write (length out) fits in
         let ok = writable store n 0 (length out) (sym (write-refusal store n 0 (length out)) ∙ accepted) in
         let same : fileOf (tableOf store n 0) ≡ fileOf (load seed n f) =
-        ap (λ bytes. concat (blocksFor (length bytes)) (blockOf bytes))
+        ap (λ bytes. cond (eqb n 0) [] (concat (blocksFor (length bytes)) (blockOf bytes)))
         (contents-cong (tableOf store n 0) (load seed n f) refl (length-tabulate _ 0) (loads .table seed n f lent r store called kept)) in (
-          written-file w (fileLength n 0) (omega arith) (answer ∙ write-answer store n 0 (length out) ok) ∙ sym (rw none),
+          written-file w (fileLength n 0) (omega (arith, length-blocks n 0 (λ z. not-none z (held .some)))) (answer ∙ write-answer store n 0 (length out) ok) ∙ sym (rw none),
           buffer ∙ write-buffer store n 0 out ok ∙ ap (λ xs. overwrite xs out) same ∙ sym (rw none),
         )
 

@@ -12,7 +12,7 @@ use borrow.Author.Tests.{ltb-false, lt-ltb, le-ltb, eqb-false, eq-eqb, ne-eqb}
 use lib.Dec.{eqb, ltb}
 use lib.ListN.{length}
 use Rattle.model.specs.Sets.{maxStates}
-use Rattle.model.specs.Stores.{storeWords, layout, refuse, badStates}
+use Rattle.model.specs.Stores.{storeWords, layout, refuse}
 use Rattle.model.specs.Calls.{overwrite}
 use Rattle.model.proofs.Bounds.{or-false}
 use Rattle.model.proofs.GroundLaws.{refuse-clear}
@@ -28,19 +28,19 @@ module _ (n f room : ℕ) where
   ground-10 h = rw (lt-ltb room storeWords h)
 
   pub ground-14 : storeWords ≤ room → n ≡ 0 → 14 ≡ refuse (generateGrounds n f room)
-  unfolding refuse generateGrounds badStates
+  unfolding refuse generateGrounds
   ground-14 h e = rw (le-ltb room storeWords h, eq-eqb n 0 e)
 
   pub ground-14-over : storeWords ≤ room → (n ≡ 0 → ⊥) → maxStates < n → 14 ≡ refuse (generateGrounds n f room)
-  unfolding refuse generateGrounds badStates
+  unfolding refuse generateGrounds
   ground-14-over h some e = rw (le-ltb room storeWords h, ne-eqb n 0 some, lt-ltb maxStates n e)
 
   pub ground-22 : storeWords ≤ room → (n ≡ 0 → ⊥) → n ≤ maxStates → maxFanOut < f → 22 ≡ refuse (generateGrounds n f room)
-  unfolding refuse generateGrounds badStates
+  unfolding refuse generateGrounds
   ground-22 h some small e = rw (le-ltb room storeWords h, ne-eqb n 0 some, le-ltb maxStates n small, lt-ltb maxFanOut f e)
 
   pub no-ground : storeWords ≤ room → (n ≡ 0 → ⊥) → n ≤ maxStates → f ≤ maxFanOut → 0 ≡ refuse (generateGrounds n f room)
-  unfolding refuse generateGrounds badStates
+  unfolding refuse generateGrounds
   no-ground h some small e = rw (le-ltb room storeWords h, ne-eqb n 0 some, le-ltb maxStates n small, le-ltb maxFanOut f e)
 
 -- ---- the call
@@ -57,7 +57,7 @@ positive : (n : ℕ) → (n ≡ 0 → ⊥) → 0 < n
 positive n h = omega arith
 
 pub accepted-load : (n f room : ℕ) {k : ℕ} → k ≡ refuse (generateGrounds n f room) → k ≡ 0 → Accepted n f room
-unfolding generateGrounds badStates
+unfolding generateGrounds
 accepted-load n f room e z =
     let clear = refuse-clear (generateGrounds n f room) [] refl (sym e ∙ z) .0 in
     let states = or-false (eqb n 0) (ltb maxStates n) (clear .1 .0) in

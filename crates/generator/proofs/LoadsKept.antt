@@ -67,7 +67,7 @@ module _ (xs : List ℕ) (n f : ℕ) (old : List ℕ) (a : Accepted n f (length 
       let size = length-layout (tableFrom xs n f) (laid xs n f) in
       record {
         long = omega (arith, a .long, size, length-overwrite (layout (tableFrom xs n f)) old (omega (arith, a .long, size)));
-        some = a .some;
+        draft = λ e. refl;
         small = a .small;
         few = omega arith;
         clean = clean-malformed filled n 0 filled-clean;

@@ -7,13 +7,13 @@
 --   load seed n f        the table
 --   generateGrounds, GenerateAnswer, generateAnswer, generateBuffer     the grounds in order, the answer, the store at exit
 use Prim.Native.Nat.{ℕ, zero, suc, _+_, _*_, _-_, _%_, _^_}
-use mathlib.Core.Bool.{cond}
+use mathlib.Core.Bool.{cond, _||_}
 use mathlib.Core.List.{List, [], _∷_, _++_}
 use lib.Dec.{eqb, ltb}
 use lib.ListN.{length, getD}
-use Rattle.model.specs.Sets.{Set, any, setOf, single}
+use Rattle.model.specs.Sets.{maxStates, Set, any, setOf, single}
 use Rattle.model.specs.Tables.{Table}
-use Rattle.model.specs.Stores.{layout, Ground, refuse, badStates, storeGround}
+use Rattle.model.specs.Stores.{layout, Ground, refuse, storeGround}
 use Rattle.model.specs.Calls.{overwrite}
 
 abbrev pub maxFanOut : ℕ
@@ -51,8 +51,9 @@ load seed n f = tableFrom (numbers seed (55 + n * f)) n f
 pub record GenerateAnswer : Type 0 where
   pub refusal : ℕ  -- 0 where the store is filled
 
+-- A draft (n = 0) is no load: 14 covers it here whatever g would be.
 unfoldable pub generateGrounds : ℕ → ℕ → ℕ → List Ground
-generateGrounds n f room = storeGround room ∷ (badStates n, 14) ∷ (ltb maxFanOut f, 22) ∷ []
+generateGrounds n f room = storeGround room ∷ (eqb n 0 || ltb maxStates n, 14) ∷ (ltb maxFanOut f, 22) ∷ []
 
 unfoldable pub generateAnswer : ℕ → ℕ → ℕ → GenerateAnswer
 generateAnswer n f room = record { refusal = refuse (generateGrounds n f room) }

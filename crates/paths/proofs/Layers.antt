@@ -11,7 +11,7 @@ use native.Mathlib.Nat.{le-of-suc-le-suc, eq-or-lt-of-le}
 use native.Mathlib.Numerals.{add-one}
 use native.Mathlib.Omega.{arith}
 use mathlib.Core.Path.{_≡_, refl, sym, ap, ap₂, _∙_, subst}
-use mathlib.Core.Logic.{_⊎_, inl, inr, ⊎-elim}
+use mathlib.Core.Logic.{_⊎_, ⊎-elim}
 use mathlib.Core.Bool.{Bool, true, false, not, cond}
 use mathlib.Core.List.{List, []}
 use borrow.Author.Tests.{not-false, eqb-true, eq-eqb, ltb-true, ltb-false, lt-ltb, le-ltb}
@@ -22,9 +22,9 @@ use Rattle.model.specs.Tables.{Table}
 use Rattle.model.specs.Paths.{reaching, unreachable, distance}
 use Rattle.model.specs.Stores.{rowAt, setAt, tableOf}
 use Rattle.model.proofs.Bounds.{and-true, and-intro, not-true, clash, by-cond, lt-or-ge, getD-tabulate, tabulate-cong, tabulate-const}
-use Rattle.model.proofs.SetLaws.{Proper, setOf-proper, In, in-bound, in-setOf, setOf-in, in-or-out, empty-in, in-meet, meet-in, in-difference, difference-in, in-states, states-in, in-firstStates, firstStates-in, _⊆_, ⊆-of-eq, subset-in, in-subset, subset-not, same-set, in-image, image-in, meets-in}
+use Rattle.model.proofs.SetLaws.{Proper, setOf-proper, In, in-bound, in-setOf, setOf-in, empty-in, in-meet, meet-in, in-difference, difference-in, in-states, states-in, in-firstStates, firstStates-in, _⊆_, ⊆-of-eq, subset-in, in-subset, subset-not, same-set, in-image, image-in, meets-in}
 use Rattle.model.proofs.WellFormed.{WellFormed}
-use Rattle.model.proofs.PathLaws.{At, reaching-suc, in-reaching, reaching-in, reaching-at, nearest-at, at-row, at-lt, reaching-states, distance-is, distance-unreachable}
+use Rattle.model.proofs.PathLaws.{At, in-reaching, reaching-in, reaching-at, nearest-at, at-row, at-lt, reaching-states, distance-is, distance-unreachable}
 use Rattle.model.proofs.StoreLaws.{row-is}
 use Rattle.table.specs.Rows.{meetHold, mapAt}
 use Rattle.table.proofs.MapAt.{mapAt-tabulate}

@@ -5,16 +5,16 @@
 --   near-test, pickBy-is             so the state that walkBy picks is the one that walk picks
 --   least-path, least-none           and the least distance of an initial state is that of a shortest path, or none if there is no path
 --   walkBy-is                        walkBy is the model's walk
-use Prim.Native.Nat.{ℕ, zero, suc, _≤_, _<_, zero-le, suc-le-suc}
+use Prim.Native.Nat.{ℕ, zero, suc, _≤_, _<_}
 use native.Mathlib.Omega.{arith}
-use mathlib.Core.Path.{_≡_, refl, sym, ap, ap₂, _∙_}
+use mathlib.Core.Path.{_≡_, sym, ap, _∙_}
 use mathlib.Core.Logic.{⊎-elim}
-use mathlib.Core.Bool.{Bool, true, false, _&&_, _||_, cond}
+use mathlib.Core.Bool.{Bool, true, false, _&&_}
 use mathlib.Core.List.{List, [], _∷_}
 use borrow.Author.Tests.{ltb-true, ltb-false, le-leb, leb-true}
 use lib.Dec.{leb}
 use lib.ListN.{getD}
-use Rattle.model.specs.Sets.{maxStates, Set, any, first, tabulate, member, meet, meets, smallest}
+use Rattle.model.specs.Sets.{maxStates, Set, first, tabulate, member, meet, meets, smallest}
 use Rattle.model.specs.Tables.{Table}
 use Rattle.model.specs.Paths.{reaching, unreachable, distance, shortest, hasPath, walk}
 use Rattle.model.specs.Stores.{rowAt, setAt, tableOf}

@@ -12,11 +12,11 @@ use mathlib.Core.Path.{_≡_, refl, sym, ap, ap₂, _∙_, subst}
 use mathlib.Core.Logic.{_⊎_, inl, inr, ⊎-elim}
 use mathlib.Core.Bool.{Bool, true, false, cond, _&&_, _||_}
 use mathlib.Core.List.{List}
-use borrow.Author.Tests.{le-leb, leb-true, lt-leb}
+use borrow.Author.Tests.{le-leb, leb-true}
 use lib.Dec.{leb}
 use lib.ListN.{getD}
 use Rattle.model.specs.Sets.{WORDS, maxStates, Set, any, first, member, empty, single, union, difference}
-use Rattle.model.proofs.Bounds.{and-true, and-intro, or-true, or-intro, same-test, is-false, clash, lt-or-ge, first-is, first-le, first-none, first-passes, first-least, any-intro, any-find, no-any}
+use Rattle.model.proofs.Bounds.{and-true, and-intro, or-true, or-intro, same-test, is-false, first-is, first-le, first-none, first-passes, first-least, any-intro, any-find}
 use Rattle.model.proofs.SetLaws.{Proper, In, in-bound, in-or-out, empty-in, in-single, single-in, in-union, union-in, in-difference, difference-in}
 use Rattle.state_set.specs.WordSets.{wordSet, wordsBelow}
 use Rattle.state_set.proofs.WordSets.{words-none, words-more, words-same, words-all, words-in}

@@ -333,10 +333,10 @@ fn cover_of(store: &[u64], n: usize, g: usize, z: StateSet, s: usize) -> StateSe
     ensures { λ r. ⌜ r .words ≡ coverOf n (z .words ∷ (tableOf (now (store .entry)) n g) .groups) s ⌝ }
 {
     let mut row = StateSet::first_states(n);
-    let mut j = g;
-    while 0 < j {
-        j -= 1;
-        row = narrowed_row(row, s, group_at(store, j));
+    let mut k = g;
+    while 0 < k {
+        k -= 1;
+        row = narrowed_row(row, s, group_at(store, k));
     }
     narrowed_row(row, s, z)
 }

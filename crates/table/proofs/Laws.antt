@@ -14,12 +14,12 @@ use mathlib.Core.Logic.{inl, inr, ⊎-elim}
 use mathlib.Core.Bool.{Bool, true, false, not, _&&_, _||_}
 use mathlib.Core.List.{List}
 use borrow.Author.Count.{below-more}
-use borrow.Author.Tests.{lt-ltb, le-ltb, le-leb, leb-true, eq-eqb, ne-eqb, lt-leb}
+use borrow.Author.Tests.{le-leb, leb-true, eq-eqb, ne-eqb, lt-leb}
 use lib.Dec.{eqb, leb}
 use lib.ListN.{length, getD, set, take, drop, length-set, length-take, length-drop}
 use lib.Seq.{ext-getD, getD-take, getD-drop, getD-set-same, getD-set-other}
 use Rattle.model.specs.Sets.{WORDS, maxStates, Set, member, subset, firstStates, any, empty, union}
-use Rattle.model.specs.Stores.{maxGroups, forbiddenAt, groupAt, rowAt, storeWords, setAt, beyond, nonZero, malformed, badStates, refuse, sharedGrounds}
+use Rattle.model.specs.Stores.{maxGroups, forbiddenAt, groupAt, rowAt, storeWords, setAt, beyond, nonZero, malformed}
 use Rattle.model.proofs.Bounds.{and-true, and-intro, or-intro, or-true as or-cases, is-false, same-test, lt-or-ge, any-intro, any-find, any-turn, no-any, not-true}
 use Rattle.model.proofs.SetLaws.{In, in-bound, empty-in, in-firstStates, firstStates-in, in-union, union-in, subset-in, subset-not}
 

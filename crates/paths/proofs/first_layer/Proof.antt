@@ -1,5 +1,5 @@
 -- `first_layer`: the layers so far hold no state of the goal. A layer with a state makes one more found, so there are fewer layers than states.
-use Prim.Native.Nat.{_-_}
+use Prim.Native.Nat.{_-_, _<_}
 use native.Mathlib.Omega.{arith}
 use mathlib.Core.Path.{_≡_, sym, _∙_}
 use mathlib.Core.Bool.{false}
@@ -22,6 +22,9 @@ abbrev μ-loop : tie.MeasureT-loop
 some : (c : tie.Then1 Inv-loop μ-loop) → subset (c .before .before .loop .layer .words) empty ≡ false
 some c = sym (c .before .is-empty .ensures) ∙ not-true _ (c .if1 .taken)
 
+below : (c : tie.Then1 Inv-loop μ-loop) → c .before .before .loop .steps < maxStates
+below c = outward-below _ _ _ (c .before .before .loop .inv) (some c)
+
 pub first-layer-spec : {M : Type 1} → statement M
 first-layer-spec =
     tie.close
@@ -34,8 +37,8 @@ first-layer-spec =
     (λ c. let d = c .before .before in outward-hit _ _ _ (d .before .before .loop .inv) (some d) (sym (c .before .meets .ensures) ∙ c .if2 .taken))
     (λ c κs. search needs)
     (λ c κs. search needs)
-    (λ c. let d = c .before .before .before .before in omega (arith, outward-below _ _ _ (d .before .before .loop .inv) (some d)))
-    (λ c. let d = c .before .before .before .before in omega (arith, outward-below _ _ _ (d .before .before .loop .inv) (some d)))
+    (λ c. omega (arith, below (c .before .before .before .before)))
+    (λ c. let l = below (c .before .before .before .before) in omega arith)
     (λ c.
     let d = c .before .before .before .before in
     outward-turn _ _ _ (d .before .before .loop .inv) (some d) (sym (c .before .before .before .meets .ensures) ∙ c .before .before .if2 .left)

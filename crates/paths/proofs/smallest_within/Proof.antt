@@ -1,6 +1,5 @@
 -- `smallest_within`: the words passed have no state so near.
 use Prim.Native.Nat.{_-_, _≤_}
-use native.Mathlib.Nat.{le-antisymm}
 use mathlib.Core.Path.{_≡_, sym, _∙_}
 use borrow.Author.Needs.{needs}
 use Rattle.model.specs.Sets.{WORDS, maxStates}
