@@ -227,12 +227,15 @@ pub fn accepted_table(
             let out = random.places(room);
             distances(*library, &store, (n, g), &out, &far)?;
         }
-        let out = random.places(n - 1);
-        let short = Expected {
-            answer: 23,
-            front: Vec::new(),
-        };
-        distances(*library, &store, (n, g), &out, &short)?;
+        // No buffer is too short for the distances of no states.
+        if n > 0 {
+            let out = random.places(n - 1);
+            let short = Expected {
+                answer: 23,
+                front: Vec::new(),
+            };
+            distances(*library, &store, (n, g), &out, &short)?;
+        }
         let steps = (0..=n + 1).chain(FAR).map(|k| (k, judged.within(k)));
         within(*library, &store, (n, g), steps)?;
         round_trips(*library, &store, (n, g), &judged.write(), random)?;
