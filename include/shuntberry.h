@@ -1,7 +1,8 @@
 /*
  * Shuntberry: is a forbidden state of a dialogue table reachable, and by which steps?
  *
- * Four calls: decide, shortest path, read and write. Link target/staticlib/libshuntberry.a, which
+ * Four calls: decide, shortest path, read and write; and beside them next open minute, which says when
+ * a release may be loaded and reads no table. Link target/staticlib/libshuntberry.a, which
  * `rt staticlib shuntberry` makes. Nothing is allocated, nothing is kept between calls, and no call
  * fails other than by a refusal number. Calls may be made from several threads at once, as long as no
  * buffer that one of them writes is lent to another. A call takes less than 256 KiB of stack
@@ -20,7 +21,7 @@
  *
  * A REFUSED call has a refusal number in `refusal`, 0 in all other fields, and every buffer is as it
  * was before. Where several grounds apply, the smallest number is given; for 12 and 13 the blocks are
- * taken in order, 12 before 13 in each.
+ * taken in order, 12 before 13 in each; next open minute gives 31 before 30, and 30 before 29.
  */
 #ifndef SHUNTBERRY_H
 #define SHUNTBERRY_H
@@ -42,6 +43,9 @@ extern "C" {
 #define SHUNTBERRY_PATH_BYTES 256    /* the least length of a path buffer, in bytes */
 #define SHUNTBERRY_BLOCK_BYTES 512   /* a file is whole blocks of this many bytes */
 #define SHUNTBERRY_FILE_BYTES 10752  /* the length of the largest file, 21 blocks */
+#define SHUNTBERRY_MAX_TIME 2147483647 /* the greatest time, in minutes: 2^31 - 1 */
+#define SHUNTBERRY_MAX_WINDOWS 32    /* the greatest number of windows */
+#define SHUNTBERRY_MAX_DAYS 64       /* the greatest number of closed days */
 
 /* ---- Where the sets stand in a store, as the index of their first word ---- */
 
@@ -65,6 +69,9 @@ extern "C" {
 #define SHUNTBERRY_OUTPUT_SHORT 19      /* the output is shorter than the file (write) */
 #define SHUNTBERRY_ALLOWANCE 20         /* the allowance is over 256 (decide) */
 #define SHUNTBERRY_PATH_SHORT 21        /* the path buffer has under 256 bytes (decide, shortest path) */
+#define SHUNTBERRY_WINDOW_RANGE 29      /* a window starts past minute 10,079 of the week, or is 0 or over 10,080 minutes long (next open) */
+#define SHUNTBERRY_TOO_MANY 30          /* over 32 windows, or over 64 closed days (next open) */
+#define SHUNTBERRY_TIME 31              /* the time is over 2^31 - 1 (next open) */
 
 /* ---- Verdicts: only where `refusal` is 0. A refused call has 0 here too, so test `refusal` first. ---- */
 
@@ -144,6 +151,42 @@ struct shuntberry_file {
  */
 struct shuntberry_file shuntberry_write(const uint64_t *store, size_t store_len, size_t n, size_t g, uint8_t *output,
                                         size_t output_len);
+
+/* ---- When a release may be loaded ---- */
+
+/*
+ * A weekly window: `length` minutes, from `start` minutes into the week on, which begins on Saturday at
+ * 00:00. The number has the start in its low 32 bits and the length in its high 32. A start or length
+ * that does not fit is given as 2^32 - 1, which is out of range too: the call refuses such a window, and
+ * never takes a part of the number for the whole.
+ */
+static inline uint64_t shuntberry_window(uint64_t start, uint64_t length)
+{
+    const uint64_t most = 0xffffffff;
+    return (start < most ? start : most) | (length < most ? length : most) << 32;
+}
+
+/* What shuntberry_next_open answers. */
+struct shuntberry_minute {
+    uint32_t refusal; /* 0, or the number of the refusal */
+    uint32_t never;   /* 1 if there is no window, so that no minute is ever open; else 0 */
+    uint32_t minute;  /* the first open minute; 0, which is no answer, where `refusal` or `never` is not 0 */
+};
+
+/*
+ * The first open minute at or after `time`. Time is whole minutes since 1 January 2000, 00:00, a Saturday.
+ * A minute is open if it lies in one of the windows and its day is not closed. A window's first minute is
+ * in, the minute after its last is out; it may run over the week's end, and it recurs in every week, the
+ * one before minute 0 included. Days are counted from that Saturday as 0, and any 32-bit number may be
+ * named; a day that is named twice counts twice towards the 64.
+ *
+ * With at least one window there always is an open minute, less than 655,200 minutes later; it may lie
+ * past SHUNTBERRY_MAX_TIME. Neither buffer is changed.
+ *
+ * Refuses with 31, 30 or 29, in this order.
+ */
+struct shuntberry_minute shuntberry_next_open(size_t time, const uint64_t *windows, size_t windows_len,
+                                              const uint32_t *closed_days, size_t closed_days_len);
 
 #ifdef __cplusplus
 }

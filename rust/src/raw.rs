@@ -1,4 +1,4 @@
-//! The four calls as the library exports them for C; `include/shuntberry.h` has a comment for each
+//! The calls as the library exports them for C; `include/shuntberry.h` has a comment for each
 //! function and field. A refused call has 0 in every field but `refusal`: a verdict of 0 is *safe* only
 //! where `refusal` is 0.
 
@@ -39,6 +39,14 @@ pub struct File {
     pub length: u32,
 }
 
+#[repr(C)]
+#[derive(Clone, Copy, Debug, PartialEq, Eq)]
+pub struct Minute {
+    pub refusal: u32,
+    pub never: u32,
+    pub minute: u32,
+}
+
 unsafe extern "C" {
     pub fn shuntberry_decide(
         store: *const u64,
@@ -74,4 +82,12 @@ unsafe extern "C" {
         output: *mut u8,
         output_len: usize,
     ) -> File;
+
+    pub fn shuntberry_next_open(
+        time: usize,
+        windows: *const u64,
+        windows_len: usize,
+        closed_days: *const u32,
+        closed_days_len: usize,
+    ) -> Minute;
 }

@@ -1,6 +1,6 @@
 -- Laws of the call next open minute: its answer in each case.
 --
---   Sound, sound              what no ground leaves: a time, windows and days within their limits
+--   Sound, sound              what no ground leaves: a time and days within their limits, windows in their range
 --   declined                  a ground holds
 --   answered, never           else the first open minute, or never
 use Prim.Native.Nat.{ℕ, _+_, _≤_, _<_}
@@ -18,7 +18,6 @@ use Rattle.release_windows.proofs.Searches.{or-false}
 
 pub record Sound (time : ℕ) (windows days : List ℕ) : Type 0 where
   pub no-later : time ≤ maxTime
-  pub few-windows : length windows ≤ maxWindows
   pub few-days : length days ≤ maxDays
   pub in-range : some outside windows ≡ false
 
@@ -38,7 +37,6 @@ module _ (time : ℕ) (windows days : List ℕ) where
       let counts = or-false (ltb maxWindows (length windows)) (ltb maxDays (length days)) (count-ok .0) in
       record {
         no-later = ltb-false maxTime time (time-ok .0);
-        few-windows = ltb-false maxWindows (length windows) (counts .0);
         few-days = ltb-false maxDays (length days) (counts .1);
         in-range = range-ok .0;
       }

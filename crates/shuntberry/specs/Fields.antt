@@ -1,11 +1,14 @@
 -- The structs of the calls for C, as the model's answers: field by field, under the same names.
 --
 --   decisionFields, shortestFields, tableFields, fileFields     what decide, shortest path, read and write return
+--   minuteFields                                                what next open minute returns
 use Rattle.model.specs.Calls.{Decision, Shortest, TableRead, Written}
 use Rattle.shuntberry.specs.declared.DecisionFields.{DecisionFields}
 use Rattle.shuntberry.specs.declared.ShortestFields.{ShortestFields}
 use Rattle.shuntberry.specs.declared.TableFields.{TableFields}
+use Rattle.release_windows.specs.Answers.{Answer}
 use Rattle.shuntberry.specs.declared.FileFields.{FileFields}
+use Rattle.shuntberry.specs.declared.MinuteFields.{MinuteFields}
 
 -- all but `reserved`
 abbrev pub decisionFields : DecisionFields → Decision
@@ -20,3 +23,6 @@ tableFields r = record { refusal = r .refusal; n = r .n; g = r .g }
 
 abbrev pub fileFields : FileFields → Written
 fileFields r = record { refusal = r .refusal; length = r .length }
+
+abbrev pub minuteFields : MinuteFields → Answer
+minuteFields r = record { refusal = r .refusal; never = r .never; minute = r .minute }

@@ -1,4 +1,4 @@
-// The four calls for C (include/shuntberry.h). Each only calls the call of the same name and lays its answer out in a struct of 01's
+// The calls for C (include/shuntberry.h). Each only calls the call of the same name and lays its answer out in a struct of 01's
 // numbers: `refusal` is 0 where the call was not declined, and every other field is 0 where it was.
 ghost use mathlib.Core.Path.{_≡_};
 ghost use Prim.Native.Nat.{_≤_};
@@ -10,13 +10,16 @@ ghost use Rattle.rounds.specs.Answers.{answerOf};
 ghost use Rattle.paths.specs.Answers.{shortestOf};
 ghost use Rattle.block_file.specs.ReadAnswers.{readOf};
 ghost use Rattle.block_file.specs.Answers.{writtenOf};
-ghost use Rattle.shuntberry.specs.Fields.{decisionFields, shortestFields, tableFields, fileFields};
+ghost use Rattle.release_windows.specs.Answers.{nextOpenAnswer, numbersOf};
+ghost use Rattle.shuntberry.specs.Fields.{decisionFields, shortestFields, tableFields, fileFields, minuteFields};
 use block_file::TableRead;
 use block_file::Written;
 use block_file::read;
 use block_file::write;
 use paths::Shortest;
 use paths::shortest_path;
+use release_windows::NextOpen;
+use release_windows::next_open;
 use rounds::Decision;
 use rounds::Verdict;
 use rounds::decide;
@@ -210,4 +213,42 @@ pub extern "C" fn shuntberry_write(
         × (now (output .exit) ≡ writeBuffer (now (store .entry)) n g (now (output .entry))) ⌝ }
 {
     lay_out_file(write(store, n, g, output))
+}
+
+// ---- next open minute
+
+#[repr(C)]
+pub struct MinuteFields {
+    pub refusal: u32,
+    pub never: u32,
+    pub minute: u32,
+}
+
+fn lay_out_minute(answer: NextOpen) -> MinuteFields
+    ensures { λ r. ⌜ minuteFields r ≡ numbersOf answer ⌝ }
+{
+    match answer {
+        NextOpen::Minute(minute) => MinuteFields {
+            refusal: 0,
+            never: 0,
+            minute,
+        },
+        NextOpen::Never => MinuteFields {
+            refusal: 0,
+            never: 1,
+            minute: 0,
+        },
+        NextOpen::Refused(refusal) => MinuteFields {
+            refusal: refusal as u32,
+            never: 0,
+            minute: 0,
+        },
+    }
+}
+
+#[no_mangle]
+pub extern "C" fn shuntberry_next_open(time: usize, windows: &[u64], closed: &[u32]) -> MinuteFields
+    ensures { λ r. ⌜ minuteFields r ≡ nextOpenAnswer time (now (windows .entry)) (now (closed .entry)) ⌝ }
+{
+    lay_out_minute(next_open(time, windows, closed))
 }

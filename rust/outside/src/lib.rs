@@ -13,6 +13,8 @@
 //! `peer` is an optimised implementation of the four calls on four-word sets: what the library is
 //! measured against, and a library that the tests themselves can be tested with.
 //!
+//! `windows` is the call next open minute by itself: what is expected of it, and its tests.
+//!
 //! `table` is what all of them speak of, `named` the tables of 01 with its figures typed in,
 //! `generate` makes tables at random, `families` those to measure on, `damage` files that earn refusals,
 //! `buffer` lent buffers with guards, and `examine` is the tests.
@@ -31,3 +33,4 @@ pub mod peer;
 pub mod rounds;
 pub mod search;
 pub mod table;
+pub mod windows;
