@@ -265,13 +265,14 @@ fn figures(
     repetitions: usize,
     mut time: impl FnMut(usize, usize) -> f64,
 ) -> String {
-    let once = time(1, 3);
-    let rounds = (LEAST / once).ceil() as usize;
+    let rounds: Vec<usize> = (0..count)
+        .map(|which| (LEAST / time(which, 3)).ceil() as usize)
+        .collect();
     let mut times = vec![Vec::new(); count];
     for repetition in 0..repetitions {
         for place in 0..count {
             let which = (repetition + place) % count;
-            times[which].push(time(which, rounds));
+            times[which].push(time(which, rounds[which]));
         }
     }
 
@@ -280,7 +281,10 @@ fn figures(
         let pairs = times[0].iter().zip(&times[which]);
         let ratios: Vec<f64> = pairs.map(|(subject, peer)| subject / peer).collect();
         let (low, high) = (quantile(&ratios, 0.1), quantile(&ratios, 0.9));
-        format!("{:.2} ({low:.2}–{high:.2})", median(&ratios))
+        let middle = median(&ratios);
+        // A search by jumps takes a small part of the time of one minute by minute.
+        let digits = if middle < 0.1 { 5 } else { 2 };
+        format!("{middle:.digits$} ({low:.digits$}–{high:.digits$})")
     };
     let beside = |which: usize| format!("{:.2} | {}", per_call(which), ratio(which));
     let quick = if count == 3 {
