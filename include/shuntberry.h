@@ -1,8 +1,8 @@
 /*
  * Shuntberry: is a forbidden state of a dialogue table reachable, and by which steps?
  *
- * Four calls: decide, shortest path, read and write; and beside them next open minute, which says when
- * a release may be loaded and reads no table. Link target/staticlib/libshuntberry.a, which
+ * The calls are decide, shortest path, read, write and generate, and beside them next open minute, which
+ * says when a release may be loaded and reads no table. Link target/staticlib/libshuntberry.a, which
  * `rt staticlib shuntberry` makes. Nothing is allocated, nothing is kept between calls, and no call
  * fails other than by a refusal number. Calls may be made from several threads at once, as long as no
  * buffer that one of them writes is lent to another. A call takes less than 256 KiB of stack
@@ -20,8 +20,8 @@
  * given anything: what it does not accept, it refuses.
  *
  * A REFUSED call has a refusal number in `refusal`, 0 in all other fields, and every buffer is as it
- * was before. Where several grounds apply, the smallest number is given; for 12 and 13 the blocks are
- * taken in order, 12 before 13 in each; next open minute gives 31 before 30, and 30 before 29.
+ * was before. (generate returns the number itself.) Where several grounds apply, the one that the call's
+ * comment names first is given; for 12 and 13 the blocks are taken in order, 12 before 13 in each.
  */
 #ifndef SHUNTBERRY_H
 #define SHUNTBERRY_H
@@ -43,6 +43,7 @@ extern "C" {
 #define SHUNTBERRY_PATH_BYTES 256    /* the least length of a path buffer, in bytes */
 #define SHUNTBERRY_BLOCK_BYTES 512   /* a file is whole blocks of this many bytes */
 #define SHUNTBERRY_FILE_BYTES 10752  /* the length of the largest file, 21 blocks */
+#define SHUNTBERRY_MAX_FAN_OUT 16    /* the greatest fan-out of a generated table */
 #define SHUNTBERRY_MAX_TIME 2147483647 /* the greatest time, in minutes: 2^31 - 1 */
 #define SHUNTBERRY_MAX_WINDOWS 32    /* the greatest number of windows */
 #define SHUNTBERRY_MAX_DAYS 64       /* the greatest number of closed days */
@@ -57,18 +58,19 @@ extern "C" {
 /* ---- Refusal numbers ---- */
 
 #define SHUNTBERRY_ACCEPTED 0           /* the call was not refused */
-#define SHUNTBERRY_STORE_SHORT 10       /* the store has under 1,288 words (all calls) */
+#define SHUNTBERRY_STORE_SHORT 10       /* the store has under 1,288 words (all calls but next open) */
 #define SHUNTBERRY_INPUT_LENGTH 11      /* the input's length is 0, no multiple of 512, or over 10,752 (read) */
 #define SHUNTBERRY_BLOCK_NUMBER 12      /* block k does not hold the number k (read) */
 #define SHUNTBERRY_BLOCK_CHECK 13       /* a block's stored check is not its check (read) */
-#define SHUNTBERRY_STATES 14            /* n is 0 or over 256 (all calls) */
-#define SHUNTBERRY_GROUPS 15            /* g is over 64 (all calls) */
+#define SHUNTBERRY_STATES 14            /* n is 0 or over 256 (all calls but next open) */
+#define SHUNTBERRY_GROUPS 15            /* g is over 64 (decide, shortest path, read, write) */
 #define SHUNTBERRY_BLOCK_COUNT 16       /* the file has too few or too many blocks for its n and g (read) */
-#define SHUNTBERRY_STRAY_BIT 17         /* a set holds a state from n up, or a word of an unused group or row is not 0 (all calls) */
+#define SHUNTBERRY_STRAY_BIT 17         /* a set holds a state from n up, or a word of an unused group or row is not 0 (decide, shortest path, read, write) */
 #define SHUNTBERRY_FILLER 18            /* a byte past the contents is not 0 (read) */
 #define SHUNTBERRY_OUTPUT_SHORT 19      /* the output is shorter than the file (write) */
 #define SHUNTBERRY_ALLOWANCE 20         /* the allowance is over 256 (decide) */
 #define SHUNTBERRY_PATH_SHORT 21        /* the path buffer has under 256 bytes (decide, shortest path) */
+#define SHUNTBERRY_FAN_OUT 22           /* the fan-out is over 16 (generate) */
 #define SHUNTBERRY_WINDOW_RANGE 29      /* a window starts past minute 10,079 of the week, or is 0 or over 10,080 minutes long (next open) */
 #define SHUNTBERRY_TOO_MANY 30          /* over 32 windows, or over 64 closed days (next open) */
 #define SHUNTBERRY_TIME 31              /* the time is over 2^31 - 1 (next open) */
@@ -151,6 +153,18 @@ struct shuntberry_file {
  */
 struct shuntberry_file shuntberry_write(const uint64_t *store, size_t store_len, size_t n, size_t g, uint8_t *output,
                                         size_t output_len);
+
+/*
+ * Fills the first 1,288 words of `store` with the table that a seed gives, and touches no other word:
+ * n states, of which state 0 is initial and state n - 1 forbidden, no groups, and for each state in
+ * turn the next `fan_out` of a sequence of numbers, each modulo n, as its successors. Every call
+ * accepts the table, with g = 0. The numbers are 32 bits wide: the first is the seed, each of the next
+ * 54 the one before plus 2,654,435,769, and each from the 56th on the sum of the numbers 24 and 55
+ * places back, all modulo 2^32; the states take those from the 56th on.
+ *
+ * Returns 0, or refuses with 10, 14 or 22; the store is then as it was before.
+ */
+uint32_t shuntberry_generate(uint32_t seed, size_t n, size_t fan_out, uint64_t *store, size_t store_len);
 
 /* ---- When a release may be loaded ---- */
 

@@ -1,8 +1,8 @@
 #!/usr/bin/env python3
-"""Makes the files of this folder from document 01's text alone; shares no code with the library.
+"""Makes the files of this folder from the specification's text alone; shares no code with the library.
 
 NAME.table is a block file, NAME.expected what `check` prints for it. The answers are worked out by the
-rounds as 01 writes them, on Python's sets; for tables A to G they are held to the figures typed below.
+rounds as the specification writes them, on Python's sets; for tables A to G they are held to the figures typed below.
 
     python3 tables/make.py            writes the files anew
     python3 tables/make.py --check    writes nothing, and fails if a file differs
@@ -127,7 +127,7 @@ def printed(table):
     return "".join(line + "\n" for line in lines)
 
 
-# ---- The tables of 01, with its figures typed from its text
+# ---- The specification's tables (Worked tables), with the figures typed from its text
 
 A = Table(3, {0}, {2}, {(0, 1), (1, 0), (2, 2)})
 B = Table(5, {0}, {3}, {(0, 1), (1, 2), (2, 3), (4, 4)})
@@ -203,7 +203,7 @@ def refused():
 
 
 def checked_figures():
-    """01's figures about the files themselves."""
+    """The specification's figures about the files themselves (Files)."""
     assert contents(E).hex(" ") == "03 00 00 00 01 04 01 04 00"
     assert check(encode(E)) == 97
     assert len(contents(H)) == 508 and len(encode(H)) == BLOCK

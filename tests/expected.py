@@ -1,5 +1,5 @@
 #!/usr/bin/env python3
-"""What the test programs must print, worked out from document 01's text by tables/make.py's implementation of it, which shares no code
+"""What the test programs must print, worked out from the specification's text by tables/make.py's implementation of it, which shares no code
 with the library. Without a word it writes crates/NAME/stdout for each program; with --check it fails where one differs.
 crates/paths_test/expected.py does the same for paths_test, by an implementation of its own."""
 
@@ -224,7 +224,7 @@ def files_test():
     h = store_of(Table(61, {0, 8}, {60}, {(0, 60), (31, 32), (60, 60)}))
     e_file, h_file, h1_file = (write(t, 1288, n, g, 1024) for t, n, g in ((e, 3, 0), (h, 61, 0), (h, 61, 1)))
     most_file = write(most, 1288, 256, 64, 10752)
-    # 01's figures.
+    # The figures of docs/SPECIFICATION.md, Files.
     assert e_file[2:11].hex(" ") == "03 00 00 00 01 04 01 04 00" and number(e_file[510:]) == 97
     assert [len(file) for file in (e_file, h_file, h1_file, most_file)] == [512, 512, 1024, 10752]
     trips = 300

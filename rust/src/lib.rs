@@ -1,7 +1,7 @@
 //! Is a forbidden state of a dialogue table reachable, and by which steps?
 //!
-//! A safe wrapper around the proved library: [`decide`], [`shortest_path`], [`read`] and [`write()`],
-//! with slices in and enums out. No input makes a call panic: what the library does not accept, it
+//! A safe wrapper around the proved library: [`decide`], [`shortest_path`], [`read`], [`write()`] and
+//! [`generate`], with slices in and enums out. No input makes a call panic: what the library does not accept, it
 //! refuses with a number ([`Refused`]), and every buffer is then as it was before.
 //!
 //! A table has `n` states, numbered 0 to `n` − 1 ([`MAX_STATES`] at most), and `g` groups
@@ -58,6 +58,8 @@ pub const STORE_WORDS: usize = 1288;
 pub const PATH_BYTES: usize = 256;
 /// The length of the largest file: 21 blocks of 512 bytes.
 pub const FILE_BYTES: usize = 10_752;
+/// The greatest fan-out of a generated table.
+pub const MAX_FAN_OUT: usize = 16;
 /// The greatest time, in minutes.
 pub const MAX_TIME: usize = 2_147_483_647;
 /// The greatest number of windows.
@@ -182,6 +184,7 @@ impl Refused {
             19 => "the output is shorter than the file",
             20 => "the allowance is over 256",
             21 => "the path buffer has under 256 bytes",
+            22 => "the fan-out is over 16",
             29 => {
                 "a window starts past minute 10,079 of the week, or is 0 or over 10,080 minutes long"
             }
@@ -337,6 +340,30 @@ pub fn write<'o>(
     };
     accepted(file.refusal)?;
     Ok(front(output, file.length as usize))
+}
+
+/// Fills the first [`STORE_WORDS`] words of `store` with the table that a seed gives; no other word is
+/// touched. It has `n` states and no groups; state 0 is initial, state `n` − 1 forbidden, and each
+/// state has up to `fan_out` successors. Every call accepts it, with `g` = 0.
+///
+/// Refused with 10, 14 or 22.
+///
+/// ```
+/// use shuntberry::{FILE_BYTES, STORE_WORDS, generate, row, write};
+///
+/// let mut store = [0; STORE_WORDS];
+/// generate(7, 3, 2, &mut store)?;
+/// assert_eq!([store[row(0)], store[row(1)], store[row(2)]], [0b011, 0b110, 0b110]);
+///
+/// let mut output = [0; FILE_BYTES];
+/// assert_eq!(write(&store, 3, 0, &mut output)?.len(), 512);
+/// # Ok::<(), shuntberry::Refused>(())
+/// ```
+pub fn generate(seed: u32, n: usize, fan_out: usize, store: &mut [u64]) -> Result<(), Refused> {
+    // SAFETY: as in `decide`.
+    let refusal =
+        unsafe { raw::shuntberry_generate(seed, n, fan_out, store.as_mut_ptr(), store.len()) };
+    accepted(refusal)
 }
 
 /// The first minute at or after `time` that lies in one of the windows, and not on a closed day; `None`,

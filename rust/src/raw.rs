@@ -83,6 +83,14 @@ unsafe extern "C" {
         output_len: usize,
     ) -> File;
 
+    pub fn shuntberry_generate(
+        seed: u32,
+        n: usize,
+        fan_out: usize,
+        store: *mut u64,
+        store_len: usize,
+    ) -> u32;
+
     pub fn shuntberry_next_open(
         time: usize,
         windows: *const u64,

@@ -1,7 +1,8 @@
 /*
  * The calls from C by the header alone: a corridor of 256 states is laid out with the header's
- * offsets, written, read back, and asked for its path, which is every state in turn; then some of the
- * refusals. The calls run on a painted stack, to see how much of it they take.
+ * offsets, written, read back, and asked for its path, which is every state in turn; the largest load
+ * is generated; then some of the refusals, and next open minute. The calls run on a painted stack, to see
+ * how much of it they take.
  *
  * Without groups all states of Z have one cover, Z itself, so that each round loses the one state that
  * steps out: Z is 0 to 254 in round 0 and state 0 alone in round 254, where S is empty. The count is 254.
@@ -69,6 +70,25 @@ static void answers(void)
             "decide");
 }
 
+static int has(size_t set, unsigned state)
+{
+    return other[set + state / 64] >> (state % 64) & 1;
+}
+
+static void load(void)
+{
+    /* the first numbers that seed 12345 gives to states */
+    const uint32_t first = 683154905, second = 1697059147;
+
+    require(shuntberry_generate(12345, STATES, SHUNTBERRY_MAX_FAN_OUT, other, SHUNTBERRY_STORE_WORDS) == SHUNTBERRY_ACCEPTED,
+            "generate");
+    require(has(SHUNTBERRY_INITIAL, 0) && has(SHUNTBERRY_FORBIDDEN, STATES - 1), "the ends of a load");
+    require(has(SHUNTBERRY_ROW(0), first % STATES) && has(SHUNTBERRY_ROW(0), second % STATES), "the successors of state 0");
+    struct shuntberry_file written =
+        shuntberry_write(other, SHUNTBERRY_STORE_WORDS, STATES, 0, file, sizeof file);
+    require(written.refusal == SHUNTBERRY_ACCEPTED, "write of a load");
+}
+
 static uint32_t decide(size_t words, size_t n, size_t g, size_t allowance, size_t room)
 {
     return shuntberry_decide(store, words, n, g, allowance, path, room).refusal;
@@ -86,6 +106,9 @@ static void refusals(void)
     require(decide(words, STATES, 0, most, room - 1) == SHUNTBERRY_PATH_SHORT, "a short path buffer");
     require(shuntberry_write(store, words, STATES, 0, file, 511).refusal == SHUNTBERRY_OUTPUT_SHORT, "a short output");
     require(shuntberry_read(file, 511, other, words).refusal == SHUNTBERRY_INPUT_LENGTH, "a length of 511");
+    require(shuntberry_generate(0, 0, SHUNTBERRY_MAX_FAN_OUT + 1, other, words - 1) == SHUNTBERRY_STORE_SHORT, "a short store for a load");
+    require(shuntberry_generate(0, 0, SHUNTBERRY_MAX_FAN_OUT + 1, other, words) == SHUNTBERRY_STATES, "a load of no states");
+    require(shuntberry_generate(0, 1, SHUNTBERRY_MAX_FAN_OUT + 1, other, words) == SHUNTBERRY_FAN_OUT, "a fan-out over 16");
 }
 
 static int is_minute(struct shuntberry_minute answer, uint32_t minute)
@@ -137,6 +160,7 @@ static void *on_painted_stack(void *unused)
 {
     (void)unused;
     answers();
+    load();
     refusals();
     release_windows();
     return NULL;

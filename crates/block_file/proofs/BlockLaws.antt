@@ -12,13 +12,14 @@ use mathlib.Core.List.{List}
 use lib.ListN.{getD}
 use Rattle.model.specs.Sets.{WORDS, maxStates}
 use Rattle.model.specs.Stores.{maxGroups}
-use Rattle.model.specs.Files.{setWidth, contentLength, weighted, checkOf}
+use Rattle.model.specs.Blocks.{checkAt, modulus, weighted, checkOf}
+use Rattle.model.specs.Contents.{setWidth, headerBytes, contentLength}
 
 -- ---- the check
 
--- each byte adds less than 510 * 256
+-- each byte adds less than checkAt * 256
 pub record Summing (block : List ℕ) (sum i : ℕ) : Type 0 where
-  pub within : i ≤ 510
+  pub within : i ≤ checkAt
   pub is : sum ≡ weighted block i
   pub low : sum ≤ 130560 * i
 
@@ -27,10 +28,10 @@ unfolding weighted
 sum-none block = record { within = omega arith; is = refl; low = omega arith }
 
 -- one byte more
-module _ {i x : ℕ} (h : i < 510) (l : x < 256) where
+module _ {i x : ℕ} (h : i < checkAt) (l : x < 256) where
   term-low : (i + 1) * x ≤ 130560
   term-low =
-      let place : i + 1 ≤ 510 = omega arith in
+      let place : i + 1 ≤ checkAt = omega arith in
       let byte : x ≤ 256 = omega arith in
       mul-le-mul place byte
 
@@ -50,11 +51,11 @@ module _ {i x : ℕ} (h : i < 510) (l : x < 256) where
           low = omega (arith, term-low);
         }
 
-pub sum-all : {block : List ℕ} {sum i : ℕ} → Summing block sum i → 510 ≤ i → sum % 65521 ≡ checkOf block
+pub sum-all : {block : List ℕ} {sum i : ℕ} → Summing block sum i → checkAt ≤ i → sum % modulus ≡ checkOf block
 unfolding checkOf
 sum-all {block} {sum} {i} s h =
-    let done : i ≡ 510 = omega arith in
-    ap (λ (x : ℕ). x % 65521) (s .is ∙ ap (weighted block) done)
+    let done : i ≡ checkAt = omega arith in
+    ap (λ (x : ℕ). x % modulus) (s .is ∙ ap (weighted block) done)
 
 -- ---- lengths
 
@@ -69,8 +70,8 @@ module _ {n g w : ℕ} (states : n ≤ maxStates) (groups : g ≤ maxGroups) (e 
   pub sets-fit : w * (2 + g + n) < 2 ^ 64
   sets-fit = omega (arith, sets-le)
 
-  pub contents-fit : 4 + w * (2 + g + n) < 2 ^ 64
+  pub contents-fit : headerBytes + w * (2 + g + n) < 2 ^ 64
   contents-fit = omega (arith, sets-le)
 
-  pub contents-le : 4 + w * (2 + g + n) ≤ contentLength maxStates maxGroups
+  pub contents-le : headerBytes + w * (2 + g + n) ≤ contentLength maxStates maxGroups
   contents-le = omega (arith, sets-le)

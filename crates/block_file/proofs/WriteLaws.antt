@@ -1,37 +1,44 @@
 -- Laws that the functions of `writing` cite.
 --
 --   le16-low, le16-high                  the bytes of a two-byte number; set-byte: a byte of a set
---   place-front, place-behind            where set k of the file begins in the store; set-place: there stands set k
+--   set-place                            set k of the file stands at its place in the store
 --   content-n, content-g, content-past   a byte of the contents: in the header, and past the end; content-at: behind the header
 --   width-some, set-below, byte-below    byte i of the sets joined, of w bytes each: its set and its place there; content-set: the byte
 --   le16-written                         two bytes stored
---   Over xs old out                      out is old with xs written over its front
 --   content-none, content-more           a loop that writes content, byte by byte
---   overwrite-lent                       more written into the rest of a buffer, which was lent for it
 --   blockFront, block-written            a block up to its check, and with it
---   blocksOf, blocks-none, blocks-more   a loop that writes blocks; over-all: either loop when it is done
+--   blocksOf, blocks-none, blocks-more   a loop that writes blocks
 --   held                                 where no shared ground holds, the store is long enough and n and g are in bounds
---   Wrote                                what the contract of write says; declined-shared, declined-room, written: each of its answers
+--   declined-shared, declined-room, written   what the contract of write says of each of its answers
 use Prim.Native.Nat.{ℕ, zero, suc, _+_, _*_, _-_, _/_, _%_, _^_, _≤_, _<_}
-use native.Mathlib.Nat.{le-of-eq, le-antisymm, div-add-mod}
+use native.Mathlib.Nat.{div-add-mod}
 use native.Mathlib.Omega.{arith}
 use mathlib.Core.Path.{_≡_, refl, sym, ap, ap₂, _∙_, subst}
-use mathlib.Core.List.{List, [], _∷_, _++_, append-nil}
+use mathlib.Core.List.{List, [], _∷_, _++_}
 use borrow.Author.Tests.{lt-ltb, le-ltb, eqb-true}
 use lib.Dec.{eqb, ltb}
-use lib.ListN.{set, length, getD, take, drop, length-set, length-drop, drop-of-length-le, List·getD-append}
-use lib.Seq.{take-all}
-use Rattle.model.specs.Sets.{WORDS, maxStates, Set, tabulate, member, number}
-use Rattle.model.specs.Stores.{groupAt, rowAt, setAt, tableOf, concat, refuse, sharedGrounds}
-use Rattle.model.specs.Files.{le16, setWidth, sets, contents, contentLength, blocksFor, fileLength, checkOf, blockOf, fileOf}
-use Rattle.model.specs.Calls.{overwrite, Written, writeGrounds, writeAnswer, writeBuffer}
+use lib.ListN.{set, length, getD, take, drop, List·getD-append}
+use Rattle.model.specs.Sets.{WORDS, maxStates, Set, member, number}
+use Rattle.model.specs.Stores.{forbiddenAt, groupAt, rowAt, setAt, tableOf, concat, refuse, sharedGrounds}
+use Rattle.model.specs.Blocks.{blockBytes, contentBytes, checkAt, le16, blocksFor, checkOf, blockOf}
+use Rattle.model.specs.Contents.{setWidth, sets, headerBytes, contents, contentLength}
+use Rattle.model.specs.Files.{fileLength, fileOf}
+use Rattle.model.specs.Calls.{overwrite, Written as WriteAnswer, outputGround, writeGrounds, writeAnswer, writeBuffer}
 use Rattle.model.proofs.Bounds.{by-cond, length-tabulate, getD-tabulate}
-use Rattle.model.proofs.ListLaws.{getD-behind, getD-past, div-below, mod-below, length-concat, tabulate-next, concat-next, overwrite-front, overwrite-more, overwrite-set, refuse-none, refuse-skip, refuse-take, refuse-append}
-use Rattle.model.proofs.FileLaws.{byte-number, sets-each, length-contents, contents-header, contents-set, checkOf-cong, block-unique, framed-is, blockOf-is}
+use Rattle.model.proofs.ListLaws.{getD-behind, getD-past, div-below, mod-below, length-concat, concat-next, overwrite-front, overwrite-set}
+use Rattle.model.proofs.GroundLaws.{refuse-none, refuse-skip, refuse-take, refuse-append}
+use Rattle.model.proofs.BlockLaws.{checkOf-cong, block-unique, framed-is, blockOf-is}
+use Rattle.model.proofs.ContentLaws.{byte-number, sets-each, length-contents, contents-header, contents-set}
 use Rattle.model.proofs.StoreLaws.{getD-setAt, row-is}
 use Rattle.model.proofs.CallLaws.{write-refusal, writable, write-answer, write-buffer}
 use Rattle.model.proofs.Acceptance.{accepted-store, store-accepted}
-use Rattle.block_file.specs.Writing.{Held, placeOf, contentFrom}
+use Rattle.block_file.specs.declared.writing.Written.{Written}
+use Rattle.block_file.specs.declared.writing.Written.the-variants.{File, Refused}
+use Rattle.block_file.specs.WriteAnswers.{CalledWrite}
+use Rattle.block_file.specs.Places.{placeOf}
+use Rattle.block_file.specs.Writing.{LongEnough, contentFrom}
+use Rattle.block_file.proofs.Places.{by-place}
+use Rattle.block_file.proofs.Overwriting.{Over, over-none, over-next, overwrite-lent}
 
 -- ---- a byte of a number, and of a set
 
@@ -51,27 +58,16 @@ set-byte store at j h =
 
 -- ---- set k of the file, in the store
 
-module _ (g : ℕ) where
-  pub place-front : (k : ℕ) → k < 2 + g → placeOf g k ≡ WORDS * k
-  unfolding placeOf
-  place-front k h = rw (lt-ltb k (2 + g) h)
-
-  pub place-behind : (k : ℕ) → 2 + g ≤ k → placeOf g k ≡ rowAt (k - (2 + g))
-  unfolding placeOf
-  place-behind k h = rw (le-ltb k (2 + g) h)
-
-  place-row : (s : ℕ) → placeOf g (2 + g + s) ≡ rowAt s
-  place-row s = let row : 2 + g + s - (2 + g) ≡ s = omega arith in place-behind (2 + g + s) (omega arith) ∙ ap (λ (r : ℕ). rowAt r) row
-
 set-place : (store : List ℕ) (n g k : ℕ) → k < 2 + g + n → getD (sets (tableOf store n g)) k [] ≡ setAt store (placeOf g k)
 unfolding tableOf
 set-place store n g =
-    let at : (k : ℕ) → k < 2 + g → setAt store (WORDS * k) ≡ setAt store (placeOf g k) = λ k h. ap (setAt store) (sym (place-front g k h)) in
+    let at : (k p : ℕ) → k < 2 + g → WORDS * k ≡ p → setAt store p ≡ setAt store (placeOf g k) =
+    λ k p h e. ap (setAt store) (by-place g k (λ q. p ≡ q) (λ l. sym e) (λ l. absurd (omega arith))) in
     sets-each (tableOf store n g) (length-tabulate _ g) (λ k X. X ≡ setAt store (placeOf g k))
-    (at 0 (omega arith))
-    (at 1 (omega arith))
-    (λ j h. let group : groupAt j ≡ WORDS * (2 + j) = omega arith in getD-tabulate _ g j [] h ∙ ap (setAt store) group ∙ at (2 + j) (omega arith))
-    (λ s h. row-is store n g s h ∙ ap (setAt store) (sym (place-row g s)))
+    (at 0 0 (omega arith) refl)
+    (at 1 forbiddenAt (omega arith) refl)
+    (λ j h. getD-tabulate _ g j [] h ∙ at (2 + j) (groupAt j) (omega arith) (omega arith))
+    (λ s h. row-is store n g s h ∙ ap (setAt store) (by-place g (2 + g + s) (λ q. rowAt s ≡ q) (λ l. absurd (omega arith)) (λ l. omega arith)))
 
 -- ---- a byte of the contents
 
@@ -80,7 +76,7 @@ module _ (store : List ℕ) (n g : ℕ) where
   unfolding tableOf
   content-n i h = sym (contents-header (tableOf store n g) (length-tabulate _ g) i (omega arith) ∙ List·getD-append (le16 n) (le16 g) 0 i h)
 
-  pub content-g : (i : ℕ) → 2 ≤ i → i < 4 → getD (le16 g) (i - 2) 0 ≡ getD (contents (tableOf store n g)) i 0
+  pub content-g : (i : ℕ) → 2 ≤ i → i < headerBytes → getD (le16 g) (i - 2) 0 ≡ getD (contents (tableOf store n g)) i 0
   unfolding tableOf
   content-g i l h =
       let place : 2 + (i - 2) ≡ i = omega arith in
@@ -115,19 +111,19 @@ module _ (n g i w : ℕ) (wide : w ≡ setWidth n) (h : i < setWidth n * (2 + g 
     byte-below = omega (arith, byte-in)
 
   pub content-set : (store : List ℕ) (at : ℕ) → at ≡ placeOf g (i / w)
-      → number (member (setAt store at)) (8 * (i % w)) 8 ≡ getD (contents (tableOf store n g)) (4 + i) 0
+      → number (member (setAt store at)) (8 * (i % w)) 8 ≡ getD (contents (tableOf store n g)) (headerBytes + i) 0
   unfolding tableOf
   content-set store at e =
       let k = i / w in
       let j = i % w in
-      let place : 4 + setWidth n * k + j ≡ 4 + i = omega (arith, div-add-mod i w, ap (λ (v : ℕ). v * k) wide) in
+      let place : headerBytes + setWidth n * k + j ≡ headerBytes + i = omega (arith, div-add-mod i w, ap (λ (v : ℕ). v * k) wide) in
       sym
       (ap (λ (m : ℕ). getD (contents (tableOf store n g)) m 0) (sym place)
       ∙ contents-set (tableOf store n g) (length-tabulate _ g) k j set-in (subst (λ (v : ℕ). j < v) wide byte-in)
       ∙ ap (λ (X : Set). number (member X) (8 * j) 8) (set-place store n g k set-in ∙ ap (setAt store) (sym e)))
 
-pub content-at : (store : List ℕ) (n g i : ℕ) → 4 ≤ i → getD (contents (tableOf store n g)) (4 + (i - 4)) 0 ≡ getD (contents (tableOf store n g)) i 0
-content-at store n g i h = let place : 4 + (i - 4) ≡ i = omega arith in ap (λ (j : ℕ). getD (contents (tableOf store n g)) j 0) place
+pub content-at : (store : List ℕ) (n g i : ℕ) → headerBytes ≤ i → getD (contents (tableOf store n g)) (headerBytes + (i - headerBytes)) 0 ≡ getD (contents (tableOf store n g)) i 0
+content-at store n g i h = let place : headerBytes + (i - headerBytes) ≡ i = omega arith in ap (λ (j : ℕ). getD (contents (tableOf store n g)) j 0) place
 
 -- ---- a buffer filled
 
@@ -139,61 +135,33 @@ le16-written old x a b h p q =
     ∙ ap (λ ys. set ys 1 (x / 256 % 256)) (overwrite-set [] old (x % 256) 0 refl (omega arith))
     ∙ overwrite-set (x % 256 ∷ []) old (x / 256 % 256) 1 refl h
 
-pub record Over (xs old out : List ℕ) : Type 0 where
-  pub long : length out ≡ length old
-  pub is : out ≡ overwrite xs old
-
--- a loop that writes the lists xs i is done
-pub over-all : (xs : ℕ → List ℕ) (old out : List ℕ) (i m : ℕ) → i ≤ m → m ≤ i → Over (xs i) old out → out ≡ overwrite (xs m) old
-over-all xs old out i m l h w = w .is ∙ ap (λ (j : ℕ). overwrite (xs j) old) (le-antisymm l h)
-
 module _ (bytes : List ℕ) (from : ℕ) (old : List ℕ) where
   pub content-none : Over (contentFrom bytes from 0) old old
-  unfolding contentFrom tabulate overwrite
-  content-none = record { long = refl; is = refl }
+  unfolding contentFrom
+  content-none = over-none _ old
 
-  pub content-more : (out : List ℕ) (i x : ℕ) → i < length old → x ≡ getD bytes (from + i) 0 → Over (contentFrom bytes from i) old out
+  pub content-more : (out : List ℕ) (i : ℕ) {x : ℕ} → i < length old → x ≡ getD bytes (from + i) 0 → Over (contentFrom bytes from i) old out
       → Over (contentFrom bytes from (i + 1)) old (set out i x)
   unfolding contentFrom
-  content-more out i x h e w =
-      record {
-        long = length-set out i x ∙ w .long;
-        is =
-            ap (λ ys. set ys i x) (w .is)
-            ∙ overwrite-set (contentFrom bytes from i) old x i (length-tabulate _ i) h
-            ∙ ap (λ ys. overwrite ys old) (ap (λ (y : ℕ). contentFrom bytes from i ++ (y ∷ [])) e ∙ sym (tabulate-next _ i));
-      }
-
--- ys written behind xs, into the rest of the buffer, which was lent for it
-pub overwrite-lent : (xs ys old out rest : List ℕ) (n : ℕ) → length xs ≡ n → out ≡ overwrite xs old → rest ≡ overwrite ys (take (length out - n) (drop n out))
-    → take n out ++ (rest ++ drop (length out - n) (drop n out)) ≡ overwrite (xs ++ ys) old
-overwrite-lent xs ys old out rest n long e f =
-    let size : length (drop n out) ≤ length out - n = le-of-eq (length-drop n out) in
-    ap (λ zs. take n out ++ zs)
-    (ap₂ (λ us vs. us ++ vs)
-    (f ∙ ap (overwrite ys) (take-all (length out - n) (drop n out) size))
-    (drop-of-length-le (drop n out) size)
-    ∙ append-nil (overwrite ys (drop n out)))
-    ∙ ap (λ zs. take n zs ++ overwrite ys (drop n zs)) e
-    ∙ overwrite-more xs old ys n long
+  content-more out i = over-next _ old out i
 
 -- ---- a block
 
 module _ (bytes : List ℕ) (k : ℕ) where
   abbrev pub blockFront : List ℕ
-  blockFront = le16 k ++ contentFrom bytes (508 * k) 508
+  blockFront = le16 k ++ contentFrom bytes (contentBytes * k) contentBytes
 
-  content-long : length (contentFrom bytes (508 * k) 508) ≡ 508
+  content-long : length (contentFrom bytes (contentBytes * k) contentBytes) ≡ contentBytes
   unfolding contentFrom
-  content-long = length-tabulate _ 508
+  content-long = length-tabulate _ contentBytes
 
-  pub length-blockFront : length blockFront ≡ 510
+  pub length-blockFront : length blockFront ≡ checkAt
   length-blockFront = omega (arith, content-long)
 
   blockFront-is : blockFront ++ le16 (checkOf blockFront) ≡ blockOf bytes k
   unfolding contentFrom
   blockFront-is =
-      block-unique (framed-is bytes k (contentFrom bytes (508 * k) 508) content-long (λ i h. getD-tabulate _ 508 i 0 h)) (blockOf-is bytes k)
+      block-unique (framed-is bytes k (contentFrom bytes (contentBytes * k) contentBytes) content-long (λ i h. getD-tabulate _ contentBytes i 0 h)) (blockOf-is bytes k)
 
   -- with the check taken of the buffer
   pub block-written : (old out : List ℕ) (check : ℕ) → out ≡ overwrite blockFront old → check ≡ checkOf out
@@ -215,35 +183,35 @@ module _ (bytes old : List ℕ) where
   blocks-none = record { long = refl; is = refl }
 
   pub blocks-more : (out rest : List ℕ) (k : ℕ) → Over (blocksOf bytes k) old out
-      → rest ≡ overwrite (blockOf bytes k) (take (length out - 512 * k) (drop (512 * k) out))
-      → length (take (512 * k) out ++ (rest ++ drop (length out - 512 * k) (drop (512 * k) out))) ≡ length out
-      → Over (blocksOf bytes (k + 1)) old (take (512 * k) out ++ (rest ++ drop (length out - 512 * k) (drop (512 * k) out)))
+      → rest ≡ overwrite (blockOf bytes k) (take (length out - blockBytes * k) (drop (blockBytes * k) out))
+      → length (take (blockBytes * k) out ++ (rest ++ drop (length out - blockBytes * k) (drop (blockBytes * k) out))) ≡ length out
+      → Over (blocksOf bytes (k + 1)) old (take (blockBytes * k) out ++ (rest ++ drop (length out - blockBytes * k) (drop (blockBytes * k) out)))
   blocks-more out rest k w e long =
       record {
         long = long ∙ w .long;
         is =
-            overwrite-lent (blocksOf bytes k) (blockOf bytes k) old out rest (512 * k)
-            (length-concat (blockOf bytes) 512 k (λ j h. (blockOf-is bytes j) .long)) (w .is) e
+            overwrite-lent (blocksOf bytes k) (blockOf bytes k) old out rest (blockBytes * k)
+            (length-concat (blockOf bytes) blockBytes k (λ j h. (blockOf-is bytes j) .long)) (w .is) e
             ∙ ap (λ xs. overwrite xs old) (sym (concat-next (blockOf bytes) k));
       }
 
 -- ---- the call
 
 -- no ground that the calls share holds
-pub held : (store : List ℕ) (n g k : ℕ) → k ≡ refuse (sharedGrounds store n g) → k ≡ 0 → Held store n g
+pub held : (store : List ℕ) (n g k : ℕ) → k ≡ refuse (sharedGrounds store n g) → k ≡ 0 → LongEnough store n g
 held store n g k e z = let s = accepted-store store n g [] (sym e ∙ z) .0 in record { long = s .long; small = s .small; few = s .few }
 
 module _ (store : List ℕ) (n g : ℕ) (out : List ℕ) where
-  abbrev pub Wrote : Written → List ℕ → Type 0
-  Wrote answer after = (answer ≡ writeAnswer store n g (length out)) × (after ≡ writeBuffer store n g out)
+  abbrev Wrote : Written → List ℕ → Type 0
+  Wrote r after = CalledWrite store n g out r after
 
   -- a ground k holds
-  declined : (k : ℕ) → k ≡ refuse (writeGrounds store n g (length out)) → (k ≡ 0 → ⊥) → Wrote (record { refusal = k; length = 0 }) out
+  declined : (k : ℕ) → k ≡ refuse (writeGrounds store n g (length out)) → (k ≡ 0 → ⊥) → Wrote (Refused k) out
   unfolding writeAnswer writeBuffer
   declined k e f =
       let first = refuse (writeGrounds store n g (length out)) in
       let answered = (writeAnswer store n g (length out)) .refusal in (
-        by-cond (λ (a : Written). record { refusal = k; length = 0 } ≡ a) (eqb first 0) _ _ (λ q. absurd (f (e ∙ eqb-true first 0 q)))
+        by-cond (λ (a : WriteAnswer). record { refusal = k; length = 0 } ≡ a) (eqb first 0) _ _ (λ q. absurd (f (e ∙ eqb-true first 0 q)))
             (λ q. ap (λ (x : ℕ). record { refusal = x; length = 0 }) e),
         by-cond (λ (ys : List ℕ). out ≡ ys) (eqb answered 0) _ out
             (λ q. absurd (f (e ∙ sym (write-refusal store n g (length out)) ∙ eqb-true answered 0 q))) (λ q. refl),
@@ -251,27 +219,27 @@ module _ (store : List ℕ) (n g : ℕ) (out : List ℕ) where
 
   -- k is the first of the grounds that the calls share, or 0
   module _ (k : ℕ) (e : k ≡ refuse (sharedGrounds store n g)) where
-    pub declined-shared : (k ≡ 0 → ⊥) → Wrote (record { refusal = k; length = 0 }) out
+    pub declined-shared : (k ≡ 0 → ⊥) → Wrote (Refused k) out
     unfolding writeGrounds
     declined-shared f = declined k (refuse-append (sharedGrounds store n g) _ e f) f
 
     module _ (z : k ≡ 0) where
-      room-left : refuse (writeGrounds store n g (length out)) ≡ refuse ((ltb (length out) (fileLength n g), 19) ∷ [])
+      room-left : refuse (writeGrounds store n g (length out)) ≡ refuse (outputGround n g (length out) ∷ [])
       unfolding writeGrounds
       room-left = store-accepted store n g _ (accepted-store store n g [] (sym e ∙ z) .0)
 
-      pub declined-room : (blocks : ℕ) → blocks ≡ blocksFor (contentLength n g) → length out < 512 * blocks → Wrote (record { refusal = 19; length = 0 }) out
+      pub declined-room : (blocks : ℕ) → blocks ≡ blocksFor (contentLength n g) → length out < blockBytes * blocks → Wrote (Refused 19) out
       declined-room blocks b h = declined 19 (sym (room-left ∙ refuse-take _ 19 _ (lt-ltb (length out) (fileLength n g) (omega arith)))) (λ x. omega arith)
 
-      pub written : (blocks : ℕ) (after : List ℕ) → blocks ≡ blocksFor (contentLength n g) → 512 * blocks ≤ length out
+      pub written : (blocks : ℕ) (after : List ℕ) → blocks ≡ blocksFor (contentLength n g) → blockBytes * blocks ≤ length out
           → after ≡ overwrite (concat blocks (blockOf (contents (tableOf store n g)))) out
-          → Wrote (record { refusal = 0; length = 512 * blocks }) after
+          → Wrote (File (blockBytes * blocks)) after
       unfolding fileOf tableOf
       written blocks after b h w =
           let t = tableOf store n g in
           let ok = writable store n g (length out) (room-left ∙ refuse-skip _ 19 _ (le-ltb (length out) (fileLength n g) (omega arith)) ∙ refuse-none) in
           let size = ap (λ (l : ℕ). blocksFor l) (length-contents t (length-tabulate _ g)) in (
-            ap (λ (m : ℕ). record { refusal = 0; length = 512 * m }) b ∙ sym (write-answer store n g (length out) ok),
+            ap (λ (m : ℕ). record { refusal = 0; length = blockBytes * m }) b ∙ sym (write-answer store n g (length out) ok),
             w
                 ∙ ap (λ (m : ℕ). overwrite (concat m (blockOf (contents t))) out) (b ∙ sym size)
                 ∙ sym (write-buffer store n g out ok),

@@ -1,3 +1,4 @@
 pub mod Grounds
+pub mod Words
 pub mod Filling
 pub mod LastByte

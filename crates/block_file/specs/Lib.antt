@@ -1,5 +1,6 @@
-pub mod Answers
-pub mod Writing
-pub mod ReadAnswers
+pub mod Places
 pub mod Reading
+pub mod ReadAnswers
+pub mod Writing
+pub mod WriteAnswers
 pub mod RoundTripCalls

@@ -1,8 +1,19 @@
--- The answer of `read` with 01's numbers: each case of the code's enum as the model's record.
-use Rattle.model.specs.Calls.{TableRead as ReadAnswer}
+-- The call `read` in the specification's numbers.
+--
+--   readOf r         its answer: `refusal` is 0 and n and g those of the table, or `refusal` is the number and n and g are 0
+--   CalledRead       a call and what it gave: its contract
+use Prim.Native.Nat.{ℕ}
+use mathlib.Core.Path.{_≡_}
+use mathlib.Core.List.{List}
+use lib.ListN.{length}
+use Rattle.model.specs.Calls.{TableRead as ReadAnswer, readAnswer, readBuffer}
 use Rattle.block_file.specs.declared.reading.TableRead.{TableRead}
 use Rattle.block_file.specs.declared.reading.TableRead.the-variants.{Table, Refused}
 
 abbrev pub readOf : TableRead → ReadAnswer
 readOf (Table n g) = record { refusal = 0; n = n; g = g }
 readOf (Refused k) = record { refusal = k; n = 0; g = 0 }
+
+-- The store before the call and after it.
+abbrev pub CalledRead : List ℕ → List ℕ → TableRead → List ℕ → Type 0
+CalledRead input before r after = (readOf r ≡ readAnswer input (length before)) × (after ≡ readBuffer input before)

@@ -1,46 +1,35 @@
 -- What the functions below `read` ask of an input, and their parts of what `read` does.
 --
---   HasSet input w at          w bytes of a set stand in the contents from `at` on
---   HasTable input n g         n and g are in bounds, and their table stands in the contents
---   contentGrounds input n g   the grounds behind those of the blocks, for a file that says n and g
---   overwriteFrom at xs old    xs written from `at` on over a buffer that held old, the rest of it untouched
---   groupOf t j, rowOf t s     the sets of a table's layout at the places of group j and of row s
-use Prim.Native.Nat.{ℕ, _+_, _*_, _/_, _≤_}
-use mathlib.Core.Bool.{Bool, not, cond}
-use mathlib.Core.List.{List, [], _∷_, _++_}
-use lib.Dec.{eqb, ltb}
-use lib.ListN.{length, getD, take, drop}
-use Rattle.model.specs.Sets.{maxStates, Set, empty, any}
-use Rattle.model.specs.Tables.{Table}
-use Rattle.model.specs.Stores.{maxGroups, beyond, nonZero, badStates}
-use Rattle.model.specs.Files.{contentLength, blocksFor, contentsOf, setNumber}
+--   SetInside input w at        w bytes of a set stand in the contents from `at` on
+--   TableInside input n g       n and g are in bounds, and their table stands in the contents
+--   cleared store               a store whose words of a table are 0
+--   overwriteFrom at xs old     xs written from `at` on over a buffer that held old, the rest of it untouched
+--   fillSets bytes n g k store  the first k sets of the contents, each put into its own words of a store
+use Prim.Native.Nat.{ℕ, zero, suc, _+_, _*_, _/_, _≤_}
+use mathlib.Core.List.{List, _++_}
+use lib.ListN.{length, take, drop}
+use Rattle.model.specs.Sets.{maxStates, tabulate}
+use Rattle.model.specs.Stores.{maxGroups, storeWords}
+use Rattle.model.specs.Blocks.{blockBytes, contentBytes}
+use Rattle.model.specs.Contents.{contentLength, setNumber}
 use Rattle.model.specs.Calls.{overwrite}
+use Rattle.block_file.specs.Places.{placeOf}
 
-pub record HasSet (input : List ℕ) (w at : ℕ) : Type 0 where
+pub record SetInside (input : List ℕ) (w at : ℕ) : Type 0 where
   pub narrow : 8 * w ≤ maxStates
-  pub inside : at + w ≤ 508 * (length input / 512)
+  pub inside : at + w ≤ contentBytes * (length input / blockBytes)
 
-pub record HasTable (input : List ℕ) (n g : ℕ) : Type 0 where
-  pub states : n ≤ maxStates
-  pub groups : g ≤ maxGroups
-  pub inside : contentLength n g ≤ 508 * (length input / 512)
+pub record TableInside (input : List ℕ) (n g : ℕ) : Type 0 where
+  pub small : n ≤ maxStates
+  pub few : g ≤ maxGroups
+  pub inside : contentLength n g ≤ contentBytes * (length input / blockBytes)
 
--- In the model's readRefusal these are its grounds `late`.
-unfoldable pub contentGrounds : List ℕ → ℕ → ℕ → List (Bool × ℕ)
-contentGrounds input n g =
-    (badStates n, 14)
-    ∷ (ltb maxGroups g, 15)
-    ∷ (not (eqb (length input / 512) (blocksFor (contentLength n g))), 16)
-    ∷ (any (2 + g + n) (λ k. beyond n (setNumber (contentsOf input) n k)), 17)
-    ∷ (nonZero (contentsOf input) (contentLength n g) (508 * (length input / 512)), 18)
-    ∷ []
+unfoldable pub cleared : List ℕ → List ℕ
+cleared store = overwrite (tabulate storeWords (λ i. 0)) store
 
 unfoldable pub overwriteFrom : ℕ → List ℕ → List ℕ → List ℕ
 overwriteFrom at xs old = take at old ++ overwrite xs (drop at old)
 
--- Empty where the table has no such group or row.
-abbrev pub groupOf : Table → ℕ → Set
-groupOf t j = getD (t .groups) j empty
-
-abbrev pub rowOf : Table → ℕ → Set
-rowOf t s = cond (ltb s (t .n)) (t .row s) empty
+unfoldable pub fillSets : List ℕ → ℕ → ℕ → ℕ → List ℕ → List ℕ
+fillSets bytes n g zero store = store
+fillSets bytes n g (suc k) store = overwriteFrom (placeOf g k) (setNumber bytes n k) (fillSets bytes n g k store)

@@ -1,6 +1,6 @@
--- The round trips of the calls read and write themselves: of their results, and of their buffers before and after.
+-- The round trips of the calls read and write themselves: of their results, and of their buffers before and
+-- after. What a call gave is said by its own contract, CalledWrite or CalledRead.
 --
---   CalledWrite, CalledRead     a call and what it gave, as its contract has it
 --   CallsRoundTrip              what write wrote, read gives back; what read accepted, write gives back
 --   CallsDeclined               a call that declines leaves its buffer as it was
 use Prim.Native.Nat.{ℕ, _^_, _≤_}
@@ -8,20 +8,12 @@ use mathlib.Core.Path.{_≡_}
 use mathlib.Core.List.{List}
 use lib.ListN.{length, take}
 use Rattle.model.specs.Stores.{storeWords}
-use Rattle.model.specs.Calls.{overwrite, readAnswer, readBuffer, writeAnswer, writeBuffer}
+use Rattle.model.specs.Calls.{overwrite}
 use Rattle.model.specs.RoundTrip.{Bounded}
 use Rattle.block_file.specs.declared.writing.Written.{Written}
 use Rattle.block_file.specs.declared.reading.TableRead.{TableRead}
-use Rattle.block_file.specs.Answers.{writtenOf}
-use Rattle.block_file.specs.ReadAnswers.{readOf}
-
-pub record CalledWrite (store : List ℕ) (n g : ℕ) (before : List ℕ) (r : Written) (after : List ℕ) : Type 0 where
-  pub answer : writtenOf r ≡ writeAnswer store n g (length before)
-  pub buffer : after ≡ writeBuffer store n g before
-
-pub record CalledRead (input before : List ℕ) (r : TableRead) (after : List ℕ) : Type 0 where
-  pub answer : readOf r ≡ readAnswer input (length before)
-  pub buffer : after ≡ readBuffer input before
+use Rattle.block_file.specs.WriteAnswers.{writtenOf, CalledWrite}
+use Rattle.block_file.specs.ReadAnswers.{readOf, CalledRead}
 
 pub record CallsRoundTrip : Type 0 where
   -- the file that write left at the front of the output, read into any store that is long enough

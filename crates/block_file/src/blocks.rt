@@ -6,12 +6,17 @@
 //   le16_at                                  the number whose two bytes stand at a place, low byte first
 //   check_of                                 the check of a block
 //   set_width, content_length, blocks_for    the bytes of a set, those of the contents (L), the blocks that hold so many
+//   place_of                                 where a set of the file begins in the store
 ghost use Prim.Native.Nat.{_+_, _≤_, _<_};
 ghost use mathlib.Core.Path.{_≡_};
 ghost use lib.ListN.{length};
-ghost use Rattle.model.specs.Sets.{maxStates};
-ghost use Rattle.model.specs.Stores.{maxGroups};
-ghost use Rattle.model.specs.Files.{le16At, setWidth, contentLength, blocksFor, checkOf};
+ghost use Rattle.model.specs.Sets.{WORDS, maxStates};
+ghost use Rattle.model.specs.Stores.{maxGroups, storeWords};
+ghost use Rattle.model.specs.Blocks.{checkAt, le16At, blocksFor, checkOf};
+ghost use Rattle.model.specs.Contents.{setWidth, contentLength};
+ghost use Rattle.block_file.specs.Places.{placeOf};
+use state_set::WORDS;
+use table::ROWS_AT;
 
 pub const BLOCK: usize = 512;
 
@@ -38,7 +43,7 @@ pub fn le16_at(bytes: &[u8], i: usize) -> usize
 
 // The sum stays below 2^64 by far, so it is reduced once, at the end.
 pub fn check_of(block: &[u8]) -> u64
-    requires { ⌜ 510 ≤ length (now block) ⌝ }
+    requires { ⌜ checkAt ≤ length (now block) ⌝ }
     ensures { λ r. ⌜ r ≡ checkOf (now (block .entry)) ⌝ }
 {
     let mut sum: u64 = 0;
@@ -67,4 +72,16 @@ pub fn blocks_for(l: usize) -> usize
     ensures { λ r. ⌜ r ≡ blocksFor l ⌝ }
 {
     (l + CONTENT - 1) / CONTENT
+}
+
+// Where set k of the file begins in the store.
+pub fn place_of(g: usize, k: usize) -> usize
+    requires { ⌜ (g ≤ maxGroups) × (k < 2 + g + maxStates) ⌝ }
+    ensures { λ r. ⌜ (r ≡ placeOf g k) × (r + WORDS ≤ storeWords) ⌝ }
+{
+    if k < 2 + g {
+        WORDS * k
+    } else {
+        ROWS_AT + WORDS * (k - (2 + g))
+    }
 }

@@ -8,21 +8,17 @@
 //   non_zero                         ground 18, which concerns the filler
 //   content                          one byte of the contents
 //   byte_in, word_in                 a byte and a word of a set in the contents
-//   fill, fill_groups, fill_rows     the table put into the store
-//   fill_set, used_width             one set put into its words; the bytes that it has, none where a group or a row is unused
-//
-// What is put into a buffer is said with the model's `overwrite`, at its front, and with `overwriteFrom`, from a place on.
+//   fill, clear, fill_sets, fill_set the table put into the store: all its words 0, then each set into its own
 ghost use mathlib.Core.Path.{_≡_};
 ghost use Prim.Native.Nat.{_+_, _*_, _/_, _≤_, _<_};
-ghost use mathlib.Core.Bool.{cond};
-ghost use lib.Dec.{ltb};
 ghost use lib.ListN.{length, getD};
-ghost use Rattle.model.specs.Sets.{WORDS, maxStates, member, number, any};
-ghost use Rattle.model.specs.Stores.{maxGroups, groupAt, rowAt, storeWords, concat, layout, refuse, beyond, nonZero};
-ghost use Rattle.model.specs.Files.{setWidth, part, contentsOf, setIn, setNumber, tableIn};
-ghost use Rattle.model.specs.Calls.{overwrite, firstFault, blockFault, readRefusal, readAnswer, readBuffer};
-ghost use Rattle.block_file.specs.Reading.{HasSet, HasTable, overwriteFrom, groupOf, rowOf, contentGrounds};
-ghost use Rattle.block_file.specs.ReadAnswers.{readOf};
+ghost use Rattle.model.specs.Sets.{WORDS, member, number, any};
+ghost use Rattle.model.specs.Stores.{storeWords, layout, refuse, beyond, nonZero};
+ghost use Rattle.model.specs.Blocks.{blockBytes, contentBytes, contentsOf, blockGrounds};
+ghost use Rattle.model.specs.Contents.{setWidth, headerBytes, setIn, setNumber, tableIn};
+ghost use Rattle.model.specs.Calls.{overwrite, blocksGrounds, contentGrounds, readGrounds};
+ghost use Rattle.block_file.specs.Reading.{SetInside, TableInside, cleared, fillSets};
+ghost use Rattle.block_file.specs.ReadAnswers.{CalledRead};
 use crate::blocks::BLOCK;
 use crate::blocks::CHECK_AT;
 use crate::blocks::CONTENT;
@@ -32,14 +28,12 @@ use crate::blocks::blocks_for;
 use crate::blocks::check_of;
 use crate::blocks::content_length;
 use crate::blocks::le16_at;
+use crate::blocks::place_of;
 use crate::blocks::set_width;
 use crate::blocks::wide;
 use state_set::WORDS;
-use table::FORBIDDEN_AT;
-use table::GROUPS_AT;
 use table::MAX_GROUPS;
 use table::MAX_STATES;
-use table::ROWS_AT;
 use table::STORE_WORDS;
 
 // The length of the largest file.
@@ -54,7 +48,7 @@ pub enum TableRead {
 
 // Nothing is put into the store before the last ground has been looked at.
 pub fn read(input: &[u8], store: &mut [u64]) -> TableRead
-    ensures { λ r. ⌜ (readOf r ≡ readAnswer (now (input .entry)) (length (now (store .entry)))) × (now (store .exit) ≡ readBuffer (now (input .entry)) (now (store .entry))) ⌝ }
+    ensures { λ r. ⌜ CalledRead (now (input .entry)) (now (store .entry)) r (now (store .exit)) ⌝ }
 {
     let fault = refusal(input, store.len());
     if fault != 0 {
@@ -70,7 +64,7 @@ pub fn read(input: &[u8], store: &mut [u64]) -> TableRead
 
 // Why a file is declined where the store has `room` words, or 0.
 fn refusal(input: &[u8], room: usize) -> u8
-    ensures { λ r. ⌜ r ≡ readRefusal (now (input .entry)) room ⌝ }
+    ensures { λ r. ⌜ r ≡ refuse (readGrounds (now (input .entry)) room) ⌝ }
 {
     if room < STORE_WORDS {
         return 10;
@@ -95,7 +89,7 @@ fn refusal(input: &[u8], room: usize) -> u8
 
 // What is wrong with the first block that has a fault, or 0.
 fn first_fault(input: &[u8]) -> u8
-    ensures { λ r. ⌜ r ≡ firstFault (length (now (input .entry)) / 512) (λ k. blockFault (part (now (input .entry)) k) k) ⌝ }
+    ensures { λ r. ⌜ r ≡ refuse (blocksGrounds (now (input .entry))) ⌝ }
 {
     for k in 0..input.len() / BLOCK {
         let a = BLOCK * k;
@@ -110,8 +104,8 @@ fn first_fault(input: &[u8]) -> u8
 
 // What is wrong with block k, or 0.
 fn block_fault(block: &[u8], k: usize) -> u8
-    requires { ⌜ length (now block) ≡ 512 ⌝ }
-    ensures { λ r. ⌜ r ≡ blockFault (now (block .entry)) k ⌝ }
+    requires { ⌜ length (now block) ≡ blockBytes ⌝ }
+    ensures { λ r. ⌜ r ≡ refuse (blockGrounds (now (block .entry)) k) ⌝ }
 {
     let number = le16_at(block, 0);
     let check = le16_at(block, CHECK_AT) as u64;
@@ -154,7 +148,7 @@ fn content_refusal(input: &[u8], n: usize, g: usize) -> u8
 
 // A set of the table has a state from n up.
 fn any_beyond(input: &[u8], n: usize, g: usize) -> bool
-    requires { ⌜ HasTable (now input) n g × (0 < n) ⌝ }
+    requires { ⌜ TableInside (now input) n g × (0 < n) ⌝ }
     ensures { λ r. ⌜ r ≡ any (2 + g + n) (λ k. beyond n (setNumber (contentsOf (now (input .entry))) n k)) ⌝ }
 {
     let w = set_width(n);
@@ -168,7 +162,7 @@ fn any_beyond(input: &[u8], n: usize, g: usize) -> bool
 
 // Set k of the contents has a state from n up: those are in the last of its w bytes.
 fn is_set_beyond(input: &[u8], n: usize, w: usize, k: usize) -> bool
-    requires { ⌜ HasSet (now input) w (4 + w * k) × (0 < n) × (w ≡ setWidth n) ⌝ }
+    requires { ⌜ SetInside (now input) w (headerBytes + w * k) × (0 < n) × (w ≡ setWidth n) ⌝ }
     ensures { λ r. ⌜ r ≡ beyond n (setNumber (contentsOf (now (input .entry))) n k) ⌝ }
 {
     let last = wide(content(input, HEADER + w * k + (w - 1)));
@@ -177,7 +171,7 @@ fn is_set_beyond(input: &[u8], n: usize, w: usize, k: usize) -> bool
 
 // Some byte of the contents from `from` on and before `to` is not 0.
 fn non_zero(input: &[u8], from: usize, to: usize) -> bool
-    requires { ⌜ (from ≤ to) × (to ≤ 508 * (length (now input) / 512)) ⌝ }
+    requires { ⌜ (from ≤ to) × (to ≤ contentBytes * (length (now input) / blockBytes)) ⌝ }
     ensures { λ r. ⌜ r ≡ nonZero (contentsOf (now (input .entry))) from to ⌝ }
 {
     for i in from..to {
@@ -192,7 +186,7 @@ fn non_zero(input: &[u8], from: usize, to: usize) -> bool
 
 // Byte i of the contents joined.
 fn content(input: &[u8], i: usize) -> u8
-    requires { ⌜ i < 508 * (length (now input) / 512) ⌝ }
+    requires { ⌜ i < contentBytes * (length (now input) / blockBytes) ⌝ }
     ensures { λ r. ⌜ r ≡ getD (contentsOf (now (input .entry))) i 0 ⌝ }
 {
     input[BLOCK * (i / CONTENT) + (CONTENT_AT + i % CONTENT)]
@@ -200,7 +194,7 @@ fn content(input: &[u8], i: usize) -> u8
 
 // Byte j of the set whose w bytes begin at `at`: 0 past them.
 fn byte_in(input: &[u8], w: usize, at: usize, j: usize) -> u64
-    requires { ⌜ HasSet (now input) w at ⌝ }
+    requires { ⌜ SetInside (now input) w at ⌝ }
     ensures { λ r. ⌜ r ≡ number (member (setIn (contentsOf (now (input .entry))) w at)) (8 * j) 8 ⌝ }
 {
     if w <= j {
@@ -211,7 +205,7 @@ fn byte_in(input: &[u8], w: usize, at: usize, j: usize) -> u64
 
 // Word v of that set: 0 past its bytes, of which unused groups and rows have none.
 fn word_in(input: &[u8], w: usize, at: usize, v: usize) -> u64
-    requires { ⌜ HasSet (now input) w at × (v < WORDS) ⌝ }
+    requires { ⌜ SetInside (now input) w at × (v < WORDS) ⌝ }
     ensures { λ r. ⌜ r ≡ getD (setIn (contentsOf (now (input .entry))) w at) v 0 ⌝ }
 {
     if w <= 8 * v {
@@ -227,52 +221,40 @@ fn word_in(input: &[u8], w: usize, at: usize, v: usize) -> u64
 // ---- filling
 
 fn fill(input: &[u8], n: usize, g: usize, store: &mut [u64])
-    requires { ⌜ HasTable (now input) n g × (storeWords ≤ length (now store)) ⌝ }
+    requires { ⌜ TableInside (now input) n g × (storeWords ≤ length (now store)) ⌝ }
     ensures { λ r. ⌜ now (store .exit) ≡ overwrite (layout (tableIn (contentsOf (now (input .entry))) n g)) (now (store .entry)) ⌝ }
 {
+    clear(store);
+    fill_sets(input, n, g, store);
+}
+
+// Words of unused groups and rows stay 0.
+fn clear(store: &mut [u64])
+    requires { ⌜ storeWords ≤ length (now store) ⌝ }
+    ensures { λ r. ⌜ now (store .exit) ≡ cleared (now (store .entry)) ⌝ }
+{
+    for i in 0..STORE_WORDS {
+        store[i] = 0;
+    }
+}
+
+// Each set into its own words: the part of the store from there on is lent, from ROWS_AT + WORDS * s on for the row of state s, to be
+// filled from the set's bytes.
+fn fill_sets(input: &[u8], n: usize, g: usize, store: &mut [u64])
+    requires { ⌜ TableInside (now input) n g × (storeWords ≤ length (now store)) ⌝ }
+    ensures { λ r. ⌜ now (store .exit) ≡ fillSets (contentsOf (now (input .entry))) n g (2 + g + n) (now (store .entry)) ⌝ }
+{
     let w = set_width(n);
-    fill_set(store, input, w, 0);
-    fill_set(&mut store[FORBIDDEN_AT..], input, w, 1);
-    fill_groups(input, n, g, store);
-    fill_rows(input, n, g, store);
-}
-
-// Group j into its words; unused ones, as unused rows below, as sets of no bytes.
-fn fill_groups(input: &[u8], n: usize, g: usize, store: &mut [u64])
-    requires { ⌜ HasTable (now input) n g × (storeWords ≤ length (now store)) ⌝ }
-    ensures { λ r. ⌜ now (store .exit) ≡ overwriteFrom (groupAt 0) (concat maxGroups (groupOf (tableIn (contentsOf (now (input .entry))) n g))) (now (store .entry)) ⌝ }
-{
-    for j in 0..MAX_GROUPS {
-        let at = GROUPS_AT + WORDS * j;
-        let w = used_width(n, j, g);
-        fill_set(&mut store[at..], input, w, 2 + j);
+    for k in 0..2 + g + n {
+        let at = place_of(g, k);
+        fill_set(&mut store[at..], input, w, k);
     }
-}
-
-// Row s into its own words: the part of the store from ROWS_AT + WORDS * s on is lent, to be filled from the row's bytes.
-fn fill_rows(input: &[u8], n: usize, g: usize, store: &mut [u64])
-    requires { ⌜ HasTable (now input) n g × (storeWords ≤ length (now store)) ⌝ }
-    ensures { λ r. ⌜ now (store .exit) ≡ overwriteFrom (rowAt 0) (concat maxStates (rowOf (tableIn (contentsOf (now (input .entry))) n g))) (now (store .entry)) ⌝ }
-{
-    for s in 0..MAX_STATES {
-        let at = ROWS_AT + WORDS * s;
-        let w = used_width(n, s, n);
-        fill_set(&mut store[at..], input, w, 2 + g + s);
-    }
-}
-
-// The bytes of a set of n states at place i, where the first `used` places are used.
-fn used_width(n: usize, i: usize, used: usize) -> usize
-    requires { ⌜ n ≤ maxStates ⌝ }
-    ensures { λ r. ⌜ r ≡ cond (ltb i used) (setWidth n) 0 ⌝ }
-{
-    if i < used { set_width(n) } else { 0 }
 }
 
 // Set k of the contents, where each set has w bytes, put into the first words of a part of the store.
 fn fill_set(words: &mut [u64], input: &[u8], w: usize, k: usize)
-    requires { ⌜ HasSet (now input) w (4 + w * k) × (WORDS ≤ length (now words)) ⌝ }
-    ensures { λ r. ⌜ now (words .exit) ≡ overwrite (setIn (contentsOf (now (input .entry))) w (4 + w * k)) (now (words .entry)) ⌝ }
+    requires { ⌜ SetInside (now input) w (headerBytes + w * k) × (WORDS ≤ length (now words)) ⌝ }
+    ensures { λ r. ⌜ now (words .exit) ≡ overwrite (setIn (contentsOf (now (input .entry))) w (headerBytes + w * k)) (now (words .entry)) ⌝ }
 {
     let at = HEADER + w * k;
     for v in 0..WORDS {

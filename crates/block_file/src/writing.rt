@@ -4,19 +4,20 @@
 //   write_blocks, write_block      the first so many blocks; one block: its number, its content, its check
 //   write_content, write_le16      the content of a block; a two-byte number, low byte first
 //   content_byte, sets_byte        one byte of the contents, 0 past them; one of the sets, which stand behind the header
-//   place_of, set_byte             where a set of the file begins in the store; one byte of the set that begins there
+//   set_byte                       one byte of the set that begins at a place of the store
 //   le16_byte                      one byte of a two-byte number
 //
 // What is written is said with the model's `overwrite`: at the front of what was lent, the rest of it untouched.
 ghost use Prim.Native.Nat.{_+_, _*_, _≤_, _<_};
 ghost use mathlib.Core.Path.{_≡_};
 ghost use lib.ListN.{length, getD};
-ghost use Rattle.model.specs.Sets.{WORDS, maxStates, member, number};
-ghost use Rattle.model.specs.Stores.{maxGroups, storeWords, setAt, tableOf, concat};
-ghost use Rattle.model.specs.Files.{le16, setWidth, contents, blockOf};
-ghost use Rattle.model.specs.Calls.{overwrite, writeAnswer, writeBuffer};
-ghost use Rattle.block_file.specs.Answers.{writtenOf};
-ghost use Rattle.block_file.specs.Writing.{Held, placeOf, contentFrom};
+ghost use Rattle.model.specs.Sets.{WORDS, member, number};
+ghost use Rattle.model.specs.Stores.{setAt, tableOf, concat};
+ghost use Rattle.model.specs.Blocks.{blockBytes, contentBytes, le16, blockOf};
+ghost use Rattle.model.specs.Contents.{setWidth, headerBytes, contents};
+ghost use Rattle.model.specs.Calls.{overwrite};
+ghost use Rattle.block_file.specs.WriteAnswers.{CalledWrite};
+ghost use Rattle.block_file.specs.Writing.{LongEnough, contentFrom};
 use crate::blocks::BLOCK;
 use crate::blocks::CHECK_AT;
 use crate::blocks::CONTENT;
@@ -25,9 +26,8 @@ use crate::blocks::HEADER;
 use crate::blocks::blocks_for;
 use crate::blocks::check_of;
 use crate::blocks::content_length;
+use crate::blocks::place_of;
 use crate::blocks::set_width;
-use state_set::WORDS;
-use table::ROWS_AT;
 use table::refusal;
 
 pub enum Written {
@@ -38,7 +38,7 @@ pub enum Written {
 
 // Nothing is written before the last ground of refusal has been tested.
 pub fn write(store: &[u64], n: usize, g: usize, output: &mut [u8]) -> Written
-    ensures { λ r. ⌜ (writtenOf r ≡ writeAnswer (now (store .entry)) n g (length (now (output .entry)))) × (now (output .exit) ≡ writeBuffer (now (store .entry)) n g (now (output .entry))) ⌝ }
+    ensures { λ r. ⌜ CalledWrite (now (store .entry)) n g (now (output .entry)) r (now (output .exit)) ⌝ }
 {
     let declined = refusal(store, n, g);
     if declined != 0 {
@@ -56,7 +56,7 @@ pub fn write(store: &[u64], n: usize, g: usize, output: &mut [u8]) -> Written
 
 // The number of a block has two bytes.
 fn write_blocks(store: &[u64], n: usize, g: usize, blocks: usize, out: &mut [u8])
-    requires { ⌜ Held (now store) n g × (blocks ≤ 65536) × (512 * blocks ≤ length (now out)) ⌝ }
+    requires { ⌜ LongEnough (now store) n g × (blocks ≤ 65536) × (blockBytes * blocks ≤ length (now out)) ⌝ }
     ensures { λ r. ⌜ now (out .exit) ≡ overwrite (concat blocks (blockOf (contents (tableOf (now (store .entry)) n g)))) (now (out .entry)) ⌝ }
 {
     for k in 0..blocks {
@@ -66,7 +66,7 @@ fn write_blocks(store: &[u64], n: usize, g: usize, blocks: usize, out: &mut [u8]
 }
 
 fn write_block(store: &[u64], n: usize, g: usize, k: usize, out: &mut [u8])
-    requires { ⌜ Held (now store) n g × (k < 65536) × (512 ≤ length (now out)) ⌝ }
+    requires { ⌜ LongEnough (now store) n g × (k < 65536) × (blockBytes ≤ length (now out)) ⌝ }
     ensures { λ r. ⌜ now (out .exit) ≡ overwrite (blockOf (contents (tableOf (now (store .entry)) n g)) k) (now (out .entry)) ⌝ }
 {
     write_le16(k, out);
@@ -77,8 +77,8 @@ fn write_block(store: &[u64], n: usize, g: usize, k: usize, out: &mut [u8])
 
 // The content of a block, from byte `from` of the contents on.
 fn write_content(store: &[u64], n: usize, g: usize, from: usize, out: &mut [u8])
-    requires { ⌜ Held (now store) n g × (from ≤ 512 * 65536) × (508 ≤ length (now out)) ⌝ }
-    ensures { λ r. ⌜ now (out .exit) ≡ overwrite (contentFrom (contents (tableOf (now (store .entry)) n g)) from 508) (now (out .entry)) ⌝ }
+    requires { ⌜ LongEnough (now store) n g × (from ≤ blockBytes * 65536) × (contentBytes ≤ length (now out)) ⌝ }
+    ensures { λ r. ⌜ now (out .exit) ≡ overwrite (contentFrom (contents (tableOf (now (store .entry)) n g)) from contentBytes) (now (out .entry)) ⌝ }
 {
     for i in 0..CONTENT {
         out[i] = content_byte(store, n, g, from + i);
@@ -94,7 +94,7 @@ fn write_le16(x: usize, out: &mut [u8])
 }
 
 fn content_byte(store: &[u64], n: usize, g: usize, i: usize) -> u8
-    requires { ⌜ Held (now store) n g ⌝ }
+    requires { ⌜ LongEnough (now store) n g ⌝ }
     ensures { λ r. ⌜ r ≡ getD (contents (tableOf (now (store .entry)) n g)) i 0 ⌝ }
 {
     if i < 2 {
@@ -111,24 +111,12 @@ fn content_byte(store: &[u64], n: usize, g: usize, i: usize) -> u8
 
 // Byte i of the sets joined, which stand behind the header.
 fn sets_byte(store: &[u64], n: usize, g: usize, i: usize) -> u8
-    requires { ⌜ Held (now store) n g × (i < setWidth n * (2 + g + n)) ⌝ }
-    ensures { λ r. ⌜ r ≡ getD (contents (tableOf (now (store .entry)) n g)) (4 + i) 0 ⌝ }
+    requires { ⌜ LongEnough (now store) n g × (i < setWidth n * (2 + g + n)) ⌝ }
+    ensures { λ r. ⌜ r ≡ getD (contents (tableOf (now (store .entry)) n g)) (headerBytes + i) 0 ⌝ }
 {
     let w = set_width(n);
     let at = place_of(g, i / w);
     set_byte(store, at, i % w)
-}
-
-// Where set k of the file begins in the store.
-fn place_of(g: usize, k: usize) -> usize
-    requires { ⌜ (g ≤ maxGroups) × (k < 2 + g + maxStates) ⌝ }
-    ensures { λ r. ⌜ (r ≡ placeOf g k) × (r + WORDS ≤ storeWords) ⌝ }
-{
-    if k < 2 + g {
-        WORDS * k
-    } else {
-        ROWS_AT + WORDS * (k - (2 + g))
-    }
 }
 
 // Byte j of the set whose words begin at `at`.

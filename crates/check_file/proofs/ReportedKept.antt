@@ -10,13 +10,13 @@ use mathlib.Core.Path.{_≡_, sym, ap, _∙_}
 use mathlib.Core.Bool.{cond, or-true}
 use mathlib.Core.List.{List, [], _∷_}
 use borrow.Author.Tests.{lt-ltb}
-use lib.Dec.{eqb, ltb}
+use lib.Dec.{eqb}
 use lib.ListN.{length}
 use Rattle.model.specs.Sets.{maxStates}
 use Rattle.model.specs.Rounds.{run}
 use Rattle.model.specs.Stores.{storeWords, tableOf, refuse}
-use Rattle.model.specs.Files.{fileLength}
-use Rattle.model.specs.Calls.{maxAllowance, release, decideGrounds, decisionOf, declined, decideAnswer, maxFile, readRefusal, readAnswer, Written, writeGrounds}
+use Rattle.model.specs.Files.{maxFile}
+use Rattle.model.specs.Calls.{release, decideLimits, decideGrounds, decisionOf, declined, decideAnswer, badLength, fileGrounds, readGrounds, readAnswer, Written, outputGround, writeGrounds}
 use Rattle.model.specs.Promises.{Accepted}
 use Rattle.model.specs.RoundTrip.{Bounded}
 use Rattle.model.proofs.CallLaws.{write-refusal}
@@ -31,7 +31,7 @@ held-accepted : (store : List ℕ) (n g : ℕ) → Store store n g → Accepted 
 unfolding decideAnswer decideGrounds refuse
 held-accepted store n g held =
     let t = tableOf store n g in
-    let clear = store-accepted store n g ((ltb maxAllowance release, 20) ∷ (ltb maxStates maxStates, 21) ∷ []) held in
+    let clear = store-accepted store n g (decideLimits release maxStates) held in
     record { accepted = ap (λ (k : ℕ). (cond (eqb k 0) (decisionOf t (run t release)) (declined k)) .refusal) clear ∙ not-refused t (run t release) }
 
 module _ (input : List ℕ) (bytes : Bounded 256 input) (e : (readAnswer input storeWords) .refusal ≡ 0) where
@@ -39,7 +39,7 @@ module _ (input : List ℕ) (bytes : Bounded 256 input) (e : (readAnswer input s
   unfolding writeGrounds
   file-held =
       let written = round-trips .read-write input zeroStore input bytes (le-refl (length input)) e .answer in
-      accepted-store _ _ _ ((ltb (length input) (fileLength (fileStates input) (fileGroups input)), 19) ∷ [])
+      accepted-store _ _ _ (outputGround (fileStates input) (fileGroups input) (length input) ∷ [])
       (sym (write-refusal (fileStore input) (fileStates input) (fileGroups input) (length input)) ∙ ap (λ (w : Written). w .refusal) written) .0
 
   pub reported : Reported input
@@ -53,5 +53,5 @@ module _ (input : List ℕ) (bytes : Bounded 256 input) (e : (readAnswer input s
       }
 
 pub longer-refused : (input : List ℕ) → maxFile < length input → checkText input ≡ refusedText 11
-unfolding checkText readAnswer readRefusal refuse
+unfolding checkText readAnswer readGrounds fileGrounds badLength refuse
 longer-refused input h = rw (lt-ltb maxFile (length input) h, or-true)

@@ -4,11 +4,9 @@
 --   check-refused, check-read    the text at the front is that of the file, from read's answer and the store that it leaves
 use Prim.Native.Nat.{ℕ}
 use mathlib.Core.Path.{_≡_, sym, ap, _∙_}
-use mathlib.Core.Bool.{false≢true}
 use mathlib.Core.List.{List}
 use borrow.Author.Tests.{ne-eqb}
-use Rattle.model.specs.Stores.{storeWords, badStates}
-use Rattle.model.specs.Files.{le16At, contentsOf}
+use Rattle.model.specs.Stores.{storeWords}
 use Rattle.model.specs.Calls.{TableRead, readAnswer, readBuffer}
 use Rattle.model.proofs.CallLaws.{read-refusal, readable, read-answer}
 use Rattle.report.specs.Text.{refusedText}
@@ -18,11 +16,9 @@ use Rattle.check_file.specs.CheckText.{zeroStore, tableText, checkText}
 module _ (input : List ℕ) where
   -- where read accepts, n is not 0
   refusal-some : {k : ℕ} → record { refusal = k; n = 0; g = 0 } ≡ readAnswer input storeWords → k ≡ 0 → ⊥
-  unfolding badStates
   refusal-some e z =
       let r = readable input storeWords (sym (read-refusal input storeWords) ∙ sym (ap (λ (a : TableRead). a .refusal) e) ∙ z) in
-      let none : le16At (contentsOf input) 0 ≡ 0 = sym (ap (λ (a : TableRead). a .n) (e ∙ read-answer input storeWords _ _ r)) in
-      false≢true (sym (r .states) ∙ ap badStates none)
+      r .some (sym (ap (λ (a : TableRead). a .n) (e ∙ read-answer input storeWords _ _ r)))
 
   module _ {before after : List ℕ} {end : ℕ} where
     pub check-refused : {k : ℕ} → record { refusal = k; n = 0; g = 0 } ≡ readAnswer input storeWords → Front (refusedText k) before end after

@@ -8,7 +8,7 @@
 ghost use mathlib.Core.Path.{_≡_};
 ghost use Prim.Native.Nat.{_+_, _≤_};
 ghost use lib.ListN.{length};
-ghost use Rattle.model.specs.Calls.{maxFile};
+ghost use Rattle.model.specs.Files.{maxFile};
 ghost use Rattle.rounds.specs.Answers.{answerOf};
 ghost use Rattle.report.specs.Put.{room, Front};
 ghost use Rattle.check_file.specs.CheckText.{tableText, checkText};

@@ -1,6 +1,5 @@
 -- What a call that is not declined knows of its arguments.
 --
---   cond-zero              a ground with a number other than 0 did not hold
 --   Store                  a store that holds a table: grounds 10, 14, 15 and 17 do not hold; well-formed: its table is well formed
 --   accepted-store         from the grounds that the calls share; store-accepted: and back
 --   Check, check-of        the same with grounds 20 and 21, of an accepted check
@@ -8,27 +7,22 @@ use Prim.Native.Nat.{ℕ, _≤_, _<_}
 use native.Mathlib.Omega.{arith}
 use mathlib.Core.Path.{_≡_, refl, sym, ap, subst}
 use mathlib.Core.Logic.{⊎-elim}
-use mathlib.Core.Bool.{Bool, true, false, cond}
-use mathlib.Core.List.{List, [], _∷_, _++_}
+use mathlib.Core.Bool.{Bool, false, cond}
+use mathlib.Core.List.{List, [], _++_}
 use borrow.Author.Tests.{ltb-false, le-ltb, eqb-true, eqb-false, ne-eqb}
-use lib.Dec.{eqb, ltb, lit<}
+use lib.Dec.{eqb, ltb}
 use lib.ListN.{length}
 use Rattle.model.specs.Sets.{maxStates, Set, firstStates}
 use Rattle.model.specs.Tables.{Table}
-use Rattle.model.specs.Stores.{maxGroups, storeWords, forbiddenAt, rowAt, setAt, tableOf, refuse, beyond, malformed, badStates, sharedGrounds}
-use Rattle.model.specs.Calls.{release, decideGrounds, decisionOf, declined, decideAnswer}
+use Rattle.model.specs.Stores.{maxGroups, storeWords, forbiddenAt, rowAt, setAt, tableOf, Ground, refuse, beyond, malformed, badStates, sharedGrounds}
+use Rattle.model.specs.Calls.{release, decideLimits, decideGrounds, decisionOf, declined, decideAnswer}
 use Rattle.model.specs.Rounds.{Outcome, run}
 use Rattle.model.specs.Promises.{Accepted}
 use Rattle.model.proofs.Bounds.{or-false, decided}
 use Rattle.model.proofs.SetLaws.{in-bound, in-firstStates, _⊆_}
+use Rattle.model.proofs.GroundLaws.{refuse-behind, refuse-clear}
 use Rattle.model.proofs.StoreLaws.{beyond-below, malformed-clean, row-is}
 use Rattle.model.proofs.WellFormed.{WellFormed}
-
--- ---- tests that do not hold
-
-pub cond-zero : (b : Bool) (k r : ℕ) → 0 < k → cond b k r ≡ 0 → (b ≡ false) × (r ≡ 0)
-cond-zero true k r h e = absurd (omega arith)
-cond-zero false k r h e = (refl, e)
 
 -- ---- a store
 
@@ -39,37 +33,36 @@ pub record Store (store : List ℕ) (n g : ℕ) : Type 0 where
   pub few : g ≤ maxGroups
   pub clean : malformed store n g ≡ false
 
-positive : (n : ℕ) → (n ≡ 0 → ⊥) → 0 < n
-positive n f = omega arith
-
-not-zero : (n : ℕ) → 0 < n → n ≡ 0 → ⊥
-not-zero n h e = omega arith
-
 -- the grounds that the calls share, and those that a call adds
-pub accepted-store : (store : List ℕ) (n g : ℕ) (later : List (Bool × ℕ)) → refuse (sharedGrounds store n g ++ later) ≡ 0
+pub accepted-store : (store : List ℕ) (n g : ℕ) (later : List Ground) → refuse (sharedGrounds store n g ++ later) ≡ 0
     → Store store n g × (refuse later ≡ 0)
-unfolding refuse badStates
+unfolding badStates
 accepted-store store n g later e =
-    let long = cond-zero _ 10 _ (lit< tt) e in
-    let states = cond-zero _ 14 _ (lit< tt) (long .1) in
-    let groups = cond-zero _ 15 _ (lit< tt) (states .1) in
-    let clean = cond-zero _ 17 _ (lit< tt) (groups .1) in
-    let n-ok = or-false (eqb n 0) (ltb maxStates n) (states .0) in (
+    let parts = refuse-clear (sharedGrounds store n g) later refl e in
+    let clear = parts .0 in
+    let states = or-false (eqb n 0) (ltb maxStates n) (clear .1 .0) in (
       record {
-        long = ltb-false (length store) storeWords (long .0);
-        some = positive n (eqb-false n 0 (n-ok .0));
-        small = ltb-false maxStates n (n-ok .1);
-        few = ltb-false maxGroups g (groups .0);
-        clean = clean .0;
+        long = ltb-false (length store) storeWords (clear .0);
+        some = positive n (eqb-false n 0 (states .0));
+        small = ltb-false maxStates n (states .1);
+        few = ltb-false maxGroups g (clear .1 .1 .0);
+        clean = clear .1 .1 .1 .0;
       },
-      clean .1,
+      parts .1,
     )
+  where
+    positive : (m : ℕ) → (m ≡ 0 → ⊥) → 0 < m
+    positive m f = omega arith
 
 -- and back: where none of the shared grounds holds, those that the call adds decide
-pub store-accepted : (store : List ℕ) (n g : ℕ) (later : List (Bool × ℕ)) → Store store n g → refuse (sharedGrounds store n g ++ later) ≡ refuse later
-unfolding refuse badStates
+pub store-accepted : (store : List ℕ) (n g : ℕ) (later : List Ground) → Store store n g → refuse (sharedGrounds store n g ++ later) ≡ refuse later
+unfolding badStates
 store-accepted store n g later s =
-    rw (le-ltb (length store) storeWords (s .long), ne-eqb n 0 (not-zero n (s .some)), le-ltb maxStates n (s .small), le-ltb maxGroups g (s .few), s .clean)
+    refuse-behind (sharedGrounds store n g) later
+    (le-ltb (length store) storeWords (s .long), (rw (ne-eqb n 0 (not-zero (s .some))) (le-ltb maxStates n (s .small)), (le-ltb maxGroups g (s .few), (s .clean, tt))))
+  where
+    not-zero : 0 < n → n ≡ 0 → ⊥
+    not-zero h e = omega arith
 
 pub well-formed : (store : List ℕ) (n g : ℕ) → Store store n g → WellFormed (tableOf store n g)
 unfolding tableOf
@@ -98,15 +91,14 @@ unfolding declined
 answered t o k e = ⊎-elim (λ q. eqb-true k 0 q) (λ q. subst (λ (b : Bool). (cond b (decisionOf t o) (declined k)) .refusal ≡ 0) q e) (decided (eqb k 0))
 
 pub check-of : (store : List ℕ) (n g allowance room : ℕ) → Accepted store n g allowance room → Check store n g allowance room
-unfolding decideAnswer decideGrounds refuse
+unfolding decideAnswer decideGrounds
 check-of store n g allowance room a =
     let none = answered (tableOf store n g) (run (tableOf store n g) allowance) (refuse (decideGrounds store n g allowance room)) (a .accepted) in
-    let parts = accepted-store store n g ((ltb release allowance, 20) ∷ (ltb room maxStates, 21) ∷ []) none in
-    let within = cond-zero (ltb release allowance) 20 _ (lit< tt) (parts .1) in
-    let roomy = cond-zero (ltb room maxStates) 21 _ (lit< tt) (within .1) in
+    let parts = accepted-store store n g (decideLimits allowance room) none in
+    let limits = refuse-clear (decideLimits allowance room) [] refl (parts .1) .0 in
     record {
       held = parts .0;
-      within = ltb-false release allowance (within .0);
-      roomy = ltb-false room maxStates (roomy .0);
+      within = ltb-false release allowance (limits .0);
+      roomy = ltb-false room maxStates (limits .1 .0);
       answer = ap (λ (k : ℕ). cond (eqb k 0) (decisionOf (tableOf store n g) (run (tableOf store n g) allowance)) (declined k)) none;
     }

@@ -6,7 +6,7 @@
 --   all-at, all-intro, all-not                 each passes; one that does not
 --   first-le, first-passes, first-least        `first` is the least that passes, else the bound; first-is, first-none: so it is that one;
 --                                              first-found, first-before: what passes at the bound, or anywhere, tells of it
---   length-tabulate, getD-tabulate, tabulate-cong             a list by its elements; tabulate-const: one element throughout
+--   length-tabulate, getD-tabulate, tabulate-cong             a list by its elements; in-tabulate: each is one of them; tabulate-const: one throughout
 use Prim.Native.Nat.{ℕ, zero, suc, _+_, _≤_, _<_, zero-le, suc-le-suc}
 use native.Mathlib.Nat.{le-of-suc-le-suc, not-suc-le-zero, eq-or-lt-of-le, le-antisymm}
 use native.Mathlib.Decide.{decLt}
@@ -15,7 +15,7 @@ use native.Mathlib.Omega.{arith}
 use mathlib.Core.Path.{_≡_, refl, sym, ap, ap₂, _∙_, subst}
 use mathlib.Core.Logic.{_⊎_, inl, inr, ⊎-elim}
 use mathlib.Core.Bool.{Bool, true, false, not, _&&_, _||_, cond, true≢false, false≢true}
-use mathlib.Core.List.{[], _∷_, _++_}
+use mathlib.Core.List.{[], _∷_, _++_, List·Memᴰ, List·Memᴰ·not-nil, List·Memᴰ·append-cases, List·Memᴰ·eq-of-singleton}
 use lib.ListN.{length, getD, length-append, List·getD-append, replicate, length-replicate, getD-replicate}
 use lib.Seq.{getD-at, ext-getD}
 use Rattle.model.specs.Sets.{any, all, first, tabulate}
@@ -210,6 +210,13 @@ pub tabulate-cong : {A : Type 0} (f g : ℕ → A) (n : ℕ) → ((i : ℕ) → 
 unfolding tabulate
 tabulate-cong f g zero e = refl
 tabulate-cong f g (suc n) e = ap₂ (λ xs x. xs ++ (x ∷ [])) (tabulate-cong f g n (λ i h. e i (omega arith))) (e n (omega arith))
+
+pub in-tabulate : {A : Type 0} (f : ℕ → A) (n : ℕ) {x : A} → List·Memᴰ x (tabulate n f) → (i : ℕ) × (i < n) × (x ≡ f i)
+unfolding tabulate
+in-tabulate f zero m = absurd (List·Memᴰ·not-nil m)
+in-tabulate f (suc n) m =
+    ⊎-elim (λ l. let w = in-tabulate f n l in (w .0, omega (arith, w .1), w .2)) (λ l. (n, omega arith, List·Memᴰ·eq-of-singleton l))
+    (List·Memᴰ·append-cases (tabulate n f) m)
 
 pub tabulate-const : {A : Type 0} (n : ℕ) (x : A) → replicate n x ≡ tabulate n (λ i. x)
 tabulate-const n x =

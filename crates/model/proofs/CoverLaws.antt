@@ -1,6 +1,6 @@
 -- Laws of post, hold and covers: each by its members, and a cover as a closure.
 --
---   in-notForbidden, notForbidden-in             the states not forbidden; allowed-within: they are states of the table
+--   in-notForbidden, notForbidden-in   the states not forbidden; notForbidden-within: they are states of the table
 --   image-mono, image-proper           an image grows with the set, and is proper; image-inside: it is where all of its parts are
 --   in-post, post-in, post-mono        post by its members
 --   in-hold, hold-in, hold-mono        hold by its members; hold-within: they are states of the table
@@ -8,20 +8,23 @@
 --   in-coverOf, coverOf-in             the cover of a state s by its members: states of the table that are in each listed set with s
 --   coverOf-within, coverOf-self       so it holds states of the table only, s among them;
 --   coverOf-trans                      and holds the cover of each of its states
+--   cover-is                           it is the meet of the listed sets with s alone, where those hold states of the table only
 --   Closed n L Y                       Y holds the cover of each of its states (it is an element of the abstract domain)
 --   listed-closed, cover-closed        each listed set is closed, and so is each cover
 --   cover-extensive, cover-minimal     the cover of X is the least closed set around X; cover-mono, cover-proper, cover-within
 --   forwardStep-*, backwardStep-*      the steps of R and S are monotone, proper and within the states of the table
-use Prim.Native.Nat.{ℕ, zero, suc, _<_}
+use Prim.Native.Nat.{ℕ, zero, suc, _≤_, _<_}
+use native.Mathlib.Omega.{arith}
 use mathlib.Core.Path.{_≡_, refl, sym, ap, subst}
 use mathlib.Core.Logic.{inl, inr, ⊎-elim}
 use mathlib.Core.Bool.{true, false, not}
 use mathlib.Core.List.{List, [], _∷_, List·Memᴰ, List·Memᴰ·head, List·Memᴰ·tail, List·Memᴰ·cases-cons, List·Memᴰ·not-nil}
-use Rattle.model.specs.Sets.{Set, member, empty, union, meet, firstStates, image}
+use Rattle.model.specs.Sets.{maxStates, Set, member, empty, union, meet, firstStates, image}
 use Rattle.model.specs.Tables.{Table, post, hold, coverOf, cover, notForbidden}
 use Rattle.model.specs.Rounds.{forwardStep, backwardStep}
+use Rattle.model.specs.Promises.{CoverIs}
 use Rattle.model.proofs.Bounds.{not-true, by-cond, clash}
-use Rattle.model.proofs.SetLaws.{Proper, setOf-proper, In, in-bound, in-union, union-in, in-meet, meet-in, in-states, states-in, states-within, firstStates-in, _⊆_, subset-in, in-subset, in-image, image-in}
+use Rattle.model.proofs.SetLaws.{Proper, setOf-proper, In, in-bound, in-union, union-in, in-meet, meet-in, in-states, states-in, states-within, in-firstStates, firstStates-in, _⊆_, subset-in, in-subset, in-image, image-in}
 
 -- ---- the states of the table
 
@@ -130,6 +133,20 @@ module _ (n : ℕ) where
 
   pub coverOf-trans : (L : List Set) (s : ℕ) {u : ℕ} → In (coverOf n L s) u → coverOf n L u ⊆ coverOf n L s
   coverOf-trans L s {u} h x k = in-coverOf L (coverOf-within L u x k) (λ Z m i. coverOf-in L k Z m (coverOf-in L h Z m i))
+
+-- the meet alone, where each listed set holds states of the table only
+pub cover-is : (n : ℕ) (L : List Set) → n ≤ maxStates → ((Z : Set) → List·Memᴰ Z L → Z ⊆ firstStates n) → (s : ℕ) → CoverIs n L s
+cover-is n L small within s =
+    record {
+      listed = λ Z m h u. (
+        λ e Y k y. coverOf-in n L (record { is = e }) Y k (record { is = y }) .is,
+        λ f. in-coverOf n L (within Z m u (record { is = f Z m h })) (λ Y k y. record { is = f Y k (y .is) }) .is,
+      );
+      unlisted = λ none u. (
+        λ e. firstStates-in (coverOf-within n L s u (record { is = e })),
+        λ l. in-coverOf n L (in-firstStates (omega arith) l) (λ Y k y. absurd (clash (y .is) (none Y k))) .is,
+      );
+    }
 
 -- ---- the cover of a set
 

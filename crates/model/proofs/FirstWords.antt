@@ -18,18 +18,21 @@ use Rattle.model.specs.Sets.{WORDS, maxStates, Set, empty}
 use Rattle.model.specs.Tables.{Table}
 use Rattle.model.specs.Rounds.{run}
 use Rattle.model.specs.Paths.{shortest, hasPath, smallestPath}
-use Rattle.model.specs.Stores.{maxGroups, storeWords, forbiddenAt, groupAt, rowAt, setAt, tableOf, refuse, beyond, nonZero, malformed, badStates, sharedGrounds}
-use Rattle.model.specs.Files.{fileLength, fileOf}
+use Rattle.model.specs.Stores.{maxGroups, storeWords, forbiddenAt, groupAt, rowAt, setAt, tableOf, Ground, refuse, beyond, nonZero, malformed, badStates, sharedGrounds}
+use Rattle.model.specs.Files.{fileOf, fileLength}
 use Rattle.model.specs.Calls.{overwrite, Decision, decideGrounds, decisionOf, declined, decideAnswer, decideBuffer, Shortest, shortestGrounds, shortestAnswer, shortestBuffer, Written, writeGrounds, writeAnswer, writeBuffer}
 use Rattle.model.specs.Promises.{FirstWords}
-use Rattle.model.proofs.Bounds.{decided, any-cong, tabulate-cong}
+use Rattle.model.proofs.Bounds.{or-false, decided, any-cong, tabulate-cong}
 use Rattle.model.proofs.ListLaws.{part-front}
 use Rattle.model.proofs.Acceptance.{accepted-store}
-use Rattle.model.proofs.CallLaws.{states-le}
 
 nonZero-cong : (xs ys : List ℕ) (from to : ℕ) → ((i : ℕ) → i < to → getD xs i 0 ≡ getD ys i 0) → nonZero xs from to ≡ nonZero ys from to
 unfolding nonZero
 nonZero-cong xs ys from to e = any-cong _ _ to (λ i h. ap (λ (x : ℕ). leb from i && not (eqb x 0)) (e i h))
+
+states-le : (n : ℕ) → badStates n ≡ false → n ≤ maxStates
+unfolding badStates
+states-le n e = ltb-false maxStates n (or-false (eqb n 0) (ltb maxStates n) e .1)
 
 module _ (store other : List ℕ) (long : storeWords ≤ length store) (long′ : storeWords ≤ length other) (e : take storeWords store ≡ take storeWords other) where
   same-word : (i : ℕ) → i < storeWords → getD store i 0 ≡ getD other i 0
@@ -75,7 +78,7 @@ module _ (store other : List ℕ) (long : storeWords ≤ length store) (long′ 
       zero-same : (from to : ℕ) → to ≤ storeWords → nonZero store from to ≡ nonZero other from to
       zero-same from to l = nonZero-cong store other from to (λ i h. same-word i (omega arith))
 
-  grounds-same : (n g : ℕ) (later : List (Bool × ℕ)) → refuse (sharedGrounds store n g ++ later) ≡ refuse (sharedGrounds other n g ++ later)
+  grounds-same : (n g : ℕ) (later : List Ground) → refuse (sharedGrounds store n g ++ later) ≡ refuse (sharedGrounds other n g ++ later)
   unfolding refuse
   grounds-same n g later =
       rw (le-ltb (length store) storeWords long, le-ltb (length other) storeWords long′)
@@ -89,7 +92,7 @@ module _ (store other : List ℕ) (long : storeWords ≤ length store) (long′ 
       (decided (badStates n)))
 
   -- f is given the first ground that holds, and the table, which it reads only where there is none
-  same-call : {A : Type 0} (f : ℕ → Table → A) (n g : ℕ) (later : List (Bool × ℕ)) → ((k : ℕ) (t u : Table) → eqb k 0 ≡ false → f k t ≡ f k u)
+  same-call : {A : Type 0} (f : ℕ → Table → A) (n g : ℕ) (later : List Ground) → ((k : ℕ) (t u : Table) → eqb k 0 ≡ false → f k t ≡ f k u)
       → f (refuse (sharedGrounds store n g ++ later)) (tableOf store n g) ≡ f (refuse (sharedGrounds other n g ++ later)) (tableOf other n g)
   same-call f n g later only =
       let k = refuse (sharedGrounds store n g ++ later) in

@@ -7,7 +7,7 @@
 --   least-pre, greatest-post         n steps from the empty set stay inside each prefixpoint, n from all n states around each postfixpoint
 --   from-below, from-above           they reach the least and the greatest solution; least-unique, greatest-unique: of which there is one
 --   eliminated-shrinks, eliminated-mono     W only shrinks; eliminated-proper, eliminated-within: it is a set of states of the table
---   backward-is                             the backward number is what 01 says
+--   backward-is                             the backward number is what the specification says
 use Prim.Native.Nat.{ℕ, zero, suc, _+_, _-_, _≤_, _<_}
 use native.Mathlib.Decide.{le-ind}
 use native.Mathlib.Omega.{arith}

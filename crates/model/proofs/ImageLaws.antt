@@ -3,7 +3,7 @@
 --   image-none          the image of a set without states is empty
 --   image-union         the image of a union
 --   image-peel          the image of a set is what one of its states gives, joined to the image of the rest
---   image-bound           the image of a set of states below n does not depend on the bound, from n up
+--   image-bound         the image of a set of states below n does not depend on the bound, from n up
 --   image-cong          the image reads f at the set's states only
 --   Joining, join-turn, join-end        a loop that joins an image: what is joined so far, with the image of what is left, is the goal
 --   union-assoc, union-empty            union is associative, and the empty set adds nothing
@@ -12,7 +12,7 @@ use mathlib.Core.Path.{_≡_, sym, ap, ap₂, _∙_, subst}
 use mathlib.Core.Logic.{inl, inr, ⊎-elim}
 use mathlib.Core.Bool.{true}
 use Rattle.model.specs.Sets.{maxStates, Set, empty, single, union, difference, subset, firstStates, image}
-use Rattle.model.proofs.SetLaws.{Proper, setOf-proper, In, in-bound, in-or-out, empty-in, in-single, single-in, firstStates-in, in-union, union-in, in-difference, difference-in, _⊆_, subset-in, in-subset, same-set, in-image, image-in}
+use Rattle.model.proofs.SetLaws.{Proper, setOf-proper, In, in-bound, in-or-out, empty-in, single-in, firstStates-in, in-union, union-in, in-difference, difference-in, _⊆_, subset-in, in-subset, same-set, in-image, image-in}
 use Rattle.model.proofs.CoverLaws.{image-proper}
 
 -- ---- difference and union

@@ -1,39 +1,44 @@
 -- The promises are kept: the laws of covers, rounds and paths, carried to the calls' own answers.
 --
 --   operations              post, hold and covers by their members
+--   groups-within           the groups of an accepted table hold its states only
 --   front                   the path at the front of a buffer, read back
 --   bufferFor               the path buffer that belongs to an answer
 --   outcome-*               a promise for each outcome of the rounds
 --   path-answer             the call shortest path
 --   not-refused             what the rounds decide is no refusal
---   promises, untouched     all of specs/Promises
-use Prim.Native.Nat.{ℕ, suc, _+_, _≤_, _<_}
+--   promises, untouched, declines     all of specs/Promises
+--   sizes                   all of specs/Sizes
+use Prim.Native.Nat.{ℕ, suc, _≤_, _<_}
 use native.Mathlib.Omega.{arith}
-use mathlib.Core.Path.{_≡_, refl, sym, ap, _∙_, subst, fun-ext}
+use mathlib.Core.Path.{_≡_, refl, sym, ap, _∙_, subst}
 use mathlib.Core.Logic.{inl, inr, ⊎-elim}
 use mathlib.Core.Bool.{Bool, true, false, cond}
-use mathlib.Core.List.{List}
-use borrow.Author.Tests.{ltb-true, eqb-true, ne-eqb}
-use lib.Dec.{eqb, ltb, lit≤}
-use lib.ListN.{length, take, drop, take-append-drop}
-use lib.Seq.{take-at, length-take-le}
-use Rattle.model.specs.Sets.{WORDS, maxStates, Set, member, empty}
+use mathlib.Core.List.{List, List·Memᴰ}
+use borrow.Author.Tests.{eqb-true, ne-eqb}
+use lib.Dec.{eqb}
+use lib.ListN.{length, take}
+use lib.Seq.{take-at}
+use Rattle.model.specs.Sets.{Set, member, firstStates}
 use Rattle.model.specs.Tables.{Table, coverOf, cover}
 use Rattle.model.specs.Rounds.{Outcome, safe, unsafe, undecided, run, backwardNumber}
 use Rattle.model.specs.Paths.{isPath, shortest, hasPath, smallestPath}
-use Rattle.model.specs.Stores.{maxGroups, storeWords, forbiddenAt, groupAt, rowAt, setAt, tableOf, refuse}
-use Rattle.model.specs.Calls.{overwrite, Decision, release, decideGrounds, decisionOf, declined, decideAnswer, decideBuffer, Shortest, shortestGrounds, shortestAnswer, shortestBuffer, readRefusal, readBuffer, writeAnswer, writeBuffer}
-use Rattle.model.specs.Promises.{Operations, IsSmallest, Carries, Demand2, Demand3, SameAnswer, PathAnswer, Accepted, Promises, Untouched}
-use Rattle.model.proofs.Bounds.{decided, by-cond, clash, tabulate-cong}
-use Rattle.model.proofs.SetLaws.{In, in-image, image-in, in-firstStates, firstStates-in}
+use Rattle.model.specs.Stores.{groupAt, setAt, tableOf, beyond, refuse}
+use Rattle.model.specs.Files.{fileLength}
+use Rattle.model.specs.Calls.{overwrite, Decision, release, decideGrounds, decisionOf, declined, decideAnswer, decideBuffer, Shortest, shortestGrounds, shortestAnswer, shortestBuffer, TableRead, statesIn, groupsIn, readGrounds, readAnswer, readBuffer, Written, writeGrounds, writeAnswer, writeBuffer}
+use Rattle.model.specs.Promises.{Operations, StopsFirst, IsSmallest, Carries, Demand2, Demand3, SameAnswer, PathAnswer, Accepted, Promises, Untouched, Declined}
+use Rattle.model.specs.Sizes.{Sizes}
+use Rattle.model.proofs.Bounds.{decided, by-cond, clash, in-tabulate}
+use Rattle.model.proofs.SetLaws.{In, in-bound, in-image, image-in, in-firstStates, firstStates-in, _⊆_}
 use Rattle.model.proofs.Fixpoints.{backward-is}
 use Rattle.model.proofs.WellFormed.{WellFormed}
-use Rattle.model.proofs.CoverLaws.{in-post, post-in, in-hold, hold-in, hold-within, in-coverOf, coverOf-in, coverOf-within, cover-add-in, cover-add-out}
-use Rattle.model.proofs.RoundLaws.{round-first, round-next, round-is, first-stop, countOf, count-backward, undecided-count, undecided-short, larger-run, safe-invariant, safe-no-path, unsafe-long, unsafe-path}
+use Rattle.model.proofs.CoverLaws.{in-post, post-in, in-hold, hold-in, hold-within, in-coverOf, coverOf-in, coverOf-within, cover-is, cover-add-in, cover-add-out}
+use Rattle.model.proofs.RoundLaws.{round-first, round-next, round-is, listed-within, first-stop, countOf, count-backward, undecided-count, undecided-short, larger-run, safe-invariant, safe-no-path, unsafe-long, unsafe-path}
 use Rattle.model.proofs.PathLaws.{has-path, path-of, smallest-is, length-smallest}
+use Rattle.model.proofs.StoreLaws.{beyond-below, malformed-clean}
 use Rattle.model.proofs.CallLaws.{read-refusal}
 use Rattle.model.proofs.FirstWords.{table-words, first-words}
-use Rattle.model.proofs.Acceptance.{accepted-store, well-formed, Check, check-of}
+use Rattle.model.proofs.Acceptance.{Store, accepted-store, well-formed, Check, check-of}
 
 -- ---- the operations
 
@@ -75,6 +80,15 @@ abbrev bufferFor : Table → Decision → List ℕ → List ℕ
 bufferFor t a path = cond (eqb (a .verdict) 1) (overwrite (smallestPath t) path) path
 
 module _ (t : Table) (allowance : ℕ) where
+  outcome-stops : StopsFirst t allowance (decisionOf t (run t allowance))
+  unfolding decisionOf
+  outcome-stops =
+      record {
+        at-safe = λ i h before s. let q = first-stop t allowance .at-safe i h before s in rw q (refl, refl, refl);
+        at-unsafe = λ i h before s u. let q = first-stop t allowance .at-unsafe i h before s u in rw q (refl, refl, refl);
+        at-undecided = λ on. let q = first-stop t allowance .at-undecided on in rw q (refl, refl, refl);
+      }
+
   outcome-carries : WellFormed t → (path : List ℕ) (o : Outcome) → run t allowance ≡ o → Carries t allowance (decisionOf t o) path (bufferFor t (decisionOf t o) path)
   unfolding decisionOf
   outcome-carries w path (safe i X) q =
@@ -216,6 +230,13 @@ module _ (store : List ℕ) (n g allowance : ℕ) (path : List ℕ) (ok : Accept
   of-answer : (P : Decision → Type 0) → P (decisionOf (tableOf store n g) (run (tableOf store n g) allowance)) → P (decideAnswer store n g allowance (length path))
   of-answer P h = subst P (sym (check .answer)) h
 
+groups-within : (store : List ℕ) (n g : ℕ) → Store store n g → (Z : Set) → List·Memᴰ Z ((tableOf store n g) .groups) → Z ⊆ firstStates n
+unfolding tableOf
+groups-within store n g held Z m s h =
+    let w = in-tabulate (λ j. setAt store (groupAt j)) g m in
+    let inside = malformed-clean store n g (held .clean) .group (w .0) (w .1) in
+    in-firstStates (in-bound h) (beyond-below n Z (ap (beyond n) (w .2) ∙ inside) s h)
+
 pub promises : Promises
 unfolding decideBuffer tableOf
 promises =
@@ -228,6 +249,12 @@ promises =
       backward-number = backward-is;
       demand3 = λ t allowance. outcome-3 t allowance _ refl;
       answer = λ store n g allowance path ok. check store n g allowance path ok .answer;
+      stops = λ store n g allowance path ok.
+          let t = tableOf store n g in
+          of-answer store n g allowance path ok (StopsFirst t allowance) (outcome-stops t allowance);
+      covers = λ store n g allowance path ok i.
+          let held = check store n g allowance path ok .held in
+          cover-is n _ (held .small) (listed-within (tableOf store n g) (groups-within store n g held) i);
       carries = λ store n g allowance path ok.
           let t = tableOf store n g in
           let held = check store n g allowance path ok .held in
@@ -254,6 +281,10 @@ not-refused t (safe i X) = refl
 not-refused t (unsafe i) = refl
 not-refused t (undecided i) = refl
 
+path-not-refused : (t : Table) (b : Bool) → (pathFound t b) .refusal ≡ 0
+path-not-refused t true = refl
+path-not-refused t false = refl
+
 pub untouched : Untouched
 unfolding decideAnswer decideBuffer declined shortestAnswer shortestBuffer readBuffer writeBuffer
 untouched =
@@ -268,6 +299,50 @@ untouched =
           (by-cond (λ (a : Shortest). eqb (refuse (shortestGrounds store n g (length path))) 0 ≡ true → (a .refusal ≡ 0 → ⊥) → cond (eqb (a .found) 1) (overwrite (smallestPath (tableOf store n g)) path) path ≡ path)
           (hasPath (tableOf store n g)) _ _ (λ h q f. absurd (f refl)) (λ h q f. refl))
           (λ q f. refl);
-      read = λ input store f. rw (ne-eqb (readRefusal input (length store)) 0 (λ e. f (read-refusal input (length store) ∙ e)));
+      read = λ input store f. rw (ne-eqb (refuse (readGrounds input (length store))) 0 (λ e. f (read-refusal input (length store) ∙ e)));
       write = λ store n g output f. rw (ne-eqb ((writeAnswer store n g (length output)) .refusal) 0 f);
+    }
+
+-- what is chosen where k is not 0, given that an answer with refusal 0 is chosen where it is
+declining : {A : Type 0} (refusal : A → ℕ) (k : ℕ) (given other : A) → refusal given ≡ 0
+    → (refusal (cond (eqb k 0) given other) ≡ 0 → ⊥) → cond (eqb k 0) given other ≡ other
+declining refusal k given other e =
+    by-cond (λ a. (refusal a ≡ 0 → ⊥) → a ≡ other) (eqb k 0) given other (λ q f. absurd (f e)) (λ q f. refl)
+
+pub declines : Declined
+unfolding decideAnswer declined shortestAnswer readAnswer writeAnswer
+declines =
+    record {
+      decide = λ store n g allowance room.
+          let t = tableOf store n g in
+          let k = refuse (decideGrounds store n g allowance room) in
+          declining (λ (a : Decision). a .refusal) k (decisionOf t (run t allowance)) (declined k) (not-refused t (run t allowance));
+      shortest-path = λ store n g room.
+          let t = tableOf store n g in
+          let k = refuse (shortestGrounds store n g room) in
+          declining (λ (a : Shortest). a .refusal) k (pathFound t (hasPath t)) (record { refusal = k; found = 0; steps = 0 })
+          (path-not-refused t (hasPath t));
+      read = λ input room.
+          let k = refuse (readGrounds input room) in
+          declining (λ (a : TableRead). a .refusal) k (record { refusal = 0; n = statesIn input; g = groupsIn input }) (record { refusal = k; n = 0; g = 0 }) refl;
+      write = λ store n g room.
+          let k = refuse (writeGrounds store n g room) in
+          declining (λ (a : Written). a .refusal) k (record { refusal = 0; length = fileLength n g }) (record { refusal = k; length = 0 }) refl;
+    }
+
+pub sizes : Sizes
+sizes =
+    record {
+      words-of-a-set = refl;
+      most-states = refl;
+      most-groups = refl;
+      words-of-a-store = refl;
+      forbidden-at = refl;
+      group-at = λ j. refl;
+      row-at = λ s. refl;
+      greatest-allowance = refl;
+      release-allowance = refl;
+      block = refl;
+      most-blocks = refl;
+      largest-file = refl;
     }

@@ -8,11 +8,15 @@ pub mod WellFormed
 pub mod RoundLaws
 pub mod PathLaws
 pub mod ListLaws
+pub mod GroundLaws
+pub mod BlockLaws
+pub mod ContentLaws
 pub mod StoreLaws
 pub mod FileLaws
+pub mod Acceptance
 pub mod CallLaws
 pub mod RoundTrips
-pub mod Acceptance
 pub mod FirstWords
 pub mod Kept
 pub mod Ranges
+pub mod BlockCheck

@@ -1,4 +1,4 @@
--- Laws of lists in parts, of buffers written over, and of refusals.
+-- Laws of lists in parts, and of buffers written over.
 --
 --   part-front, part-behind                   a part of two lists joined: within the first, behind it
 --   getD-behind, getD-past                    an element behind the first of two lists; past the end
@@ -6,35 +6,25 @@
 --   Wide n w f                                the lists f 0, .., f (n − 1) have w elements each
 --   length-concat, part-concat                such lists joined: the length, and one of them as a part
 --   getD-concat                               an element by its list and its place there
---   tabulate-next, concat-next                     one more, for a loop; joined-cong: the same lists joined
+--   tabulate-next, concat-next                one more, for a loop; concat-cong: the same lists joined
 --   concat-parts                              the parts of a list joined
 --   length-overwrite, take-overwrite          a buffer written over: its length and its front
 --   overwrite-front                           its first elements
 --   overwrite-append, overwrite-more          written over in two parts, the second where the buffer is lent from there on
 --   overwrite-set                             one element more
---   orElse-none, orElse-fault, orElse-clear   `cond (eqb e 0) later e`: the fault e, or a later one where e is 0
---   refuse-none, refuse-skip, refuse-take     no ground is left; one that does not hold; one that does
---   Clear, numbered                           no ground of a list holds; none of its numbers is 0
---   refuse-clear, clear-refuse                nothing is refused exactly if no ground holds
---   refuse-append                             a ground that holds decides, whatever grounds come after
---   firstFault-clear, clear-firstFault        there is no fault exactly if no place has one
---   firstFault-next, firstFault-stop          a loop goes on past a place, or returns its fault
-use Prim.Native.Nat.{ℕ, zero, suc, _+_, _*_, _-_, _/_, _%_, _≤_, _<_}
-use native.Mathlib.Nat.{not-suc-le-zero, zero-mul, mul-zero, mul-suc, mul-comm, mul-le-mul-left, le-of-eq, div-add-mod, div-lt-iff-lt-mul, mod-lt, eq-zero-or-pos}
+use Prim.Native.Nat.{ℕ, zero, suc, _+_, _*_, _/_, _%_, _≤_, _<_}
+use native.Mathlib.Nat.{not-suc-le-zero, zero-mul, mul-zero, mul-suc, mul-comm, mul-le-mul-left, le-of-eq, div-lt-iff-lt-mul, mod-lt, eq-zero-or-pos}
 use native.Mathlib.Numerals.{add-one}
 use native.Mathlib.Omega.{arith}
 use mathlib.Core.Path.{_≡_, refl, sym, ap, ap₂, _∙_, subst}
 use mathlib.Core.Logic.{⊎-elim}
-use mathlib.Core.Bool.{Bool, true, false, not, _&&_, cond}
 use mathlib.Core.List.{List, [], _∷_, _++_, append-assoc}
-use borrow.Author.Tests.{eqb-true, eqb-false}
-use lib.Dec.{eqb}
 use lib.ListN.{set, length, getD, take, drop, length-append, length-drop, List·getD-append, List·getD-eq-default}
 use lib.Seq.{take-all, take-at, drop-at, take-append-le, drop-append-le, getD-append-add, getD-take, getD-drop, drop-drop, take-add, drop-cons, set-at}
 use Rattle.model.specs.Sets.{tabulate}
-use Rattle.model.specs.Stores.{concat, refuse}
-use Rattle.model.specs.Calls.{overwrite, firstFault}
-use Rattle.model.proofs.Bounds.{and-true, not-true, by-cond, below-suc}
+use Rattle.model.specs.Stores.{concat}
+use Rattle.model.specs.Calls.{overwrite}
+use Rattle.model.proofs.Bounds.{below-suc}
 
 -- ---- the part of w elements from `at` on
 
@@ -159,90 +149,3 @@ module _ (xs old : List ℕ) where
       ap (λ zs. set (xs ++ zs) n x) rest
       ∙ set-at xs (getD old (length xs) 0) (drop (suc (length xs)) old) x n e
       ∙ sym (overwrite-append (x ∷ []) ∙ ap (λ zs. xs ++ overwrite (x ∷ []) zs) rest)
-
--- ---- one fault, else a later one
-
-module _ (e later : ℕ) where
-  pub orElse-none : e ≡ 0 → cond (eqb e 0) later e ≡ later
-  orElse-none p = by-cond (λ (r : ℕ). r ≡ later) (eqb e 0) later e (λ q. refl) (λ q. absurd (eqb-false e 0 q p))
-
-  pub orElse-fault : (e ≡ 0 → ⊥) → cond (eqb e 0) later e ≡ e
-  orElse-fault f = by-cond (λ (r : ℕ). r ≡ e) (eqb e 0) later e (λ q. absurd (f (eqb-true e 0 q))) (λ q. refl)
-
-  pub orElse-clear : cond (eqb e 0) later e ≡ 0 → (e ≡ 0) × (later ≡ 0)
-  orElse-clear =
-      by-cond (λ (r : ℕ). r ≡ 0 → (e ≡ 0) × (later ≡ 0)) (eqb e 0) later e
-      (λ q p. (eqb-true e 0 q, p)) (λ q p. absurd (eqb-false e 0 q p))
-
--- ---- grounds of refusal
-
-pub refuse-none : refuse [] ≡ 0
-unfolding refuse
-refuse-none = refl
-
-module _ (b : Bool) (k : ℕ) (later : List (Bool × ℕ)) where
-  pub refuse-skip : b ≡ false → refuse ((b, k) ∷ later) ≡ refuse later
-  unfolding refuse
-  refuse-skip e = rw e
-
-  pub refuse-take : b ≡ true → refuse ((b, k) ∷ later) ≡ k
-  unfolding refuse
-  refuse-take e = rw e
-
-abbrev pub Clear : List (Bool × ℕ) → Type 0
-Clear [] = Unit {0}
-Clear (ground ∷ later) = (ground .0 ≡ false) × Clear later
-
-abbrev pub numbered : List (Bool × ℕ) → Bool
-numbered [] = true
-numbered (ground ∷ later) = not (eqb (ground .1) 0) && numbered later
-
-pub refuse-clear : (grounds : List (Bool × ℕ)) → numbered grounds ≡ true → refuse grounds ≡ 0 → Clear grounds
-unfolding refuse
-refuse-clear [] m = λ e. tt
-refuse-clear (ground ∷ later) m =
-    let parts = and-true (not (eqb (ground .1) 0)) (numbered later) m in
-    by-cond (λ (r : ℕ). r ≡ 0 → Clear (ground ∷ later)) (ground .0) (ground .1) (refuse later)
-    (λ t e. absurd (eqb-false (ground .1) 0 (not-true (eqb (ground .1) 0) (parts .0)) e))
-    (λ t e. (t, refuse-clear later (parts .1) e))
-
-pub clear-refuse : (grounds : List (Bool × ℕ)) → Clear grounds → refuse grounds ≡ 0
-unfolding refuse
-clear-refuse [] c = refl
-clear-refuse (ground ∷ later) c = rw (c .0) (clear-refuse later (c .1))
-
-pub refuse-append : (xs ys : List (Bool × ℕ)) {k : ℕ} → k ≡ refuse xs → (k ≡ 0 → ⊥) → k ≡ refuse (xs ++ ys)
-unfolding refuse
-refuse-append [] ys e f = absurd (f e)
-refuse-append ((true, k) ∷ xs) ys e f = e
-refuse-append ((false, k) ∷ xs) ys e f = refuse-append xs ys e f
-
--- ---- the first fault
-
-module _ (f : ℕ → ℕ) where
-  pub firstFault-clear : (m : ℕ) → firstFault m f ≡ 0 → (k : ℕ) → k < m → f k ≡ 0
-  unfolding firstFault
-  firstFault-clear zero e k h = absurd (not-suc-le-zero h)
-  firstFault-clear (suc m) e k h =
-      let parts = orElse-clear (firstFault m f) (f m) e in
-      ⊎-elim (λ q. ap f q ∙ parts .1) (λ l. firstFault-clear m (parts .0) k l) (below-suc h)
-
-  pub clear-firstFault : (m : ℕ) → ((k : ℕ) → k < m → f k ≡ 0) → firstFault m f ≡ 0
-  unfolding firstFault
-  clear-firstFault zero c = refl
-  clear-firstFault (suc m) c = orElse-none _ _ (clear-firstFault m (λ k h. c k (omega arith))) ∙ c m (omega arith)
-
-  pub firstFault-next : (k : ℕ) → firstFault k f ≡ 0 → firstFault (k + 1) f ≡ f k
-  unfolding firstFault
-  firstFault-next k e = ap (λ (j : ℕ). firstFault j f) (add-one k) ∙ orElse-none (firstFault k f) (f k) e
-
-  pub firstFault-stop : (m k : ℕ) → k < m → firstFault k f ≡ 0 → (f k ≡ 0 → ⊥) → firstFault m f ≡ f k
-  unfolding firstFault
-  firstFault-stop zero k h e x = absurd (not-suc-le-zero h)
-  firstFault-stop (suc m) k h e x =
-      ⊎-elim
-      (λ q. orElse-none _ _ (ap (λ (j : ℕ). firstFault j f) (sym q) ∙ e) ∙ ap f (sym q))
-      (λ l.
-      let found = firstFault-stop m k l e x in
-      orElse-fault _ _ (λ z. x (sym found ∙ z)) ∙ found)
-      (below-suc h)

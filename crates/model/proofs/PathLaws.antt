@@ -1,9 +1,9 @@
--- Laws of paths (specs/Paths.antt): near as a breadth-first search from the forbidden states, the path that walk finds, distances.
+-- Laws of paths (specs/Paths.antt): `reaching` as a breadth-first search from the forbidden states, the path that walk finds, distances.
 --
 --   reaching-suc, reaching-mono                what is near stays near
 --   in-reaching, reaching-in                   a state is within k + 1 steps exactly if it, or a successor, is within k
 --   reaching-leads, leads-reaching             from a state within k steps at most k more lead to a forbidden one, and back
---   At t s k                           s is k steps from a forbidden state and no fewer; near-at, at-unique: there is one such k
+--   At t s k                           s is k steps from a forbidden state and no fewer; reaching-at, at-unique: there is one such k
 --   Nearest t X d                      so near are the nearest states of X; nearest-at: each of those
 --   at-row                             the row of a state at k + 1 is nearest at k
 --   at-size, at-lt                     a state at k is one of more than k near ones, so k is below n
@@ -12,7 +12,7 @@
 --   length-walk, length-smallest       how many states walk and smallestPath give
 --   walk-smallest, walk-leads          no path from X of the length of walk is smaller than it, and walk is a path from X
 --   path-of, has-path                  there is a path exactly if hasPath says so
---   smallest-is, smallest-below        smallestPath is the path that 01 names; its states are below n
+--   smallest-is, smallest-below        smallestPath is the path that the specification names; its states are below n
 --   distance-is                        where s is at k, its distance is k
 --   distance-unreachable               where s is never near, it has none
 --   reaching-distance, distance-reaching       it is at most k exactly if s is within k steps
@@ -207,7 +207,7 @@ module _ {t : Table} (ok : WellFormed t) where
       ⊎-elim (λ q. inr (q, rw q (walk-smallest zs (successors (f y h)) (p .0) (p .1)))) inl
       (eq-or-lt-of-le (smallest-le (in-meet h (leads-reaching (z ∷ zs) (f y h) e))))
 
--- ---- the path that 01 names
+-- ---- the path that the specification names
 
 module _ (t : Table) where
   pub walk-leads : (d : ℕ) {X : Set} → Nearest t X d → (x : ℕ) × (xs : List ℕ) × (walk t d X ≡ x ∷ xs) × In X x × (leads t x xs ≡ true)

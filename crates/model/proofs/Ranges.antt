@@ -15,13 +15,14 @@ use Rattle.model.specs.Tables.{Table}
 use Rattle.model.specs.Rounds.{Outcome, safe, unsafe, undecided, run}
 use Rattle.model.specs.Paths.{reaching, shortest, hasPath}
 use Rattle.model.specs.Stores.{maxGroups, tableOf, refuse}
-use Rattle.model.specs.Calls.{Decision, maxAllowance, decideGrounds, decisionOf, declined, decideAnswer, Shortest, shortestGrounds, shortestAnswer, TableRead, readRefusal, readAnswer, Written, writeGrounds, writeAnswer, maxFile}
+use Rattle.model.specs.Files.{maxFile}
+use Rattle.model.specs.Calls.{Decision, maxAllowance, decideGrounds, decisionOf, declined, decideAnswer, Shortest, shortestGrounds, shortestAnswer, TableRead, readGrounds, readAnswer, Written, writeGrounds, writeAnswer}
 use Rattle.model.proofs.Bounds.{by-cond, first-le}
 use Rattle.model.proofs.Counting.{size-most}
 use Rattle.model.proofs.Fixpoints.{backward-is}
 use Rattle.model.proofs.RoundLaws.{countOf, count-backward}
 use Rattle.model.proofs.FileLaws.{fileLength-most}
-use Rattle.model.proofs.CallLaws.{states-le, writable, readable}
+use Rattle.model.proofs.CallLaws.{writable, readable}
 use Rattle.model.proofs.Acceptance.{accepted-store}
 
 -- ---- decide and shortest path
@@ -70,10 +71,10 @@ pub record ReadRange (a : TableRead) : Type 0 where
 pub read-range : (input : List ℕ) (room : ℕ) → ReadRange (readAnswer input room)
 unfolding readAnswer
 read-range input room =
-    by-cond ReadRange (eqb (readRefusal input room) 0) _ _
+    by-cond ReadRange (eqb (refuse (readGrounds input room)) 0) _ _
     (λ q.
-    let r = readable input room (eqb-true (readRefusal input room) 0 q) in
-    record { n = states-le _ (r .states); g = r .groups })
+    let r = readable input room (eqb-true (refuse (readGrounds input room)) 0 q) in
+    record { n = r .small; g = r .few })
     (λ q. record { n = omega arith; g = omega arith })
 
 pub write-range : (store : List ℕ) (n g room : ℕ) → (writeAnswer store n g room) .length ≤ maxFile
@@ -82,5 +83,5 @@ write-range store n g room =
     by-cond (λ (a : Written). a .length ≤ maxFile) (eqb (refuse (writeGrounds store n g room)) 0) _ _
     (λ q.
     let w = writable store n g room (eqb-true (refuse (writeGrounds store n g room)) 0 q) in
-    fileLength-most n g (states-le n (w .states)) (w .groups))
+    fileLength-most n g (w .held .small) (w .held .few))
     (λ q. omega arith)

@@ -2,7 +2,8 @@
 -- what j rounds of backward elimination leave, b the backward number.
 --
 --   RoundFacts t r                     Z is listed; S ⊆ R ⊆ Z; R holds Init ∩ Z and its own steps into Z; S holds each X with X ⊆ R ∩ hold X
---   round-facts, round-is              each round has them, and is as 01 says
+--   round-facts, round-is              each round has them, and is as the specification says
+--   listed-within                      each listed set holds states of the table only, if the groups do
 --   in-next-Z, next-Z-in               Z of the next round by its members: S ∩ hold S
 --   in-eliminated, eliminated-in       W of the next round of elimination by its members
 --   eliminated-notForbidden, -closed        Wj holds allowed states only; no step leaves Wb
@@ -24,7 +25,7 @@ use native.Mathlib.Omega.{arith}
 use mathlib.Core.Path.{_≡_, refl, sym, ap, _∙_, subst}
 use mathlib.Core.Logic.{inl, inr, ⊎-elim}
 use mathlib.Core.Bool.{true, false, not, false≢true}
-use mathlib.Core.List.{List, [], _∷_, List·Memᴰ, List·Memᴰ·head}
+use mathlib.Core.List.{List, [], _∷_, List·Memᴰ, List·Memᴰ·head, List·Memᴰ·cases-cons}
 use lib.ListN.{length}
 use Rattle.model.specs.Sets.{Set, member, union, meet, subset, firstStates}
 use Rattle.model.specs.Tables.{Table, post, hold, notForbidden}
@@ -121,6 +122,15 @@ module _ (t : Table) where
   unfolding roundAt firstRound nextRound roundOf
   round-is zero = record { R-least = forward-least t _ _; S-greatest = backward-greatest t _ _ }
   round-is (suc i) = record { R-least = forward-least t _ _; S-greatest = backward-greatest t _ _ }
+
+  -- where the groups hold states of the table only, so does each listed set
+  pub listed-within : ((Z : Set) → List·Memᴰ Z (t .groups) → Z ⊆ firstStates (t .n))
+      → (i : ℕ) (Z : Set) → List·Memᴰ Z ((roundAt t i) .list) → Z ⊆ firstStates (t .n)
+  unfolding roundAt firstRound nextRound roundOf
+  listed-within groups zero Z m =
+      ⊎-elim (λ e. rw e (notForbidden-within (t .n) (t .forbidden))) (groups Z) (List·Memᴰ·cases-cons m)
+  listed-within groups (suc i) Z m =
+      ⊎-elim (λ e. rw e (λ s h. hold-within (t .n) (t .row) _ s (meet-in h .1))) (listed-within groups i Z) (List·Memᴰ·cases-cons m)
 
   S-in-Z : (i : ℕ) → (roundAt t i) .S ⊆ (roundAt t i) .Z
   S-in-Z i s h = let r = round-facts t i in r .R-in-Z s (r .S-in-R s h)

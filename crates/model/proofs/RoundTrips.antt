@@ -9,7 +9,6 @@
 --   file-sizes                      the lengths of contents and files
 --   round-trips                     both
 use Prim.Native.Nat.{ℕ, _+_, _*_, _/_, _^_, _≤_, _<_}
-use native.Mathlib.Nat.{mul-le-mul}
 use native.Mathlib.Omega.{arith}
 use mathlib.Core.Path.{_≡_, refl, sym, ap, ap₂, _∙_, subst}
 use mathlib.Core.Logic.{⊎-elim}
@@ -20,42 +19,40 @@ use lib.Dec.{ltb}
 use lib.ListN.{length, getD, take}
 use Rattle.model.specs.Sets.{WORDS, maxStates, Set, tabulate, member, number, empty}
 use Rattle.model.specs.Tables.{Table}
-use Rattle.model.specs.Stores.{maxGroups, forbiddenAt, groupAt, rowAt, storeWords, setAt, tableOf, concat, layout, beyond, badStates}
-use Rattle.model.specs.Files.{le16, le16At, setWidth, sets, contents, contentLength, blocksFor, fileLength, checkOf, blockOf, fileOf, part, contentsOf, setNumber, tableIn}
-use Rattle.model.specs.Calls.{overwrite, TableRead, Written, maxFile, readBuffer, writeBuffer}
+use Rattle.model.specs.Stores.{maxGroups, forbiddenAt, groupAt, rowAt, storeWords, setAt, tableOf, concat, layout, beyond}
+use Rattle.model.specs.Blocks.{blockBytes, contentBytes, checkAt, le16, le16At, checkOf, blocksFor, blockOf, part, contentsOf}
+use Rattle.model.specs.Contents.{setWidth, sets, headerBytes, contents, contentLength, setNumber, tableIn}
+use Rattle.model.specs.Files.{fileOf, fileLength, maxFile}
+use Rattle.model.specs.Calls.{overwrite, TableRead, Written, readBuffer, writeBuffer}
 use Rattle.model.specs.RoundTrip.{Bounded, WriteRead, ReadWrite, RoundTrips, FileSizes}
 use Rattle.model.proofs.Bounds.{by-cond, lt-or-ge, length-tabulate, getD-tabulate}
 use Rattle.model.proofs.SetLaws.{In}
 use Rattle.model.proofs.ListLaws.{getD-past, concat-cong, length-overwrite, take-overwrite}
-use Rattle.model.proofs.FileLaws.{pairAt-two, setIn-proper, tableIn-row, number-setIn, setIn-is, sets-group, sets-row, sets-each, length-contents, contents-header, contents-set, header-pairs, by-content, IsBlock, block-unique, block-number, block-check, is-block, blockOf-is, length-fileOf, part-fileOf, fileOf-cong, length-part, part-bounded, concat-part, length-contentsOf, getD-contentsOf, contentsOf-bounded, contentsOf-fileOf, fileLength-most}
-use Rattle.model.proofs.StoreLaws.{setAt-proper, row-is, empty-proper, setAt-empty, Holds, holds-layout, Laid, length-layout, overwrite-holds, holds-sets, Within, beyond-below, below-beyond, holds-clean}
-use Rattle.model.proofs.CallLaws.{states-le, Writable, write-refusal, writable, write-answer, write-buffer, Readable, read-refusal, readable, read-answer, read-buffer}
+use Rattle.model.proofs.BlockLaws.{le16At-le16, IsBlock, block-unique, block-number, block-check, is-block, blockOf-is, length-part, part-bounded, concat-part, length-contentsOf, getD-contentsOf, contentsOf-bounded}
+use Rattle.model.proofs.ContentLaws.{setIn-proper, tableIn-row, number-setIn, setIn-is, sets-group, sets-row, sets-each, length-contents, contents-header, contents-set, contents-cong, header-pairs, by-content}
+use Rattle.model.proofs.FileLaws.{length-fileOf, part-fileOf, contentsOf-fileOf, fileLength-most}
+use Rattle.model.proofs.StoreLaws.{setAt-proper, row-is, empty-proper, setAt-empty, Holds, holds-layout, Laid, length-layout, overwrite-holds, holds-sets, Within, beyond-below, below-beyond, malformed-clean, clean-malformed, holds-clean}
+use Rattle.model.proofs.CallLaws.{Writable, write-refusal, writable, write-answer, write-buffer, Readable, read-refusal, readable, read-answer, read-buffer}
 
 -- ---- the file of a table, read
 
 record Storable (t : Table) (g : ℕ) : Type 0 where
   many : length (t .groups) ≡ g
-  states : badStates (t .n) ≡ false
-  groups : g ≤ maxGroups
+  some : t .n ≡ 0 → ⊥
+  small : t .n ≤ maxStates
+  few : g ≤ maxGroups
   within : (k : ℕ) → k < 2 + g + t .n → Within (t .n) (getD (sets t) k [])
-
--- no file is longer than the largest
-file-short : (n g : ℕ) → n ≤ maxStates → g ≤ maxGroups → fileLength n g ≤ maxFile
-file-short n g states groups =
-    let width : setWidth n ≤ setWidth maxStates = omega arith in
-    let many : 2 + g + n ≤ 2 + maxGroups + maxStates = omega arith in
-    omega (arith, mul-le-mul width many)
 
 module _ (t : Table) (g : ℕ) (ok : Storable t g) where
   read-n : le16At (contentsOf (fileOf t)) 0 ≡ t .n
   read-n =
-      pairAt-two (contentsOf (fileOf t)) 0 (t .n) (omega (arith, states-le (t .n) (ok .states)))
+      le16At-le16 (contentsOf (fileOf t)) 0 (t .n) (omega (arith, ok .small))
       (contentsOf-fileOf t 0 ∙ contents-header t (ok .many) 0 (omega arith))
       (contentsOf-fileOf t 1 ∙ contents-header t (ok .many) 1 (omega arith))
 
   read-g : le16At (contentsOf (fileOf t)) 2 ≡ g
   read-g =
-      pairAt-two (contentsOf (fileOf t)) 2 g (omega (arith, ok .groups))
+      le16At-le16 (contentsOf (fileOf t)) 2 g (omega (arith, ok .few))
       (contentsOf-fileOf t 2 ∙ contents-header t (ok .many) 2 (omega arith))
       (contentsOf-fileOf t 3 ∙ contents-header t (ok .many) 3 (omega arith))
 
@@ -63,26 +60,27 @@ module _ (t : Table) (g : ℕ) (ok : Storable t g) where
   unfolding setNumber
   read-set k h =
       let w = setWidth (t .n) in
-      setIn-is (contentsOf (fileOf t)) w (4 + w * k) (getD (sets t) k []) (ok .within k h .proper)
+      setIn-is (contentsOf (fileOf t)) w (headerBytes + w * k) (getD (sets t) k []) (ok .within k h .proper)
       (λ s l. omega (arith, ok .within k h .below s l))
-      (λ j l. contentsOf-fileOf t (4 + w * k + j) ∙ contents-set t (ok .many) k j h l)
+      (λ j l. contentsOf-fileOf t (headerBytes + w * k + j) ∙ contents-set t (ok .many) k j h l)
 
   readable-file : (room : ℕ) → storeWords ≤ room → Readable (fileOf t) room (t .n) g
   readable-file room h =
       let long = length-fileOf t (ok .many) in
-      let short = file-short (t .n) g (states-le (t .n) (ok .states)) (ok .groups) in
-      let block : (k : ℕ) → k < length (fileOf t) / 512 → part (fileOf t) k ≡ blockOf (contents t) k = λ k l. part-fileOf t (ok .many) k (omega arith) in
+      let short = fileLength-most (t .n) g (ok .small) (ok .few) in
+      let block : (k : ℕ) → k < length (fileOf t) / blockBytes → part (fileOf t) k ≡ blockOf (contents t) k = λ k l. part-fileOf t (ok .many) k (omega arith) in
       record {
         fits = h;
-        some = λ e. omega arith;
+        present = λ e. omega arith;
         whole = omega arith;
         short = omega arith;
         number = λ k l. ap (λ b. le16At b 0) (block k l) ∙ block-number (blockOf-is (contents t) k) (omega arith);
-        check = λ k l. ap (λ b. le16At b 510) (block k l) ∙ block-check (blockOf-is (contents t) k) ∙ ap checkOf (sym (block k l));
+        check = λ k l. ap (λ b. le16At b checkAt) (block k l) ∙ block-check (blockOf-is (contents t) k) ∙ ap checkOf (sym (block k l));
         n-is = read-n;
         g-is = read-g;
-        states = ok .states;
-        groups = ok .groups;
+        some = ok .some;
+        small = ok .small;
+        few = ok .few;
         blocks = omega arith;
         within = λ k l. below-beyond (t .n) _ (λ s i. ok .within k l .below s (subst (λ (X : Set). In X s) (read-set k l) i));
         filler = λ i a b. contentsOf-fileOf t i ∙ getD-past (contents t) i 0 (omega (arith, length-contents t (ok .many)));
@@ -94,26 +92,29 @@ module _ (store : List ℕ) (n g room : ℕ) (words : Bounded (2 ^ 64) store) (w
   storable : Storable (tableOf store n g) g
   unfolding tableOf
   storable =
-      let states = states-le n (w .states) in
+      let clean = malformed-clean store n g (w .held .clean) in
+      let small = w .held .small in
       let set : (at : ℕ) → at + WORDS ≤ storeWords → beyond n (setAt store at) ≡ false → Within n (setAt store at) =
-      λ at h e. record { proper = setAt-proper store at (omega (arith, w .long)) words; below = beyond-below n (setAt store at) e } in
+      λ at h e. record { proper = setAt-proper store at (omega (arith, w .held .long)) words; below = beyond-below n (setAt store at) e } in
       record {
         many = length-tabulate _ g;
-        states = w .states;
-        groups = w .groups;
+        some = λ e. omega (arith, w .held .some);
+        small = small;
+        few = w .held .few;
         within =
             sets-each (tableOf store n g) (length-tabulate _ g) (λ k X. Within n X)
-            (set 0 (omega arith) (w .clean .initial))
-            (set forbiddenAt (omega arith) (w .clean .forbidden))
-            (λ j h. rw (getD-tabulate (λ i. setAt store (groupAt i)) g j [] h) (set (groupAt j) (omega (arith, w .groups)) (w .clean .group j h)))
-            (λ s h. subst (Within n) (sym (row-is store n g s h)) (set (rowAt s) (omega arith) (w .clean .row s h)));
+            (set 0 (omega arith) (clean .initial))
+            (set forbiddenAt (omega arith) (clean .forbidden))
+            (λ j h. rw (getD-tabulate (λ i. setAt store (groupAt i)) g j [] h) (set (groupAt j) (omega (arith, w .held .few)) (clean .group j h)))
+            (λ s h. subst (Within n) (sym (row-is store n g s h)) (set (rowAt s) (omega arith) (clean .row s h)));
       }
 
   -- contents that have the sets of the store are those of a table that the store holds
   read-holds : (bytes : List ℕ) → ((k : ℕ) → k < 2 + g + n → setNumber bytes n k ≡ getD (sets (tableOf store n g)) k []) → Holds store (tableIn bytes n g)
   unfolding tableOf tableIn sets
   read-holds bytes e =
-      let states = states-le n (w .states) in
+      let clean = malformed-clean store n g (w .held .clean) in
+      let small = w .held .small in
       let t = tableOf store n g in
       let group : ℕ → Set = λ i. setNumber bytes n (2 + i) in
       record {
@@ -122,7 +123,7 @@ module _ (store : List ℕ) (n g room : ℕ) (words : Bounded (2 ^ 64) store) (w
         group = λ j h. ⊎-elim
             (λ l. sym (getD-tabulate group g j empty l ∙ e (2 + j) (omega arith) ∙ sets-group t (length-tabulate _ g) j l ∙ getD-tabulate _ g j [] l))
             (λ l.
-            setAt-empty store (groupAt j) (omega (arith, w .long)) (λ v x. w .clean .no-group (groupAt j + v) (omega arith) (omega arith))
+            setAt-empty store (groupAt j) (omega (arith, w .held .long)) (λ v x. clean .no-group (groupAt j + v) (omega arith) (omega arith))
             ∙ sym (getD-past (tabulate g group) j empty (omega (arith, length-tabulate group g))))
             (lt-or-ge j g);
         row = λ s h. by-cond (λ (X : Set). setAt store (rowAt s) ≡ X) (ltb s n) _ empty
@@ -131,7 +132,7 @@ module _ (store : List ℕ) (n g room : ℕ) (words : Bounded (2 ^ 64) store) (w
             sym (tableIn-row bytes n g s l ∙ e (2 + g + s) (omega arith) ∙ sets-row t (length-tabulate _ g) s l ∙ row-is store n g s l))
             (λ q.
             let l = ltb-false s n q in
-            setAt-empty store (rowAt s) (omega (arith, w .long)) (λ v x. w .clean .no-row (rowAt s + v) (omega arith) (omega arith)));
+            setAt-empty store (rowAt s) (omega (arith, w .held .long)) (λ v x. clean .no-row (rowAt s + v) (omega arith) (omega arith)));
       }
 
 module _ (store : List ℕ) (n g : ℕ) (out other : List ℕ) (words : Bounded (2 ^ 64) store) (w : Writable store n g (length out)) where
@@ -176,7 +177,7 @@ module _ (input : List ℕ) (room n g : ℕ) (u : Bounded 256 input) (r : Readab
       let bytes = contentsOf input in
       let w = setWidth n in
       let small = contentsOf-bounded input u in
-      let fits : 8 * w ≤ maxStates = omega (arith, states-le n (r .states)) in
+      let fits : 8 * w ≤ maxStates = omega (arith, r .small) in
       ⊎-elim
       (by-content (λ j. getD (contents table) j 0 ≡ getD bytes j 0) w (2 + g + n)
       (λ j h.
@@ -186,23 +187,23 @@ module _ (input : List ℕ) (room n g : ℕ) (u : Bounded 256 input) (r : Readab
       (λ k j h l.
       contents-set table many-groups k j h l
       ∙ ap (λ (X : Set). number (member X) (8 * j) 8) (sets-table k h)
-      ∙ number-setIn bytes w (4 + w * k) fits small j l)
+      ∙ number-setIn bytes w (headerBytes + w * k) fits small j l)
       i)
       (λ h.
       getD-past (contents table) i 0 (omega (arith, length-contents table many-groups))
-      ∙ sym (⊎-elim (r .filler i h) (λ l. getD-past bytes i 0 (omega (arith, length-contentsOf input))) (lt-or-ge i (508 * (length input / 512)))))
+      ∙ sym (⊎-elim (r .filler i h) (λ l. getD-past bytes i 0 (omega (arith, length-contentsOf input))) (lt-or-ge i (contentBytes * (length input / blockBytes)))))
       (lt-or-ge i (contentLength n g))
 
-  part-is : (k : ℕ) → k < length input / 512 → IsBlock (contents table) k (part input k)
+  part-is : (k : ℕ) → k < length input / blockBytes → IsBlock (contents table) k (part input k)
   part-is k h =
       is-block (contents table) k (part input k) (length-part input k h) (part-bounded input k u) (r .number k h) (r .check k h)
-      (λ i l. sym (getD-contentsOf input k i h l) ∙ sym (contents-table (508 * k + i)))
+      (λ i l. sym (getD-contentsOf input k i h l) ∙ sym (contents-table (contentBytes * k + i)))
 
   file-table : fileOf table ≡ input
   unfolding fileOf tableIn
   file-table =
       ap (λ (m : ℕ). concat m (blockOf (contents table))) (ap (λ (l : ℕ). blocksFor l) (length-contents table many-groups) ∙ sym (r .blocks))
-      ∙ concat-cong _ _ (length input / 512) (λ k h. block-unique (blockOf-is (contents table) k) (part-is k h))
+      ∙ concat-cong _ _ (length input / blockBytes) (λ k h. block-unique (blockOf-is (contents table) k) (part-is k h))
       ∙ concat-part input (r .whole)
 
   laid : Laid table
@@ -211,14 +212,14 @@ module _ (input : List ℕ) (room n g : ℕ) (u : Bounded 256 input) (r : Readab
       let w = setWidth n in
       let bytes = contentsOf input in
       record {
-        initial = (setIn-proper bytes w (4 + w * 0)) .long;
-        forbidden = (setIn-proper bytes w (4 + w * 1)) .long;
+        initial = (setIn-proper bytes w (headerBytes + w * 0)) .long;
+        forbidden = (setIn-proper bytes w (headerBytes + w * 1)) .long;
         group = λ j. ⊎-elim
-            (λ h. ap length (getD-tabulate (λ i. setNumber bytes n (2 + i)) g j empty h) ∙ (setIn-proper bytes w (4 + w * (2 + j))) .long)
+            (λ h. ap length (getD-tabulate (λ i. setNumber bytes n (2 + i)) g j empty h) ∙ (setIn-proper bytes w (headerBytes + w * (2 + j))) .long)
             (λ h. ap length (getD-past (table .groups) j empty (omega (arith, many-groups))) ∙ empty-proper .long)
             (lt-or-ge j g);
         row = λ s.
-            by-cond (λ (X : Set). length X ≡ WORDS) (ltb s n) _ empty (λ q. (setIn-proper bytes w (4 + w * (2 + g + s))) .long) (λ q. empty-proper .long);
+            by-cond (λ (X : Set). length X ≡ WORDS) (ltb s n) _ empty (λ q. (setIn-proper bytes w (headerBytes + w * (2 + g + s))) .long) (λ q. empty-proper .long);
       }
 
 module _ (input store : List ℕ) (n g : ℕ) (u : Bounded 256 input) (r : Readable input (length store) n g) where
@@ -234,21 +235,27 @@ module _ (input store : List ℕ) (n g : ℕ) (u : Bounded 256 input) (r : Reada
       let t = tableIn (contentsOf input) n g in
       let size = length-layout t (laid input (length store) n g u r) in
       record {
-        long = omega (arith, length-overwrite (layout t) store (omega (arith, r .fits)), r .fits);
-        states = r .states;
-        groups = r .groups;
-        clean =
-            holds-clean filled t filled-holds (length-tabulate _ g) (r .groups) (states-le n (r .states))
-            (λ k l. ap (beyond n) (sets-table input (length store) n g u r k l) ∙ r .within k l);
+        held =
+            record {
+              long = omega (arith, length-overwrite (layout t) store (omega (arith, r .fits)), r .fits);
+              some = omega (arith, r .some);
+              small = r .small;
+              few = r .few;
+              clean =
+                  clean-malformed filled n g
+                  (holds-clean filled t filled-holds (length-tabulate _ g) (r .few) (r .small)
+                  (λ k l. ap (beyond n) (sets-table input (length store) n g u r k l) ∙ r .within k l));
+            };
         fits = omega (arith, r .blocks);
       }
 
   file-filled : fileOf (tableOf filled n g) ≡ input
-  unfolding tableOf tableIn
+  unfolding tableOf tableIn fileOf
   file-filled =
       let t = tableIn (contentsOf input) n g in
-      fileOf-cong (tableOf filled n g) t refl (length-tabulate _ g ∙ sym (length-tabulate _ g))
-      (holds-sets filled t filled-holds (length-tabulate _ g) (r .groups) (states-le n (r .states)))
+      ap (λ bytes. concat (blocksFor (length bytes)) (blockOf bytes))
+      (contents-cong (tableOf filled n g) t refl (length-tabulate _ g ∙ sym (length-tabulate _ g))
+      (holds-sets filled t filled-holds (length-tabulate _ g) (r .few) (r .small)))
       ∙ file-table input (length store) n g u r
 
   read-write : (out : List ℕ) → length input ≤ length out → ReadWrite (readBuffer input store) n g input out

@@ -26,13 +26,13 @@ use lib.Seq.{ext-getD, getD-take, getD-drop, length-take-le, take-add, drop-drop
 use Rattle.model.specs.Sets.{WORDS, maxStates, Set, any, tabulate, member, setOf, empty}
 use Rattle.model.specs.Tables.{Table}
 use Rattle.model.specs.Stores.{maxGroups, forbiddenAt, groupAt, rowAt, storeWords, setAt, tableOf, concat, layout, beyond, nonZero, malformed}
-use Rattle.model.specs.Files.{sets}
+use Rattle.model.specs.Contents.{sets}
 use Rattle.model.specs.Calls.{overwrite}
 use Rattle.model.specs.RoundTrip.{Bounded}
 use Rattle.model.proofs.Bounds.{and-true, and-intro, not-true, is-false, clash, decided, by-cond, lt-or-ge, any-intro, any-find, any-none, length-tabulate, getD-tabulate, tabulate-cong, or-false, no-any}
 use Rattle.model.proofs.SetLaws.{Proper, setOf-proper, In, in-bound}
 use Rattle.model.proofs.ListLaws.{part-front, part-behind, getD-past, Wide, length-concat, part-concat, concat-cong, concat-parts}
-use Rattle.model.proofs.FileLaws.{number-none, sets-group, sets-row}
+use Rattle.model.proofs.ContentLaws.{number-none, sets-group, sets-row}
 
 -- ---- a set among the words of a store
 

@@ -6,7 +6,8 @@
 --   overwrite xs old                       xs at the front of a buffer that held old, the rest of it untouched
 --   Decision, decideAnswer, decideBuffer   decide: the grounds in order, the answer, the path buffer at exit
 --   Shortest, shortestAnswer, shortestBuffer
---   TableRead, readAnswer, readBuffer      read: the buffer is the store
+--   statesIn, groupsIn                     n and g, as an input says
+--   TableRead, readAnswer, readBuffer      read: the grounds in order, the answer; the buffer is the store
 --   Written, writeAnswer, writeBuffer      write: the buffer is the output
 --
 -- A buffer's length is the length of the list that it holds. Decide, shortest path and write are lent the store to read only.
@@ -19,8 +20,10 @@ use Rattle.model.specs.Sets.{maxStates, Set, empty, size, any}
 use Rattle.model.specs.Tables.{Table}
 use Rattle.model.specs.Rounds.{Outcome, safe, unsafe, undecided, run}
 use Rattle.model.specs.Paths.{shortest, hasPath, smallestPath}
-use Rattle.model.specs.Stores.{maxGroups, storeWords, tableOf, layout, refuse, beyond, nonZero, badStates, sharedGrounds}
-use Rattle.model.specs.Files.{le16At, contentLength, blocksFor, fileLength, checkOf, fileOf, part, contentsOf, setNumber, tableIn}
+use Rattle.model.specs.Stores.{maxGroups, tableOf, concat, layout, Ground, refuse, beyond, nonZero, badStates, storeGround, sharedGrounds}
+use Rattle.model.specs.Blocks.{blockBytes, contentBytes, le16At, blocksFor, part, contentsOf, blockGrounds}
+use Rattle.model.specs.Contents.{contentLength, setNumber, tableIn}
+use Rattle.model.specs.Files.{fileOf, fileLength, maxFile}
 
 unfoldable pub overwrite : List ℕ → List ℕ → List ℕ
 overwrite xs old = xs ++ drop (length xs) old
@@ -42,8 +45,16 @@ pub record Decision : Type 0 where
   pub size : ℕ  -- of the invariant
   pub steps : ℕ  -- d, 0 unless unsafe
 
-unfoldable pub decideGrounds : List ℕ → ℕ → ℕ → ℕ → ℕ → List (Bool × ℕ)
-decideGrounds store n g allowance room = sharedGrounds store n g ++ ((ltb maxAllowance allowance, 20) ∷ (ltb room maxStates, 21) ∷ [])
+-- For a path buffer of `room` places.
+abbrev pub pathGround : ℕ → Ground
+pathGround room = (ltb room maxStates, 21)
+
+-- The grounds that decide adds to the shared ones.
+abbrev pub decideLimits : ℕ → ℕ → List Ground
+decideLimits allowance room = (ltb maxAllowance allowance, 20) ∷ pathGround room ∷ []
+
+unfoldable pub decideGrounds : List ℕ → ℕ → ℕ → ℕ → ℕ → List Ground
+decideGrounds store n g allowance room = sharedGrounds store n g ++ decideLimits allowance room
 
 unfoldable pub decisionOf : Table → Outcome → Decision
 decisionOf t (safe i R) = record { refusal = 0; verdict = 0; count = i; invariant = R; size = size R; steps = 0 }
@@ -72,8 +83,8 @@ pub record Shortest : Type 0 where
   pub found : ℕ  -- 1 if there is a path, 0 if not
   pub steps : ℕ  -- d, 0 if there is none
 
-unfoldable pub shortestGrounds : List ℕ → ℕ → ℕ → ℕ → List (Bool × ℕ)
-shortestGrounds store n g room = sharedGrounds store n g ++ ((ltb room maxStates, 21) ∷ [])
+unfoldable pub shortestGrounds : List ℕ → ℕ → ℕ → ℕ → List Ground
+shortestGrounds store n g room = sharedGrounds store n g ++ (pathGround room ∷ [])
 
 unfoldable pub shortestAnswer : List ℕ → ℕ → ℕ → ℕ → Shortest
 shortestAnswer store n g room =
@@ -95,58 +106,50 @@ pub record TableRead : Type 0 where
   pub n : ℕ
   pub g : ℕ
 
--- The first fault other than 0 among f 0, .., f (m − 1).
-unfoldable pub firstFault : ℕ → (ℕ → ℕ) → ℕ
-firstFault zero f = 0
-firstFault (suc m) f = let e = firstFault m f in cond (eqb e 0) (f m) e
+-- n and g, as the contents of an input say.
+abbrev pub statesIn : List ℕ → ℕ
+statesIn input = le16At (contentsOf input) 0
 
--- Block k holds number k and its own check.
-unfoldable pub blockFault : List ℕ → ℕ → ℕ
-blockFault block k =
-    refuse
-    ((not (eqb (le16At block 0) k), 12)
-    ∷ (not (eqb (le16At block 510) (checkOf block)), 13)
-    ∷ [])
+abbrev pub groupsIn : List ℕ → ℕ
+groupsIn input = le16At (contentsOf input) 2
 
--- The largest file: n and g at their greatest.
-abbrev pub maxFile : ℕ
-maxFile = fileLength maxStates maxGroups
+-- The blocks in order, and the grounds in order in each.
+unfoldable pub blocksGrounds : List ℕ → List Ground
+blocksGrounds input = concat (length input / blockBytes) (λ k. blockGrounds (part input k) k)
 
-unfoldable pub readRefusal : List ℕ → ℕ → ℕ
-readRefusal input room =
-    let blocks = length input / 512 in
+-- Those behind them, of contents that say n and g.
+unfoldable pub contentGrounds : List ℕ → ℕ → ℕ → List Ground
+contentGrounds input n g =
+    let blocks = length input / blockBytes in
     let bytes = contentsOf input in
-    let n = le16At bytes 0 in
-    let g = le16At bytes 2 in
-    let size = contentLength n g in
-    let early =
-    refuse
-    ((ltb room storeWords, 10)
-    ∷ (eqb (length input) 0 || not (eqb (length input % 512) 0) || ltb maxFile (length input), 11)
-    ∷ []) in
-    let faulty = firstFault blocks (λ k. blockFault (part input k) k) in
-    let late =
-    refuse
-    ((badStates n, 14)
+    (badStates n, 14)
     ∷ (ltb maxGroups g, 15)
-    ∷ (not (eqb blocks (blocksFor size)), 16)
+    ∷ (not (eqb blocks (blocksFor (contentLength n g))), 16)
     ∷ (any (2 + g + n) (λ k. beyond n (setNumber bytes n k)), 17)
-    ∷ (nonZero bytes size (508 * blocks), 18)
-    ∷ []) in
-    cond (eqb early 0) (cond (eqb faulty 0) late faulty) early
+    ∷ (nonZero bytes (contentLength n g) (contentBytes * blocks), 18)
+    ∷ []
+
+unfoldable pub badLength : List ℕ → Bool
+badLength input = eqb (length input) 0 || not (eqb (length input % blockBytes) 0) || ltb maxFile (length input)
+
+unfoldable pub fileGrounds : List ℕ → List Ground
+fileGrounds input =
+    (badLength input, 11)
+    ∷ (blocksGrounds input ++ contentGrounds input (statesIn input) (groupsIn input))
+
+unfoldable pub readGrounds : List ℕ → ℕ → List Ground
+readGrounds input room = storeGround room ∷ fileGrounds input
 
 unfoldable pub readAnswer : List ℕ → ℕ → TableRead
 readAnswer input room =
-    let bytes = contentsOf input in
-    let k = readRefusal input room in
-    let table : TableRead = record { refusal = 0; n = le16At bytes 0; g = le16At bytes 2 } in
+    let k = refuse (readGrounds input room) in
+    let table : TableRead = record { refusal = 0; n = statesIn input; g = groupsIn input } in
     cond (eqb k 0) table (record { refusal = k; n = 0; g = 0 })
 
 unfoldable pub readBuffer : List ℕ → List ℕ → List ℕ
 readBuffer input store =
-    let bytes = contentsOf input in
-    let filled = overwrite (layout (tableIn bytes (le16At bytes 0) (le16At bytes 2))) store in
-    cond (eqb (readRefusal input (length store)) 0) filled store
+    let filled = overwrite (layout (tableIn (contentsOf input) (statesIn input) (groupsIn input))) store in
+    cond (eqb (refuse (readGrounds input (length store))) 0) filled store
 
 -- ---- write
 
@@ -154,8 +157,12 @@ pub record Written : Type 0 where
   pub refusal : ℕ
   pub length : ℕ
 
-unfoldable pub writeGrounds : List ℕ → ℕ → ℕ → ℕ → List (Bool × ℕ)
-writeGrounds store n g room = sharedGrounds store n g ++ ((ltb room (fileLength n g), 19) ∷ [])
+-- For an output of `room` bytes.
+abbrev pub outputGround : ℕ → ℕ → ℕ → Ground
+outputGround n g room = (ltb room (fileLength n g), 19)
+
+unfoldable pub writeGrounds : List ℕ → ℕ → ℕ → ℕ → List Ground
+writeGrounds store n g room = sharedGrounds store n g ++ (outputGround n g room ∷ [])
 
 unfoldable pub writeAnswer : List ℕ → ℕ → ℕ → ℕ → Written
 writeAnswer store n g room =

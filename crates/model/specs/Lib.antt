@@ -3,7 +3,11 @@ pub mod Tables
 pub mod Rounds
 pub mod Paths
 pub mod Stores
+pub mod Blocks
+pub mod Contents
 pub mod Files
 pub mod Calls
+pub mod Sizes
+pub mod Intact
 pub mod Promises
 pub mod RoundTrip

@@ -1,4 +1,4 @@
--- Paths from an initial to a forbidden state (01, "Path"): counterexamples, as traces.
+-- Paths from an initial to a forbidden state (the specification, "Paths"): counterexamples, as traces.
 --
 --   leads t x xs        x and then the states xs are joined by steps, and the last of them is forbidden
 --   isPath t xs         xs is a path: its first state is initial, each later one a successor of the one before, the last forbidden;
@@ -8,7 +8,7 @@
 --   shortest t          the d of a shortest path (below n, a theorem), or n if there is none
 --   hasPath t           there is a path
 --   walk t d X          the smallest of the shortest paths that start in X, where those have d steps
---   smallestPath t      the path that 01 names
+--   smallestPath t      the path that the specification names
 use Prim.Native.Nat.{ℕ, zero, suc}
 use mathlib.Core.Bool.{Bool, false, cond, _&&_}
 use mathlib.Core.List.{List, [], _∷_}

@@ -5,6 +5,8 @@
 --   roundAt t i                round i, whether or not the rounds get that far
 --   IsFirst, IsNext, IsRound   where a round's list and Z come from; its R and S
 --   Continues, FirstStop       a round that says neither safe nor unsafe; the outcome is that of the first round that does
+--   StopsFirst                 the same of an answer: its verdict, count and invariant are those of the first round that stops
+--   CoverIs                    the cover of one state, as the meet of listed sets
 --   BackwardIs                 the backward number is the least j for which W stays the same
 --   LexLe, IsSmallest          lexicographic order; a shortest path, and the smallest of those
 --   IsInvariant                an inductive invariant: it holds every initial state, no forbidden one and no step out
@@ -14,6 +16,7 @@
 --   Accepted, Promises         all of it, of every table and of every accepted call
 --   FirstWords                 two stores that no call tells apart
 --   Untouched                  a call that declines leaves its buffer as it was
+--   Declined                   and answers with its refusal number and nothing else
 use Prim.Native.Nat.{ℕ, zero, suc, _≤_, _<_}
 use mathlib.Core.Path.{_≡_}
 use mathlib.Core.Logic.{_⊎_, _↔_}
@@ -24,8 +27,8 @@ use Rattle.model.specs.Sets.{maxStates, Set, member, empty, meet, subset
 use Rattle.model.specs.Tables.{Table, post, hold, coverOf, cover, notForbidden}
 use Rattle.model.specs.Rounds.{Round, forwardStep, backwardStep, firstRound, nextRound, isSafe, isUnsafe, safe, unsafe, undecided, run, eliminated, backwardNumber}
 use Rattle.model.specs.Paths.{isPath, smallestPath}
-use Rattle.model.specs.Stores.{storeWords, tableOf}
-use Rattle.model.specs.Calls.{overwrite, Decision, release, decisionOf, decideAnswer, decideBuffer, Shortest, shortestAnswer, shortestBuffer, readAnswer, readBuffer, writeAnswer, writeBuffer}
+use Rattle.model.specs.Stores.{storeWords, tableOf, refuse}
+use Rattle.model.specs.Calls.{overwrite, Decision, release, decideGrounds, decisionOf, decideAnswer, decideBuffer, Shortest, shortestGrounds, shortestAnswer, shortestBuffer, readGrounds, readAnswer, readBuffer, writeGrounds, writeAnswer, writeBuffer}
 
 -- ---- the operations, for states that a set can hold
 
@@ -43,6 +46,14 @@ pub record Operations (n : ℕ) (row : ℕ → Set) (L : List Set) (X : Set) : T
   -- adding Z to the list changes the cover of each state in Z to its meet with Z, and no other cover
   pub add-in : (Z : Set) (s : ℕ) → member Z s ≡ true → coverOf n (Z ∷ L) s ≡ meet (coverOf n L s) Z
   pub add-out : (Z : Set) (s : ℕ) → member Z s ≡ false → coverOf n (Z ∷ L) s ≡ coverOf n L s
+
+-- The cover of one state, where each listed set holds states of the table only: the meet of all listed sets that contain it, or all n
+-- states if none does.
+pub record CoverIs (n : ℕ) (L : List Set) (s : ℕ) : Type 0 where
+  pub listed : (Z : Set) → List·Memᴰ Z L → member Z s ≡ true
+      → (u : ℕ) → (member (coverOf n L s) u ≡ true) ↔ ((Y : Set) → List·Memᴰ Y L → member Y s ≡ true → member Y u ≡ true)
+  pub unlisted : ((Z : Set) → List·Memᴰ Z L → member Z s ≡ false)
+      → (u : ℕ) → (member (coverOf n L s) u ≡ true) ↔ (u < n)
 
 -- ---- the rounds
 
@@ -83,6 +94,15 @@ pub record FirstStop (t : Table) (allowance : ℕ) : Type 0 where
   -- undecided comes only at the allowance, and with count equal to it
   pub only-undecided : (i : ℕ) → run t allowance ≡ undecided i → (i ≡ allowance) × ((j : ℕ) → j ≤ allowance → Continues t j)
 
+-- An answer: nothing between the rounds and what decide returns changes a verdict, a count or an invariant.
+pub record StopsFirst (t : Table) (allowance : ℕ) (a : Decision) : Type 0 where
+  pub at-safe : (i : ℕ) → i ≤ allowance → ((j : ℕ) → j < i → Continues t j) → isSafe t (roundAt t i) ≡ true
+      → (a .verdict ≡ 0) × (a .count ≡ i) × (a .invariant ≡ (roundAt t i) .R)
+  pub at-unsafe : (i : ℕ) → i ≤ allowance → ((j : ℕ) → j < i → Continues t j) → isSafe t (roundAt t i) ≡ false → isUnsafe t (roundAt t i) ≡ true
+      → (a .verdict ≡ 1) × (a .count ≡ i) × (a .invariant ≡ empty)
+  pub at-undecided : ((j : ℕ) → j ≤ allowance → Continues t j)
+      → (a .verdict ≡ 2) × (a .count ≡ allowance) × (a .invariant ≡ empty)
+
 -- ---- backward elimination
 
 pub record BackwardIs (t : Table) (b : ℕ) : Type 0 where
@@ -113,7 +133,7 @@ pub record IsInvariant (t : Table) (X : Set) : Type 0 where
 
 pub record Carries (t : Table) (allowance : ℕ) (a : Decision) (before after : List ℕ) : Type 0 where
   pub with-safe : a .verdict ≡ 0 → IsInvariant t (a .invariant) × (a .size ≡ size (a .invariant)) × (a .steps ≡ 0) × (after ≡ before)
-  -- the path that 01 names: d + 1 states at the front of the buffer, and no other byte
+  -- the path that the specification names: d + 1 states at the front of the buffer, and no other byte
   pub with-unsafe : a .verdict ≡ 1
       → IsSmallest t (smallestPath t) × (length (smallestPath t) ≡ suc (a .steps)) × (after ≡ overwrite (smallestPath t) before)
       × (a .invariant ≡ empty) × (a .size ≡ 0)
@@ -126,7 +146,7 @@ pub record Demand2 (t : Table) (a : Decision) (after : List ℕ) : Type 0 where
   -- unsafe exactly when there is a path
   pub unsafe-path : a .verdict ≡ 1 → (xs : List ℕ) × (isPath t xs ≡ true)
   pub path-unsafe : (xs : List ℕ) → isPath t xs ≡ true → a .verdict ≡ 1
-  -- with the path that 01 names, in the d + 1 bytes at the front of the buffer
+  -- with the path that the specification names, in the d + 1 bytes at the front of the buffer
   pub smallest-path : a .verdict ≡ 1 → IsSmallest t (take (suc (a .steps)) after)
   -- else safe, with an invariant
   pub invariant : a .verdict ≡ 0 → IsInvariant t (a .invariant)
@@ -150,7 +170,7 @@ pub record SameAnswer (a b : Decision) (p q : List ℕ) : Type 0 where
 pub record PathAnswer (t : Table) (a : Shortest) (before after : List ℕ) : Type 0 where
   pub found-or-none : (a .found ≡ 0) ⊎ (a .found ≡ 1)
   pub found-path : (a .found ≡ 1) ↔ ((xs : List ℕ) × (isPath t xs ≡ true))
-  -- the path that 01 names, which decide writes too: d + 1 states at the front of the buffer, and no other byte
+  -- the path that the specification names, which decide writes too: d + 1 states at the front of the buffer, and no other byte
   pub with-path : a .found ≡ 1
       → IsSmallest t (smallestPath t) × (length (smallestPath t) ≡ suc (a .steps)) × (after ≡ overwrite (smallestPath t) before)
   pub without-path : a .found ≡ 0 → (a .steps ≡ 0) × (after ≡ before)
@@ -186,6 +206,13 @@ pub record Promises : Type 0 where
   pub answer : (store : List ℕ) (n g allowance : ℕ) (path : List ℕ)
       → Accepted store n g allowance (length path)
       → decideAnswer store n g allowance (length path) ≡ decisionOf (tableOf store n g) (run (tableOf store n g) allowance)
+  pub stops : (store : List ℕ) (n g allowance : ℕ) (path : List ℕ)
+      → Accepted store n g allowance (length path)
+      → StopsFirst (tableOf store n g) allowance (decideAnswer store n g allowance (length path))
+  -- with covers as they are kept in round i
+  pub covers : (store : List ℕ) (n g allowance : ℕ) (path : List ℕ)
+      → Accepted store n g allowance (length path)
+      → (i s : ℕ) → CoverIs n ((roundAt (tableOf store n g) i) .list) s
   pub carries : (store : List ℕ) (n g allowance : ℕ) (path : List ℕ)
       → Accepted store n g allowance (length path)
       → Carries (tableOf store n g) allowance (decideAnswer store n g allowance (length path)) path (decideBuffer store n g allowance path)
@@ -219,3 +246,19 @@ pub record Untouched : Type 0 where
   pub read : (input store : List ℕ) → ((readAnswer input (length store)) .refusal ≡ 0 → ⊥) → readBuffer input store ≡ store
   pub write : (store : List ℕ) (n g : ℕ) (output : List ℕ)
       → ((writeAnswer store n g (length output)) .refusal ≡ 0 → ⊥) → writeBuffer store n g output ≡ output
+
+-- What every call that declines answers: the number of the first ground that holds, and 0 in every other field, the invariant empty.
+pub record Declined : Type 0 where
+  pub decide : (store : List ℕ) (n g allowance room : ℕ)
+      → ((decideAnswer store n g allowance room) .refusal ≡ 0 → ⊥)
+      → decideAnswer store n g allowance room
+      ≡ record { refusal = refuse (decideGrounds store n g allowance room); verdict = 0; count = 0; invariant = empty; size = 0; steps = 0 }
+  pub shortest-path : (store : List ℕ) (n g room : ℕ)
+      → ((shortestAnswer store n g room) .refusal ≡ 0 → ⊥)
+      → shortestAnswer store n g room ≡ record { refusal = refuse (shortestGrounds store n g room); found = 0; steps = 0 }
+  pub read : (input : List ℕ) (room : ℕ)
+      → ((readAnswer input room) .refusal ≡ 0 → ⊥)
+      → readAnswer input room ≡ record { refusal = refuse (readGrounds input room); n = 0; g = 0 }
+  pub write : (store : List ℕ) (n g room : ℕ)
+      → ((writeAnswer store n g room) .refusal ≡ 0 → ⊥)
+      → writeAnswer store n g room ≡ record { refusal = refuse (writeGrounds store n g room); length = 0 }

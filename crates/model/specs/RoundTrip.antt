@@ -12,8 +12,10 @@ use lib.ListN.{length, getD, take}
 use Rattle.model.specs.Sets.{maxStates}
 use Rattle.model.specs.Tables.{Table}
 use Rattle.model.specs.Stores.{maxGroups, storeWords}
-use Rattle.model.specs.Files.{contents, contentLength, fileLength, fileOf}
-use Rattle.model.specs.Calls.{overwrite, maxFile, readAnswer, readBuffer, writeAnswer, writeBuffer}
+use Rattle.model.specs.Blocks.{blockBytes}
+use Rattle.model.specs.Contents.{contents, contentLength}
+use Rattle.model.specs.Files.{fileOf, fileLength, maxFile}
+use Rattle.model.specs.Calls.{overwrite, readAnswer, readBuffer, writeAnswer, writeBuffer}
 
 abbrev pub Bounded : ℕ → List ℕ → Type 0
 Bounded b xs = (i : ℕ) → getD xs i 0 < b
@@ -44,4 +46,4 @@ pub record FileSizes : Type 0 where
   pub contents-long : (t : Table) → length (contents t) ≡ contentLength (t .n) (length (t .groups))
   pub file-long : (t : Table) → length (fileOf t) ≡ fileLength (t .n) (length (t .groups))
   pub largest : (n g : ℕ) → n ≤ maxStates → g ≤ maxGroups → fileLength n g ≤ maxFile
-  pub largest-is : maxFile ≡ 21 * 512
+  pub largest-is : maxFile ≡ 21 * blockBytes

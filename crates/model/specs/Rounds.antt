@@ -1,4 +1,5 @@
--- The rounds (01, "Rounds": fixpoint-guided abstraction refinement after Cousot, Ganty and Raskin), and backward elimination.
+-- The rounds (the specification, "Rounds": fixpoint-guided abstraction refinement after Cousot, Ganty and Raskin), and backward
+-- elimination ("Backward elimination").
 --
 --   iterate f x k       f applied k times to x
 --   Round               the list (the predicates of the abstraction so far), Z (the states not yet excluded), R and S of one round

@@ -1,4 +1,4 @@
--- Sets of states (01, "States and sets").
+-- Sets of states (the specification, "Tables and sets").
 --
 --   WORDS            words in a set
 --   maxStates        states that a set can hold, 64 for each word: the greatest n

@@ -8,7 +8,9 @@
 --   layout t                   the words of a table, those of unused groups and rows 0
 --   beyond n X                 X has a state from n up
 --   malformed store n g        ground 17 of a store
---   refuse                     the number (the error code) of the first ground that holds, or 0 for none
+--   Ground                     a ground of refusal: whether it holds, and its number (the error code)
+--   refuse grounds             the number of the first ground that holds, or 0 for none
+--   storeGround room           ground 10; tableGrounds store n g: those of a table in a store, 14, 15 and 17
 --   sharedGrounds store n g    the grounds that decide, shortest path and write share, in order
 use Prim.Native.Nat.{ℕ, zero, suc, _+_, _*_}
 use mathlib.Core.Bool.{Bool, cond, not, _&&_, _||_}
@@ -48,7 +50,7 @@ tableOf store n g =
     }
 
 -- The lists f 0, f 1, .., f (n − 1), one after the other.
-unfoldable pub concat : ℕ → (ℕ → List ℕ) → List ℕ
+unfoldable pub concat : {A : Type 0} → ℕ → (ℕ → List A) → List A
 concat zero f = []
 concat (suc n) f = concat n f ++ f n
 
@@ -61,7 +63,10 @@ layout t =
 
 -- ---- refusals
 
-unfoldable pub refuse : List (Bool × ℕ) → ℕ
+abbrev pub Ground : Type 0
+Ground = Bool × ℕ
+
+unfoldable pub refuse : List Ground → ℕ
 refuse [] = 0
 refuse (ground ∷ later) = cond (ground .0) (ground .1) (refuse later)
 
@@ -86,10 +91,12 @@ malformed store n g =
 unfoldable pub badStates : ℕ → Bool
 badStates n = eqb n 0 || ltb maxStates n
 
-abbrev pub sharedGrounds : List ℕ → ℕ → ℕ → List (Bool × ℕ)
-sharedGrounds store n g =
-    (ltb (length store) storeWords, 10)
-    ∷ (badStates n, 14)
-    ∷ (ltb maxGroups g, 15)
-    ∷ (malformed store n g, 17)
-    ∷ []
+-- For a store of `room` words.
+abbrev pub storeGround : ℕ → Ground
+storeGround room = (ltb room storeWords, 10)
+
+abbrev pub tableGrounds : List ℕ → ℕ → ℕ → List Ground
+tableGrounds store n g = (badStates n, 14) ∷ (ltb maxGroups g, 15) ∷ (malformed store n g, 17) ∷ []
+
+abbrev pub sharedGrounds : List ℕ → ℕ → ℕ → List Ground
+sharedGrounds store n g = storeGround (length store) ∷ tableGrounds store n g

@@ -1,4 +1,4 @@
--- Tables, and the cover of a list of sets (01, "States and sets" and "Cover").
+-- Tables, and the cover of a list of sets (the specification, "Tables and sets" and "Post, hold and covers").
 --
 --   Table               a finite transition system: n states, the initial and the forbidden (error) states, the groups (the predicates
 --                       that generate the first abstraction), and for each state its row (the set of its successors)
@@ -28,8 +28,8 @@ post n row X = image n row X
 unfoldable pub hold : ℕ → (ℕ → Set) → Set → Set
 hold n row X = states n (λ s. subset (row s) X)
 
--- The meet of the listed sets that contain s, or all n states if none does. In an accepted call each listed set holds states of the
--- table only, so the meet that starts from all n states is the meet of those sets.
+-- The meet of the listed sets that contain s, or all n states if none does: begun with all n states. In an accepted check each listed set
+-- holds states of the table only, so that it is the meet of just those sets (`Promises.CoverIs`).
 unfoldable pub coverOf : ℕ → List Set → ℕ → Set
 coverOf n [] s = firstStates n
 coverOf n (Z ∷ L) s = let older = coverOf n L s in cond (member Z s) (meet older Z) older

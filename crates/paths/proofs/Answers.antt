@@ -11,14 +11,14 @@ use mathlib.Core.Logic.{⊎-elim}
 use mathlib.Core.Bool.{true, false, not}
 use mathlib.Core.List.{List, [], _∷_}
 use borrow.Author.Tests.{ne-eqb, lt-ltb, le-ltb}
-use lib.Dec.{eqb, ltb}
+use lib.Dec.{eqb}
 use lib.ListN.{length}
 use Rattle.model.specs.Sets.{maxStates}
 use Rattle.model.specs.Paths.{hasPath}
 use Rattle.model.specs.Stores.{tableOf, refuse, sharedGrounds}
-use Rattle.model.specs.Calls.{shortestGrounds, shortestAnswer, shortestBuffer}
+use Rattle.model.specs.Calls.{pathGround, shortestGrounds, shortestAnswer, shortestBuffer}
 use Rattle.model.proofs.Bounds.{decided}
-use Rattle.model.proofs.ListLaws.{refuse-append}
+use Rattle.model.proofs.GroundLaws.{refuse-append}
 use Rattle.model.proofs.Acceptance.{Store, accepted-store, store-accepted}
 use Rattle.paths.specs.Answers.{foundIn, pathWritten, shortestOf, isRefused}
 use Rattle.paths.specs.declared.Found.{Found}
@@ -53,7 +53,7 @@ module _ (store : List ℕ) (n g : ℕ) (path : List ℕ) where
 
   module _ (s : Store store n g) where
     -- only ground 21 is left
-    grounds : refuse (shortestGrounds store n g (length path)) ≡ refuse ((ltb (length path) maxStates, 21) ∷ [])
+    grounds : refuse (shortestGrounds store n g (length path)) ≡ refuse (pathGround (length path) ∷ [])
     unfolding shortestGrounds
     grounds = store-accepted store n g _ s
 

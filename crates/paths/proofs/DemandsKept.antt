@@ -10,8 +10,8 @@ use Rattle.paths.specs.Demands.{Demands}
 pub demands : Demands
 demands =
     record {
-      declined = λ store n g before r after c f. c .buffer ∙ untouched .shortest-path store n g before (eqb-false _ 0 (not-true _ (sym (c .refused) ∙ f)));
+      declined = λ store n g before r after c f. c .1 ∙ untouched .shortest-path store n g before (eqb-false _ 0 (not-true _ (sym (c .2) ∙ f)));
       path = λ store n g before r after c e.
-          subst₂ (λ a b. PathAnswer (tableOf store n g) a before b) (sym (c .answer)) (sym (c .buffer))
-          (promises .shortest-path store n g before (eqb-true _ 0 (not-false _ (sym (c .refused) ∙ e))));
+          subst₂ (λ a b. PathAnswer (tableOf store n g) a before b) (sym (c .0)) (sym (c .1))
+          (promises .shortest-path store n g before (eqb-true _ 0 (not-false _ (sym (c .2) ∙ e))));
     }

@@ -26,7 +26,7 @@ use Rattle.model.proofs.SetLaws.{Proper, setOf-proper, In, in-bound, in-setOf, 
 use Rattle.model.proofs.WellFormed.{WellFormed}
 use Rattle.model.proofs.PathLaws.{At, reaching-suc, in-reaching, reaching-in, reaching-at, nearest-at, at-row, at-lt, reaching-states, distance-is, distance-unreachable}
 use Rattle.model.proofs.StoreLaws.{row-is}
-use Rattle.table.specs.Rows.{keptBy, mapAt}
+use Rattle.table.specs.Rows.{meetHold, mapAt}
 use Rattle.table.proofs.MapAt.{mapAt-tabulate}
 use Rattle.paths.specs.Search.{predecessorRows, layerAt, farther, distancesBelow, Swept}
 use Rattle.paths.proofs.Nearness.{distance-near, near-distance}
@@ -232,8 +232,8 @@ module _ (store : List ℕ) (n : ℕ) (ok : WellFormed (tableOf store n 0)) (sma
   abbrev t : Table
   t = tableOf store n 0
 
-  kept-farther : (d : ℕ) → suc d < unreachable → keptBy store (farther t d) (farther t d) ≡ farther t (suc d)
-  unfolding keptBy farther states tableOf
+  kept-farther : (d : ℕ) → suc d < unreachable → meetHold store (farther t d) (farther t d) ≡ farther t (suc d)
+  unfolding meetHold farther states tableOf
   kept-farther d near =
       same-set _ _ (setOf-proper _) (setOf-proper _)
       (λ s h.
@@ -261,9 +261,9 @@ module _ (store : List ℕ) (n : ℕ) (ok : WellFormed (tableOf store n 0)) (sma
           (⊎-elim (λ k. k) (λ k. absurd (omega (arith, near-distance ok small s (suc d) (in-reaching t d i r (distance-near ok small u d (omega (arith, near)) k))))) (lt-or-ge d (distance t u)))
 
   pub swept-kept : {distances distances′ : List ℕ} {layer rest layer′ rest′ : Set} {d : ℕ} → Swept t d distances layer rest → d < n
-      → distances′ ≡ mapAt layer (λ _. d) 0 distances → rest′ ≡ keptBy store rest rest → layer′ ≡ difference rest rest′
+      → distances′ ≡ mapAt layer (λ _. d) 0 distances → rest′ ≡ meetHold store rest rest → layer′ ≡ difference rest rest′
       → Swept t (d + 1) distances′ layer′ rest′
   unfolding tableOf
   swept-kept {d = d} so l p r q =
-      let next = r ∙ ap (λ (X : Set). keptBy store X X) (so .rest-is) ∙ kept-farther d (omega arith) in
+      let next = r ∙ ap (λ (X : Set). meetHold store X X) (so .rest-is) ∙ kept-farther d (omega arith) in
       turn ok small so l p (q ∙ ap₂ difference (so .rest-is) next ∙ lost ok small (omega arith)) next

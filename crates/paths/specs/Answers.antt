@@ -3,12 +3,16 @@
 --   foundIn t, pathWritten t path     find_path: the steps of a shortest path, and the buffer with the path at its front
 --   shortestOf                        01's numbers for each case of the call's answer
 --   isRefused                         the case in which the call is declined
+--   Called                            a call of shortest_path and what it gave: its contract
 use Prim.Native.Nat.{ℕ}
-use mathlib.Core.Bool.{Bool, true, false, cond}
+use mathlib.Core.Path.{_≡_}
+use mathlib.Core.Bool.{Bool, true, false, cond, not}
 use mathlib.Core.List.{List}
+use lib.Dec.{eqb}
+use lib.ListN.{length}
 use Rattle.model.specs.Tables.{Table}
 use Rattle.model.specs.Paths.{shortest, hasPath, smallestPath}
-use Rattle.model.specs.Calls.{overwrite, Shortest as Answer}
+use Rattle.model.specs.Calls.{overwrite, Shortest as Answer, shortestAnswer, shortestBuffer}
 use Rattle.paths.specs.declared.Found.{Found}
 use Rattle.paths.specs.declared.Found.the-variants.{Steps, Nothing}
 use Rattle.paths.specs.declared.Shortest.{Shortest}
@@ -30,3 +34,10 @@ abbrev pub isRefused : Shortest → Bool
 isRefused (PathOf steps) = false
 isRefused NoPath = false
 isRefused (Refused k) = true
+
+-- The contract of shortest_path: its answer, the path buffer before and after, and whether it is declined.
+abbrev pub Called : List ℕ → ℕ → ℕ → List ℕ → Shortest → List ℕ → Type 0
+Called store n g before r after =
+    (shortestOf r ≡ shortestAnswer store n g (length before))
+    × (after ≡ shortestBuffer store n g before)
+    × (isRefused r ≡ not (eqb ((shortestAnswer store n g (length before)) .refusal) 0))

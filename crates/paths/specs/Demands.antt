@@ -1,23 +1,16 @@
 -- Demands 1 and 2 of the call shortest path itself: of its result, and of the path buffer before and after.
 --
---   Called         a call and what it gave, as the contract of shortest_path has it
 --   Demands        what holds of every call that is not declined, and of every one that is
+--
+-- A call and what it gave is `Called`, the contract of shortest_path.
 use Prim.Native.Nat.{ℕ}
 use mathlib.Core.Path.{_≡_}
-use mathlib.Core.Bool.{true, false, not}
+use mathlib.Core.Bool.{true, false}
 use mathlib.Core.List.{List}
-use lib.Dec.{eqb}
-use lib.ListN.{length}
 use Rattle.model.specs.Stores.{tableOf}
-use Rattle.model.specs.Calls.{shortestAnswer, shortestBuffer}
 use Rattle.model.specs.Promises.{PathAnswer}
 use Rattle.paths.specs.declared.Shortest.{Shortest}
-use Rattle.paths.specs.Answers.{shortestOf, isRefused}
-
-pub record Called (store : List ℕ) (n g : ℕ) (before : List ℕ) (r : Shortest) (after : List ℕ) : Type 0 where
-  pub answer : shortestOf r ≡ shortestAnswer store n g (length before)
-  pub buffer : after ≡ shortestBuffer store n g before
-  pub refused : isRefused r ≡ not (eqb ((shortestAnswer store n g (length before)) .refusal) 0)
+use Rattle.paths.specs.Answers.{shortestOf, isRefused, Called}
 
 pub record Demands : Type 0 where
   pub declined : (store : List ℕ) (n g : ℕ) (before : List ℕ) (r : Shortest) (after : List ℕ)

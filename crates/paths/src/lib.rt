@@ -10,26 +10,23 @@
 //
 // distances, sweep_transposed and find_path ask for a store that holds a table; the call asks for nothing.
 ghost use mathlib.Core.Path.{_≡_};
-ghost use mathlib.Core.Bool.{not};
 ghost use Prim.Native.Nat.{_≤_, _<_};
-ghost use lib.Dec.{eqb};
 ghost use lib.ListN.{length};
 ghost use lib.Seq.{sets};
 ghost use mathlib.Core.List.{[]};
 ghost use Rattle.model.specs.Sets.{WORDS, maxStates, tabulate, single, union};
 ghost use Rattle.model.specs.Paths.{unreachable, distance};
 ghost use Rattle.model.specs.Stores.{storeWords, tableOf};
-ghost use Rattle.model.specs.Calls.{shortestAnswer, shortestBuffer};
 ghost use Rattle.state_set.specs.WordSets.{wordSet};
 ghost use Rattle.table.specs.Rows.{mapAt};
 ghost use Rattle.paths.specs.Search.{HoldsTable, predecessorRows, Swept, leastBy, pickBy, walkBy, Writable};
-ghost use Rattle.paths.specs.Answers.{foundIn, pathWritten, shortestOf, isRefused};
+ghost use Rattle.paths.specs.Answers.{foundIn, pathWritten, Called};
 use state_set::StateSet;
 use state_set::WORDS;
 use table::FORBIDDEN_AT;
 use table::MAX_STATES;
 use table::Rows;
-use table::kept;
+use table::meet_hold;
 use table::refusal;
 use table::row_at;
 use table::row_of;
@@ -141,7 +138,7 @@ pub fn distances(store: &[u64], n: usize) -> [u16; MAX_STATES]
             return distances;
         }
         mark(&mut distances, layer, d);
-        let left = kept(store, rest, rest);
+        let left = meet_hold(store, rest, rest);
         layer = rest.difference(left);
         rest = left;
         d += 1;
@@ -256,9 +253,7 @@ pub enum Shortest {
 }
 
 pub fn shortest_path(store: &[u64], n: usize, g: usize, path: &mut [u8]) -> Shortest
-    ensures { λ r. ⌜ (shortestOf r ≡ shortestAnswer (now (store .entry)) n g (length (now (path .entry))))
-        × (now (path .exit) ≡ shortestBuffer (now (store .entry)) n g (now (path .entry)))
-        × (isRefused r ≡ not (eqb ((shortestAnswer (now (store .entry)) n g (length (now (path .entry)))) .refusal) 0)) ⌝ }
+    ensures { λ r. ⌜ Called (now (store .entry)) n g (now (path .entry)) r (now (path .exit)) ⌝ }
 {
     let refused = refusal(store, n, g);
     if refused != 0 {

@@ -1,4 +1,4 @@
--- What the program `check` prints (01, "The program"), as lists of bytes.
+-- What the program `check` prints (docs/SPECIFICATION.md, "The program"), as lists of bytes.
 --
 --   ascii s                                a text: the code of each character
 --   decimal n                              the digits of n: no zero in front, `0` for 0
@@ -46,7 +46,7 @@ byVerdict v safe unsafe undecided = cond (eqb v 0) safe (cond (eqb v 1) unsafe u
 unfoldable pub statesLine : ℕ → ℕ → List ℕ
 statesLine n g = ascii "states " ++ decimal n ++ ascii " groups " ++ decimal g ++ ascii "\n"
 
--- 01 says nothing of undecided, which a release check never is (demand 3). Here it has a line 2 of its own and no line 3.
+-- The specification says nothing of undecided, which a release check never is (demand 3). Here it has a line 2 of its own and no line 3.
 unfoldable pub verdictLine : ℕ → ℕ → List ℕ
 verdictLine v count =
     byVerdict v (ascii "safe") (ascii "unsafe") (ascii "undecided") ++ ascii " refinements " ++ decimal count ++ ascii "\n"

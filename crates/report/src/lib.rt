@@ -1,4 +1,4 @@
-// What the program `check` prints (01, "The program"), put into a lent buffer.
+// What the program `check` prints (docs/SPECIFICATION.md, "The program"), put into a lent buffer.
 //
 //   write_refused, write_report     the whole text at the front of the buffer; the answer is its length
 //   put_*                           a piece of it at the place `at`; the answer is the place after it
@@ -19,7 +19,7 @@ use state_set::StateSet;
 use state_set::WORDS;
 
 // The specs' room is the same number.
-pub const ROOM: usize = 1024 + 256 * WORDS;
+pub const ROOM: usize = 1024 + 4 * 64 * WORDS;
 
 pub fn write_refused(refusal: u8, out: &mut [u8]) -> usize
     requires { ⌜ room ≤ length (now out) ⌝ }

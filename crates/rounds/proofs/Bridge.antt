@@ -1,9 +1,9 @@
 -- From the code's steps, over rows and the store's words, to the model's, over lists and tables.
 --
---   covers-none, covers-add      the rows for the empty list, and after a set is added
+--   covers-add                   the rows after a set is added
 --   covers-read                  a row is the cover of its state
 --   notForbidden-is              all states without the forbidden ones
---   coverBy-is, successorsBy-is, keptBy-is      for sets of the table's states, the model's cover, post, and meet with hold
+--   coverBy-is, successorsBy-is, meetHold-is      for sets of the table's states, the model's cover, post, and meet with hold
 --   forwardBy-proper, backwardBy-proper     what the steps give is a proper set
 --   forward-least, backward-greatest        n steps reach the least and the greatest solution; covers-below: of rows that are covers
 --   iterate-cong                 steps that agree on a kind of set that they keep iterate alike
@@ -11,21 +11,20 @@
 use Prim.Native.Nat.{ℕ, zero, suc, _<_}
 use mathlib.Core.Path.{_≡_, refl, sym, ap, _∙_, subst}
 use mathlib.Core.Logic.{inl, inr, ⊎-elim}
-use mathlib.Core.Bool.{cond}
 use mathlib.Core.List.{List, [], _∷_}
 use lib.ListN.{getD}
 use Rattle.model.specs.Sets.{maxStates, Set, member, empty, union, meet, difference, subset, states, firstStates}
 use Rattle.model.specs.Tables.{post, hold, coverOf, cover, notForbidden}
 use Rattle.model.specs.Rounds.{iterate, forwardStep, forward, backwardStep, backward}
 use Rattle.model.specs.Stores.{rowAt, setAt, tableOf}
-use Rattle.model.proofs.Bounds.{and-true, and-intro, is-false, clash, length-tabulate, getD-tabulate, tabulate-cong}
+use Rattle.model.proofs.Bounds.{and-true, and-intro, is-false, clash, getD-tabulate}
 use Rattle.model.proofs.SetLaws.{Proper, setOf-proper, In, in-bound, in-setOf, setOf-in, in-union, union-in, in-meet, meet-in, in-difference, difference-in, firstStates-in, _⊆_, subset-in, in-subset, same-set, empty-in, image-in}
 use Rattle.model.specs.Promises.{IsLeast, IsGreatest}
 use Rattle.model.proofs.Fixpoints.{iterate-has, from-below, from-above}
 use Rattle.model.proofs.CoverLaws.{image-mono, image-proper, coverOf-within, in-notForbidden, notForbidden-in, notForbidden-within, in-hold, hold-in, forwardStep-within, backwardStep-within}
 use Rattle.model.proofs.StoreLaws.{row-is}
 use Rattle.model.proofs.ImageLaws.{image-bound, image-cong}
-use Rattle.table.specs.Rows.{successorsBy, keptBy}
+use Rattle.table.specs.Rows.{successorsBy, meetHold}
 use Rattle.table.proofs.MapAt.{mapAt-tabulate}
 use Rattle.rounds.specs.Steps.{covers, narrowed, coverBy, forwardBy, backwardBy, Below}
 
@@ -57,9 +56,9 @@ module _ (store : List ℕ) (n g : ℕ) where
   unfolding coverBy cover
   coverBy-is L X i = image-cong maxStates _ (coverOf n L) X (λ s h m. covers-read n L s h) ∙ image-bound n (coverOf n L) X i
 
-  pub keptBy-is : (X Y : Set) → X ⊆ firstStates n → keptBy store X Y ≡ meet X (hold n ((tableOf store n g) .row) Y)
-  unfolding keptBy meet
-  keptBy-is X Y i =
+  pub meetHold-is : (X Y : Set) → X ⊆ firstStates n → meetHold store X Y ≡ meet X (hold n ((tableOf store n g) .row) Y)
+  unfolding meetHold meet
+  meetHold-is X Y i =
       same-set _ _ (setOf-proper _) (setOf-proper _)
       (λ s h.
       let both = and-true (member X s) (subset (setAt store (rowAt s)) Y) (setOf-in _ h) in
@@ -103,7 +102,7 @@ module _ (store : List ℕ) (n : ℕ) (rows : List Set) (below : Below n rows) w
       (forwardBy-proper store rows initial Z) (λ X. coverBy-within _)
 
   pub backward-greatest : (R : Set) → IsGreatest (backwardBy store rows R) (iterate (backwardBy store rows R) (firstStates n) n)
-  unfolding backwardBy keptBy
+  unfolding backwardBy meetHold
   backward-greatest R =
       from-above _ n
       (λ X Y i.
@@ -142,6 +141,6 @@ module _ (store : List ℕ) (n g : ℕ) (L : List Set) where
   backward-is R i =
       iterate-cong (λ X. X ⊆ firstStates n) _ (backwardStep (tableOf store n g) L R) (firstStates n) (λ s h. h)
       (λ X j.
-      ap (coverBy (covers n L)) (keptBy-is store n g R X i)
+      ap (coverBy (covers n L)) (meetHold-is store n g R X i)
       ∙ coverBy-is store n g L _ (λ s h. i s (meet-in h .0)))
       (λ X. backwardStep-within (tableOf store n g) L R X) n

@@ -4,18 +4,18 @@
 --   refuse-20, refuse-21, refuse-none          where no ground holds that the calls share, those that decide adds do
 use Prim.Native.Nat.{ℕ, _≤_, _<_}
 use mathlib.Core.Path.{_≡_, refl, sym, ap, ap₂, _∙_, subst}
-use mathlib.Core.Bool.{Bool, true, not, cond}
-use mathlib.Core.List.{List, [], _∷_}
+use mathlib.Core.Bool.{true, not, cond}
+use mathlib.Core.List.{List, []}
 use borrow.Author.Tests.{ne-eqb, lt-ltb, le-ltb, ltb-false}
-use lib.Dec.{eqb, ltb, lit<}
+use lib.Dec.{eqb}
 use lib.ListN.{length}
 use Rattle.model.specs.Sets.{maxStates, Set, empty, size}
 use Rattle.model.specs.Rounds.{Outcome, safe, unsafe, undecided, run}
 use Rattle.model.specs.Paths.{shortest, hasPath, smallestPath}
 use Rattle.model.specs.Stores.{tableOf, refuse, sharedGrounds}
-use Rattle.model.specs.Calls.{overwrite, maxAllowance, Decision as Answer, decideGrounds, decisionOf, declined, decideAnswer, decideBuffer}
-use Rattle.model.proofs.ListLaws.{refuse-append}
-use Rattle.model.proofs.Acceptance.{cond-zero, Store, accepted-store, store-accepted, well-formed}
+use Rattle.model.specs.Calls.{overwrite, maxAllowance, Decision as Answer, decideLimits, decideGrounds, decisionOf, declined, decideAnswer, decideBuffer}
+use Rattle.model.proofs.GroundLaws.{refuse-append, refuse-clear}
+use Rattle.model.proofs.Acceptance.{Store, accepted-store, store-accepted, well-formed}
 use Rattle.model.proofs.RoundLaws.{unsafe-path}
 use Rattle.model.proofs.PathLaws.{has-path}
 use Rattle.paths.specs.declared.Found.{Found}
@@ -25,7 +25,7 @@ use Rattle.rounds.specs.declared.Ending.{Ending}
 use Rattle.rounds.specs.declared.Ended.{Ended}
 use Rattle.rounds.specs.declared.Verdict.{Verdict}
 use Rattle.rounds.specs.declared.Verdict.the-variants.{Safe, Unsafe, Undecided, Refused}
-use Rattle.rounds.specs.Answers.{endsWith, outcomeOf, invariantOf, stepsIn, answersWith, isRefused}
+use Rattle.rounds.specs.Answers.{endsWith, outcomeOf, invariantOf, stepsIn, answersWith, isRefused, Called}
 
 -- ---- refusals
 
@@ -34,14 +34,11 @@ pub refuse-shared : (store : List ℕ) (n g allowance room : ℕ) {k : ℕ} → 
 unfolding decideGrounds
 refuse-shared store n g allowance room e f = refuse-append (sharedGrounds store n g) _ e f
 
--- the grounds that decide adds, which decide where no shared ground holds
-abbrev later : ℕ → ℕ → List (Bool × ℕ)
-later allowance room = (ltb maxAllowance allowance, 20) ∷ (ltb room maxStates, 21) ∷ []
-
+-- where no shared ground holds, those that decide adds do
 module _ (store : List ℕ) (n g allowance room : ℕ) (e : refuse (sharedGrounds store n g) ≡ 0) where
-  refuse-late : refuse (later allowance room) ≡ refuse (decideGrounds store n g allowance room)
+  refuse-late : refuse (decideLimits allowance room) ≡ refuse (decideGrounds store n g allowance room)
   unfolding decideGrounds
-  refuse-late = sym (store-accepted store n g (later allowance room) (accepted-store store n g [] e .0))
+  refuse-late = sym (store-accepted store n g (decideLimits allowance room) (accepted-store store n g [] e .0))
 
   pub refuse-20 : maxAllowance < allowance → 20 ≡ refuse (decideGrounds store n g allowance room)
   unfolding refuse
@@ -58,11 +55,10 @@ module _ (store : List ℕ) (n g allowance room : ℕ) (e : refuse (sharedGround
 -- what a check that is not declined knows of its arguments
 pub accepted : (store : List ℕ) (n g allowance room : ℕ) {k : ℕ} → k ≡ refuse (decideGrounds store n g allowance room) → k ≡ 0
     → Store store n g × (maxStates ≤ room)
-unfolding decideGrounds refuse
+unfolding decideGrounds
 accepted store n g allowance room e z =
-    let parts = accepted-store store n g (later allowance room) (sym e ∙ z) in
-    let within = cond-zero (ltb maxAllowance allowance) 20 _ (lit< tt) (parts .1) in
-    (parts .0, ltb-false room maxStates (cond-zero (ltb room maxStates) 21 _ (lit< tt) (within .1) .0))
+    let parts = accepted-store store n g (decideLimits allowance room) (sym e ∙ z) in
+    (parts .0, ltb-false room maxStates (refuse-clear (decideLimits allowance room) [] refl (parts .1) .0 .1 .0))
 
 -- ---- answers
 
@@ -75,10 +71,7 @@ ended-is {r} {o} x q both =
 module _ (store : List ℕ) (n g allowance : ℕ) (path : List ℕ) where
   -- the verdict v of a check, the invariant X beside it, and what is left in the buffer
   abbrev pub Answered : Verdict → Set → List ℕ → Type 0
-  Answered v X after =
-      (answersWith v X ≡ decideAnswer store n g allowance (length path))
-      × (after ≡ decideBuffer store n g allowance path)
-      × (isRefused v ≡ not (eqb ((decideAnswer store n g allowance (length path)) .refusal) 0))
+  Answered v X after = Called store n g allowance path (record { verdict = v; invariant = record { words = X } }) after
 
   -- the buffer and the case follow from the numbers
   answered : (v : Verdict) (X : Set) → answersWith v X ≡ decideAnswer store n g allowance (length path)

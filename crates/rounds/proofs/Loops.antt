@@ -1,56 +1,16 @@
--- The loops of the cover and of R and S: the invariant of each, where it starts, a turn, and what it gives at the end.
+-- The loops of R and S: the invariant, where it starts, a turn, and what it gives at the end.
 --
---   Listing, list-*                 `with_groups`: the rows are the covers for the sets listed so far
 --   Iterating, iterate-*            `forward` and `backward`: as many steps as turns, or fewer if one changes nothing
-use Prim.Native.Nat.{ℕ, suc, _+_, _-_, _≤_, _<_, zero-le}
-use native.Mathlib.Nat.{le-refl, le-of-eq, le-antisymm}
+use Prim.Native.Nat.{ℕ, _+_, _≤_, _<_, zero-le}
+use native.Mathlib.Nat.{le-antisymm}
 use native.Mathlib.Numerals.{add-one}
 use native.Mathlib.Omega.{arith}
-use mathlib.Core.Path.{_≡_, sym, ap, ap₂, _∙_, subst}
+use mathlib.Core.Path.{_≡_, sym, ap, _∙_, subst}
 use mathlib.Core.Bool.{true}
-use mathlib.Core.List.{List, [], _∷_}
-use lib.ListN.{length, drop, drop-of-length-le}
-use lib.Seq.{drop-cons}
-use Rattle.model.specs.Sets.{Set, same, tabulate}
+use Rattle.model.specs.Sets.{Set, same}
 use Rattle.model.specs.Rounds.{iterate}
-use Rattle.model.proofs.Bounds.{length-tabulate, getD-tabulate}
 use Rattle.model.proofs.SetLaws.{Proper, same-eq}
 use Rattle.model.proofs.Fixpoints.{iterate-suc, iterate-has, iterate-still}
-use Rattle.rounds.specs.Steps.{covers, narrowed}
-use Rattle.rounds.proofs.Bridge.{covers-add}
-
--- ---- `with_groups`
-
--- of the g sets f 0, f 1, .., those from f j on are listed
-pub record Listing (n g : ℕ) (f : ℕ → Set) (rows : List Set) (j : ℕ) : Type 0 where
-  pub within : j ≤ g
-  pub rows-are : rows ≡ covers n (drop j (tabulate g f))
-
-module _ (n g : ℕ) (f : ℕ → Set) where
-  pub list-start : {rows : List Set} → rows ≡ covers n [] → Listing n g f rows g
-  list-start e =
-      record {
-        within = le-refl g;
-        rows-are = e ∙ ap (covers n) (sym (drop-of-length-le (tabulate g f) (le-of-eq (length-tabulate f g))));
-      }
-
-  pub list-turn : {rows rows′ : List Set} {Z : Set} (j : ℕ) → 0 < j → Z ≡ f (j - 1) → rows′ ≡ narrowed rows Z → Listing n g f rows j
-      → Listing n g f rows′ (j - 1)
-  list-turn {Z = Z} j h z e so =
-      let l : j - 1 < g = omega (arith, so .within) in
-      let k : suc (j - 1) ≡ j = omega arith in
-      let first = drop-cons (tabulate g f) (j - 1) [] (subst (λ (m : ℕ). j - 1 < m) (sym (length-tabulate f g)) l) in
-      record {
-        within = omega arith;
-        rows-are =
-            e
-            ∙ ap (λ (X : List Set). narrowed X Z) (so .rows-are)
-            ∙ covers-add n (drop j (tabulate g f)) Z
-            ∙ ap (covers n) (ap₂ {C = List Set} (λ X i. X ∷ drop i (tabulate g f)) (z ∙ sym (getD-tabulate f g (j - 1) [] l)) (sym k) ∙ sym first);
-      }
-
-  pub list-end : {rows : List Set} {j : ℕ} → j ≤ 0 → Listing n g f rows j → rows ≡ covers n (tabulate g f)
-  list-end {j = j} h so = let e : j ≡ 0 = omega arith in so .rows-are ∙ ap (λ (i : ℕ). covers n (drop i (tabulate g f))) e
 
 -- ---- `forward` and `backward`
 

@@ -1,33 +1,39 @@
 -- The loop of `run`: what its calls compute are the sets and the tests of the model's round.
 --
 --   forward-within, backward-within     R and S hold states of the table only
---   Running                             the invariant of the loop: Z is that of round i, and the rows are the covers for the list that Z is
---                                       still to be added to
---   run-start                           it holds at the first round
---   R-is, S-is, safe-is, unsafe-is      what a turn computes: R and S of round i, and the tests of steps 2 and 4
---   run-turn                            the invariant holds again after a round that goes on
+--   Running                             the invariant of the loop: the first j groups and then Z, which is that of round i, are still to be added
+--                                       to the list that the rows are the covers for
+--   run-start                           it holds at the start, with all groups left
+--   run-group, run-ready                a group is added; where none is left it is Z
+--   Ready                               the rows are then the covers of round i
+--   conclude-safe, -unsafe, -open       what `conclude` concludes, by the tests of steps 2 and 4
 --   run-safe, run-unsafe, run-undecided     where the rounds end
-use Prim.Native.Nat.{ℕ, suc, _+_, _≤_, _<_, zero-le}
-use native.Mathlib.Nat.{not-suc-le-zero}
+--   run-turn                            the invariant holds again after a round that goes on
+use Prim.Native.Nat.{ℕ, suc, _+_, _-_, _≤_, _<_, zero-le}
+use native.Mathlib.Nat.{not-suc-le-zero, le-refl}
 use native.Mathlib.Numerals.{add-one}
 use native.Mathlib.Omega.{arith}
-use mathlib.Core.Path.{_≡_, sym, ap, ap₂, _∙_, subst}
+use mathlib.Core.Path.{_≡_, refl, sym, ap, ap₂, _∙_, subst}
 use mathlib.Core.Logic.{⊎-elim}
 use mathlib.Core.Bool.{Bool, true, false, not}
-use mathlib.Core.List.{List, _∷_}
-use Rattle.model.specs.Sets.{Set, empty, union, meet, subset, firstStates}
+use mathlib.Core.List.{List, [], _∷_, _++_, append-assoc, append-nil}
+use borrow.Author.Tests.{ne-eqb, not-false}
+use Rattle.model.specs.Sets.{Set, empty, union, meet, subset, firstStates, tabulate}
 use Rattle.model.specs.Tables.{Table, hold, notForbidden}
 use Rattle.model.specs.Rounds.{iterate, forwardStep, forward, backwardStep, backward, Round, roundOf, firstRound, nextRound, isSafe, isUnsafe, safe, unsafe, undecided, run}
-use Rattle.model.specs.Stores.{setAt, forbiddenAt, tableOf}
+use Rattle.model.specs.Stores.{setAt, forbiddenAt, groupAt, tableOf}
 use Rattle.model.specs.Promises.{IsLeast, IsGreatest, roundAt, Continues}
-use Rattle.model.proofs.Bounds.{below-suc}
+use Rattle.model.proofs.Bounds.{below-suc, not-true}
 use Rattle.model.proofs.SetLaws.{empty-in, meet-in, _⊆_, ⊆-of-eq}
 use Rattle.model.proofs.Fixpoints.{iterate-has, least-unique, greatest-unique}
 use Rattle.model.proofs.CoverLaws.{hold-within, notForbidden-within, forwardStep-within, backwardStep-within}
 use Rattle.model.proofs.RoundLaws.{first-stop}
-use Rattle.table.specs.Rows.{successorsBy, keptBy}
-use Rattle.rounds.specs.Steps.{covers, narrowed, forwardBy, backwardBy}
-use Rattle.rounds.proofs.Bridge.{covers-add, successorsBy-is, keptBy-is, forwardBy-proper, backwardBy-proper, forward-least, backward-greatest, covers-below, forward-is, backward-is}
+use Rattle.table.specs.Rows.{successorsBy, meetHold}
+use Rattle.rounds.specs.Steps.{covers, narrowed, nextAdded, forwardBy, backwardBy, Below}
+use Rattle.rounds.specs.declared.Conclusion.the-variants.{Safe as ConcludesSafe, Unsafe as ConcludesUnsafe, Open}
+use Rattle.rounds.specs.declared.Concluded.{Concluded}
+use Rattle.rounds.specs.Answers.{concludes, setBeside, Concludes}
+use Rattle.rounds.proofs.Bridge.{covers-add, successorsBy-is, meetHold-is, forwardBy-proper, backwardBy-proper, forward-least, backward-greatest, covers-below, forward-is, backward-is}
 
 -- ---- sets of the table's states
 
@@ -44,68 +50,156 @@ module _ (t : Table) (L : List Set) where
 
 -- ---- the invariant
 
-pub record Running (store : List ℕ) (n g allowance : ℕ) (initial : Set) (rows : List Set) (Z : Set) (i : ℕ) : Type 0 where
+-- the groups of the table are f 0, f 1, ..
+abbrev group : List ℕ → ℕ → Set
+group store j = setAt store (groupAt j)
+
+pub record Running (store : List ℕ) (n g allowance : ℕ) (initial : Set) (rows : List Set) (Z : Set) (j i : ℕ) : Type 0 where
   pub list : List Set
   pub rows-are : rows ≡ covers n list
   pub initial-is : initial ≡ setAt store 0
   pub within : Z ⊆ firstStates n
+  pub round-is : roundOf (tableOf store n g) (Z ∷ (tabulate j (group store) ++ list)) Z ≡ roundAt (tableOf store n g) i
+  pub left : j ≤ g
+  pub used : i ≤ allowance
+  pub before : (k : ℕ) → k < i → Continues (tableOf store n g) k
+
+-- Z is added too: the rows are the covers of round i
+pub record Ready (store : List ℕ) (n g allowance : ℕ) (initial : Set) (rows : List Set) (Z : Set) (i : ℕ) : Type 0 where
+  pub list : List Set
+  pub rows-are : rows ≡ covers n (Z ∷ list)
+  pub initial-is : initial ≡ setAt store 0
+  pub within : Z ⊆ firstStates n
   pub round-is : roundOf (tableOf store n g) (Z ∷ list) Z ≡ roundAt (tableOf store n g) i
   pub used : i ≤ allowance
-  pub before : (j : ℕ) → j < i → Continues (tableOf store n g) j
+  pub before : (k : ℕ) → k < i → Continues (tableOf store n g) k
 
 module _ (store : List ℕ) (n g allowance : ℕ) where
-  pub run-start : {initial Z : Set} {rows : List Set} → initial ≡ setAt store 0 → Z ≡ notForbidden n (setAt store forbiddenAt)
-      → rows ≡ covers n ((tableOf store n g) .groups) → Running store n g allowance initial rows Z 0
+  pub run-start : {initial Z : Set} {rows : List Set} → initial ≡ setAt store 0 → rows ≡ covers n [] → Z ≡ notForbidden n (setAt store forbiddenAt)
+      → Running store n g allowance initial rows Z g 0
   unfolding roundAt firstRound tableOf
-  run-start a e c =
+  run-start a c e =
       record {
-        list = (tableOf store n g) .groups;
+        list = [];
         rows-are = c;
         initial-is = a;
         within = λ s h. notForbidden-within n (setAt store forbiddenAt) s (⊆-of-eq e s h);
-        round-is = ap (λ (Z : Set). roundOf (tableOf store n g) (Z ∷ (tableOf store n g) .groups) Z) e;
+        round-is = ap₂ (λ (Z : Set) (L : List Set). roundOf (tableOf store n g) (Z ∷ L) Z) e (append-nil (tabulate g (group store)));
+        left = le-refl g;
         used = zero-le;
-        before = λ j l. absurd (not-suc-le-zero l);
+        before = λ k l. absurd (not-suc-le-zero l);
       }
+
+-- a group is added to the list
+module _ {store : List ℕ} {n g allowance : ℕ} {initial : Set} {rows : List Set} {Z : Set} {j i : ℕ} (so : Running store n g allowance initial rows Z j i) where
+  pub run-group : {rows′ : List Set} → 0 < j → rows′ ≡ narrowed rows (nextAdded store j Z) → Running store n g allowance initial rows′ Z (j - 1) i
+  unfolding nextAdded tabulate
+  run-group some e =
+      let k : suc (j - 1) ≡ j = omega arith in
+      let last = ne-eqb j 0 (λ z. omega arith) in
+      let more : tabulate j (group store) ++ so .list ≡ tabulate (j - 1) (group store) ++ (group store (j - 1) ∷ so .list) =
+      ap (λ (m : ℕ). tabulate m (group store) ++ so .list) (sym k) ∙ append-assoc (tabulate (j - 1) (group store)) (group store (j - 1) ∷ []) (so .list) in
+      record {
+        list = group store (j - 1) ∷ so .list;
+        rows-are = (rw last at e) ∙ ap (λ (X : List Set). narrowed X (group store (j - 1))) (so .rows-are) ∙ covers-add n (so .list) (group store (j - 1));
+        initial-is = so .initial-is;
+        within = so .within;
+        round-is = ap (λ (L : List Set). roundOf (tableOf store n g) (Z ∷ L) Z) (sym more) ∙ so .round-is;
+        left = omega (arith, so .left);
+        used = so .used;
+        before = so .before;
+      }
+
+  -- no group is left, so it is Z that is added
+  pub run-ready : {rows′ : List Set} → j ≤ 0 → rows′ ≡ narrowed rows (nextAdded store j Z) → Ready store n g allowance initial rows′ Z i
+  unfolding nextAdded tabulate
+  run-ready none e =
+      let z : j ≡ 0 = omega arith in
+      record {
+        list = so .list;
+        rows-are = (rw z at e) ∙ ap (λ (X : List Set). narrowed X Z) (so .rows-are) ∙ covers-add n (so .list) Z;
+        initial-is = so .initial-is;
+        within = so .within;
+        round-is = rw z at (so .round-is);
+        used = so .used;
+        before = so .before;
+      }
+
+-- ---- what the tests of a round come to
+
+-- in `conclude`: x is step 2's test, y that of step 4
+pub conclude-safe : (inside : Bool) {safe x : Bool} → x ≡ safe → x ≡ true → ConcludesSafe ≡ concludes safe inside
+unfolding concludes
+conclude-safe inside e t = ap (λ (b : Bool). concludes b inside) (sym t ∙ e)
+
+pub conclude-unsafe : {safe inside x y : Bool} → x ≡ safe → x ≡ false → y ≡ inside → not y ≡ true → ConcludesUnsafe ≡ concludes safe inside
+unfolding concludes
+conclude-unsafe e f g t = ap₂ concludes (sym f ∙ e) (sym (not-true _ t) ∙ g)
+
+pub conclude-open : {safe inside x y : Bool} → x ≡ safe → x ≡ false → y ≡ inside → not y ≡ false → Open ≡ concludes safe inside
+unfolding concludes
+conclude-open e f g t = ap₂ concludes (sym f ∙ e) (sym (not-false _ t) ∙ g)
+
+-- in `run`
+is-safe : (safe unsafe : Bool) → concludes safe (not unsafe) ≡ ConcludesSafe → safe ≡ true
+unfolding concludes
+is-safe true u e = refl
+is-safe false true e = cc
+is-safe false false e = cc
+
+is-unsafe : (safe unsafe : Bool) → concludes safe (not unsafe) ≡ ConcludesUnsafe → (safe ≡ false) × (unsafe ≡ true)
+unfolding concludes
+is-unsafe true u e = (cc, cc)
+is-unsafe false true e = (refl, refl)
+is-unsafe false false e = (refl, cc)
+
+is-open : (safe unsafe : Bool) → concludes safe (not unsafe) ≡ Open → (safe ≡ false) × (unsafe ≡ false)
+unfolding concludes
+is-open true u e = (cc, cc)
+is-open false true e = (refl, cc)
+is-open false false e = (refl, refl)
+
+not-not : (b : Bool) → not (not b) ≡ b
+not-not true = refl
+not-not false = refl
 
 -- ---- a turn
 
-module _ {store : List ℕ} {n g allowance : ℕ} {initial : Set} {rows : List Set} {Z : Set} {i : ℕ} (so : Running store n g allowance initial rows Z i) where
+module _ {store : List ℕ} {n g allowance : ℕ} {initial : Set} {rows : List Set} {Z : Set} {i : ℕ} (so : Ready store n g allowance initial rows Z i) where
   -- the table, the list with Z, the round, and its tests
-  abbrev pub table : Table
+  abbrev table : Table
   table = tableOf store n g
 
-  abbrev pub listNow : List Set
+  abbrev listNow : List Set
   listNow = Z ∷ so .list
 
-  abbrev pub roundNow : Round
+  abbrev roundNow : Round
   roundNow = roundOf table listNow Z
 
-  abbrev pub safeNow : Bool
+  abbrev safeNow : Bool
   safeNow = isSafe table roundNow
 
-  abbrev pub unsafeNow : Bool
+  abbrev unsafeNow : Bool
   unsafeNow = isUnsafe table roundNow
 
-  pub rows-are : {rows′ : List Set} → rows′ ≡ narrowed rows Z → rows′ ≡ covers n listNow
-  rows-are e = e ∙ ap (λ (X : List Set). narrowed X Z) (so .rows-are) ∙ covers-add n (so .list) Z
+  pub rows-below : Below n rows
+  rows-below = covers-below n listNow (so .rows-are)
 
-  pub R-is : {rows′ : List Set} {R : Set} → rows′ ≡ covers n listNow → IsLeast (forwardBy store rows′ initial Z) R → R ≡ roundNow .R
+  R-is : {R : Set} → IsLeast (forwardBy store rows initial Z) R → R ≡ roundNow .R
   unfolding roundOf tableOf
-  R-is {rows′} c e =
-      least-unique _ (forwardBy-proper store rows′ initial Z) e (forward-least store n rows′ (covers-below n listNow c) initial Z)
-      ∙ ap₂ (λ (X : List Set) (Y : Set). iterate (forwardBy store X Y Z) empty n) c (so .initial-is)
+  R-is e =
+      least-unique _ (forwardBy-proper store rows initial Z) e (forward-least store n rows rows-below initial Z)
+      ∙ ap₂ (λ (X : List Set) (Y : Set). iterate (forwardBy store X Y Z) empty n) (so .rows-are) (so .initial-is)
       ∙ forward-is store n g listNow Z (so .within)
 
-  pub S-is : {rows′ : List Set} {R S : Set} → rows′ ≡ covers n listNow → R ≡ roundNow .R
-      → IsGreatest (backwardBy store rows′ R) S → S ≡ roundNow .S
+  S-is : {R S : Set} → R ≡ roundNow .R → IsGreatest (backwardBy store rows R) S → S ≡ roundNow .S
   unfolding roundOf tableOf
-  S-is {rows′} {R} c r e =
-      greatest-unique _ (backwardBy-proper store rows′ R) e (backward-greatest store n rows′ (covers-below n listNow c) R)
-      ∙ ap₂ (λ (X : List Set) (Y : Set). iterate (backwardBy store X Y) (firstStates n) n) c r
+  S-is {R} r e =
+      greatest-unique _ (backwardBy-proper store rows R) e (backward-greatest store n rows rows-below R)
+      ∙ ap₂ (λ (X : List Set) (Y : Set). iterate (backwardBy store X Y) (firstStates n) n) (so .rows-are) r
       ∙ backward-is store n g listNow _ (forward-within table listNow Z)
 
-  pub safe-is : {R : Set} {b : Bool} → R ≡ roundNow .R → b ≡ subset (union initial (successorsBy store R)) Z → safeNow ≡ b
+  safe-is : {R : Set} {b : Bool} → R ≡ roundNow .R → b ≡ subset (union initial (successorsBy store R)) Z → safeNow ≡ b
   unfolding isSafe roundOf tableOf
   safe-is r e =
       sym
@@ -113,13 +207,13 @@ module _ {store : List ℕ} {n g allowance : ℕ} {initial : Set} {rows : List S
       ∙ ap₂ (λ (X Y : Set). subset (union X (successorsBy store Y)) Z) (so .initial-is) r
       ∙ ap (λ (Y : Set). subset (union (setAt store 0) Y) Z) (successorsBy-is store n g _ (forward-within table listNow Z)))
 
-  pub unsafe-is : {S : Set} {b : Bool} → S ≡ roundNow .S → b ≡ subset initial S → unsafeNow ≡ not b
+  unsafe-is : {S : Set} {b : Bool} → S ≡ roundNow .S → b ≡ subset initial S → unsafeNow ≡ not b
   unfolding isUnsafe roundOf tableOf
   unsafe-is s e = sym (ap not (e ∙ ap₂ subset (so .initial-is) s))
 
-  Z-is : {S Z′ : Set} → S ≡ roundNow .S → Z′ ≡ keptBy store S S → Z′ ≡ meet (roundNow .S) (hold n (table .row) (roundNow .S))
+  Z-is : {S Z′ : Set} → S ≡ roundNow .S → Z′ ≡ meetHold store S S → Z′ ≡ meet (roundNow .S) (hold n (table .row) (roundNow .S))
   unfolding roundOf tableOf
-  Z-is s e = e ∙ ap (λ (X : Set). keptBy store X X) s ∙ keptBy-is store n g _ _ (backward-within table listNow _)
+  Z-is s e = e ∙ ap (λ (X : Set). meetHold store X X) s ∙ meetHold-is store n g _ _ (backward-within table listNow _)
 
   -- ---- where the round leads
 
@@ -127,35 +221,53 @@ module _ {store : List ℕ} {n g allowance : ℕ} {initial : Set} {rows : List S
   continues s u =
       record { not-safe = ap (isSafe table) (sym (so .round-is)) ∙ s; not-unsafe = ap (isUnsafe table) (sym (so .round-is)) ∙ u }
 
-  before-next : safeNow ≡ false → unsafeNow ≡ false → (j : ℕ) → j < suc i → Continues table j
-  before-next s u j h = ⊎-elim (λ e. subst (Continues table) (sym e) (continues s u)) (so .before j) (below-suc h)
+  before-next : safeNow ≡ false → unsafeNow ≡ false → (k : ℕ) → k < suc i → Continues table k
+  before-next s u k h = ⊎-elim (λ e. subst (Continues table) (sym e) (continues s u)) (so .before k) (below-suc h)
 
-  pub run-safe : {R : Set} → R ≡ roundNow .R → safeNow ≡ true → safe i R ≡ run table allowance
-  run-safe r s =
-      ap (safe i) (r ∙ ap (λ (x : Round). x .R) (so .round-is))
-      ∙ sym (first-stop table allowance .at-safe i (so .used) (so .before) (ap (isSafe table) (sym (so .round-is)) ∙ s))
+  module _ {r : Concluded} (e : Concludes store rows initial Z r) where
+    R-now : e .R ≡ roundNow .R
+    R-now = R-is (e .R-least)
 
-  pub run-unsafe : safeNow ≡ false → unsafeNow ≡ true → unsafe i ≡ run table allowance
-  run-unsafe s u =
-      sym
-      (first-stop table allowance .at-unsafe i (so .used) (so .before) (ap (isSafe table) (sym (so .round-is)) ∙ s)
-      (ap (isUnsafe table) (sym (so .round-is)) ∙ u))
+    S-now : e .S ≡ roundNow .S
+    S-now = S-is R-now (e .S-greatest)
 
-  pub run-undecided : safeNow ≡ false → unsafeNow ≡ false → i ≡ allowance → undecided i ≡ run table allowance
-  run-undecided s u e =
-      ap undecided e ∙ sym (first-stop table allowance .at-undecided (λ j h. before-next s u j (omega arith)))
+    concluded : r .conclusion ≡ concludes safeNow (not unsafeNow)
+    concluded = e .conclusion ∙ ap₂ concludes (sym (safe-is R-now refl)) (sym (ap not (unsafe-is S-now refl) ∙ not-not (subset initial (e .S))))
 
-  pub run-turn : {rows′ : List Set} {S Z′ : Set} → safeNow ≡ false → unsafeNow ≡ false → (i ≡ allowance → ⊥)
-      → rows′ ≡ covers n listNow → S ≡ roundNow .S → Z′ ≡ keptBy store S S → Running store n g allowance initial rows′ Z′ (i + 1)
-  unfolding roundAt nextRound roundOf tableOf
-  run-turn s u other c e k =
-      let next = Z-is e k in
-      record {
-        list = listNow;
-        rows-are = c;
-        initial-is = so .initial-is;
-        within = λ x h. hold-within n (table .row) _ x (meet-in (⊆-of-eq next x h) .1);
-        round-is = rw add-one (ap (λ (Z : Set). roundOf table (Z ∷ listNow) Z) next ∙ ap (nextRound table) (so .round-is));
-        used = omega (arith, so .used);
-        before = λ j h. before-next s u j (omega arith);
-      }
+    pub run-safe : r .conclusion ≡ ConcludesSafe → safe i (r .set .words) ≡ run table allowance
+    unfolding setBeside
+    run-safe q =
+        ap (safe i) ((rw q at (e .set)) ∙ R-now ∙ ap (λ (x : Round). x .R) (so .round-is))
+        ∙ sym (first-stop table allowance .at-safe i (so .used) (so .before) (ap (isSafe table) (sym (so .round-is)) ∙ is-safe safeNow unsafeNow (sym concluded ∙ q)))
+
+    pub run-unsafe : r .conclusion ≡ ConcludesUnsafe → (unsafe i ≡ run table allowance) × (r .set .words ≡ empty)
+    unfolding setBeside
+    run-unsafe q =
+        let tests = is-unsafe safeNow unsafeNow (sym concluded ∙ q) in (
+          sym
+              (first-stop table allowance .at-unsafe i (so .used) (so .before) (ap (isSafe table) (sym (so .round-is)) ∙ tests .0)
+              (ap (isUnsafe table) (sym (so .round-is)) ∙ tests .1)),
+          rw q at (e .set),
+        )
+
+    pub run-undecided : r .conclusion ≡ Open → i ≡ allowance → undecided i ≡ run table allowance
+    run-undecided q h =
+        let tests = is-open safeNow unsafeNow (sym concluded ∙ q) in
+        ap undecided h ∙ sym (first-stop table allowance .at-undecided (λ k l. before-next (tests .0) (tests .1) k (omega arith)))
+
+    pub run-turn : {j : ℕ} → j ≤ 0 → r .conclusion ≡ Open → (i ≡ allowance → ⊥) → Running store n g allowance initial rows (r .set .words) j (i + 1)
+    unfolding setBeside roundAt nextRound roundOf tableOf tabulate
+    run-turn {j} none q other =
+        let z : j ≡ 0 = omega arith in
+        let tests = is-open safeNow unsafeNow (sym concluded ∙ q) in
+        let next = Z-is S-now (rw q at (e .set)) in
+        record {
+          list = listNow;
+          rows-are = so .rows-are;
+          initial-is = so .initial-is;
+          within = λ x h. hold-within n (table .row) _ x (meet-in (⊆-of-eq next x h) .1);
+          round-is = rw (z, add-one) (ap (λ (Z : Set). roundOf table (Z ∷ listNow) Z) next ∙ ap (nextRound table) (so .round-is));
+          left = omega arith;
+          used = omega (arith, so .used);
+          before = λ k h. before-next (tests .0) (tests .1) k (omega arith);
+        }

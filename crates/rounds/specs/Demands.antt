@@ -1,24 +1,19 @@
 -- Demands 1, 2 and 3 of the call decide itself: of its results, and of the path buffer before and after.
 --
---   Called         a call and what it gave, as the contract of decide has it
 --   Demands        what holds of every call that is not declined, of every two of them, and of every one that is
+--
+-- A call and what it gave is `Called`, the contract of decide.
 use Prim.Native.Nat.{ℕ, _≤_}
 use mathlib.Core.Path.{_≡_}
-use mathlib.Core.Bool.{true, false, not}
+use mathlib.Core.Bool.{true, false}
 use mathlib.Core.List.{List}
-use lib.Dec.{eqb}
-use lib.ListN.{length, take}
+use lib.ListN.{take}
 use Rattle.model.specs.Stores.{storeWords, tableOf}
 use Rattle.model.specs.Rounds.{run}
-use Rattle.model.specs.Calls.{release, decisionOf, decideAnswer, decideBuffer}
-use Rattle.model.specs.Promises.{Carries, Demand2, Demand3, SameAnswer}
+use Rattle.model.specs.Calls.{release, decisionOf}
+use Rattle.model.specs.Promises.{StopsFirst, Carries, Demand2, Demand3, SameAnswer}
 use Rattle.rounds.specs.declared.Decision.{Decision}
-use Rattle.rounds.specs.Answers.{answerOf, isRefused}
-
-pub record Called (store : List ℕ) (n g allowance : ℕ) (before : List ℕ) (r : Decision) (after : List ℕ) : Type 0 where
-  pub answer : answerOf r ≡ decideAnswer store n g allowance (length before)
-  pub buffer : after ≡ decideBuffer store n g allowance before
-  pub refused : isRefused (r .verdict) ≡ not (eqb ((decideAnswer store n g allowance (length before)) .refusal) 0)
+use Rattle.rounds.specs.Answers.{answerOf, isRefused, Called}
 
 -- (`isRefused (r .verdict)` says whether the call was declined.)
 pub record Demands : Type 0 where
@@ -28,6 +23,9 @@ pub record Demands : Type 0 where
   pub answer : (store : List ℕ) (n g allowance : ℕ) (before : List ℕ) (r : Decision) (after : List ℕ)
       → Called store n g allowance before r after → isRefused (r .verdict) ≡ false
       → answerOf r ≡ decisionOf (tableOf store n g) (run (tableOf store n g) allowance)
+  -- which are those of the first round that stops
+  pub stops : (store : List ℕ) (n g allowance : ℕ) (before : List ℕ) (r : Decision) (after : List ℕ)
+      → Called store n g allowance before r after → isRefused (r .verdict) ≡ false → StopsFirst (tableOf store n g) allowance (answerOf r)
   pub carries : (store : List ℕ) (n g allowance : ℕ) (before : List ℕ) (r : Decision) (after : List ℕ)
       → Called store n g allowance before r after → isRefused (r .verdict) ≡ false → Carries (tableOf store n g) allowance (answerOf r) before after
   -- a release check

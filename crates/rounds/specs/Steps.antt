@@ -2,23 +2,29 @@
 --
 --   covers n L              the rows that hold the cover of each state for the list L
 --   narrowed rows Z         the rows after Z is added to the list
+--   nextAdded store j Z     the set added next, where the first j groups and then Z are still to be added, from the last to the first
 --   coverBy rows X          the cover of X
 --   forwardBy, backwardBy   R's step and S's step
 --   Below n rows            the rows hold states of the table only, so that the steps give such states only
-use Prim.Native.Nat.{ℕ, _<_}
+use Prim.Native.Nat.{ℕ, _-_, _<_}
 use mathlib.Core.Path.{_≡_}
-use mathlib.Core.Bool.{true}
+use mathlib.Core.Bool.{true, cond}
 use mathlib.Core.List.{List, []}
+use lib.Dec.{eqb}
 use lib.ListN.{getD}
 use Rattle.model.specs.Sets.{maxStates, Set, union, meet, subset, firstStates, image, tabulate}
 use Rattle.model.specs.Tables.{coverOf}
-use Rattle.table.specs.Rows.{successorsBy, keptBy, mapAt}
+use Rattle.model.specs.Stores.{groupAt, setAt}
+use Rattle.table.specs.Rows.{successorsBy, meetHold, mapAt}
 
 unfoldable pub covers : ℕ → List Set → List Set
 covers n L = tabulate maxStates (coverOf n L)
 
 unfoldable pub narrowed : List Set → Set → List Set
 narrowed rows Z = mapAt Z (λ row. meet row Z) [] rows
+
+unfoldable pub nextAdded : List ℕ → ℕ → Set → Set
+nextAdded store j Z = cond (eqb j 0) Z (setAt store (groupAt (j - 1)))
 
 unfoldable pub coverBy : List Set → Set → Set
 coverBy rows X = image maxStates (λ s. getD rows s []) X
@@ -27,7 +33,7 @@ unfoldable pub forwardBy : List ℕ → List Set → Set → Set → Set → Set
 forwardBy store rows initial Z X = coverBy rows (meet Z (union initial (successorsBy store X)))
 
 unfoldable pub backwardBy : List ℕ → List Set → Set → Set → Set
-backwardBy store rows R X = coverBy rows (keptBy store R X)
+backwardBy store rows R X = coverBy rows (meetHold store R X)
 
 pub record Below (n : ℕ) (rows : List Set) : Type 0 where
   pub row : (s : ℕ) → s < maxStates → subset (getD rows s []) (firstStates n) ≡ true

@@ -1,27 +1,24 @@
 // The rounds (01, "Rounds") and the call `decide`.
 //
-//   no_groups, narrow_word, narrow, with_groups
-//                                       the cover: a row of words for each state, set up from the groups and narrowed by each new Z
+//   no_groups, next_added               the cover of the empty list, a row of words for each state; the set that is added to the list next
 //   forward_step, forward               R, by its step until nothing changes
 //   backward_step, backward             S, by its step until nothing changes
-//   run                                 the rounds
+//   conclude                            what a round comes to
+//   run                                 the rounds: the cover is narrowed by the groups, and by the Z of each round
 //   decide                              the call
 ghost use mathlib.Core.Path.{_≡_};
-ghost use mathlib.Core.Bool.{not};
 ghost use mathlib.Core.List.{[]};
 ghost use Prim.Native.Nat.{_≤_, _<_};
-ghost use lib.Dec.{eqb};
 ghost use lib.ListN.{length};
 ghost use Rattle.model.specs.Sets.{WORDS, union, meet, subset};
-ghost use Rattle.state_set.specs.WordSets.{wordSet};
 ghost use Rattle.model.specs.Tables.{notForbidden};
 ghost use Rattle.model.specs.Rounds.{run as run·model};
 ghost use Rattle.model.specs.Stores.{storeWords, maxGroups, forbiddenAt, setAt, tableOf, refuse};
-ghost use Rattle.model.specs.Calls.{decideGrounds, decideAnswer, decideBuffer};
+ghost use Rattle.model.specs.Calls.{decideGrounds};
 ghost use Rattle.model.specs.Promises.{IsLeast, IsGreatest};
-ghost use Rattle.table.specs.Rows.{successorsBy, mapAt};
-ghost use Rattle.rounds.specs.Steps.{covers, narrowed, forwardBy, backwardBy, Below};
-ghost use Rattle.rounds.specs.Answers.{outcomeOf, invariantOf, answerOf, isRefused, stepsIn};
+ghost use Rattle.table.specs.Rows.{successorsBy};
+ghost use Rattle.rounds.specs.Steps.{covers, nextAdded, forwardBy, backwardBy, Below};
+ghost use Rattle.rounds.specs.Answers.{Concludes, outcomeOf, invariantOf, stepsIn, Called};
 use paths::Found;
 use paths::find_path;
 use state_set::StateSet;
@@ -30,7 +27,7 @@ use table::FORBIDDEN_AT;
 use table::MAX_STATES;
 use table::Rows;
 use table::group_at;
-use table::kept;
+use table::meet_hold;
 use table::refusal;
 use table::row_of;
 use table::set_at;
@@ -47,42 +44,15 @@ fn no_groups(n: usize) -> Rows
     [words; MAX_STATES]
 }
 
-// The cover of each state that `bits` has in word w becomes its meet with z.
-fn narrow_word(rows: &mut Rows, w: usize, bits: u64, z: StateSet)
-    requires { ⌜ w < WORDS ⌝ }
-    ensures { λ _. ⌜ now (rows .exit) ≡ mapAt (wordSet w bits) (λ row. meet row (z .words)) [] (now (rows .entry)) ⌝ }
+// The set that is added to the list next: the last of the j groups that are still to be added, or z where there is none.
+fn next_added(store: &[u64], j: usize, z: StateSet) -> StateSet
+    requires { ⌜ (j ≤ maxGroups) × (storeWords ≤ length (now store)) ⌝ }
+    ensures { λ r. ⌜ r .words ≡ nextAdded (now (store .entry)) j (z .words) ⌝ }
 {
-    let mut rest = bits;
-    while rest != 0 {
-        let s = 64 * w + u64::trailing_zeros(rest) as usize;
-        let met = row_of(rows, s).meet(z);
-        let words = met.words;
-        rows[s] = words;
-        rest &= rest - 1;
+    if j == 0 {
+        return z;
     }
-}
-
-// z is added to the list: the cover of each of its states becomes its meet with z.
-fn narrow(rows: &mut Rows, z: StateSet)
-    ensures { λ _. ⌜ now (rows .exit) ≡ narrowed (now (rows .entry)) (z .words) ⌝ }
-{
-    for w in 0..WORDS {
-        narrow_word(rows, w, z.words[w], z);
-    }
-}
-
-// The cover for the table's groups, which are added from the last to the first.
-fn with_groups(store: &[u64], n: usize, g: usize) -> Rows
-    requires { ⌜ (g ≤ maxGroups) × (storeWords ≤ length (now store)) ⌝ }
-    ensures { λ r. ⌜ r ≡ covers n ((tableOf (now (store .entry)) n g) .groups) ⌝ }
-{
-    let mut rows = no_groups(n);
-    let mut j = g;
-    while 0 < j {
-        j -= 1;
-        narrow(&mut rows, group_at(store, j));
-    }
-    rows
+    group_at(store, j - 1)
 }
 
 // ---- R
@@ -118,7 +88,7 @@ fn backward_step(store: &[u64], rows: &Rows, r: StateSet, x: StateSet) -> StateS
     requires { ⌜ storeWords ≤ length (now store) ⌝ }
     ensures { λ s. ⌜ s .words ≡ backwardBy (now (store .entry)) (now (rows .entry)) (r .words) (x .words) ⌝ }
 {
-    union_of(rows, kept(store, r, x))
+    union_of(rows, meet_hold(store, r, x))
 }
 
 // The greatest x with x = cover(r meet hold(x)).
@@ -168,39 +138,98 @@ fn stays_inside(store: &[u64], initial: StateSet, z: StateSet, r: StateSet) -> b
     initial.union(successors(store, r)).is_subset(z)
 }
 
-// The rounds, from 0 on, till one of them says safe or unsafe or the allowance is used.
+// What a round comes to: safe (step 2), unsafe (step 4), or neither.
+pub enum Conclusion {
+    Safe,
+    Unsafe,
+    Open,
+}
+
+// The conclusion, with R beside it where that is safe, the next Z where it is open, and the empty set where it is unsafe.
+pub struct Concluded {
+    pub conclusion: Conclusion,
+    pub set: StateSet,
+}
+
+// Steps 1 to 4 of a round, and the Z of step 6.
+fn conclude(store: &[u64], n: usize, rows: &Rows, initial: StateSet, z: StateSet) -> Concluded
+    requires { ⌜ (storeWords ≤ length (now store)) × Below n (now rows) ⌝ }
+    ensures { λ x. ⌜ Concludes (now (store .entry)) (now (rows .entry)) (initial .words) (z .words) x ⌝ }
+{
+    let r = forward(store, n, rows, initial, z);
+    if stays_inside(store, initial, z, r) {
+        return Concluded {
+            conclusion: Conclusion::Safe,
+            set: r,
+        };
+    }
+    let s = backward(store, n, rows, r);
+    if !initial.is_subset(s) {
+        return Concluded {
+            conclusion: Conclusion::Unsafe,
+            set: StateSet::empty(),
+        };
+    }
+    Concluded {
+        conclusion: Conclusion::Open,
+        set: meet_hold(store, s, s),
+    }
+}
+
+// The rounds, from 0 on, till one of them says safe or unsafe or the allowance is used. Each turn of the outer loop adds a set to the list and
+// narrows the cover by it: first the groups, from the last to the first, then Z0 and the Z of each later round, with which that round begins.
 fn run(store: &[u64], n: usize, g: usize, allowance: usize) -> Ended
     requires { ⌜ (g ≤ maxGroups) × (storeWords ≤ length (now store)) ⌝ }
     ensures { λ r. ⌜ (outcomeOf r ≡ run·model (tableOf (now (store .entry)) n g) allowance) × (r .invariant .words ≡ invariantOf (outcomeOf r)) ⌝ }
 {
     let initial = set_at(store, 0);
+    let mut rows = no_groups(n);
     let mut z = not_forbidden(store, n);
-    let mut rows = with_groups(store, n, g);
+    let mut j = g;
     let mut i = 0;
     loop {
-        narrow(&mut rows, z);
-        let r = forward(store, n, &rows, initial, z);
-        if stays_inside(store, initial, z, r) {
-            return Ended {
-                ending: Ending::Safe(i),
-                invariant: r,
-            };
+        let added = next_added(store, j, z);
+        for w in 0..WORDS {
+            let mut rest = added.words[w];
+            while rest != 0 {
+                let s = 64 * w + u64::trailing_zeros(rest) as usize;
+                let met = row_of(&rows, s).meet(added);
+                let words = met.words;
+                rows[s] = words;
+                rest &= rest - 1;
+            }
         }
-        let s = backward(store, n, &rows, r);
-        if !initial.is_subset(s) {
-            return Ended {
-                ending: Ending::Unsafe(i),
-                invariant: StateSet::empty(),
-            };
+        if 0 < j {
+            j -= 1;
+            continue;
         }
-        if i == allowance {
-            return Ended {
-                ending: Ending::Undecided(i),
-                invariant: StateSet::empty(),
-            };
+        let round = conclude(store, n, &rows, initial, z);
+        let conclusion = round.conclusion;
+        let set = round.set;
+        match conclusion {
+            Conclusion::Safe => {
+                return Ended {
+                    ending: Ending::Safe(i),
+                    invariant: set,
+                };
+            }
+            Conclusion::Unsafe => {
+                return Ended {
+                    ending: Ending::Unsafe(i),
+                    invariant: set,
+                };
+            }
+            Conclusion::Open => {
+                if i == allowance {
+                    return Ended {
+                        ending: Ending::Undecided(i),
+                        invariant: StateSet::empty(),
+                    };
+                }
+                z = set;
+                i += 1;
+            }
         }
-        z = kept(store, s, s);
-        i += 1;
     }
 }
 
@@ -252,9 +281,7 @@ fn steps_of(found: Found) -> usize
 }
 
 pub fn decide(store: &[u64], n: usize, g: usize, allowance: usize, path: &mut [u8]) -> Decision
-    ensures { λ r. ⌜ (answerOf r ≡ decideAnswer (now (store .entry)) n g allowance (length (now (path .entry))))
-        × (now (path .exit) ≡ decideBuffer (now (store .entry)) n g allowance (now (path .entry)))
-        × (isRefused (r .verdict) ≡ not (eqb ((decideAnswer (now (store .entry)) n g allowance (length (now (path .entry)))) .refusal) 0)) ⌝ }
+    ensures { λ r. ⌜ Called (now (store .entry)) n g allowance (now (path .entry)) r (now (path .exit)) ⌝ }
 {
     let refused = decide_refusal(store, n, g, allowance, path.len());
     if refused != 0 {

@@ -3,10 +3,10 @@
 --   decisionFields, shortestFields, tableFields, fileFields     what decide, shortest path, read and write return
 --   minuteFields                                                what next open minute returns
 use Rattle.model.specs.Calls.{Decision, Shortest, TableRead, Written}
+use Rattle.release_windows.specs.Answers.{Answer}
 use Rattle.shuntberry.specs.declared.DecisionFields.{DecisionFields}
 use Rattle.shuntberry.specs.declared.ShortestFields.{ShortestFields}
 use Rattle.shuntberry.specs.declared.TableFields.{TableFields}
-use Rattle.release_windows.specs.Answers.{Answer}
 use Rattle.shuntberry.specs.declared.FileFields.{FileFields}
 use Rattle.shuntberry.specs.declared.MinuteFields.{MinuteFields}
 

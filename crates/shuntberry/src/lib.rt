@@ -1,21 +1,27 @@
-// The calls for C (include/shuntberry.h). Each only calls the call of the same name and lays its answer out in a struct of 01's
-// numbers: `refusal` is 0 where the call was not declined, and every other field is 0 where it was.
+// The calls for C (include/shuntberry.h). Each only calls the call of the same name and lays its answer out in a struct of the
+// specification's numbers (docs/SPECIFICATION.md, "Refusals"): `refusal` is 0 where the call was not declined, and every other field is 0
+// where it was. An answer of the refusal alone is just that number.
 ghost use mathlib.Core.Path.{_≡_};
 ghost use Prim.Native.Nat.{_≤_};
 ghost use lib.ListN.{length};
 ghost use Rattle.model.specs.Sets.{maxStates};
-ghost use Rattle.model.specs.Calls.{decideAnswer, decideBuffer, shortestAnswer, shortestBuffer, readAnswer, readBuffer, maxFile, writeAnswer, writeBuffer};
+ghost use Rattle.model.specs.Files.{maxFile};
+ghost use Rattle.model.specs.Calls.{decideAnswer, decideBuffer, shortestAnswer, shortestBuffer, readAnswer, readBuffer, writeAnswer, writeBuffer};
 ghost use Rattle.model.proofs.Ranges.{DecisionRange, ReadRange};
 ghost use Rattle.rounds.specs.Answers.{answerOf};
 ghost use Rattle.paths.specs.Answers.{shortestOf};
 ghost use Rattle.block_file.specs.ReadAnswers.{readOf};
-ghost use Rattle.block_file.specs.Answers.{writtenOf};
+ghost use Rattle.block_file.specs.WriteAnswers.{writtenOf};
+ghost use Rattle.generator.specs.Load.{generateAnswer, generateBuffer};
+ghost use Rattle.generator.specs.Answers.{generatedOf};
 ghost use Rattle.release_windows.specs.Answers.{nextOpenAnswer, numbersOf};
 ghost use Rattle.shuntberry.specs.Fields.{decisionFields, shortestFields, tableFields, fileFields, minuteFields};
 use block_file::TableRead;
 use block_file::Written;
 use block_file::read;
 use block_file::write;
+use generator::Generated;
+use generator::generate;
 use paths::Shortest;
 use paths::shortest_path;
 use release_windows::NextOpen;
@@ -213,6 +219,25 @@ pub extern "C" fn shuntberry_write(
         × (now (output .exit) ≡ writeBuffer (now (store .entry)) n g (now (output .entry))) ⌝ }
 {
     lay_out_file(write(store, n, g, output))
+}
+
+// ---- generate
+
+fn lay_out_generated(answer: Generated) -> u32
+    ensures { λ r. ⌜ r ≡ (generatedOf answer) .refusal ⌝ }
+{
+    match answer {
+        Generated::Filled => 0,
+        Generated::Refused(refusal) => refusal as u32,
+    }
+}
+
+#[no_mangle]
+pub extern "C" fn shuntberry_generate(seed: u32, n: usize, fan_out: usize, store: &mut [u64]) -> u32
+    ensures { λ r. ⌜ (r ≡ (generateAnswer n «fan_out» (length (now (store .entry)))) .refusal)
+        × (now (store .exit) ≡ generateBuffer seed n «fan_out» (now (store .entry))) ⌝ }
+{
+    lay_out_generated(generate(seed, n, fan_out, store))
 }
 
 // ---- next open minute

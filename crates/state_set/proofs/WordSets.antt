@@ -8,17 +8,17 @@
 --   words-in, words-same            membership in the states of the words before one; such a state is in the whole
 --   words-none, words-more, words-all   the words before the first, one more, all of them
 --   words-apart                     a word has no state that those before it have
-use Prim.Native.Nat.{ℕ, zero, suc, _+_, _-_, _*_, _/_, _%_, _^_, _≤_, _<_}
+use Prim.Native.Nat.{ℕ, _+_, _-_, _*_, _/_, _%_, _^_, _≤_, _<_}
 use native.Mathlib.Omega.{arith}
-use mathlib.Core.Path.{_≡_, refl, sym, ap, _∙_, subst}
+use mathlib.Core.Path.{_≡_, sym, ap, _∙_, subst}
 use mathlib.Core.Logic.{inl, inr, ⊎-elim}
-use mathlib.Core.Bool.{Bool, true, false, not, _&&_}
+use mathlib.Core.Bool.{true, false, not}
 use borrow.Author.Tests.{eqb-true, eqb-false, eq-eqb, ne-eqb, ltb-true, lt-ltb}
 use lib.Dec.{eqb, ltb}
 use lib.Bits.{bitAnd, and-le-r}
 use lib.Count.{trailingZeros}
 use lib.ListN.{getD}
-use Rattle.model.specs.Sets.{WORDS, maxStates, Set, bit, member, setOf, empty, single, union, difference, first}
+use Rattle.model.specs.Sets.{WORDS, maxStates, Set, bit, member, empty, single, union, difference}
 use Rattle.model.proofs.Bounds.{and-true, and-intro, not-true, clash, same-test, first-passes, first-before, lt-or-ge}
 use Rattle.model.proofs.SetLaws.{Proper, setOf-proper, In, in-bound, in-setOf, setOf-in, empty-in, in-single, single-in, in-union, union-in, in-difference, difference-in, member-at, same-set}
 use Rattle.state_set.specs.WordSets.{wordSet, wordsBelow}

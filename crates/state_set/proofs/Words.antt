@@ -6,7 +6,8 @@
 --   Filling Z X w xs           xs is X with its first w words replaced by those of Z: the invariant of each loop that makes a set Z
 --   filling-none, filling-at, filling-more, filling-all     before the first turn; the word to come; one turn; after the last
 --   Wordwise f op              f acts on words as op does on their bits: or-wise, and-wise, and-not-wise
---   wordwise-word, wordwise-more     so f makes the words of the comprehension by op; a turn that stores one
+--   Combining op X Y w xs      xs is X with its first w words combined with those of Y, by an operation that is wordwise op
+--   combining-none, combining-more, combining-all     before the first turn; one turn; after the last, the states that pass op
 --   with-bit, with-past        the union with one state
 use Prim.Native.Nat.{ℕ, zero, suc, _+_, _-_, _*_, _/_, _%_, _^_, min, _≤_, _<_}
 use native.Mathlib.Nat.{pow-suc, zero-min}
@@ -141,15 +142,33 @@ and-not-wise =
 abbrev pub both : (Bool → Bool → Bool) → Set → Set → ℕ → Bool
 both op X Y s = op (member X s) (member Y s)
 
-module _ {f : ℕ → ℕ → ℕ} {op : Bool → Bool → Bool} (wise : Wordwise f op) (X Y : Set) (x : Proper X) (y : Proper Y) (w : ℕ) (h : w < WORDS) where
-  pub wordwise-word : f (getD X w 0) (getD Y w 0) ≡ getD (setOf (both op X Y)) w 0
-  wordwise-word =
-      word-is (both op X Y) w h (f (getD X w 0) (getD Y w 0)) (wise .fits _ _ (x .fits w h) (y .fits w h))
-      (λ i l. wise .bits _ _ i (y .fits w h) l ∙ ap₂ op (sym (member-at X w i h l)) (sym (member-at Y w i h l)))
+pub record Combining (op : Bool → Bool → Bool) (X Y : Set) (w : ℕ) (xs : Set) : Type 0 where
+  pub left : Proper X
+  pub right : Proper Y
+  pub filling : Filling (setOf (both op X Y)) X w xs
 
-  pub wordwise-more : (xs : Set) → Filling (setOf (both op X Y)) X w xs → Filling (setOf (both op X Y)) X (w + 1) (set xs w (f (getD xs w 0) (getD Y w 0)))
-  wordwise-more xs so =
-      filling-more _ X w xs so _ h (ap (λ (z : ℕ). f z (getD Y w 0)) (filling-at _ X w xs so h) ∙ wordwise-word)
+pub combining-none : (op : Bool → Bool → Bool) (X Y : Set) → Proper X → Proper Y → Combining op X Y 0 X
+combining-none op X Y x y = record { left = x; right = y; filling = filling-none _ X (setOf-proper _ .long) (x .long) }
+
+wordwise-word : {f : ℕ → ℕ → ℕ} {op : Bool → Bool → Bool} → Wordwise f op → (X Y : Set) → Proper X → Proper Y → (w : ℕ) → w < WORDS
+    → f (getD X w 0) (getD Y w 0) ≡ getD (setOf (both op X Y)) w 0
+wordwise-word {f} {op} wise X Y x y w h =
+    word-is (both op X Y) w h (f (getD X w 0) (getD Y w 0)) (wise .fits _ _ (x .fits w h) (y .fits w h))
+    (λ i l. wise .bits _ _ i (y .fits w h) l ∙ ap₂ op (sym (member-at X w i h l)) (sym (member-at Y w i h l)))
+
+pub combining-more : {f : ℕ → ℕ → ℕ} {op : Bool → Bool → Bool} → Wordwise f op → {X Y : Set} {w : ℕ} {xs : Set} → Combining op X Y w xs → w < WORDS
+    → Combining op X Y (w + 1) (set xs w (f (getD xs w 0) (getD Y w 0)))
+combining-more {f} {op} wise {X} {Y} {w} {xs} so h =
+    record {
+      left = so .left;
+      right = so .right;
+      filling =
+          filling-more _ X w xs (so .filling) _ h
+          (ap (λ (z : ℕ). f z (getD Y w 0)) (filling-at _ X w xs (so .filling) h) ∙ wordwise-word wise X Y (so .left) (so .right) w h);
+    }
+
+pub combining-all : {op : Bool → Bool → Bool} {X Y : Set} {w : ℕ} {xs : Set} → Combining op X Y w xs → WORDS ≤ w → xs ≡ setOf (both op X Y)
+combining-all {op} {X} {Y} {w} {xs} so h = filling-all _ X w xs (so .filling) h
 
 -- ---- one state more
 

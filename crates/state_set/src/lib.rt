@@ -1,14 +1,16 @@
-// Sets of states (01, "States and sets"): four 64-bit words, in by value and back by value. State s is the bit of value 2^(s mod 64) in word s/64.
+// Sets of states (docs/SPECIFICATION.md, "Tables and sets"): 64-bit words, in by value and back by value. State s is the bit of value
+// 2^(s mod 64) in word s/64.
 //
-//   empty, first_states, with                       no state; the states below a number; one state more
+//   empty, single, first_states                     no state; one; the states below a number
 //   contains, is_subset, meets, is_empty, equals    tests
 //   union, meet, difference                         word by word
-//   count, smallest                                 the number of states; the least of them
+//   with, without                                   one state more; one fewer
+//   count                                           the number of states
 //
 // Each contract is an equality with the model's definition of the same thing.
 ghost use mathlib.Core.Path.{_≡_};
 ghost use Prim.Native.Nat.{min, _-_, _^_};
-ghost use Rattle.model.specs.Sets.{member, empty, single, union, meet, difference, subset, same, meets, firstStates, size, smallest};
+ghost use Rattle.model.specs.Sets.{member, empty, single, union, meet, difference, subset, same, meets, firstStates, size};
 
 // The model's WORDS is the same number.
 pub const WORDS: usize = 4;
@@ -149,18 +151,5 @@ impl StateSet {
             states += u64::count_ones(self.words[w]) as usize;
         }
         states
-    }
-
-    // The least state, or the number of states that a set can hold where it has none.
-    pub fn smallest(self) -> usize
-        ensures { λ r. ⌜ r ≡ smallest (self .words) ⌝ }
-    {
-        for w in 0..WORDS {
-            let x = self.words[w];
-            if x != 0 {
-                return 64 * w + u64::trailing_zeros(x) as usize;
-            }
-        }
-        64 * WORDS
     }
 }

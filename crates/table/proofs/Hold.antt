@@ -1,23 +1,18 @@
 -- The states of a set that pass a test, and those that are in hold.
 --
 --   passed, image-passed            the states of a set that pass a test, as an image; passed-take, passed-skip: one more state of it
---   held, kept-is                   `keep_word`: what is kept of a set, as an image
---   kept-start, kept-word, kept-all             `kept`: what is kept of the words passed
-use Prim.Native.Nat.{ℕ, _+_, _≤_, _<_}
-use mathlib.Core.Path.{_≡_, sym, ap, _∙_, subst}
+--   held, meetHold-is               the states of a set that are in hold, as an image
+use Prim.Native.Nat.{ℕ}
+use mathlib.Core.Path.{_≡_, sym, _∙_, subst}
 use mathlib.Core.Bool.{Bool, true, false, cond, _&&_}
 use mathlib.Core.List.{List}
-use lib.ListN.{getD}
-use Rattle.model.specs.Sets.{WORDS, maxStates, Set, member, setOf, empty, single, union, subset, image}
+use Rattle.model.specs.Sets.{maxStates, Set, member, setOf, empty, single, union, subset, image}
 use Rattle.model.specs.Stores.{rowAt, setAt}
-use Rattle.state_set.specs.WordSets.{wordSet, wordsBelow}
 use Rattle.model.proofs.Bounds.{and-true, and-intro, by-cond}
 use Rattle.model.proofs.SetLaws.{Proper, setOf-proper, In, in-bound, in-setOf, setOf-in, empty-in, in-single, single-in, same-set, in-image, image-in}
 use Rattle.model.proofs.CoverLaws.{image-proper}
 use Rattle.model.proofs.ImageLaws.{union-empty}
-use Rattle.state_set.proofs.WordSets.{words-all}
-use Rattle.table.specs.Rows.{keptBy}
-use Rattle.table.proofs.Laws.{join-start, join-word}
+use Rattle.table.specs.Rows.{meetHold}
 
 -- what a state gives to the states that pass p: itself, or nothing
 unfoldable pub passed : (ℕ → Bool) → ℕ → Set
@@ -50,20 +45,10 @@ module _ (p : ℕ → Bool) (out : Set) {out′ : Set} (x : ℕ) where
   passed-skip proper e q = rw e (q ∙ sym (union-empty out proper))
 
 module _ (store : List ℕ) (Y : Set) where
-  -- what a state gives to `keptBy`
+  -- what a state gives to `meetHold`
   abbrev pub held : ℕ → Set
   held = passed (λ s. subset (setAt store (rowAt s)) Y)
 
-  pub kept-is : (X : Set) → image maxStates held X ≡ keptBy store X Y
-  unfolding keptBy
-  kept-is X = image-passed _ X
-
-  pub kept-start : (X : Set) → keptBy store (wordsBelow 0 X) Y ≡ empty
-  kept-start X = sym (kept-is _) ∙ join-start held X
-
-  pub kept-word : (X : Set) {out out′ : Set} (w : ℕ) → w < WORDS → out ≡ keptBy store (wordsBelow w X) Y
-      → out′ ≡ union out (keptBy store (wordSet w (getD X w 0)) Y) → out′ ≡ keptBy store (wordsBelow (w + 1) X) Y
-  kept-word X w h e q = join-word held X w h (e ∙ sym (kept-is _)) (q ∙ ap (union _) (sym (kept-is _))) ∙ kept-is _
-
-  pub kept-all : (X : Set) (w : ℕ) → Proper X → WORDS ≤ w → keptBy store (wordsBelow w X) Y ≡ keptBy store X Y
-  kept-all X w p h = ap (λ (Z : Set). keptBy store Z Y) (words-all w X p h)
+  pub meetHold-is : (X : Set) → image maxStates held X ≡ meetHold store X Y
+  unfolding meetHold
+  meetHold-is X = image-passed _ X

@@ -4,26 +4,23 @@
 --   beyond-is                   a set has a state from n up exactly if it is not inside the first n states
 --   non-zero-start, -pass, -hit, -end   a loop that looks for a word other than 0
 --   malformed-initial, .., malformed-last   the tests of ground 17, one after the other
---   join-start, join-word, join-all   a loop that joins an image word by word
-use Prim.Native.Nat.{ℕ, zero, suc, _+_, _-_, min, _≤_, _<_}
+--   refuse-10, .., refuse-17, refuse-none   the grounds that the calls share, in their order
+use Prim.Native.Nat.{ℕ, _+_, _≤_, _<_}
 use native.Mathlib.Nat.{le-antisymm}
 use native.Mathlib.Omega.{arith}
 use mathlib.Core.Path.{_≡_, refl, sym, ap, _∙_, subst}
-use mathlib.Core.Logic.{inl, inr, ⊎-elim}
+use mathlib.Core.Logic.{⊎-elim}
 use mathlib.Core.Bool.{Bool, true, false, not, _&&_, _||_}
-use mathlib.Core.List.{List, []}
-use borrow.Author.Count.{below-more, below-none}
-use borrow.Author.Tests.{le-leb, leb-true, eqb-true, eq-eqb, ne-eqb, lt-leb}
+use mathlib.Core.List.{List}
+use borrow.Author.Count.{below-more}
+use borrow.Author.Tests.{lt-ltb, le-ltb, le-leb, leb-true, eq-eqb, ne-eqb, lt-leb}
 use lib.Dec.{eqb, leb}
 use lib.ListN.{length, getD, set, take, drop, length-set, length-take, length-drop}
 use lib.Seq.{ext-getD, getD-take, getD-drop, getD-set-same, getD-set-other}
-use Rattle.model.specs.Sets.{WORDS, maxStates, Set, member, subset, firstStates, any, empty, union, image}
-use Rattle.model.specs.Stores.{maxGroups, forbiddenAt, groupAt, rowAt, storeWords, setAt, beyond, nonZero, malformed}
-use Rattle.state_set.specs.WordSets.{wordSet, wordsBelow}
-use Rattle.state_set.proofs.WordSets.{words-none, words-more, words-all}
-use Rattle.model.proofs.ImageLaws.{image-none, image-union}
-use Rattle.model.proofs.Bounds.{and-true, and-intro, or-intro, is-false, clash, same-test, lt-or-ge, any-intro, any-find, any-turn, no-any, not-true}
-use Rattle.model.proofs.SetLaws.{In, in-bound, in-firstStates, firstStates-in, _⊆_, subset-in, subset-not, in-subset, Proper}
+use Rattle.model.specs.Sets.{WORDS, maxStates, Set, member, subset, firstStates, any}
+use Rattle.model.specs.Stores.{maxGroups, forbiddenAt, groupAt, rowAt, storeWords, setAt, beyond, nonZero, malformed, badStates, refuse, sharedGrounds}
+use Rattle.model.proofs.Bounds.{and-true, and-intro, is-false, same-test, lt-or-ge, any-intro, any-find, any-turn, no-any, not-true}
+use Rattle.model.proofs.SetLaws.{In, in-bound, in-firstStates, firstStates-in, subset-in, subset-not}
 
 -- ---- a set copied out of the store
 
@@ -140,18 +137,33 @@ module _ (store : List ℕ) (n g : ℕ) where
   unfolding malformed
   malformed-last a b c d e = rw (a, b, c, d, e)
 
--- ---- an image joined word by word
+-- ---- the grounds that the calls share, in their order
 
-module _ (f : ℕ → Set) (X : Set) where
-  pub join-start : image maxStates f (wordsBelow 0 X) ≡ empty
-  join-start = ap (image maxStates f) (words-none X) ∙ image-none maxStates f empty (in-subset (λ s h. h))
+module _ (store : List ℕ) (n g : ℕ) where
+  pub refuse-10 : length store < storeWords → 10 ≡ refuse (sharedGrounds store n g)
+  unfolding refuse
+  refuse-10 l = rw (lt-ltb (length store) storeWords l)
 
-  pub join-word : {found found′ : Set} (w : ℕ) → w < WORDS → found ≡ image maxStates f (wordsBelow w X)
-      → found′ ≡ union found (image maxStates f (wordSet w (getD X w 0))) → found′ ≡ image maxStates f (wordsBelow (w + 1) X)
-  join-word w h e q =
-      q
-      ∙ ap (λ (Y : Set). union Y (image maxStates f (wordSet w (getD X w 0)))) e
-      ∙ sym (ap (image maxStates f) (words-more w X h) ∙ image-union maxStates f (wordsBelow w X) (wordSet w (getD X w 0)))
+  module _ (long : storeWords ≤ length store) where
+    pub refuse-14-none : n ≡ 0 → 14 ≡ refuse (sharedGrounds store n g)
+    unfolding refuse badStates
+    refuse-14-none z = rw (le-ltb (length store) storeWords long, eq-eqb n 0 z)
 
-  pub join-all : (w : ℕ) → Proper X → WORDS ≤ w → image maxStates f (wordsBelow w X) ≡ image maxStates f X
-  join-all w p h = ap (image maxStates f) (words-all w X p h)
+    module _ (some : n ≡ 0 → ⊥) where
+      pub refuse-14-many : maxStates < n → 14 ≡ refuse (sharedGrounds store n g)
+      unfolding refuse badStates
+      refuse-14-many l = rw (le-ltb (length store) storeWords long, ne-eqb n 0 some, lt-ltb maxStates n l)
+
+      module _ (few : n ≤ maxStates) where
+        pub refuse-15 : maxGroups < g → 15 ≡ refuse (sharedGrounds store n g)
+        unfolding refuse badStates
+        refuse-15 l = rw (le-ltb (length store) storeWords long, ne-eqb n 0 some, le-ltb maxStates n few, lt-ltb maxGroups g l)
+
+        module _ (groups : g ≤ maxGroups) where
+          pub refuse-17 : malformed store n g ≡ true → 17 ≡ refuse (sharedGrounds store n g)
+          unfolding refuse badStates
+          refuse-17 e = rw (le-ltb (length store) storeWords long, ne-eqb n 0 some, le-ltb maxStates n few, le-ltb maxGroups g groups, e)
+
+          pub refuse-none : malformed store n g ≡ false → 0 ≡ refuse (sharedGrounds store n g)
+          unfolding refuse badStates
+          refuse-none e = rw (le-ltb (length store) storeWords long, ne-eqb n 0 some, le-ltb maxStates n few, le-ltb maxGroups g groups, e)

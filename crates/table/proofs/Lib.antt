@@ -1,3 +1,4 @@
 pub mod Laws
 pub mod MapAt
+pub mod Joins
 pub mod Hold

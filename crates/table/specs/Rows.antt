@@ -1,7 +1,7 @@
 -- Post and hold over the words of a store, and changes at the states of a set.
 --
 --   successorsBy store X     the successors of the states of X
---   keptBy store X Y         the states of X whose every successor is in Y: X meet hold(Y)
+--   meetHold store X Y         the states of X whose every successor is in Y: X meet hold(Y)
 --   mapAt X f z xs           xs with f applied to each element at a state of X (z stands for an element past the end, and is never read)
 use Prim.Native.Nat.{ℕ}
 use mathlib.Core.Bool.{cond, _&&_}
@@ -13,8 +13,8 @@ use Rattle.model.specs.Stores.{rowAt, setAt}
 unfoldable pub successorsBy : List ℕ → Set → Set
 successorsBy store X = image maxStates (λ s. setAt store (rowAt s)) X
 
-unfoldable pub keptBy : List ℕ → Set → Set → Set
-keptBy store X Y = setOf (λ s. member X s && subset (setAt store (rowAt s)) Y)
+unfoldable pub meetHold : List ℕ → Set → Set → Set
+meetHold store X Y = setOf (λ s. member X s && subset (setAt store (rowAt s)) Y)
 
 unfoldable pub mapAt : {A : Type 0} → Set → (A → A) → A → List A → List A
 mapAt X f z xs = tabulate (length xs) (λ s. let x = getD xs s z in cond (member X s) (f x) x)

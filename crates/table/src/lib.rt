@@ -2,7 +2,7 @@
 //
 //   set_at, group_at, row_at     a set of the store
 //   successors                   post: all successors of the states of a set
-//   kept                         x meet hold(y): the states of a set whose every successor is in another
+//   meet_hold                    x meet hold(y): the states of a set whose every successor is in another
 //   Rows, row_of, union_of       a row of words for each state, the set in one row, the union of the rows of a set's states
 //   refusal                      the first of the grounds 10, 14, 15 and 17 that holds, or 0
 //
@@ -14,7 +14,7 @@ ghost use mathlib.Core.List.{[]};
 ghost use Rattle.model.specs.Sets.{WORDS, maxStates, any, union, subset, image};
 ghost use Rattle.state_set.specs.WordSets.{wordSet};
 ghost use Rattle.model.specs.Stores.{storeWords, maxGroups, groupAt, rowAt, setAt, beyond, nonZero, malformed, refuse, sharedGrounds};
-ghost use Rattle.table.specs.Rows.{successorsBy, keptBy};
+ghost use Rattle.table.specs.Rows.{successorsBy, meetHold};
 use state_set::StateSet;
 use state_set::WORDS;
 
@@ -84,8 +84,8 @@ pub fn successors(store: &[u64], x: StateSet) -> StateSet
     found
 }
 
-// s is in hold(y): its every successor is in y.
-fn is_held(store: &[u64], s: usize, y: StateSet) -> bool
+// Every successor of s is in y.
+fn row_inside(store: &[u64], s: usize, y: StateSet) -> bool
     requires { ⌜ (s < maxStates) × (storeWords ≤ length (now store)) ⌝ }
     ensures { λ b. ⌜ b ≡ subset (setAt (now (store .entry)) (rowAt s)) (y .words) ⌝ }
 {
@@ -93,32 +93,32 @@ fn is_held(store: &[u64], s: usize, y: StateSet) -> bool
 }
 
 // The states that `bits` has in word w and that are in hold(y), joined to `found`.
-fn keep_word(store: &[u64], w: usize, bits: u64, y: StateSet, found: StateSet) -> StateSet
+fn join_hold(store: &[u64], w: usize, bits: u64, y: StateSet, found: StateSet) -> StateSet
     requires { ⌜ (w < WORDS) × (storeWords ≤ length (now store)) ⌝ }
-    ensures { λ r. ⌜ r .words ≡ union (found .words) (keptBy (now (store .entry)) (wordSet w bits) (y .words)) ⌝ }
+    ensures { λ r. ⌜ r .words ≡ union (found .words) (meetHold (now (store .entry)) (wordSet w bits) (y .words)) ⌝ }
 {
-    let mut kept = found;
+    let mut joined = found;
     let mut rest = bits;
     while rest != 0 {
         let s = 64 * w + u64::trailing_zeros(rest) as usize;
-        if is_held(store, s, y) {
-            kept = kept.with(s);
+        if row_inside(store, s, y) {
+            joined = joined.with(s);
         }
         rest &= rest - 1;
     }
-    kept
+    joined
 }
 
 // x meet hold(y)
-pub fn kept(store: &[u64], x: StateSet, y: StateSet) -> StateSet
+pub fn meet_hold(store: &[u64], x: StateSet, y: StateSet) -> StateSet
     requires { ⌜ storeWords ≤ length (now store) ⌝ }
-    ensures { λ r. ⌜ r .words ≡ keptBy (now (store .entry)) (x .words) (y .words) ⌝ }
+    ensures { λ r. ⌜ r .words ≡ meetHold (now (store .entry)) (x .words) (y .words) ⌝ }
 {
-    let mut kept = StateSet::empty();
+    let mut found = StateSet::empty();
     for w in 0..WORDS {
-        kept = keep_word(store, w, x.words[w], y, kept);
+        found = join_hold(store, w, x.words[w], y, found);
     }
-    kept
+    found
 }
 
 // One row of words for each state.

@@ -1,6 +1,7 @@
 // Generated tables, numbered from 0 on. tests/expected.py makes them anew from this comment.
 //
 // noise(x) is y xor y / 65536, where y = (1664525 x + 1013904223) modulo 2^32, and draw(t, p) is noise of noise of noise of 8192 t + p.
+// A number is taken modulo 2^32 here only to be seen to fit: noise takes it so itself.
 // Table t, where d(p) is `draw(t, p)`:
 //   states              n = 1 + d(0) % 40, or 1 + d(0) % 256 if 37 divides t
 //   groups              d(1) % 5
@@ -11,9 +12,12 @@
 //                       otherwise, for longer paths, (s + d % 6) % n
 //     in group j        if d(p + 4 + j) is even
 //
-// The largest table has 256 states and 64 groups, and each word of its store is drawn: word i is 2^32 draw(0, 2 i) + draw(0, 2 i + 1).
+// The largest table has as many states and groups as a store holds, and each word of its store is drawn: word i is 2^32 draw(0, 2 i) +
+// draw(0, 2 i + 1).
+ghost use Prim.Native.Nat.{_+_, _*_, _≤_};
 use crate::add;
 use crate::group;
+use crate::left_out;
 use crate::step;
 use table::FORBIDDEN_AT;
 use table::STORE_WORDS;
@@ -26,7 +30,7 @@ pub fn noise(x: usize) -> usize {
 
 // The number at a place of table t.
 fn draw(t: usize, place: usize) -> usize {
-    noise(noise(noise(t % 65536 * 8192 + place % 8192)))
+    noise(noise(noise(t % 4294967296 * 8192 + place % 4294967296)))
 }
 
 fn draw_state(t: usize, place: usize, n: usize) -> usize {
@@ -46,6 +50,13 @@ pub fn states_of(t: usize) -> usize {
 
 pub fn groups_of(t: usize) -> usize {
     draw(t, 1) % 5
+}
+
+// Where the draws of state s begin.
+fn place_of(s: usize) -> usize
+    ensures { λ r. ⌜ r ≤ 16 + 16 * 4294967295 ⌝ }
+{
+    16 + 16 * (s % 4294967296)
 }
 
 // None at times, otherwise one or two.
@@ -81,7 +92,7 @@ fn successor(t: usize, p: usize, n: usize, s: usize) -> usize {
     if t % 2 == 0 {
         return draw(t, p) % n;
     }
-    (s % 256 + draw(t, p) % 6) % n
+    (s % 4294967296 + draw(t, p) % 6) % n
 }
 
 fn step_if(wanted: bool, store: &mut [u64], a: usize, b: usize) {
@@ -99,7 +110,7 @@ fn group_if(wanted: bool, store: &mut [u64], j: usize, g: usize, s: usize) {
 }
 
 fn put_successors(store: &mut [u64], t: usize, n: usize, s: usize) {
-    let p = 16 + 16 * (s % 256);
+    let p = place_of(s);
     let count = fan_out(t, p);
     step_if(0 < count, store, s, successor(t, p + 1, n, s));
     step_if(1 < count, store, s, successor(t, p + 2, n, s));
@@ -107,7 +118,7 @@ fn put_successors(store: &mut [u64], t: usize, n: usize, s: usize) {
 }
 
 fn put_in_groups(store: &mut [u64], t: usize, g: usize, s: usize) {
-    let p = 16 + 16 * (s % 256);
+    let p = place_of(s);
     group_if(draw(t, p + 4) % 2 == 0, store, 0, g, s);
     group_if(draw(t, p + 5) % 2 == 0, store, 1, g, s);
     group_if(draw(t, p + 6) % 2 == 0, store, 2, g, s);
@@ -133,9 +144,11 @@ pub fn generate(store: &mut [u64], t: usize) {
 
 fn put_word(store: &mut [u64], i: usize) {
     if i < store.len() {
-        let p = 2 * (i % 4096);
+        let p = 2 * (i % 4294967296);
         let high = draw(0, p) % 4294967296;
         store[i] = (high * 4294967296 + draw(0, p + 1) % 4294967296) as u64;
+    } else {
+        left_out();
     }
 }
 

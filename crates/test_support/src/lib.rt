@@ -3,7 +3,7 @@
 //   add, step, initial, forbidden, group      a state put into a set of a store
 //   put_table                                 a small table put into a store, given by the digits of its states
 //   generate, states_of, groups_of            a generated table, its n and its g (generated.rt)
-//   generate_largest                          one of 256 states and 64 groups
+//   generate_largest                          one with as many states and groups as a store holds
 //   text, number, labelled, line              printed on standard output
 //   states, bytes                             a set's states, or the first bytes of a buffer, printed after spaces
 //   wide, byte_at, put_byte                   a byte as a number; one byte of a buffer, read and written
@@ -11,7 +11,7 @@
 //   print_unchanged                           such an answer, which ends a line
 //   digest, digest_bytes, digest_words        a number that stands for what was taken into it, so that one number tells all of it
 //
-// Each function asks for nothing: what does not fit is left out, so that the programs need hardly any proofs of their own.
+// Each function asks for nothing, so that the programs need hardly any proofs of their own. What does not fit is left out, and said.
 mod generated;
 
 ghost use Prim.Native.Nat.{_<_};
@@ -22,22 +22,40 @@ use generated::noise;
 pub use generated::states_of;
 use libc::STDOUT_FILENO;
 use state_set::StateSet;
+use state_set::WORDS;
 use table::FORBIDDEN_AT;
 use table::GROUPS_AT;
+use table::MAX_GROUPS;
+use table::MAX_STATES;
 use table::ROWS_AT;
+
+// ---- what does not fit
+
+// Said among what the program prints, where no expected output has it: nothing is left out silently.
+fn left_out() {
+    text(b"\nLEFT OUT\n");
+}
 
 // ---- tables
 
+// Bit i of the word `at` set.
+fn put_bit(store: &mut [u64], at: usize, i: usize) {
+    if at < store.len() {
+        store[at] |= 1 << (i % 64);
+    } else {
+        left_out();
+    }
+}
+
 // State s put into the set that begins at `at`.
 pub fn add(store: &mut [u64], at: usize, s: usize) {
-    if s < 256 {
-        if at < 4096 {
-            let i = at + s / 64;
-            if i < store.len() {
-                store[i] |= 1 << (s % 64);
-            }
+    if s < MAX_STATES {
+        if at < store.len() {
+            put_bit(store, at + s / 64, s % 64);
+            return;
         }
     }
+    left_out();
 }
 
 pub fn initial(store: &mut [u64], s: usize) {
@@ -49,14 +67,18 @@ pub fn forbidden(store: &mut [u64], s: usize) {
 }
 
 pub fn group(store: &mut [u64], j: usize, s: usize) {
-    if j < 256 {
-        add(store, GROUPS_AT + 4 * j, s);
+    if j < MAX_GROUPS {
+        add(store, GROUPS_AT + WORDS * j, s);
+    } else {
+        left_out();
     }
 }
 
 pub fn step(store: &mut [u64], a: usize, b: usize) {
-    if a < 256 {
-        add(store, ROWS_AT + 4 * a, b);
+    if a < MAX_STATES {
+        add(store, ROWS_AT + WORDS * a, b);
+    } else {
+        left_out();
     }
 }
 
@@ -64,7 +86,7 @@ pub fn step(store: &mut [u64], a: usize, b: usize) {
 fn digit(digits: &[u8], i: usize) -> usize {
     let b = byte_at(digits, i);
     if b < 48 {
-        return 256;
+        return MAX_STATES;
     }
     b - 48
 }
@@ -75,17 +97,12 @@ fn put_set(store: &mut [u64], at: usize, digits: &[u8]) {
     }
 }
 
-fn put_step(store: &mut [u64], pairs: &[u8], i: usize) {
-    if i < pairs.len() {
-        if i % 3 == 0 {
-            step(store, digit(pairs, i), digit(pairs, i + 1));
-        }
-    }
-}
-
+// A pair begins at each third place.
 fn put_steps(store: &mut [u64], pairs: &[u8]) {
-    for i in 0..pairs.len() {
-        put_step(store, pairs, i);
+    let mut i = 0;
+    while i < pairs.len() {
+        step(store, digit(pairs, i), digit(pairs, i + 1));
+        i += 3;
     }
 }
 
@@ -116,24 +133,28 @@ pub fn line() {
     text(b"\n");
 }
 
-// A number after a space, if it is wanted.
-fn spaced(wanted: bool, x: usize) {
+// A number after a space.
+fn spaced(x: usize) {
+    labelled(b" ", x);
+}
+
+fn spaced_if(wanted: bool, x: usize) {
     if wanted {
-        labelled(b" ", x);
+        spaced(x);
     }
 }
 
 // The states of a set, each after a space.
 pub fn states(x: StateSet) {
-    for s in 0..256 {
-        spaced(x.contains(s), s);
+    for s in 0..MAX_STATES {
+        spaced_if(x.contains(s), s);
     }
 }
 
 // The first `count` bytes, each after a space.
 pub fn bytes(buffer: &[u8], count: usize) {
     for i in 0..count {
-        spaced(i < buffer.len(), byte_at(buffer, i));
+        spaced(byte_at(buffer, i));
     }
 }
 
@@ -151,12 +172,15 @@ pub fn byte_at(buffer: &[u8], i: usize) -> usize
     if i < buffer.len() {
         return wide(buffer[i]);
     }
+    left_out();
     0
 }
 
 pub fn put_byte(buffer: &mut [u8], i: usize, value: u8) {
     if i < buffer.len() {
         buffer[i] = value;
+    } else {
+        left_out();
     }
 }
 
@@ -214,6 +238,7 @@ fn digest_word(d: usize, buffer: &[u64], i: usize) -> usize {
         let lower = digest(d, (word % 4294967296) as usize);
         return digest(lower, (word / 4294967296) as usize);
     }
+    left_out();
     d
 }
 

@@ -9,10 +9,11 @@ use Rattle.model.specs.Tables.{post, hold, coverOf, cover, notForbidden}
 use Rattle.model.specs.Rounds.{iterate, forwardStep, forward, backwardStep, backward, roundOf, firstRound, nextRound, isSafe, isUnsafe, settle, rounds, run, eliminationStep, eliminated, backwardNumber}
 use Rattle.model.specs.Paths.{reaching, shortest, walk, smallestPath}
 use Rattle.model.specs.Stores.{setAt, tableOf, concat, layout, refuse, beyond, nonZero, badStates}
-use Rattle.model.specs.Files.{setBytes, sets, contents, weighted, checkOf, blockOf}
+use Rattle.model.specs.Blocks.{weighted, checkOf, blockOf}
+use Rattle.model.specs.Contents.{setBytes, sets, contents}
 use Rattle.model.specs.Calls.{release, decisionOf}
 use Rattle.worked_tables.specs.Tables.{A, B, D, E, F, G}
-use Rattle.worked_tables.specs.Worked.{LineA, LineB, LineC, LineD, LineE, LineF, LineG, LineH, Worked}
+use Rattle.worked_tables.specs.Worked.{LineA, LineB, LineC, LineD, LineE, LineF, LineG, Worked}
 use Rattle.worked_tables.proofs.Decides.{zeros, fits, decides}
 
 computes : Type 0

@@ -1,4 +1,4 @@
--- Tables A to G (01, "Small tables"), written as 01 writes them. C is B, and H says of a table only its n and g.
+-- Tables A to G (the specification, "Worked tables"), written as it writes them. C is B, and H says of a table only its n and g.
 --
 --   wordOf states                              the word whose bits are these states, each below 64 and named once
 --   set states                                 the set of these states

@@ -1,4 +1,4 @@
--- What 01 says of the small tables A to H, as one fact about the definitions that the calls' contracts cite.
+-- What the specification says of the worked tables A to H, as one fact about the definitions that the calls' contracts cite.
 --
 --   stored t                              the table that the store of t holds, which is what the calls speak of
 --   Decides t allowance answer states     decide, lent the store of t and any path buffer of at least 256 bytes, answers so, leaves these
@@ -6,7 +6,7 @@
 --   Safe t allowance count invariant      safe, with the states of the invariant
 --   Unsafe t allowance count path         unsafe, with the path
 --   Undecided t allowance count           undecided
---   LineA, .., LineH                      01's lines, with every figure that they give
+--   LineA, .., LineH                      the specification's lines, with every figure that they give
 --   Worked                                all eight
 use Prim.Native.Nat.{ℕ, _-_, _*_, _≤_}
 use mathlib.Core.Path.{_≡_}
@@ -16,7 +16,8 @@ use Rattle.model.specs.Sets.{maxStates}
 use Rattle.model.specs.Tables.{Table}
 use Rattle.model.specs.Rounds.{backwardNumber}
 use Rattle.model.specs.Stores.{tableOf, layout}
-use Rattle.model.specs.Files.{contents, contentLength, blocksFor, checkOf, blockOf}
+use Rattle.model.specs.Blocks.{blocksFor, checkOf, blockOf}
+use Rattle.model.specs.Contents.{contents, contentLength}
 use Rattle.model.specs.Calls.{release, overwrite, Decision, decideAnswer, decideBuffer}
 use Rattle.worked_tables.specs.Tables.{set, A, B, D, E, F, G}
 

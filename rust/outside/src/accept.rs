@@ -1,4 +1,4 @@
-//! The refusals of decide, shortest path and write, in document 01's order, and of read's store.
+//! The refusals of decide, shortest path and write, in the specification's order (Refusals), and of read's store.
 
 use crate::blocks::{BLOCK, CONTENT, contents_length};
 use crate::table::{MAX_GROUPS, MAX_STATES, STORE_WORDS};

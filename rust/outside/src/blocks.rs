@@ -1,4 +1,4 @@
-//! Block files, written from document 01's section "Blocks": a table to bytes, and bytes to a table or
+//! Block files, written from the specification's section Files: a table to bytes, and bytes to a table or
 //! to the number of a refusal.
 
 use crate::table::{MAX_GROUPS, MAX_STATES, Set, Table, set_where};

@@ -490,9 +490,9 @@ pub fn random_file(libraries: &[&dyn Calls], random: &mut Random, tally: &mut Ta
     Ok(())
 }
 
-// ---- The tables of document 01, and its edges
+// ---- The specification's tables, and its edges
 
-/// A to H and the ninth table, with the figures of the texts, and the edges that 01 names.
+/// A to H and the ninth table, with the figures of the texts, and the edges that the specification names.
 pub fn named_tables(libraries: &[&dyn Calls], random: &mut Random, tally: &mut Tally) -> Outcome {
     for named in named::decided() {
         let fault = |fault: String| format!("table {}: {fault}", named.name);
@@ -519,7 +519,7 @@ pub fn named_tables(libraries: &[&dyn Calls], random: &mut Random, tally: &mut T
     edges(libraries, random, tally)
 }
 
-/// The figures of 01 about files: E's bytes and check, H's lengths.
+/// The specification's figures about files: E's bytes and check, H's lengths.
 fn named_files(libraries: &[&dyn Calls], random: &mut Random, tally: &mut Tally) -> Outcome {
     let mut e_file = [0; BLOCK];
     e_file[..named::E_FRONT.len()].copy_from_slice(&named::E_FRONT);

@@ -1,10 +1,10 @@
-//! Implementations of document 01 (the specification, which is not in this repository) that share
+//! Implementations of the specification (docs/SPECIFICATION.md) that share
 //! nothing with the proved library, to test it from outside and to measure it against.
 //!
 //! The tests hold a library (`calls`) to what `expected` says. That rests on plain implementations,
-//! each written from 01's text and without use of the others:
+//! each written from the specification's text and without use of the others:
 //!
-//! - `rounds`: the rounds and backward elimination, as 01 writes them, on lists of booleans;
+//! - `rounds`: the rounds and backward elimination, as the specification writes them, on lists of booleans;
 //! - `search`: a depth-first search for the verdict, a breadth-first one for the smallest path, and
 //!   all sequences of states in order, for small tables;
 //! - `blocks`: block files, to and from bytes;
@@ -15,11 +15,13 @@
 //!
 //! `windows` is the call next open minute by itself: what is expected of it, and its tests.
 //!
-//! `table` is what all of them speak of, `named` the tables of 01 with its figures typed in,
+//! `table` is what all of them speak of, `named` the specification's tables with their figures typed in,
 //! `generate` makes tables at random, `families` those to measure on, `damage` files that earn refusals,
-//! `buffer` lent buffers with guards, and `examine` is the tests.
+//! `buffer` lent buffers with guards, and `examine` is the tests; `block_check` are those of damaged
+//! blocks, `regroup` those of groups put another way.
 
 pub mod accept;
+pub mod block_check;
 pub mod blocks;
 pub mod buffer;
 pub mod calls;
@@ -30,6 +32,7 @@ pub mod families;
 pub mod generate;
 pub mod named;
 pub mod peer;
+pub mod regroup;
 pub mod rounds;
 pub mod search;
 pub mod table;

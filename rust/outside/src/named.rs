@@ -1,5 +1,5 @@
-//! The tables A to H of document 01 and the ninth table of the design, with their figures typed from
-//! those texts.
+//! The tables A to H and the ninth of docs/SPECIFICATION.md (Worked tables), with their figures typed from
+//! that text.
 
 use crate::calls::{Decision, SAFE, UNDECIDED, UNSAFE};
 use crate::table::Table;

@@ -1,7 +1,7 @@
 //! An optimised implementation of the four calls, on sets of four words, with nothing allocated: what
 //! the library is measured against. It uses nothing else of this package but the answers' types.
 //!
-//! The rounds are those of document 01. Their fixpoints are worked out in one of two ways:
+//! The rounds are the specification's. Their fixpoints are worked out in one of two ways:
 //! - `Looks::Whole` repeats the step on the whole set until nothing changes;
 //! - `Looks::New` looks again only at what can have changed.
 

@@ -1,4 +1,4 @@
-//! The rounds and backward elimination, word for word from document 01, on lists of booleans.
+//! The rounds and backward elimination, word for word from the specification (Rounds), on lists of booleans.
 //!
 //! Nothing is clever here: each cover is worked out anew from the whole list in each round, and the
 //! fixpoints are steps repeated until nothing changes.
@@ -126,7 +126,7 @@ pub fn backward_number(table: &Table) -> usize {
     }
 }
 
-/// Whether a set is what 01 calls an invariant of a safe table: it has the initial states, the
+/// Whether a set is what the specification calls an invariant of a safe table: it has the initial states, the
 /// successors of each of its states, and no forbidden state.
 pub fn is_invariant(table: &Table, x: &Set) -> bool {
     inside(&table.initial, x)
@@ -178,7 +178,7 @@ fn union_at(sets: &[Set], x: &Set) -> Set {
         .fold(empty(x.len()), |all, s| union(all, &sets[s]))
 }
 
-/// Whether R and S of each round are the least and the greatest of all sets that solve 01's equations,
+/// Whether R and S of each round are the least and the greatest of all sets that solve the rounds' equations,
 /// by trying all 2^n sets; for small tables.
 pub fn extremes_hold(rounds: &Rounds) -> bool {
     let table = rounds.table;

@@ -1,4 +1,4 @@
-//! A table as plain lists of booleans, and 01's store as the words that hold it.
+//! A table as plain lists of booleans, and the specification's store as the words that hold it.
 
 /// A set of the states of a table: one entry for each state.
 pub type Set = Vec<bool>;

@@ -1,8 +1,9 @@
 -- Laws of the grounds on which `read` declines: of each return of the functions that test them.
 --
---   faults input m                          the first fault of the first m blocks, or 0
---   faults-none, faults-next                a loop over the blocks: no fault before its first turn, nor after a turn that found none
---   faults-stop, faults-end                 it returns the first fault, or 0 when it is done
+--   Passed input k                          no ground of the first k blocks holds
+--   passed-none, passed-next                a loop over the blocks: before its first turn, and after a turn that found no ground
+--   passed-stop, passed-all                 it returns the first ground that holds, or 0 when it is done
+--   number-wrong, check-wrong, block-right  what `block_fault` returns
 --   contentRefusal                          what is wrong with the contents, or 0
 --   no-states, many-states, many-groups,    what `content_refusal` returns for the grounds 14 to 16
 --   other-blocks
@@ -14,60 +15,82 @@
 --   long-input
 --   Whole                                   neither of these holds
 --   block-wrong, blocks-right               what it returns then
---   Read                                    what the contract of `read` says of its answer and of the store at exit
---   declined                                so it is where a ground holds
+--   declined                                the contract of `read` where a ground holds
 --   some-block, readable-as                 where none holds, there is a header to read, and no ground holds of n and g as read from it
---   has-table, table-read                   so the table can be filled in, and it is so too
+--   table-inside, table-read                   so the table can be filled in, and the contract holds
 use Prim.Native.Nat.{ℕ, _+_, _*_, _-_, _/_, _%_, _≤_, _<_}
 use native.Mathlib.Nat.{add-assoc, le-antisymm}
 use native.Mathlib.Omega.{arith}
 use mathlib.Core.Path.{_≡_, refl, sym, ap, ap₂, _∙_, subst}
 use mathlib.Core.Bool.{Bool, true, false, not, cond}
-use mathlib.Core.List.{List, [], _∷_}
+use mathlib.Core.List.{List, [], _∷_, _++_, append-nil}
 use borrow.Author.Tests.{lt-ltb, le-ltb, eq-eqb, ne-eqb}
 use lib.Dec.{eqb}
 use lib.ListN.{length, getD, take, drop}
 use Rattle.model.specs.Sets.{maxStates, any}
-use Rattle.model.specs.Stores.{maxGroups, storeWords, layout, refuse, beyond, nonZero, badStates}
-use Rattle.model.specs.Files.{le16At, contentLength, blocksFor, part, contentsOf, setNumber, tableIn}
-use Rattle.model.specs.Calls.{overwrite, TableRead, firstFault, blockFault, maxFile, readRefusal, readAnswer, readBuffer}
-use Rattle.model.proofs.ListLaws.{orElse-none, orElse-fault, refuse-none, refuse-skip, refuse-take, firstFault-next, firstFault-stop}
-use Rattle.model.proofs.FileLaws.{getD-contentsOf-at}
-use Rattle.model.proofs.CallLaws.{states-le, Readable, readable, read-answer, read-buffer}
-use Rattle.block_file.specs.Reading.{HasTable, contentGrounds}
+use Rattle.model.specs.Stores.{maxGroups, storeWords, concat, layout, refuse, beyond, nonZero, badStates}
+use Rattle.model.specs.Blocks.{blockBytes, contentBytes, checkAt, le16At, checkOf, blocksFor, part, contentsOf, blockGrounds}
+use Rattle.model.specs.Contents.{contentLength, setNumber, tableIn}
+use Rattle.model.specs.Files.{maxFile}
+use Rattle.model.specs.Calls.{overwrite, statesIn, groupsIn, badLength, blocksGrounds, contentGrounds, fileGrounds, readGrounds, readAnswer, readBuffer}
+use Rattle.model.proofs.GroundLaws.{Clear, refuse-none, refuse-skip, refuse-take, refuse-append, refuse-behind, clear-refuse, refuse-clear, clear-next, refuse-stop}
+use Rattle.model.proofs.BlockLaws.{getD-contentsOf-at}
+use Rattle.model.proofs.CallLaws.{states-pass, right-block, blocks-clear, Readable, readable, read-answer, read-buffer}
+use Rattle.block_file.specs.declared.reading.TableRead.the-variants.{Table, Refused}
+use Rattle.block_file.specs.ReadAnswers.{CalledRead}
+use Rattle.block_file.specs.Reading.{TableInside}
 
 -- ---- the blocks
 
 module _ (input : List ℕ) where
-  abbrev pub faults : ℕ → ℕ
-  faults m = firstFault m (λ k. blockFault (part input k) k)
+  -- no ground of the first k blocks holds
+  abbrev pub Passed : ℕ → Type 0
+  Passed k = Clear (concat k (λ j. blockGrounds (part input j) j))
 
   -- the bytes that are handed on for block k, as the code takes them
   abbrev pub handed : ℕ → List ℕ
-  handed k = take (512 * k + 512 - 512 * k) (drop (512 * k) input)
+  handed k = take (blockBytes * k + blockBytes - blockBytes * k) (drop (blockBytes * k) input)
 
   handed-part : (k : ℕ) → handed k ≡ part input k
   unfolding part
   handed-part k =
-      let whole : 512 * k + 512 - 512 * k ≡ 512 = omega arith in
-      ap (λ (m : ℕ). take m (drop (512 * k) input)) whole
+      let whole : blockBytes * k + blockBytes - blockBytes * k ≡ blockBytes = omega arith in
+      ap (λ (m : ℕ). take m (drop (blockBytes * k) input)) whole
 
-  pub faults-none : faults 0 ≡ 0
-  unfolding firstFault
-  faults-none = refl
+  pub passed-none : Passed 0
+  unfolding concat
+  passed-none = tt
 
-  module _ (k fault : ℕ) (e : fault ≡ blockFault (handed k) k) (so : faults k ≡ 0) where
-    own : fault ≡ blockFault (part input k) k
-    own = e ∙ ap (λ block. blockFault block k) (handed-part k)
+  module _ (k fault : ℕ) (e : fault ≡ refuse (blockGrounds (handed k) k)) (so : Passed k) where
+    own : fault ≡ refuse (blockGrounds (part input k) k)
+    own = e ∙ ap (λ block. refuse (blockGrounds block k)) (handed-part k)
 
-    pub faults-next : fault ≡ 0 → faults (k + 1) ≡ 0
-    faults-next z = firstFault-next _ k so ∙ sym own ∙ z
+    pub passed-next : fault ≡ 0 → Passed (k + 1)
+    unfolding blockGrounds
+    passed-next z = clear-next _ k so (refuse-clear (blockGrounds (part input k) k) [] refl (sym own ∙ z) .0)
 
-    pub faults-stop : (m : ℕ) → k < m → (fault ≡ 0 → ⊥) → fault ≡ faults m
-    faults-stop m h x = own ∙ sym (firstFault-stop _ m k h so (λ z. x (own ∙ z)))
+    pub passed-stop : k < length input / blockBytes → (fault ≡ 0 → ⊥) → fault ≡ refuse (blocksGrounds input)
+    unfolding blocksGrounds
+    passed-stop h x = refuse-stop _ (length input / blockBytes) k h so own x
 
-  pub faults-end : (k m : ℕ) → k ≤ m → m ≤ k → faults k ≡ 0 → 0 ≡ faults m
-  faults-end k m l h e = sym e ∙ ap faults (le-antisymm l h)
+  pub passed-all : (k : ℕ) → k ≤ length input / blockBytes → length input / blockBytes ≤ k → Passed k → 0 ≡ refuse (blocksGrounds input)
+  unfolding blocksGrounds
+  passed-all k l h so = sym (clear-refuse _ (subst Passed (le-antisymm l h) so))
+
+module _ (block : List ℕ) {k number check sum : ℕ} (n-is : number ≡ le16At block 0) (c-is : check ≡ le16At block checkAt) (s-is : sum ≡ checkOf block) where
+  pub number-wrong : (number ≡ k → ⊥) → 12 ≡ refuse (blockGrounds block k)
+  unfolding blockGrounds
+  number-wrong x = sym (refuse-take _ 12 _ (ap not (ne-eqb (le16At block 0) k (λ e. x (n-is ∙ e)))))
+
+  pub check-wrong : number ≡ k → (check ≡ sum → ⊥) → 13 ≡ refuse (blockGrounds block k)
+  unfolding blockGrounds
+  check-wrong p x =
+      sym
+      (refuse-skip _ 12 _ (ap not (eq-eqb (le16At block 0) k (sym n-is ∙ p)))
+      ∙ refuse-take _ 13 _ (ap not (ne-eqb (le16At block checkAt) (checkOf block) (λ e. x (c-is ∙ e ∙ sym s-is)))))
+
+  pub block-right : number ≡ k → check ≡ sum → 0 ≡ refuse (blockGrounds block k)
+  block-right p q = sym (clear-refuse (blockGrounds block k) (right-block block k (sym n-is ∙ p) (sym c-is ∙ q ∙ s-is)))
 
 -- ---- the contents
 
@@ -76,11 +99,7 @@ pub record Sized (input : List ℕ) (n g size : ℕ) : Type 0 where
   pub states : n ≤ maxStates
   pub groups : g ≤ maxGroups
   pub is : size ≡ contentLength n g
-  pub blocks : length input / 512 ≡ blocksFor size
-
-states-pass : (n : ℕ) → (n ≡ 0 → ⊥) → n ≤ maxStates → badStates n ≡ false
-unfolding badStates
-states-pass n some h = rw (ne-eqb n 0 some) (le-ltb maxStates n h)
+  pub blocks : length input / blockBytes ≡ blocksFor size
 
 module _ (input : List ℕ) (n g : ℕ) where
   abbrev pub contentRefusal : ℕ
@@ -99,7 +118,7 @@ module _ (input : List ℕ) (n g : ℕ) where
     unfolding contentGrounds
     many-groups h = sym (refuse-skip _ 14 _ (states-pass n some states) ∙ refuse-take _ 15 _ (lt-ltb maxGroups g h))
 
-    pub other-blocks : g ≤ maxGroups → {size blocks : ℕ} → size ≡ contentLength n g → blocks ≡ blocksFor size → (length input / 512 ≡ blocks → ⊥) → 16 ≡ contentRefusal
+    pub other-blocks : g ≤ maxGroups → {size blocks : ℕ} → size ≡ contentLength n g → blocks ≡ blocksFor size → (length input / blockBytes ≡ blocks → ⊥) → 16 ≡ contentRefusal
     unfolding contentGrounds
     other-blocks groups is e x =
         sym
@@ -108,18 +127,18 @@ module _ (input : List ℕ) (n g : ℕ) where
         ∙ refuse-take _ 16 _ (ap not (ne-eqb _ _ (λ q. x (q ∙ sym (e ∙ ap (λ (l : ℕ). blocksFor l) is))))))
 
 module _ {input : List ℕ} {n g size : ℕ} (s : Sized input n g size) {b : Bool} (sets : b ≡ any (2 + g + n) (λ k. beyond n (setNumber (contentsOf input) n k))) where
-  behind-size : contentRefusal input n g ≡ refuse ((b, 17) ∷ (nonZero (contentsOf input) size (508 * (length input / 512)), 18) ∷ [])
+  behind-size : contentRefusal input n g ≡ refuse ((b, 17) ∷ (nonZero (contentsOf input) size (contentBytes * (length input / blockBytes)), 18) ∷ [])
   unfolding contentGrounds
   behind-size =
       refuse-skip _ 14 _ (states-pass n (s .some) (s .states))
       ∙ refuse-skip _ 15 _ (le-ltb maxGroups g (s .groups))
       ∙ refuse-skip _ 16 _ (ap not (eq-eqb _ _ (s .blocks ∙ ap (λ (l : ℕ). blocksFor l) (s .is))))
-      ∙ ap₂ (λ a (l : ℕ). refuse ((a, 17) ∷ (nonZero (contentsOf input) l (508 * (length input / 512)), 18) ∷ [])) (sym sets) (sym (s .is))
+      ∙ ap₂ (λ a (l : ℕ). refuse ((a, 17) ∷ (nonZero (contentsOf input) l (contentBytes * (length input / blockBytes)), 18) ∷ [])) (sym sets) (sym (s .is))
 
   pub set-beyond : b ≡ true → 17 ≡ contentRefusal input n g
   set-beyond t = sym (behind-size ∙ refuse-take _ 17 _ t)
 
-  module _ (within : b ≡ false) {z : Bool} (filler : z ≡ nonZero (contentsOf input) size (508 * (length input / 512))) where
+  module _ (within : b ≡ false) {z : Bool} (filler : z ≡ nonZero (contentsOf input) size (contentBytes * (length input / blockBytes))) where
     pub filler-non-zero : z ≡ true → 18 ≡ contentRefusal input n g
     filler-non-zero t = sym (behind-size ∙ refuse-skip _ 17 _ within ∙ refuse-take _ 18 _ (sym filler ∙ t))
 
@@ -128,86 +147,86 @@ module _ {input : List ℕ} {n g size : ℕ} (s : Sized input n g size) {b : Boo
 
 -- ---- all grounds
 
-header : (input : List ℕ) (i : ℕ) → 512 ≤ length input → i + 1 < 508 → le16At input (2 + i) ≡ le16At (contentsOf input) i
+header : (input : List ℕ) (i : ℕ) → blockBytes ≤ length input → i + 1 < contentBytes → le16At input (2 + i) ≡ le16At (contentsOf input) i
 header input i h l =
-    let byte : (j : ℕ) → j < 508 → getD (contentsOf input) j 0 ≡ getD input (2 + j) 0 =
+    let byte : (j : ℕ) → j < contentBytes → getD (contentsOf input) j 0 ≡ getD input (2 + j) 0 =
     λ j m.
-    let place : 512 * (j / 508) + (2 + j % 508) ≡ 2 + j = omega arith in
+    let place : blockBytes * (j / contentBytes) + (2 + j % contentBytes) ≡ 2 + j = omega arith in
     getD-contentsOf-at input j (omega arith) ∙ ap (λ (k : ℕ). getD input k 0) place in
     ap₂ (λ (a b : ℕ). a + 256 * b) (sym (byte i (omega arith))) (ap (λ (k : ℕ). getD input k 0) (add-assoc 2 i 1) ∙ sym (byte (i + 1) l))
 
 pub record Whole (input : List ℕ) (room : ℕ) : Type 0 where
   pub fits : storeWords ≤ room
   pub some : length input ≡ 0 → ⊥
-  pub whole : length input % 512 ≡ 0
+  pub whole : length input % blockBytes ≡ 0
   pub short : length input ≤ maxFile
 
 module _ (input : List ℕ) (room : ℕ) where
-  pub small-store : room < storeWords → 10 ≡ readRefusal input room
-  unfolding readRefusal refuse
-  small-store h = rw (lt-ltb room storeWords h)
+  pub small-store : room < storeWords → 10 ≡ refuse (readGrounds input room)
+  unfolding readGrounds
+  small-store h = sym (refuse-take _ 10 _ (lt-ltb room storeWords h))
 
   module _ (fits : storeWords ≤ room) where
-    pub no-input : length input ≡ 0 → 11 ≡ readRefusal input room
-    unfolding readRefusal refuse
-    no-input e = rw (le-ltb room storeWords fits, eq-eqb (length input) 0 e)
+    -- ground 11 decides
+    length-wrong : badLength input ≡ true → 11 ≡ refuse (readGrounds input room)
+    unfolding readGrounds fileGrounds
+    length-wrong b = sym (refuse-skip _ 10 _ (le-ltb room storeWords fits) ∙ refuse-take _ 11 _ b)
+
+    pub no-input : length input ≡ 0 → 11 ≡ refuse (readGrounds input room)
+    unfolding badLength
+    no-input e = length-wrong (rw (eq-eqb (length input) 0 e))
 
     module _ (some : length input ≡ 0 → ⊥) where
-      pub part-block : (length input % 512 ≡ 0 → ⊥) → 11 ≡ readRefusal input room
-      unfolding readRefusal refuse
-      part-block x = rw (le-ltb room storeWords fits, ne-eqb (length input) 0 some, ne-eqb (length input % 512) 0 x)
+      pub part-block : (length input % blockBytes ≡ 0 → ⊥) → 11 ≡ refuse (readGrounds input room)
+      unfolding badLength
+      part-block x = length-wrong (rw (ne-eqb (length input) 0 some, ne-eqb (length input % blockBytes) 0 x))
 
-      pub long-input : length input % 512 ≡ 0 → maxFile < length input → 11 ≡ readRefusal input room
-      unfolding readRefusal refuse
-      long-input e h = rw (le-ltb room storeWords fits, ne-eqb (length input) 0 some, eq-eqb (length input % 512) 0 e, lt-ltb maxFile (length input) h)
+      pub long-input : length input % blockBytes ≡ 0 → maxFile < length input → 11 ≡ refuse (readGrounds input room)
+      unfolding badLength
+      long-input e h =
+          length-wrong (rw (ne-eqb (length input) 0 some, eq-eqb (length input % blockBytes) 0 e) (lt-ltb maxFile (length input) h))
 
-module _ {input : List ℕ} {room : ℕ} (w : Whole input room) {fault : ℕ} (e : fault ≡ faults input (length input / 512)) where
-  behind-whole : readRefusal input room ≡ cond (eqb fault 0) (contentRefusal input (le16At (contentsOf input) 0) (le16At (contentsOf input) 2)) fault
-  unfolding readRefusal refuse contentGrounds
+module _ {input : List ℕ} {room : ℕ} (w : Whole input room) {fault : ℕ} (e : fault ≡ refuse (blocksGrounds input)) where
+  behind-whole : refuse (readGrounds input room) ≡ refuse (blocksGrounds input ++ contentGrounds input (statesIn input) (groupsIn input))
+  unfolding readGrounds fileGrounds badLength
   behind-whole =
-      rw (
-        le-ltb room storeWords (w .fits),
-        ne-eqb (length input) 0 (w .some),
-        eq-eqb (length input % 512) 0 (w .whole),
-        le-ltb maxFile (length input) (w .short),
-        e,
-      )
+      refuse-skip _ 10 _ (le-ltb room storeWords (w .fits))
+      ∙ refuse-skip _ 11 _
+      (rw (ne-eqb (length input) 0 (w .some), eq-eqb (length input % blockBytes) 0 (w .whole)) (le-ltb maxFile (length input) (w .short)))
 
-  pub block-wrong : (fault ≡ 0 → ⊥) → fault ≡ readRefusal input room
-  block-wrong x = sym (behind-whole ∙ orElse-fault fault _ x)
+  pub block-wrong : (fault ≡ 0 → ⊥) → fault ≡ refuse (readGrounds input room)
+  block-wrong x = refuse-append (blocksGrounds input) _ e x ∙ sym behind-whole
 
-  pub blocks-right : fault ≡ 0 → {n g k : ℕ} → n ≡ le16At input 2 → g ≡ le16At input 4 → k ≡ contentRefusal input n g → k ≡ readRefusal input room
+  pub blocks-right : fault ≡ 0 → {n g k : ℕ} → n ≡ le16At input 2 → g ≡ le16At input 4 → k ≡ contentRefusal input n g → k ≡ refuse (readGrounds input room)
   blocks-right z p q f =
-      let long : 512 ≤ length input = omega (arith, w .some, w .whole) in
+      let long : blockBytes ≤ length input = omega (arith, w .some, w .whole) in
+      let clear = blocks-clear input [] (ap refuse (append-nil (blocksGrounds input)) ∙ sym e ∙ z) .0 in
       f
       ∙ ap₂ (λ (a b : ℕ). contentRefusal input a b) (p ∙ header input 0 long (omega arith)) (q ∙ header input 2 long (omega arith))
-      ∙ sym (behind-whole ∙ orElse-none fault _ z)
+      ∙ sym (behind-whole ∙ refuse-behind (blocksGrounds input) _ clear)
 
 -- ---- the call
 
-abbrev pub Read : List ℕ → List ℕ → TableRead → List ℕ → Type 0
-Read input store answer after = (answer ≡ readAnswer input (length store)) × (after ≡ readBuffer input store)
-
-pub declined : (input store : List ℕ) {k : ℕ} → k ≡ readRefusal input (length store) → (k ≡ 0 → ⊥) → Read input store (record { refusal = k; n = 0; g = 0 }) store
+pub declined : (input store : List ℕ) {k : ℕ} → k ≡ refuse (readGrounds input (length store)) → (k ≡ 0 → ⊥) → CalledRead input store (Refused k) store
 unfolding readAnswer readBuffer
 declined input store {k} e x = let no = ne-eqb k 0 x in (rw (← e, no), rw (← e, no))
 
-module _ (input : List ℕ) (room : ℕ) {k : ℕ} (e : k ≡ readRefusal input room) (z : k ≡ 0) where
+module _ (input : List ℕ) (room : ℕ) {k : ℕ} (e : k ≡ refuse (readGrounds input room)) (z : k ≡ 0) where
   accepted : Readable input room (le16At (contentsOf input) 0) (le16At (contentsOf input) 2)
   accepted = readable input room (sym e ∙ z)
 
-  pub some-block : 512 ≤ length input
-  some-block = omega (arith, accepted .some, accepted .whole)
+  pub some-block : blockBytes ≤ length input
+  some-block = omega (arith, accepted .present, accepted .whole)
 
   pub readable-as : {n g : ℕ} → n ≡ le16At input 2 → g ≡ le16At input 4 → Readable input room n g
   readable-as {n} {g} p q =
       subst (λ (m : ℕ). Readable input room m g) (sym (p ∙ header input 0 some-block (omega arith)))
       (subst (Readable input room _) (sym (q ∙ header input 2 some-block (omega arith))) accepted)
 
-pub has-table : {input : List ℕ} {room n g : ℕ} → Readable input room n g → HasTable input n g
-has-table {n = n} r = record { states = states-le n (r .states); groups = r .groups; inside = omega (arith, r .blocks) }
+pub table-inside : {input : List ℕ} {room n g : ℕ} → Readable input room n g → TableInside input n g
+table-inside r = record { small = r .small; few = r .few; inside = omega (arith, r .blocks) }
 
 pub table-read : {input : List ℕ} (store : List ℕ) {n g : ℕ} {after : List ℕ} → Readable input (length store) n g
     → after ≡ overwrite (layout (tableIn (contentsOf input) n g)) store
-    → Read input store (record { refusal = 0; n = n; g = g }) after
+    → CalledRead input store (Table n g) after
 table-read {input} store {n} {g} r e = (sym (read-answer input (length store) n g r), e ∙ sym (read-buffer input store n g r))

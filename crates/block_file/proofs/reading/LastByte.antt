@@ -15,11 +15,11 @@ use lib.ListN.{getD}
 use lib.Pow.{shr-shr, shr-lt}
 use Rattle.model.specs.Sets.{maxStates, Set, bit, member, first}
 use Rattle.model.specs.Stores.{beyond}
-use Rattle.model.specs.Files.{setWidth, setIn, setNumber}
+use Rattle.model.specs.Contents.{setWidth, headerBytes, setIn, setNumber}
 use Rattle.model.proofs.Bounds.{clash, decided, first-passes, lt-or-ge}
 use Rattle.model.proofs.SetLaws.{In}
+use Rattle.model.proofs.ContentLaws.{member-setIn, setIn-below}
 use Rattle.model.proofs.StoreLaws.{beyond-below, below-beyond}
-use Rattle.model.proofs.FileLaws.{member-setIn, setIn-below}
 use Rattle.state_set.proofs.Bits.{bit-zero, first-bit}
 
 bit-above : (x d i : ℕ) → bit (x / 2 ^ d) i ≡ bit x (d + i)
@@ -65,14 +65,14 @@ module _ (bytes : List ℕ) (n w at x : ℕ) (some : 0 < n) (width : w ≡ setWi
       (λ f. absurd (let below = beyond-below n X f (n + i) (record { is = in-set }) in omega arith))
       (decided (beyond n X))
 
-pub beyond-last : (bytes : List ℕ) (n w k x : ℕ) → 0 < n → w ≡ setWidth n → 8 * w ≤ maxStates → x ≡ getD bytes (4 + w * k + (w - 1)) 0 → x < 256
+pub beyond-last : (bytes : List ℕ) (n w k x : ℕ) → 0 < n → w ≡ setWidth n → 8 * w ≤ maxStates → x ≡ getD bytes (headerBytes + w * k + (w - 1)) 0 → x < 256
     → not (eqb (x / 2 ^ (n - 8 * (w - 1))) 0) ≡ beyond n (setNumber bytes n k)
 unfolding setNumber
 beyond-last bytes n w k x some width narrow last small =
-    let at = 4 + w * k in
+    let at = headerBytes + w * k in
     let y = x / 2 ^ (n - 8 * (w - 1)) in
     ⊎-elim
     (λ t. ap not t ∙ sym (none-above bytes n w at x some width narrow last (eqb-true y 0 t)))
     (λ f. ap not f ∙ sym (some-above bytes n w at x some width narrow last small (eqb-false y 0 f)))
     (decided (eqb y 0))
-    ∙ ap (λ (v : ℕ). beyond n (setIn bytes v (4 + v * k))) width
+    ∙ ap (λ (v : ℕ). beyond n (setIn bytes v (headerBytes + v * k))) width

@@ -51,7 +51,7 @@ distances-spec =
     (λ c.
     let turn = c .before .before .before .before .before in
     let held = turn .before .before .before .before .before .before .before .pre in
-    swept-kept _ _ (held .formed) (held .small) (turn .before .before .loop .inv) (below turn) (c .before .before .mark .ensures) (c .before .kept .ensures)
+    swept-kept _ _ (held .formed) (held .small) (turn .before .before .loop .inv) (below turn) (c .before .before .mark .ensures) (c .before .meet-hold .ensures)
     (c .difference2 .ensures))
     (λ c.
     let held = c .before .before .before .before .before .before .before .pre in

@@ -12,4 +12,4 @@ backward-step-spec =
     (tie.spec
     (λ c κs. search needs)
     (λ c κs. search needs)
-    (λ c. c .union-of .ensures ∙ ap (coverBy (c .before .before .before .args .rows .now)) (c .before .kept .ensures)))
+    (λ c. c .union-of .ensures ∙ ap (coverBy (c .before .before .before .args .rows .now)) (c .before .meet-hold .ensures)))

@@ -1,5 +1,5 @@
--- `decide`: the grounds, then the answer for each ending of the rounds.
-use mathlib.Core.Path.{_≡_}
+-- `decide`: the grounds, on which the path buffer is left alone,
+-- then the answer for each ending of the rounds.
 use borrow.Author.Needs.{needs}
 use Rattle.paths.proofs.Groups.{holds-table}
 use Rattle.rounds.specs.declared.Ending.the-variants.{Safe, Unsafe, Undecided}

@@ -1,9 +1,9 @@
 -- `any_beyond`: no set passed has a state from n up.
 use Prim.Native.Nat.{_+_, _*_, _-_, _≤_}
-use mathlib.Core.Path.{_≡_, sym, ap, _∙_}
+use mathlib.Core.Path.{_≡_, sym}
 use mathlib.Core.Bool.{false}
 use borrow.Author.Needs.{needs}
-use Rattle.model.specs.Sets.{WORDS, Set, any}
+use Rattle.model.specs.Sets.{WORDS, any}
 use Rattle.model.specs.Stores.{setAt, beyond}
 use Rattle.model.proofs.Bounds.{any-start, any-turn, any-intro, any-end}
 use Rattle.table.proofs.any_beyond.Statement.{statement}

@@ -1,7 +1,7 @@
 -- `is_beyond`: not inside the first n states.
 use mathlib.Core.Path.{_∙_, ap}
 use mathlib.Core.Bool.{not}
-use Rattle.model.specs.Sets.{Set, subset}
+use Rattle.model.specs.Sets.{subset}
 use Rattle.table.proofs.Laws.{beyond-is}
 use Rattle.table.proofs.is_beyond.Statement.{statement}
 use Rattle.table.proofs.is_beyond.Tie as tie

@@ -1,25 +1,21 @@
 -- `join_rows`: what is joined, with the image of the bits that are left, is the whole.
-use Prim.Native.Nat.{_^_, _<_}
-use native.Mathlib.Omega.{arith}
-use mathlib.Core.Path.{refl, ap, _∙_}
+use mathlib.Core.Path.{ap, _∙_}
 use mathlib.Core.List.{[]}
 use lib.ListN.{getD}
 use borrow.Author.Needs.{needs}
 use lib.Count.{trailing-le}
 use Rattle.model.specs.Sets.{maxStates, union, image}
-use Rattle.model.proofs.SetLaws.{in-bound}
-use Rattle.model.proofs.ImageLaws.{Joining, join-turn, join-end}
 use Rattle.state_set.specs.WordSets.{wordSet}
 use Rattle.state_set.proofs.Words.{proper}
 use Rattle.state_set.proofs.Counts.{bits-fit, states-fit}
-use Rattle.state_set.proofs.WordSets.{word-lowest, word-rest, word-less, word-none}
+use Rattle.state_set.proofs.WordSets.{word-less}
+use Rattle.table.proofs.Joins.{WordJoining, bits-start, bits-bound, bits-turn, bits-end}
 use Rattle.table.proofs.join_rows.Statement.{statement}
 use Rattle.table.proofs.join_rows.Tie as tie
 
 abbrev Inv-loop : tie.InvT-loop
 Inv-loop rows w bits joined₀ rest₀ joined rest =
-    (rest < 2 ^ 64)
-    × Joining (λ s. getD rows s []) (union (joined₀ .words) (image maxStates (λ s. getD rows s []) (wordSet w bits))) (joined .words) (wordSet w rest)
+    WordJoining (λ s. getD rows s []) (union (joined₀ .words) (image maxStates (λ s. getD rows s []) (wordSet w bits))) w rest (joined .words)
 
 abbrev μ-loop : tie.MeasureT-loop
 μ-loop rows w bits joined₀ rest₀ joined rest = rest
@@ -30,20 +26,15 @@ join-rows-spec =
     (tie.spec
     Inv-loop
     μ-loop
-    (λ c. (search needs, record { proper = proper (search needs) (λ w. search needs); whole = refl }))
+    (λ c. bits-start _ _ (proper (search needs) (λ w. search needs)) (search needs))
     (λ c. search needs)
     (λ c. bits-fit _ (trailing-le 64 _))
     (λ c. states-fit _ _ (search needs) (trailing-le 64 _))
-    (λ c κs. in-bound (word-lowest _ _ (search needs) (c .before .loop .inv .0) (c .loop-test .taken)))
+    (λ c κs. bits-bound (c .before .loop .inv) (search needs) (c .loop-test .taken))
     (λ c κs. search needs)
     (λ c. search needs)
-    (λ c. let d = c .before .before in word-less _ (d .loop-test .taken))
+    (λ c. word-less _ (c .before .before .loop-test .taken))
     (λ c.
     let d = c .before .before in
-    let less = word-less _ (d .loop-test .taken) in (
-      omega (arith, less, d .before .loop .inv .0),
-      join-turn _ _ (word-lowest _ _ (search needs) (d .before .loop .inv .0) (d .loop-test .taken))
-          (c .union .ensures ∙ ap (union _) (c .before .row-of .ensures))
-          (word-rest _ _ (search needs) (d .before .loop .inv .0) (d .loop-test .taken)) (d .before .loop .inv .1),
-    ))
-    (λ c. join-end _ _ (ap (wordSet _) (c .loop-test .left) ∙ word-none _) (c .before .loop .inv .1)))
+    bits-turn (d .before .loop .inv) (search needs) (d .loop-test .taken) (c .union .ensures ∙ ap (union _) (c .before .row-of .ensures)))
+    (λ c. bits-end (c .before .loop .inv) (c .loop-test .left)))

@@ -1,24 +1,21 @@
 -- `put_steps` is safe and ends.
-use Prim.Native.Nat.{_-_, _≤_}
+use Prim.Native.Nat.{_-_}
 use borrow.Author.Needs.{needs}
 use mathlib.Core.Path.{_≡_}
 use lib.ListN.{length}
 use Rattle.test_support.proofs.put_steps.Statement.{statement}
 use Rattle.test_support.proofs.put_steps.Tie as tie
 
-abbrev Inv-loop : tie.InvT-loop
-Inv-loop store₀ pairs i₀ i-end store i = (i ≤ i-end) × (length store ≡ length store₀)
-
-abbrev μ-loop : tie.MeasureT-loop
-μ-loop store₀ pairs i₀ i-end store i = i-end - i
-
 pub put-steps-spec : {M : Type 1} → statement M
 put-steps-spec =
     tie.close
     (tie.spec
-    Inv-loop
-    μ-loop
+    (λ store₀ pairs i₀ store i. length store ≡ length store₀)
+    (λ store₀ pairs i₀ store i. length pairs - i)
     (λ c. search needs)
+    (λ c κs. search needs)
+    (λ c. search needs)
+    (λ c κs. search needs)
     (λ c κs. search needs)
     (λ c. search needs)
     (λ c. search needs)

@@ -1,5 +1,5 @@
-//! The outside tests: tables and files at random, and those of document 01, through the library's four
-//! calls, and questions for the next open minute, held to implementations that share nothing with it.
+//! The outside tests: tables and files at random, those of the specification, and damaged blocks, through the
+//! library's calls, and questions for the next open minute, held to implementations that share nothing with it.
 //!
 //!     outside [--peer] [--seed S] [--count N] [--case I]
 //!
@@ -13,10 +13,12 @@ use std::sync::Mutex;
 use std::sync::atomic::{AtomicU64, Ordering};
 use std::time::Instant;
 
+use shuntberry_outside::block_check;
 use shuntberry_outside::calls::Calls;
 use shuntberry_outside::examine::{self, Outcome, Tally};
 use shuntberry_outside::generate::Random;
 use shuntberry_outside::peer::{Looks, Peer};
+use shuntberry_outside::regroup;
 use shuntberry_outside::windows::{self, NextOpen};
 
 const SEED: u64 = 20_260_401;
@@ -139,6 +141,14 @@ fn run(libraries: &[&dyn Calls], options: &Options) -> (Tally, Vec<String>, f64)
             let fault = format!("named tables: {fault}");
             failures.lock().expect("no thread yet").push(fault);
         }
+        if let Err(fault) = caught(|| block_check::block_checks(libraries, &mut random)) {
+            let fault = format!("damaged blocks: {fault}");
+            failures.lock().expect("no thread yet").push(fault);
+        }
+        if let Err(fault) = caught(|| regroup::regrouped_tables(libraries, &mut random)) {
+            let fault = format!("groups put another way: {fault}");
+            failures.lock().expect("no thread yet").push(fault);
+        }
         let examined = caught(|| {
             windows::edges(&openers, &mut tally)?;
             windows::seventy_weeks(&openers, &mut random, stride)
@@ -242,7 +252,7 @@ fn earned_each_refusal(tally: &Tally, count: u64) -> bool {
     false
 }
 
-/// Refusals of document 01's table that no case earned.
+/// Refusals of the specification's table that no case earned.
 fn unearned_refusals(tally: &Tally) -> Vec<String> {
     let table: [(&str, &[u32]); 5] = [
         ("refusal by decide", &[10, 14, 15, 17, 20, 21]),

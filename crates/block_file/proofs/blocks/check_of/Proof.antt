@@ -1,6 +1,7 @@
 -- `check_of`: the weighted sum of the bytes passed.
 use Prim.Native.Nat.{_-_}
 use borrow.Author.Needs.{needs}
+use Rattle.model.specs.Blocks.{checkAt}
 use Rattle.block_file.proofs.BlockLaws.{Summing, sum-none, term-fits, sum-fits, sum-more, sum-all}
 use Rattle.block_file.proofs.blocks.check_of.Statement.{statement}
 use Rattle.block_file.proofs.blocks.check_of.Tie as tie
@@ -9,7 +10,7 @@ abbrev Inv-loop : tie.InvT-loop
 Inv-loop block sum₀ i₀ sum i = Summing block sum i
 
 abbrev μ-loop : tie.MeasureT-loop
-μ-loop block sum₀ i₀ sum i = 510 - i
+μ-loop block sum₀ i₀ sum i = checkAt - i
 
 pub check-of-spec : {M : Type 1} → statement M
 check-of-spec =

@@ -5,9 +5,10 @@ use mathlib.Core.Bool.{false}
 use borrow.Author.Needs.{needs}
 use Rattle.model.specs.Sets.{any}
 use Rattle.model.specs.Stores.{beyond}
-use Rattle.model.specs.Files.{contentsOf, setNumber}
+use Rattle.model.specs.Blocks.{contentsOf}
+use Rattle.model.specs.Contents.{setNumber}
 use Rattle.model.proofs.Bounds.{any-start, any-turn, any-intro, any-end}
-use Rattle.block_file.proofs.reading.Filling.{has-set}
+use Rattle.block_file.proofs.reading.Words.{set-inside}
 use Rattle.block_file.proofs.reading.any_beyond.Statement.{statement}
 use Rattle.block_file.proofs.reading.any_beyond.Tie as tie
 
@@ -27,7 +28,7 @@ any-beyond-spec =
     (λ c. search needs)
     (λ c. search needs)
     (λ c. (search needs, any-start _))
-    (λ c κs. (has-set (c .before .before .before .before .pre .0) (c .before .before .set-width .ensures) (search needs), search needs, search needs))
+    (λ c κs. (set-inside (c .before .before .before .before .pre .0) (c .before .before .set-width .ensures) (search needs), search needs, search needs))
     (λ c.
     let turn = c .before .before in
     sym

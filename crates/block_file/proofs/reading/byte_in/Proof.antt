@@ -1,8 +1,8 @@
 -- `byte_in`: the bytes of the set are those of the contents, and past them it has no states.
 use mathlib.Core.Path.{sym, _∙_}
 use borrow.Author.Needs.{needs}
-use Rattle.model.proofs.FileLaws.{number-setIn-past}
-use Rattle.block_file.proofs.reading.Filling.{byte-inside}
+use Rattle.model.proofs.ContentLaws.{number-setIn-past}
+use Rattle.block_file.proofs.reading.Words.{byte-inside}
 use Rattle.block_file.proofs.reading.byte_in.Statement.{statement}
 use Rattle.block_file.proofs.reading.byte_in.Tie as tie
 

@@ -1,7 +1,7 @@
 -- `content`: byte i stands in block i / 508, behind the block's number.
 use mathlib.Core.Path.{sym}
 use borrow.Author.Needs.{needs}
-use Rattle.model.proofs.FileLaws.{getD-contentsOf-at}
+use Rattle.model.proofs.BlockLaws.{getD-contentsOf-at}
 use Rattle.block_file.proofs.reading.content.Statement.{statement}
 use Rattle.block_file.proofs.reading.content.Tie as tie
 

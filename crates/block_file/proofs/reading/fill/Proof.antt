@@ -1,6 +1,8 @@
--- `fill`: the initial set, the forbidden set, the groups and the rows, one after the other.
+-- `fill`: all words 0, then the sets.
+use mathlib.Core.Path.{ap, _∙_}
 use borrow.Author.Needs.{needs}
-use Rattle.block_file.proofs.reading.Filling.{lent-back, filled}
+use Rattle.block_file.specs.Reading.{fillSets}
+use Rattle.block_file.proofs.reading.Filling.{filled}
 use Rattle.block_file.proofs.reading.fill.Statement.{statement}
 use Rattle.block_file.proofs.reading.fill.Tie as tie
 
@@ -11,16 +13,7 @@ fill-spec =
     (λ c κs. search needs)
     (λ c κs. search needs)
     (λ c. search needs)
-    (λ c. search needs)
-    (λ c. search needs)
-    (λ c κs. search needs)
-    (λ c κs. search needs)
-    (λ c κs. search needs)
-    (λ c. search needs)
     (λ c.
-    let rows = c .before .before in
-    let groups = rows .before .before .before .before in
-    let forbidden = groups .before .before .before .before in
-    let initial = forbidden .before .before .before .before in
-    filled _ _ _ _ _ _ _ _ (initial .before .before .set-width .ensures)
-    (initial .fill-set .ensures) (lent-back _ _ _ _ (forbidden .fill-set2 .ensures)) (groups .fill-groups .ensures) (rows .fill-rows .ensures)))
+    let sets = c .before .before in
+    let zeros = sets .before .before .before .before in
+    sets .fill-sets .ensures ∙ ap (fillSets _ _ _ _) (zeros .clear .ensures) ∙ filled _ _ _ (search needs) (search needs) _ (search needs)))

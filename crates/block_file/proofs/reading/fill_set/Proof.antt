@@ -1,15 +1,18 @@
 -- `fill_set`: the words passed are those of the set.
-use Prim.Native.Nat.{_-_}
+use Prim.Native.Nat.{_-_, _≤_}
 use borrow.Author.Needs.{needs}
-use Rattle.model.specs.Sets.{WORDS}
-use Rattle.model.specs.Files.{contentsOf, setIn}
-use Rattle.model.proofs.FileLaws.{setIn-proper}
-use Rattle.block_file.proofs.reading.Filling.{Copying, copying-none, copying-more, copying-all}
+use lib.ListN.{getD}
+use Rattle.model.specs.Sets.{WORDS, tabulate}
+use Rattle.model.specs.Blocks.{contentsOf}
+use Rattle.model.specs.Contents.{setIn}
+use Rattle.model.proofs.ContentLaws.{setIn-proper}
+use Rattle.block_file.proofs.Overwriting.{Over, over-none, over-next}
+use Rattle.block_file.proofs.reading.Words.{words-all}
 use Rattle.block_file.proofs.reading.fill_set.Statement.{statement}
 use Rattle.block_file.proofs.reading.fill_set.Tie as tie
 
 abbrev Inv-loop : tie.InvT-loop
-Inv-loop words₀ input w k at v₀ words v = Copying (setIn (contentsOf input) w at) words₀ v words
+Inv-loop words₀ input w k at v₀ words v = (v ≤ WORDS) × Over (tabulate v (λ i. getD (setIn (contentsOf input) w at) i 0)) words₀ words
 
 abbrev μ-loop : tie.MeasureT-loop
 μ-loop words₀ input w k at v₀ words v = WORDS - v
@@ -22,12 +25,12 @@ fill-set-spec =
     μ-loop
     (λ c. search needs)
     (λ c. search needs)
-    (λ c. copying-none _ _ (setIn-proper _ _ _) (search needs))
+    (λ c. (search needs, over-none _ _))
     (λ c κs. search needs)
     (λ c. search needs)
     (λ c. search needs)
     (λ c. search needs)
     (λ c. search needs)
-    (λ c. copying-more _ _ _ _ (c .before .before .loop .inv) _ (search needs) (c .word-in .ensures))
+    (λ c. (search needs, over-next _ _ _ _ (search needs) (c .word-in .ensures) (c .before .before .loop .inv .1)))
     (λ c. search needs)
-    (λ c. copying-all _ _ _ _ (c .before .loop .inv) (search needs)))
+    (λ c. words-all _ (setIn-proper _ _ _) _ (search needs) (search needs) (c .before .loop .inv .1)))

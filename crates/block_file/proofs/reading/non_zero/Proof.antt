@@ -4,7 +4,7 @@ use mathlib.Core.Path.{_≡_, sym, _∙_}
 use mathlib.Core.Bool.{false}
 use borrow.Author.Needs.{needs}
 use Rattle.model.specs.Stores.{nonZero}
-use Rattle.model.specs.Files.{contentsOf}
+use Rattle.model.specs.Blocks.{contentsOf}
 use Rattle.table.proofs.Laws.{non-zero-start, non-zero-pass, non-zero-hit, non-zero-end}
 use Rattle.block_file.proofs.reading.non_zero.Statement.{statement}
 use Rattle.block_file.proofs.reading.non_zero.Tie as tie

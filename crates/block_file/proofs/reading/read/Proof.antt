@@ -3,7 +3,7 @@ use native.Mathlib.Omega.{arith}
 use borrow.Author.Needs.{needs}
 use lib.ListN.{length}
 use Rattle.model.proofs.CallLaws.{Readable}
-use Rattle.block_file.proofs.reading.Grounds.{declined, some-block, readable-as, has-table, table-read}
+use Rattle.block_file.proofs.reading.Grounds.{declined, some-block, readable-as, table-inside, table-read}
 use Rattle.block_file.proofs.reading.read.Statement.{statement}
 use Rattle.block_file.proofs.reading.read.Tie as tie
 
@@ -22,6 +22,6 @@ read-spec =
     (λ c κs. omega (arith, some-block _ _ (c .before .refusal .ensures) (c .if1 .left)))
     (λ c. search needs)
     (λ c κs. omega (arith, some-block _ _ (c .before .before .refusal .ensures) (c .before .if1 .left)))
-    (λ c κs. (has-table (readable (c .before)), readable (c .before) .fits))
+    (λ c κs. (table-inside (readable (c .before)), readable (c .before) .fits))
     (λ c. search needs)
     (λ c. table-read _ (readable (c .before .before .before .before)) (c .before .before .fill .ensures)))

@@ -3,9 +3,10 @@ use Prim.Native.Nat.{_*_, _-_, _≤_}
 use mathlib.Core.Path.{_≡_}
 use borrow.Author.Needs.{needs}
 use Rattle.model.specs.Sets.{member, number}
-use Rattle.model.specs.Files.{contentsOf, setIn}
-use Rattle.model.proofs.FileLaws.{setIn-proper}
-use Rattle.block_file.proofs.reading.Filling.{word-past, word-none, word-more, word-all}
+use Rattle.model.specs.Blocks.{contentsOf}
+use Rattle.model.specs.Contents.{setIn}
+use Rattle.model.proofs.ContentLaws.{setIn-proper}
+use Rattle.block_file.proofs.reading.Words.{word-past, word-none, word-more, word-all}
 use Rattle.block_file.proofs.reading.word_in.Statement.{statement}
 use Rattle.block_file.proofs.reading.word_in.Tie as tie
 

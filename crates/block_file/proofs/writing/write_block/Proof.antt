@@ -1,7 +1,9 @@
 -- `write_block`: number, content and check, one behind the other.
 use mathlib.Core.Path.{refl, _∙_}
 use borrow.Author.Needs.{needs}
-use Rattle.block_file.proofs.WriteLaws.{overwrite-lent, length-blockFront, block-written}
+use Rattle.model.specs.Blocks.{checkAt}
+use Rattle.block_file.proofs.Overwriting.{overwrite-lent}
+use Rattle.block_file.proofs.WriteLaws.{length-blockFront, block-written}
 use Rattle.block_file.proofs.writing.write_block.Statement.{statement}
 use Rattle.block_file.proofs.writing.write_block.Tie as tie
 
@@ -27,4 +29,4 @@ write-block-spec =
     let content = sum .before .before .before .before in
     let number = content .before .before .before .before in
     let front = overwrite-lent _ _ _ _ _ 2 refl (number .write-le16 .ensures) (content .write-content .ensures) in
-    overwrite-lent _ _ _ _ _ 510 (length-blockFront _ _) front (check .write-le162 .ensures) ∙ block-written _ _ _ _ _ front (sum .check-of .ensures)))
+    overwrite-lent _ _ _ _ _ checkAt (length-blockFront _ _) front (check .write-le162 .ensures) ∙ block-written _ _ _ _ _ front (sum .check-of .ensures)))

@@ -2,8 +2,9 @@
 use Prim.Native.Nat.{_-_, _≤_}
 use borrow.Author.Needs.{needs}
 use Rattle.model.specs.Stores.{tableOf}
-use Rattle.model.specs.Files.{contents}
-use Rattle.block_file.proofs.WriteLaws.{Over, over-all, blocksOf, blocks-none, blocks-more}
+use Rattle.model.specs.Contents.{contents}
+use Rattle.block_file.proofs.Overwriting.{Over, over-all}
+use Rattle.block_file.proofs.WriteLaws.{blocksOf, blocks-none, blocks-more}
 use Rattle.block_file.proofs.writing.write_blocks.Statement.{statement}
 use Rattle.block_file.proofs.writing.write_blocks.Tie as tie
 

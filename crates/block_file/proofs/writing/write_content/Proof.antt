@@ -2,17 +2,19 @@
 use Prim.Native.Nat.{_-_, _≤_}
 use borrow.Author.Needs.{needs}
 use Rattle.model.specs.Stores.{tableOf}
-use Rattle.model.specs.Files.{contents}
+use Rattle.model.specs.Blocks.{contentBytes}
+use Rattle.model.specs.Contents.{contents}
 use Rattle.block_file.specs.Writing.{contentFrom}
-use Rattle.block_file.proofs.WriteLaws.{Over, over-all, content-none, content-more}
+use Rattle.block_file.proofs.Overwriting.{Over, over-all}
+use Rattle.block_file.proofs.WriteLaws.{content-none, content-more}
 use Rattle.block_file.proofs.writing.write_content.Statement.{statement}
 use Rattle.block_file.proofs.writing.write_content.Tie as tie
 
 abbrev Inv-loop : tie.InvT-loop
-Inv-loop store n g from out₀ i₀ out i = (i ≤ 508) × Over (contentFrom (contents (tableOf store n g)) from i) out₀ out
+Inv-loop store n g from out₀ i₀ out i = (i ≤ contentBytes) × Over (contentFrom (contents (tableOf store n g)) from i) out₀ out
 
 abbrev μ-loop : tie.MeasureT-loop
-μ-loop store n g from out₀ i₀ out i = 508 - i
+μ-loop store n g from out₀ i₀ out i = contentBytes - i
 
 pub write-content-spec : {M : Type 1} → statement M
 write-content-spec =
@@ -26,6 +28,6 @@ write-content-spec =
     (λ c. search needs)
     (λ c. search needs)
     (λ c. search needs)
-    (λ c. (search needs, content-more _ _ _ _ _ _ (search needs) (c .content-byte .ensures) (c .before .before .loop .inv .1)))
+    (λ c. (search needs, content-more _ _ _ _ _ (search needs) (c .content-byte .ensures) (c .before .before .loop .inv .1)))
     (λ c. search needs)
     (λ c. over-all (contentFrom _ _) _ _ _ _ (search needs) (search needs) (c .before .loop .inv .1)))

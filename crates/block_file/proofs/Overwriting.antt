@@ -1,0 +1,95 @@
+-- A buffer written over, part by part.
+--
+--   Over xs old out                  out is old with xs written over its front
+--   over-none, over-next, over-all   a loop that writes f 0, f 1, ..: before its first turn; a turn; when it is done
+--   lent-back                        a buffer whose rest was lent and written over
+--   overwrite-lent                   so more is written behind what stands at the front
+--   put-long, put-own, put-other     a list put into a buffer from a place on: the length; its own places; any other place
+use Prim.Native.Nat.{ℕ, _+_, _-_, _≤_, _<_}
+use native.Mathlib.Nat.{le-antisymm}
+use native.Mathlib.Omega.{arith}
+use mathlib.Core.Path.{_≡_, refl, sym, ap, ap₂, _∙_, subst}
+use mathlib.Core.Logic.{_⊎_, ⊎-elim}
+use mathlib.Core.List.{List, [], _∷_, _++_, append-nil}
+use borrow.Rule.Slice.PartMut.{putMid}
+use lib.ListN.{length, getD, set, take, drop, length-set, length-append, length-drop, drop-of-length-le, List·getD-append}
+use lib.Seq.{length-take-le, take-all, take-at, drop-at, getD-take, getD-drop, getD-append-add}
+use Rattle.model.specs.Sets.{tabulate}
+use Rattle.model.specs.Calls.{overwrite}
+use Rattle.model.proofs.Bounds.{length-tabulate}
+use Rattle.model.proofs.ListLaws.{getD-behind, tabulate-next, length-overwrite, overwrite-more, overwrite-set}
+use Rattle.block_file.specs.Reading.{overwriteFrom}
+
+pub record Over (xs old out : List ℕ) : Type 0 where
+  pub long : length out ≡ length old
+  pub is : out ≡ overwrite xs old
+
+module _ (f : ℕ → ℕ) (old : List ℕ) where
+  pub over-none : Over (tabulate 0 f) old old
+  unfolding tabulate overwrite
+  over-none = record { long = refl; is = refl }
+
+  pub over-next : (out : List ℕ) (i : ℕ) {x : ℕ} → i < length old → x ≡ f i → Over (tabulate i f) old out → Over (tabulate (i + 1) f) old (set out i x)
+  over-next out i {x} h e w =
+      record {
+        long = length-set out i x ∙ w .long;
+        is =
+            ap (λ ys. set ys i x) (w .is)
+            ∙ overwrite-set (tabulate i f) old x i (length-tabulate f i) h
+            ∙ ap (λ ys. overwrite ys old) (ap (λ (y : ℕ). tabulate i f ++ (y ∷ [])) e ∙ sym (tabulate-next f i));
+      }
+
+pub over-all : (xs : ℕ → List ℕ) (old out : List ℕ) (i m : ℕ) → i ≤ m → m ≤ i → Over (xs i) old out → out ≡ overwrite (xs m) old
+over-all xs old out i m l h w = w .is ∙ ap (λ (j : ℕ). overwrite (xs j) old) (le-antisymm l h)
+
+-- ---- the rest of a buffer, lent
+
+pub lent-back : (at : ℕ) (out rest xs : List ℕ) → rest ≡ overwrite xs (take (length out - at) (drop at out))
+    → putMid at (length out - at) out rest ≡ overwriteFrom at xs out
+unfolding overwriteFrom
+lent-back at out rest xs e =
+    let all : length (drop at out) ≤ length out - at = omega (arith, length-drop at out) in
+    ap (λ ys. take at out ++ ys)
+    (ap₂ (λ ys zs. ys ++ zs)
+    (e ∙ ap (overwrite xs) (take-all (length out - at) (drop at out) all))
+    (drop-of-length-le (drop at out) {i = length out - at} all)
+    ∙ append-nil (overwrite xs (drop at out)))
+
+-- ys written behind xs
+pub overwrite-lent : (xs ys old out rest : List ℕ) (n : ℕ) → length xs ≡ n → out ≡ overwrite xs old → rest ≡ overwrite ys (take (length out - n) (drop n out))
+    → take n out ++ (rest ++ drop (length out - n) (drop n out)) ≡ overwrite (xs ++ ys) old
+unfolding overwriteFrom
+overwrite-lent xs ys old out rest n long e f =
+    lent-back n out rest ys f ∙ ap (λ zs. take n zs ++ overwrite ys (drop n zs)) e ∙ overwrite-more xs old ys n long
+
+-- ---- a list put into a buffer
+
+module _ (at : ℕ) (xs old : List ℕ) (h : at + length xs ≤ length old) where
+  front-long : length (take at old) ≡ at
+  front-long = length-take-le at old (omega arith)
+
+  pub put-long : length (overwriteFrom at xs old) ≡ length old
+  unfolding overwriteFrom
+  put-long =
+      length-append (take at old) (overwrite xs (drop at old))
+      ∙ omega (arith, front-long, length-drop at old, length-overwrite xs (drop at old) (omega (arith, length-drop at old)))
+
+  pub put-own : (w : ℕ) → length xs ≡ w → take w (drop at (overwriteFrom at xs old)) ≡ xs
+  unfolding overwriteFrom overwrite
+  put-own w e =
+      ap (take w) (drop-at (take at old) (xs ++ drop (length xs) (drop at old)) at front-long) ∙ take-at xs (drop (length xs) (drop at old)) w e
+
+  pub put-other : (i : ℕ) → (i < at) ⊎ (at + length xs ≤ i) → getD (overwriteFrom at xs old) i 0 ≡ getD old i 0
+  unfolding overwriteFrom overwrite
+  put-other i =
+      ⊎-elim
+      (λ l. List·getD-append (take at old) (overwrite xs (drop at old)) 0 i (subst (λ (m : ℕ). i < m) (sym front-long) l) ∙ getD-take at old i 0 l)
+      (λ l.
+      let r = i - (at + length xs) in
+      let place : at + (length xs + r) ≡ i = omega arith in
+      ap (λ (j : ℕ). getD (overwriteFrom at xs old) j 0) (sym place)
+      ∙ getD-behind (take at old) (overwrite xs (drop at old)) at (length xs + r) 0 front-long
+      ∙ getD-append-add xs (drop (length xs) (drop at old)) r 0
+      ∙ getD-drop (length xs) (drop at old) r 0
+      ∙ getD-drop at old (length xs + r) 0
+      ∙ ap (λ (j : ℕ). getD old j 0) place)

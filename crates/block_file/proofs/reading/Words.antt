@@ -1,0 +1,81 @@
+-- Laws of the sets in the contents of an input: their bytes and their words.
+--
+--   set-inside                          a table in the contents has its sets there
+--   byte-inside                         a byte of a set is one of the contents
+--   word-past                           a word past the bytes of a set
+--   word-none, word-more, word-all      a loop that makes a word of a set from its bytes
+--   words-all                           a loop that writes the words of a set, one after the other, has written the set
+use Prim.Native.Nat.{ℕ, _+_, _*_, _%_, _^_, _≤_, _<_}
+use native.Mathlib.Nat.{mul-le-mul-left, not-le-of-lt}
+use native.Mathlib.Omega.{arith}
+use mathlib.Core.Path.{_≡_, refl, sym, ap, ap₂, _∙_, subst}
+use mathlib.Core.Bool.{false}
+use mathlib.Core.List.{List}
+use lib.Bits.{bitOr, or-shifted-r}
+use lib.ListN.{length, getD}
+use lib.Pow.{shl-exact}
+use lib.Seq.{ext-getD}
+use mir.Syntax.{w8}
+use mir.Val.{Fits}
+use Rattle.model.specs.Sets.{WORDS, Set, member, number, tabulate}
+use Rattle.model.specs.Blocks.{contentsOf}
+use Rattle.model.specs.Contents.{setWidth, headerBytes, setIn}
+use Rattle.model.specs.Calls.{overwrite}
+use Rattle.model.proofs.Bounds.{is-false, length-tabulate, getD-tabulate}
+use Rattle.model.proofs.SetLaws.{Proper, number-lt}
+use Rattle.model.proofs.BlockLaws.{contentsOf-bounded}
+use Rattle.model.proofs.ContentLaws.{number-none, number-append, word-number, number-setIn, setIn-proper, setIn-below}
+use Rattle.block_file.specs.Reading.{SetInside, TableInside}
+use Rattle.block_file.proofs.Overwriting.{Over, over-all}
+
+pub set-inside : {input : List ℕ} {n g : ℕ} (t : TableInside input n g) {w k : ℕ} → w ≡ setWidth n → k < 2 + g + n → SetInside input w (headerBytes + w * k)
+set-inside {n = n} {g} t {w} e l =
+    record {
+      narrow = omega (arith, t .small);
+      inside = omega (arith, t .inside, mul-le-mul-left w l, ap (λ (m : ℕ). m * (2 + g + n)) e);
+    }
+
+-- ---- a word of a set, byte by byte
+
+-- that each byte fits is what the borrow checker tells of a slice
+pub byte-inside : {input : List ℕ} {w at : ℕ} (j : ℕ) → SetInside input w at → j < w → ((i : ℕ) → Fits w8 (getD input i 0))
+    → getD (contentsOf input) (at + j) 0 ≡ number (member (setIn (contentsOf input) w at)) (8 * j) 8
+byte-inside {input} {w} {at} j h l u = sym (number-setIn (contentsOf input) w at (h .narrow) (contentsOf-bounded input (λ i. u i .fits)) j l)
+
+pub word-past : (bytes : List ℕ) (w at v : ℕ) → v < WORDS → w ≤ 8 * v → 0 ≡ getD (setIn bytes w at) v 0
+word-past bytes w at v h l =
+    let X = setIn bytes w at in
+    let out : (s : ℕ) → 64 * v ≤ s → member X s ≡ false =
+    λ s m. is-false (member X s) (λ e. not-le-of-lt (setIn-below bytes w at s (record { is = e })) (omega arith)) in
+    sym (word-number X (setIn-proper bytes w at) v h ∙ number-none (member X) (64 * v) 64 out)
+
+module _ (X : Set) (v : ℕ) where
+  pub word-none : 0 ≡ number (member X) (64 * v) (8 * 0)
+  unfolding number
+  word-none = refl
+
+  pub word-more : (b word byte : ℕ) → b < 8 → word ≡ number (member X) (64 * v) (8 * b) → byte ≡ number (member X) (8 * (8 * v + b)) 8
+      → bitOr word (byte * 2 ^ (8 * b) % 2 ^ 64) ≡ number (member X) (64 * v) (8 * (b + 1))
+  word-more b word byte h e f =
+      let low = number (member X) (64 * v) (8 * b) in
+      let next = number (member X) (8 * (8 * v + b)) 8 in
+      let more : 8 * b + 8 ≡ 8 * (b + 1) = omega arith in
+      let place : 8 * (8 * v + b) ≡ 64 * v + 8 * b = omega arith in
+      ap₂ (λ (x y : ℕ). bitOr x (y * 2 ^ (8 * b) % 2 ^ 64)) e f
+      ∙ ap (bitOr low) (shl-exact 8 (8 * b) 64 (number-lt (member X) (8 * (8 * v + b)) 8) (omega arith))
+      ∙ or-shifted-r next (8 * b) low (number-lt (member X) (64 * v) (8 * b))
+      ∙ omega (arith, number-append (member X) (64 * v) (8 * b) 8, ap (λ (m : ℕ). 2 ^ (8 * b) * number (member X) m 8) place)
+      ∙ ap (number (member X) (64 * v)) more
+
+  pub word-all : (b word : ℕ) → Proper X → v < WORDS → b ≤ 8 → 8 ≤ b → word ≡ number (member X) (64 * v) (8 * b) → word ≡ getD X v 0
+  word-all b word x h l m e =
+      let whole : 8 * b ≡ 64 = omega arith in
+      e ∙ ap (number (member X) (64 * v)) whole ∙ sym (word-number X x v h)
+
+pub words-all : (X : Set) → Proper X → {old out : List ℕ} (v : ℕ) → v ≤ WORDS → WORDS ≤ v → Over (tabulate v (λ w. getD X w 0)) old out → out ≡ overwrite X old
+words-all X x {old} {out} v l h so =
+    let word : ℕ → ℕ = λ w. getD X w 0 in
+    let all : tabulate WORDS word ≡ X =
+    ext-getD 0 (tabulate WORDS word) X (length-tabulate word WORDS ∙ sym (x .long))
+    (λ w m. getD-tabulate word WORDS w 0 (subst (λ (j : ℕ). w < j) (length-tabulate word WORDS) m)) in
+    over-all (λ m. tabulate m word) old out v WORDS l h so ∙ ap (λ xs. overwrite xs old) all

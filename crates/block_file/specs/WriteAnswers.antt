@@ -1,0 +1,19 @@
+-- The call `write` in the specification's numbers.
+--
+--   writtenOf r      its answer: `refusal` is 0 and `length` that of the file, or `refusal` is the number and `length` 0
+--   CalledWrite      a call and what it gave: its contract
+use Prim.Native.Nat.{ℕ}
+use mathlib.Core.Path.{_≡_}
+use mathlib.Core.List.{List}
+use lib.ListN.{length}
+use Rattle.model.specs.Calls.{Written as WriteAnswer, writeAnswer, writeBuffer}
+use Rattle.block_file.specs.declared.writing.Written.{Written}
+use Rattle.block_file.specs.declared.writing.Written.the-variants.{File, Refused}
+
+abbrev pub writtenOf : Written → WriteAnswer
+writtenOf (File l) = record { refusal = 0; length = l }
+writtenOf (Refused k) = record { refusal = k; length = 0 }
+
+-- The output before the call and after it.
+abbrev pub CalledWrite : List ℕ → ℕ → ℕ → List ℕ → Written → List ℕ → Type 0
+CalledWrite store n g before r after = (writtenOf r ≡ writeAnswer store n g (length before)) × (after ≡ writeBuffer store n g before)

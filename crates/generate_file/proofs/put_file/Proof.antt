@@ -1,0 +1,25 @@
+-- `put_file`: write's file of what generate filled, or generate's refusal.
+use borrow.Author.Needs.{needs}
+use Rattle.generate_file.proofs.Files.{made-file, made-refused}
+use Rattle.generate_file.proofs.put_file.Statement.{statement}
+use Rattle.generate_file.proofs.put_file.Tie as tie
+
+pub put-file-spec : {M : Type 1} → statement M
+put-file-spec =
+    tie.close
+    (tie.spec
+    (λ c. search needs)
+    (λ c κs. search needs)
+    (λ c. search needs)
+    (λ c. search needs)
+    (λ c κs. search needs)
+    (λ c. search needs)
+    (λ c. search needs)
+    (λ c.
+    let written = c .before .before in
+    let made = written .before .before .before .before .before .before in
+    made-file _ _ _ _ _ (made .generate .result) (made .generate .ensures) (search needs) (search needs) _ _ _ (search needs) (written .write .ensures .0)
+    (written .write .ensures .1))
+    (λ c.
+    let made = c .before .before .before .before in
+    made-refused _ _ _ _ _ (made .generate .result) (made .generate .ensures) (search needs) _ _ (c .before .refusal .given .1)))

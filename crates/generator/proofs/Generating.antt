@@ -1,0 +1,89 @@
+-- The call generate, declined and not.
+--
+--   ground-10, ground-14, ground-14-over, ground-22, no-ground     the first ground that holds, or none
+--   Accepted, accepted-load     what it says of n, f and the store that no ground holds
+--   refused-load, filled-load   what was returned and left in the store, where a ground holds and where none does
+use Prim.Native.Nat.{ℕ, _+_, _*_, _≤_, _<_}
+use native.Mathlib.Nat.{mul-le-mul}
+use native.Mathlib.Omega.{arith}
+use mathlib.Core.Path.{_≡_, refl, sym, ap, _∙_}
+use mathlib.Core.List.{List, []}
+use borrow.Author.Tests.{ltb-false, lt-ltb, le-ltb, eqb-false, eq-eqb, ne-eqb}
+use lib.Dec.{eqb, ltb}
+use lib.ListN.{length}
+use Rattle.model.specs.Sets.{maxStates}
+use Rattle.model.specs.Stores.{storeWords, layout, refuse, badStates}
+use Rattle.model.specs.Calls.{overwrite}
+use Rattle.model.proofs.Bounds.{or-false}
+use Rattle.model.proofs.GroundLaws.{refuse-clear}
+use Rattle.generator.specs.Load.{maxFanOut, numbers, tableFrom, load, generateGrounds, generateAnswer, generateBuffer}
+use Rattle.generator.specs.declared.Generated.the-variants.{Filled, Refused}
+use Rattle.generator.specs.Answers.{CalledGenerate}
+
+-- ---- the grounds
+
+module _ (n f room : ℕ) where
+  pub ground-10 : room < storeWords → 10 ≡ refuse (generateGrounds n f room)
+  unfolding refuse generateGrounds
+  ground-10 h = rw (lt-ltb room storeWords h)
+
+  pub ground-14 : storeWords ≤ room → n ≡ 0 → 14 ≡ refuse (generateGrounds n f room)
+  unfolding refuse generateGrounds badStates
+  ground-14 h e = rw (le-ltb room storeWords h, eq-eqb n 0 e)
+
+  pub ground-14-over : storeWords ≤ room → (n ≡ 0 → ⊥) → maxStates < n → 14 ≡ refuse (generateGrounds n f room)
+  unfolding refuse generateGrounds badStates
+  ground-14-over h some e = rw (le-ltb room storeWords h, ne-eqb n 0 some, lt-ltb maxStates n e)
+
+  pub ground-22 : storeWords ≤ room → (n ≡ 0 → ⊥) → n ≤ maxStates → maxFanOut < f → 22 ≡ refuse (generateGrounds n f room)
+  unfolding refuse generateGrounds badStates
+  ground-22 h some small e = rw (le-ltb room storeWords h, ne-eqb n 0 some, le-ltb maxStates n small, lt-ltb maxFanOut f e)
+
+  pub no-ground : storeWords ≤ room → (n ≡ 0 → ⊥) → n ≤ maxStates → f ≤ maxFanOut → 0 ≡ refuse (generateGrounds n f room)
+  unfolding refuse generateGrounds badStates
+  no-ground h some small e = rw (le-ltb room storeWords h, ne-eqb n 0 some, le-ltb maxStates n small, le-ltb maxFanOut f e)
+
+-- ---- the call
+
+pub record Accepted (n f room : ℕ) : Type 0 where
+  pub long : storeWords ≤ room
+  pub some : 0 < n
+  pub small : n ≤ maxStates
+  pub few : f ≤ maxFanOut
+  -- so many numbers does the largest load take
+  pub most : n * f ≤ maxStates * maxFanOut
+
+positive : (n : ℕ) → (n ≡ 0 → ⊥) → 0 < n
+positive n h = omega arith
+
+pub accepted-load : (n f room : ℕ) {k : ℕ} → k ≡ refuse (generateGrounds n f room) → k ≡ 0 → Accepted n f room
+unfolding generateGrounds badStates
+accepted-load n f room e z =
+    let clear = refuse-clear (generateGrounds n f room) [] refl (sym e ∙ z) .0 in
+    let states = or-false (eqb n 0) (ltb maxStates n) (clear .1 .0) in
+    let small = ltb-false maxStates n (states .1) in
+    let few = ltb-false maxFanOut f (clear .1 .1 .0) in
+    record {
+      long = ltb-false room storeWords (clear .0);
+      some = positive n (eqb-false n 0 (states .0));
+      small = small;
+      few = few;
+      most = mul-le-mul small few;
+    }
+
+module _ (seed n f : ℕ) (before : List ℕ) {k : ℕ} (e : k ≡ refuse (generateGrounds n f (length before))) where
+  pub refused-load : (k ≡ 0 → ⊥) → CalledGenerate seed n f before (Refused k) before
+  unfolding generateAnswer generateBuffer
+  refused-load some =
+      let test = ne-eqb (refuse (generateGrounds n f (length before))) 0 (λ z. some (e ∙ z)) in
+      (ap (λ (r : ℕ). record { refusal = r }) e, rw test, rw test)
+
+  pub filled-load : k ≡ 0 → (after xs : List ℕ) → xs ≡ numbers seed (55 + n * f) → after ≡ overwrite (layout (tableFrom xs n f)) before
+      → CalledGenerate seed n f before Filled after
+  unfolding generateAnswer generateBuffer load
+  filled-load z after xs drawn made =
+      let test = eq-eqb (refuse (generateGrounds n f (length before))) 0 (sym e ∙ z) in (
+        ap (λ (r : ℕ). record { refusal = r }) (sym z ∙ e),
+        made ∙ ap (λ ys. overwrite (layout (tableFrom ys n f)) before) drawn ∙ sym (rw test),
+        rw test,
+      )

@@ -1,0 +1,6 @@
+pub mod Numbers
+pub mod Drawing
+pub mod Pasting
+pub mod Filled
+pub mod Generating
+pub mod LoadsKept

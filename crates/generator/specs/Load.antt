@@ -1,0 +1,63 @@
+-- The load that a seed gives, and what the call generate returns and leaves in the store (the specification, "A load that can be repeated").
+--
+--   maxFanOut            the greatest fan-out
+--   nextNumber seed xs   the number that follows the numbers xs
+--   numbers seed k       the first k numbers (the additive generator with lags 24 and 55 in Knuth, volume 2)
+--   successors xs n f s  the f numbers that state s takes of xs, each modulo n
+--   load seed n f        the table
+--   generateGrounds, GenerateAnswer, generateAnswer, generateBuffer     the grounds in order, the answer, the store at exit
+use Prim.Native.Nat.{ℕ, zero, suc, _+_, _*_, _-_, _%_, _^_}
+use mathlib.Core.Bool.{cond}
+use mathlib.Core.List.{List, [], _∷_, _++_}
+use lib.Dec.{eqb, ltb}
+use lib.ListN.{length, getD}
+use Rattle.model.specs.Sets.{Set, any, setOf, single}
+use Rattle.model.specs.Tables.{Table}
+use Rattle.model.specs.Stores.{layout, Ground, refuse, badStates, storeGround}
+use Rattle.model.specs.Calls.{overwrite}
+
+abbrev pub maxFanOut : ℕ
+maxFanOut = 16
+
+-- ---- the numbers
+
+-- The first is the seed; each of the next 54 is the one before plus 2,654,435,769; from the 56th on each is the sum of the numbers 24 and
+-- 55 places back; all modulo 2^32.
+unfoldable pub nextNumber : ℕ → List ℕ → ℕ
+nextNumber seed xs =
+    let k = length xs in
+    cond (eqb k 0) seed
+    (cond (ltb k 55) ((getD xs (k - 1) 0 + 2654435769) % 2 ^ 32) ((getD xs (k - 24) 0 + getD xs (k - 55) 0) % 2 ^ 32))
+
+unfoldable pub numbers : ℕ → ℕ → List ℕ
+numbers seed zero = []
+numbers seed (suc k) = let xs = numbers seed k in xs ++ (nextNumber seed xs ∷ [])
+
+-- ---- the table
+
+-- Each state in turn takes f numbers, from the 56th on; each modulo n is a successor.
+unfoldable pub successors : List ℕ → ℕ → ℕ → ℕ → Set
+successors xs n f s = setOf (λ t. any f (λ i. eqb t (getD xs (55 + s * f + i) 0 % n)))
+
+unfoldable pub tableFrom : List ℕ → ℕ → ℕ → Table
+tableFrom xs n f = record { n = n; initial = single 0; forbidden = single (n - 1); groups = []; row = successors xs n f }
+
+-- The states take n · f numbers in all.
+unfoldable pub load : ℕ → ℕ → ℕ → Table
+load seed n f = tableFrom (numbers seed (55 + n * f)) n f
+
+-- ---- the call
+
+pub record GenerateAnswer : Type 0 where
+  pub refusal : ℕ  -- 0 where the store is filled
+
+unfoldable pub generateGrounds : ℕ → ℕ → ℕ → List Ground
+generateGrounds n f room = storeGround room ∷ (badStates n, 14) ∷ (ltb maxFanOut f, 22) ∷ []
+
+unfoldable pub generateAnswer : ℕ → ℕ → ℕ → GenerateAnswer
+generateAnswer n f room = record { refusal = refuse (generateGrounds n f room) }
+
+unfoldable pub generateBuffer : ℕ → ℕ → ℕ → List ℕ → List ℕ
+generateBuffer seed n f store =
+    let filled = overwrite (layout (load seed n f)) store in
+    cond (eqb ((generateAnswer n f (length store)) .refusal) 0) filled store

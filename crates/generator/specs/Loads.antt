@@ -1,0 +1,35 @@
+-- What is promised of the call generate; `LoadsKept.loads` proves it.
+--
+--   Accepts store n g    every call accepts the store: write given output enough, decide and shortest path given a path buffer, and
+--                        decide an allowance, in bounds
+--   Loads                of every call of generate: what it filled, what it left alone
+use Prim.Native.Nat.{ℕ, _≤_}
+use mathlib.Core.Path.{_≡_}
+use mathlib.Core.Bool.{true, false}
+use mathlib.Core.List.{List}
+use lib.ListN.{drop}
+use Rattle.model.specs.Sets.{maxStates}
+use Rattle.model.specs.Stores.{storeWords, tableOf}
+use Rattle.model.specs.Contents.{sets}
+use Rattle.model.specs.Files.{fileLength}
+use Rattle.model.specs.Calls.{maxAllowance, decideAnswer, shortestAnswer, writeAnswer}
+use Rattle.generator.specs.Load.{load}
+use Rattle.generator.specs.declared.Generated.{Generated}
+use Rattle.generator.specs.Answers.{isRefused, CalledGenerate}
+
+pub record Accepts (store : List ℕ) (n g : ℕ) : Type 0 where
+  pub write : (room : ℕ) → fileLength n g ≤ room → (writeAnswer store n g room) .refusal ≡ 0
+  pub decide : (allowance room : ℕ) → allowance ≤ maxAllowance → maxStates ≤ room → (decideAnswer store n g allowance room) .refusal ≡ 0
+  pub shortest : (room : ℕ) → maxStates ≤ room → (shortestAnswer store n g room) .refusal ≡ 0
+
+pub record Loads : Type 0 where
+  -- for every accepted seed, n and f
+  pub accepted : (seed n f : ℕ) (before : List ℕ) (r : Generated) (after : List ℕ)
+      → CalledGenerate seed n f before r after → isRefused r ≡ false → Accepts after n 0
+  -- the table in the store is the one that the seed gives
+  pub table : (seed n f : ℕ) (before : List ℕ) (r : Generated) (after : List ℕ)
+      → CalledGenerate seed n f before r after → isRefused r ≡ false → sets (tableOf after n 0) ≡ sets (load seed n f)
+  pub declined : (seed n f : ℕ) (before : List ℕ) (r : Generated) (after : List ℕ)
+      → CalledGenerate seed n f before r after → isRefused r ≡ true → after ≡ before
+  pub past : (seed n f : ℕ) (before : List ℕ) (r : Generated) (after : List ℕ)
+      → CalledGenerate seed n f before r after → drop storeWords after ≡ drop storeWords before

@@ -1,0 +1,70 @@
+-- Files of blocks: the blocks.
+--
+--   blockBytes, contentBytes     the bytes of a block, and those of its content, which begin at contentAt; its check stands at checkAt
+--   modulus                      the prime of the check
+--   le16 x                       x as two bytes, low byte first; le16At bytes i: the number whose two bytes stand at i
+--   checkOf bytes                the check of a block (a weighted checksum)
+--   blocksFor l                  how many blocks hold l bytes of content
+--   blockOf bytes k              block k of a file with these contents
+--   part input k                 the bytes of block k; contentsOf input: the contents of a file's blocks, joined
+--   blockGrounds block k         the grounds 12 and 13 of a block that should be block k
+use Prim.Native.Nat.{ℕ, zero, suc, _+_, _*_, _-_, _/_, _%_}
+use mathlib.Core.Bool.{not}
+use mathlib.Core.List.{List, [], _∷_, _++_}
+use lib.Dec.{eqb}
+use lib.ListN.{length, getD, take, drop, replicate}
+use Rattle.model.specs.Stores.{concat, Ground}
+
+abbrev pub blockBytes : ℕ
+blockBytes = 512
+
+abbrev pub contentBytes : ℕ
+contentBytes = 508
+
+abbrev pub contentAt : ℕ
+contentAt = 2
+
+abbrev pub checkAt : ℕ
+checkAt = contentAt + contentBytes
+
+abbrev pub modulus : ℕ
+modulus = 65521
+
+abbrev pub le16 : ℕ → List ℕ
+le16 x = x % 256 ∷ x / 256 % 256 ∷ []
+
+abbrev pub le16At : List ℕ → ℕ → ℕ
+le16At bytes i = getD bytes i 0 + 256 * getD bytes (i + 1) 0
+
+-- ---- the check
+
+unfoldable pub weighted : List ℕ → ℕ → ℕ
+weighted bytes zero = 0
+weighted bytes (suc i) = weighted bytes i + (i + 1) * getD bytes i 0
+
+-- The sum of (i + 1) times byte i, for each byte before the check, modulo the prime.
+unfoldable pub checkOf : List ℕ → ℕ
+checkOf bytes = weighted bytes checkAt % modulus
+
+-- ---- writing
+
+abbrev pub blocksFor : ℕ → ℕ
+blocksFor l = (l + (contentBytes - 1)) / contentBytes
+
+-- The number k, so many bytes of content with 0 for filler (padding), and the check.
+unfoldable pub blockOf : List ℕ → ℕ → List ℕ
+blockOf bytes k =
+    let front = le16 k ++ take contentBytes (drop (contentBytes * k) bytes ++ replicate contentBytes 0) in
+    front ++ le16 (checkOf front)
+
+-- ---- reading
+
+unfoldable pub part : List ℕ → ℕ → List ℕ
+part input k = take blockBytes (drop (blockBytes * k) input)
+
+unfoldable pub contentsOf : List ℕ → List ℕ
+contentsOf input = concat (length input / blockBytes) (λ k. take contentBytes (drop contentAt (part input k)))
+
+-- It does not hold the number k, or not its own check.
+unfoldable pub blockGrounds : List ℕ → ℕ → List Ground
+blockGrounds block k = (not (eqb (le16At block 0) k), 12) ∷ (not (eqb (le16At block checkAt) (checkOf block)), 13) ∷ []

@@ -1,0 +1,3 @@
+pub mod CoversKept
+pub mod RoundsKept
+pub mod Regrouped

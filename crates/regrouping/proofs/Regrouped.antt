@@ -1,0 +1,88 @@
+-- The proof of specs/Regrouping.
+--
+--   alike-is          a table alike but for its groups is the other one with those groups
+--   decision-same     the same outcome gives the same decision
+--   decisions         decide on two stores that hold such tables
+--   regrouping        all of specs/Regrouping
+use Prim.Native.Nat.{ℕ}
+use mathlib.Core.Path.{_≡_, refl, sym, ap, ap₂, _∙_, subst, fun-ext}
+use mathlib.Core.Bool.{cond}
+use mathlib.Core.List.{List, []}
+use lib.Dec.{eqb}
+use lib.ListN.{length}
+use Rattle.model.specs.Sets.{Set, empty}
+use Rattle.model.specs.Tables.{Table}
+use Rattle.model.specs.Rounds.{Outcome, safe, unsafe, undecided, run}
+use Rattle.model.specs.Paths.{smallestPath}
+use Rattle.model.specs.Stores.{tableOf, refuse}
+use Rattle.model.specs.Calls.{overwrite, Decision, decideLimits, decideGrounds, decisionOf, declined, decideAnswer, decideBuffer}
+use Rattle.model.proofs.Acceptance.{accepted-store, store-accepted}
+use Rattle.regrouping.specs.Regrouping.{Alike, SameCovers, firstList, Held, SameDecisions, Regrouping}
+use Rattle.regrouping.proofs.CoversKept.{rewriting-same}
+use Rattle.regrouping.proofs.RoundsKept.{regroup, covers-add, run-same, shortest-same, smallest-same}
+
+alike-is : (t u : Table) → Alike t u → regroup t (u .groups) ≡ u
+alike-is t u a = λ i.
+    record { n = a .n i; initial = a .initial i; forbidden = a .forbidden i; groups = u .groups; row = fun-ext (a .row) i }
+
+decision-same : (t : Table) (G : List Set) (o : Outcome) → decisionOf t o ≡ decisionOf (regroup t G) o
+unfolding decisionOf
+decision-same t G (safe i R) = refl
+decision-same t G (unsafe i) =
+    ap (λ (d : ℕ). record { refusal = 0; verdict = 1; count = i; invariant = empty; size = 0; steps = d }) (shortest-same t G)
+decision-same t G (undecided i) = refl
+
+-- what a table alike but for its groups decides, and its path
+module _ (t u : Table) (a : Alike t u) where
+  decided-same : SameCovers (t .n) (firstList t) (firstList u) → (allowance : ℕ) → decisionOf t (run t allowance) ≡ decisionOf u (run u allowance)
+  decided-same c allowance =
+      let e = alike-is t u a in
+      let G = u .groups in
+      let list : SameCovers (t .n) (firstList t) (firstList (regroup t G)) = subst (λ (v : Table). SameCovers (t .n) (firstList t) (firstList v)) (sym e) c in
+      ap (decisionOf t) (run-same t G list allowance)
+      ∙ decision-same t G (run (regroup t G) allowance)
+      ∙ ap (λ (v : Table). decisionOf v (run v allowance)) e
+
+  path-same : smallestPath t ≡ smallestPath u
+  path-same = smallest-same t (u .groups) ∙ ap smallestPath (alike-is t u a)
+
+module _ (store other : List ℕ) (n g h : ℕ) (held : Held store n g) (held′ : Held other n h)
+    (a : Alike (tableOf store n g) (tableOf other n h))
+    (c : SameCovers n (firstList (tableOf store n g)) (firstList (tableOf other n h))) where
+  answers : (allowance room : ℕ) → decideAnswer store n g allowance room ≡ decideAnswer other n h allowance room
+  unfolding decideAnswer decideGrounds tableOf
+  answers allowance room =
+      let t = tableOf store n g in
+      let u = tableOf other n h in
+      let limits = refuse (decideLimits allowance room) in
+      let by : ℕ → Decision → Decision = λ k d. cond (eqb k 0) d (declined k) in
+      ap (λ (k : ℕ). by k (decisionOf t (run t allowance))) (store-accepted store n g (decideLimits allowance room) (accepted-store store n g [] held .0))
+      ∙ ap (by limits) (decided-same t u a c allowance)
+      ∙ sym (ap (λ (k : ℕ). by k (decisionOf u (run u allowance))) (store-accepted other n h (decideLimits allowance room) (accepted-store other n h [] held′ .0)))
+
+  decisions : SameDecisions store other n g h
+  unfolding decideBuffer
+  decisions =
+      record {
+        answers = answers;
+        buffers = λ allowance path.
+            ap₂ (λ (d : Decision) (xs : List ℕ). cond (eqb (d .verdict) 1) (overwrite xs path) path)
+            (answers allowance (length path)) (path-same (tableOf store n g) (tableOf other n h) a);
+      }
+
+pub regrouping : Regrouping
+unfolding tableOf
+regrouping =
+    record {
+      covers = decisions;
+      groups-covers = λ store other n g h held held′ a c.
+          decisions store other n g h held held′ a (first-lists (tableOf store n g) (tableOf other n h) a c);
+      rewriting-covers = λ n L M r. rewriting-same n r;
+      rewritten = λ store other n g h held held′ a r.
+          decisions store other n g h held held′ a (first-lists (tableOf store n g) (tableOf other n h) a (rewriting-same n r));
+    }
+  where
+    -- Z0 is the same for both
+    first-lists : (t u : Table) → Alike t u → SameCovers (t .n) (t .groups) (u .groups) → SameCovers (t .n) (firstList t) (firstList u)
+    first-lists t u a c =
+        subst (λ (v : Table). SameCovers (t .n) (firstList t) (firstList v)) (alike-is t u a) (covers-add (t .n) (t .groups) (u .groups) c _)
