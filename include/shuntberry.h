@@ -1,12 +1,12 @@
 /*
  * Shuntberry: is a forbidden state of a dialogue table reachable, and by which steps?
  *
- * The calls are decide, shortest path, read, write and generate, and beside them next open minute, which
- * says when a release may be loaded and reads no table. Link target/staticlib/libshuntberry.a, which
- * `rt staticlib shuntberry` makes. Nothing is allocated, nothing is kept between calls, and no call
- * fails other than by a refusal number. Calls may be made from several threads at once, as long as no
- * buffer that one of them writes is lent to another. A call takes less than 256 KiB of stack
- * (tests/outside measures it on the longest path).
+ * The calls are decide, shortest path, distances, within, read, write and generate, and beside them next
+ * open minute, which says when a release may be loaded and reads no table. Link
+ * target/staticlib/libshuntberry.a, which `rt staticlib shuntberry` makes. Nothing is allocated, nothing is
+ * kept between calls, and no call fails other than by a refusal number. Calls may be made from several
+ * threads at once, as long as no buffer that one of them writes is lent to another. A call takes less than
+ * 256 KiB of stack (tests/outside measures it on the longest path).
  *
  * A TABLE has n states, numbered 0 to n - 1, with n from 1 to 256, and g groups, with g from 0 to 64.
  * A SET of states is four words: state s is the bit of value 2^(s % 64) in word s / 64.
@@ -20,8 +20,8 @@
  * given anything: what it does not accept, it refuses.
  *
  * A REFUSED call has a refusal number in `refusal`, 0 in all other fields, and every buffer is as it
- * was before. (generate returns the number itself.) Where several grounds apply, the one that the call's
- * comment names first is given; for 12 and 13 the blocks are taken in order, 12 before 13 in each.
+ * was before. (distances and generate return the number itself.) Where several grounds apply, the one that
+ * the call's comment names first is given; for 12 and 13 the blocks are taken in order, 12 before 13 in each.
  */
 #ifndef SHUNTBERRY_H
 #define SHUNTBERRY_H
@@ -41,6 +41,7 @@ extern "C" {
 #define SHUNTBERRY_SET_WORDS 4       /* words of a set */
 #define SHUNTBERRY_STORE_WORDS 1288  /* the least length of a store, in words */
 #define SHUNTBERRY_PATH_BYTES 256    /* the least length of a path buffer, in bytes */
+#define SHUNTBERRY_UNREACHABLE 65535 /* the distance of a state from which no forbidden state can be reached */
 #define SHUNTBERRY_BLOCK_BYTES 512   /* a file is whole blocks of this many bytes */
 #define SHUNTBERRY_FILE_BYTES 10752  /* the length of the largest file, 21 blocks */
 #define SHUNTBERRY_MAX_FAN_OUT 16    /* the greatest fan-out of a generated table */
@@ -63,14 +64,15 @@ extern "C" {
 #define SHUNTBERRY_BLOCK_NUMBER 12      /* block k does not hold the number k (read) */
 #define SHUNTBERRY_BLOCK_CHECK 13       /* a block's stored check is not its check (read) */
 #define SHUNTBERRY_STATES 14            /* n is 0 or over 256 (all calls but next open) */
-#define SHUNTBERRY_GROUPS 15            /* g is over 64 (decide, shortest path, read, write) */
+#define SHUNTBERRY_GROUPS 15            /* g is over 64 (all calls but generate and next open) */
 #define SHUNTBERRY_BLOCK_COUNT 16       /* the file has too few or too many blocks for its n and g (read) */
-#define SHUNTBERRY_STRAY_BIT 17         /* a set holds a state from n up, or a word of an unused group or row is not 0 (decide, shortest path, read, write) */
+#define SHUNTBERRY_STRAY_BIT 17         /* a set holds a state from n up, or a word of an unused group or row is not 0 (all calls but generate and next open) */
 #define SHUNTBERRY_FILLER 18            /* a byte past the contents is not 0 (read) */
 #define SHUNTBERRY_OUTPUT_SHORT 19      /* the output is shorter than the file (write) */
 #define SHUNTBERRY_ALLOWANCE 20         /* the allowance is over 256 (decide) */
 #define SHUNTBERRY_PATH_SHORT 21        /* the path buffer has under 256 bytes (decide, shortest path) */
 #define SHUNTBERRY_FAN_OUT 22           /* the fan-out is over 16 (generate) */
+#define SHUNTBERRY_DISTANCES_SHORT 23   /* the distance buffer has fewer than n places (distances) */
 #define SHUNTBERRY_WINDOW_RANGE 29      /* a window starts past minute 10,079 of the week, or is 0 or over 10,080 minutes long (next open) */
 #define SHUNTBERRY_TOO_MANY 30          /* over 32 windows, or over 64 closed days (next open) */
 #define SHUNTBERRY_TIME 31              /* the time is over 2^31 - 1 (next open) */
@@ -123,6 +125,32 @@ struct shuntberry_shortest {
  */
 struct shuntberry_shortest shuntberry_shortest_path(const uint64_t *store, size_t store_len, size_t n, size_t g,
                                                     uint8_t *path, size_t path_len);
+
+/*
+ * Writes the distance of each state, which is the number of steps from it to the nearest forbidden
+ * state, at the front of `distances`: one place for each of the n states, SHUNTBERRY_UNREACHABLE where
+ * no forbidden state can be reached. Places past n are not touched. The store is never changed.
+ * `distances_len` is the number of places. Returns 0, or the number of the refusal.
+ *
+ * Refuses with 10, 14, 15, 17 or 23.
+ */
+uint32_t shuntberry_distances(const uint64_t *store, size_t store_len, size_t n, size_t g, uint16_t *distances,
+                              size_t distances_len);
+
+/* What shuntberry_within answers. */
+struct shuntberry_within {
+    uint32_t refusal; /* 0, or the number of the refusal */
+    uint32_t within;  /* where refusal is 0: 1 if there is a path of at most k steps, else 0. A refused call has 0 here too */
+};
+
+/*
+ * Is there a path of at most k steps from an initial to a forbidden state? For every k: for 0 it asks
+ * for a state that is initial and forbidden. The search goes outward from the initial states and stops
+ * at the first forbidden one, or when no new state is found. The store is never changed.
+ *
+ * Refuses with 10, 14, 15 or 17.
+ */
+struct shuntberry_within shuntberry_within(const uint64_t *store, size_t store_len, size_t n, size_t g, size_t k);
 
 /* What shuntberry_read answers. */
 struct shuntberry_table {

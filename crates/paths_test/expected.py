@@ -59,6 +59,30 @@ def report(name, n, g, table, room=256, words=STORE_WORDS):
     LINES.append(f"{name}: {answer}, rest untouched\n")
 
 
+def distance(n, forbidden, steps, s):
+    """Steps from s to the nearest forbidden state, or 65,535: the shortest path with s as the only initial state."""
+    path = shortest(n, {s}, forbidden, steps)
+    return 65535 if path is None else len(path) - 1
+
+
+def measure(name, n, g, table, room=7, words=STORE_WORDS):
+    """Distances, whose buffer of `room` places held 777 in each, and within for some numbers of steps."""
+    initial, forbidden, groups, steps = table
+    declined = refusal(words, n, g, initial, forbidden, groups, steps, PATH_BYTES)
+    places, line = [777] * room, f"{name}: "
+    if declined or room < n:
+        line += f"refused {declined or 23}"
+    else:
+        places[:n] = [distance(n, forbidden, steps, s) for s in range(n)]
+        line += "distances"
+    line += ", buffer" + "".join(f" {place}" for place in places)
+    for k in 0, 1, 3, 65535:
+        path = None if declined else shortest(n, initial, forbidden, steps)
+        yes = "yes" if path is not None and len(path) - 1 <= k else "no"
+        line += f", within {k} " + (f"refused {declined}" if declined else yes)
+    LINES.append(line + "\n")
+
+
 def chain(*states):
     return {(a, b) for a, b in zip(states, states[1:])}
 
@@ -95,6 +119,20 @@ report("1287 words, n 0", 0, 0, (set(), set(), [], set()), room=255, words=1287)
 report("D, g 2", 5, 2, D)
 report("B, 255 initial", 5, 0, ({0, 255}, {3}, [], B[3]))
 report("B, 2 to 5", 5, 0, ({0}, {3}, [], B[3] | {(2, 5)}))
+
+measure("A", 3, 0, A)
+measure("B", 5, 0, B)
+measure("F", 1, 0, F)
+measure("no initial state", 2, 0, (set(), {1}, [], {(0, 1)}))
+measure("no forbidden state", 2, 0, ({0}, set(), [], {(0, 1), (1, 0)}))
+measure("a short and a long way", 7, 0, ({0, 6}, {5}, [], chain(0, 1, 2, 3, 4, 5) | {(6, 2), (2, 5)}))
+measure("B, 5 places", 5, 0, B, room=5)
+measure("B, n 6, 5 places", 6, 0, B, room=5)
+measure("B, n 4, 3 groups, 5 places", 4, 3, B, room=5)
+measure("B, n 0", 0, 0, B, room=5)
+measure("B, n 257, g 65", 257, 65, B, room=5)
+measure("B, n 6, g 65", 6, 65, B, room=5)
+measure("1287 words, n 0", 0, 0, (set(), set(), [], set()), room=5, words=1287)
 
 path, text = Path(__file__).resolve().parent / "stdout", "".join(LINES)
 if "--check" in sys.argv[1:]:

@@ -67,6 +67,9 @@ pub const MAX_WINDOWS: usize = 32;
 /// The greatest number of closed days.
 pub const MAX_DAYS: usize = 64;
 
+/// What [`distances`] writes for a state from which no forbidden state can be reached.
+pub const UNREACHABLE: u16 = 65_535;
+
 /// Where the initial set begins in a store.
 pub const INITIAL: usize = 0;
 /// Where the forbidden set begins in a store.
@@ -185,6 +188,7 @@ impl Refused {
             20 => "the allowance is over 256",
             21 => "the path buffer has under 256 bytes",
             22 => "the fan-out is over 16",
+            23 => "the distance buffer has fewer than n places",
             29 => {
                 "a window starts past minute 10,079 of the week, or is 0 or over 10,080 minutes long"
             }
@@ -285,6 +289,54 @@ pub fn shortest_path<'p>(
     };
     accepted(shortest.refusal)?;
     Ok((shortest.found != 0).then(|| states_of_path(path, shortest.steps)))
+}
+
+/// The distance of each state, the number of steps to the nearest forbidden one, at the front of
+/// `distances`: one place for each of the `n` states, [`UNREACHABLE`] where none can be reached. No
+/// other place is touched.
+///
+/// Refused with 10, 14, 15, 17 or 23.
+///
+/// ```
+/// use shuntberry::{FORBIDDEN, INITIAL, STORE_WORDS, UNREACHABLE, distances, row, within};
+///
+/// // Steps 0 → 1, 1 → 2; 0 is initial, 2 is forbidden; 3 leads nowhere.
+/// let mut store = [0; STORE_WORDS];
+/// store[INITIAL] = 1 << 0;
+/// store[FORBIDDEN] = 1 << 2;
+/// store[row(0)] = 1 << 1;
+/// store[row(1)] = 1 << 2;
+///
+/// let mut found = [0; 4];
+/// distances(&store, 4, 0, &mut found)?;
+/// assert_eq!(found, [2, 1, 0, UNREACHABLE]);
+///
+/// assert!(within(&store, 4, 0, 2)?);
+/// assert!(!within(&store, 4, 0, 1)?);
+/// # Ok::<(), shuntberry::Refused>(())
+/// ```
+pub fn distances(store: &[u64], n: usize, g: usize, distances: &mut [u16]) -> Result<(), Refused> {
+    // SAFETY: as in `decide`.
+    accepted(unsafe {
+        raw::shuntberry_distances(
+            store.as_ptr(),
+            store.len(),
+            n,
+            g,
+            distances.as_mut_ptr(),
+            distances.len(),
+        )
+    })
+}
+
+/// Whether there is a path of at most `k` steps from an initial to a forbidden state.
+///
+/// Refused with 10, 14, 15 or 17.
+pub fn within(store: &[u64], n: usize, g: usize, k: usize) -> Result<bool, Refused> {
+    // SAFETY: the pointer and the length are those of a slice.
+    let answer = unsafe { raw::shuntberry_within(store.as_ptr(), store.len(), n, g, k) };
+    accepted(answer.refusal)?;
+    Ok(answer.within != 0)
 }
 
 /// Reads a block file into the first [`STORE_WORDS`] words of `store`; no other word is touched.

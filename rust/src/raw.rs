@@ -26,6 +26,13 @@ pub struct Shortest {
 
 #[repr(C)]
 #[derive(Clone, Copy, Debug, PartialEq, Eq)]
+pub struct Within {
+    pub refusal: u32,
+    pub within: u32,
+}
+
+#[repr(C)]
+#[derive(Clone, Copy, Debug, PartialEq, Eq)]
 pub struct Table {
     pub refusal: u32,
     pub n: u32,
@@ -66,6 +73,23 @@ unsafe extern "C" {
         path: *mut u8,
         path_len: usize,
     ) -> Shortest;
+
+    pub fn shuntberry_distances(
+        store: *const u64,
+        store_len: usize,
+        n: usize,
+        g: usize,
+        distances: *mut u16,
+        distances_len: usize,
+    ) -> u32;
+
+    pub fn shuntberry_within(
+        store: *const u64,
+        store_len: usize,
+        n: usize,
+        g: usize,
+        k: usize,
+    ) -> Within;
 
     pub fn shuntberry_read(
         input: *const u8,

@@ -18,6 +18,9 @@ _Static_assert(sizeof(struct shuntberry_decision) == 56, "decision");
 _Static_assert(offsetof(struct shuntberry_decision, refusal) == 32, "decision.refusal");
 _Static_assert(offsetof(struct shuntberry_decision, reserved) == 52, "decision.reserved");
 _Static_assert(sizeof(struct shuntberry_shortest) == 12, "shortest");
+_Static_assert(sizeof(struct shuntberry_within) == 8, "within");
+_Static_assert(offsetof(struct shuntberry_within, refusal) == 0, "within.refusal");
+_Static_assert(offsetof(struct shuntberry_within, within) == 4, "within.within");
 _Static_assert(sizeof(struct shuntberry_table) == 12, "table");
 _Static_assert(sizeof(struct shuntberry_file) == 8, "file");
 _Static_assert(sizeof(struct shuntberry_minute) == 12, "minute");
@@ -28,6 +31,7 @@ enum { STATES = SHUNTBERRY_MAX_STATES, STACK = 1 << 20, PAINT = 0xa5, STACK_LIMI
 
 static uint64_t store[SHUNTBERRY_STORE_WORDS], other[SHUNTBERRY_STORE_WORDS];
 static uint8_t file[SHUNTBERRY_FILE_BYTES], path[SHUNTBERRY_PATH_BYTES];
+static uint16_t distances[SHUNTBERRY_MAX_STATES + 1]; /* one place past the states */
 
 static void require(int holds, const char *what)
 {
@@ -50,6 +54,22 @@ static int is_corridor(uint32_t steps)
     return steps == STATES - 1;
 }
 
+/* State s of the corridor is STATES - 1 - s steps from its end; the place past the states stays. */
+static int are_distances(void)
+{
+    for (unsigned state = 0; state < STATES; state++)
+        if (distances[state] != STATES - 1 - state)
+            return 0;
+    return distances[STATES] == PAINT;
+}
+
+/* 1 or 0 for yes or no within k steps, or 2 if the call is refused. */
+static uint32_t within(size_t k)
+{
+    struct shuntberry_within answer = shuntberry_within(store, SHUNTBERRY_STORE_WORDS, STATES, 0, k);
+    return answer.refusal == SHUNTBERRY_ACCEPTED ? answer.within : 2;
+}
+
 static void answers(void)
 {
     struct shuntberry_file written =
@@ -68,6 +88,17 @@ static void answers(void)
     require(decision.refusal == SHUNTBERRY_ACCEPTED && decision.verdict == SHUNTBERRY_UNSAFE &&
                 decision.count == STATES - 2 && decision.size == 0 && decision.reserved == 0 && is_corridor(decision.steps),
             "decide");
+
+    distances[STATES] = PAINT;
+    require(shuntberry_distances(store, SHUNTBERRY_STORE_WORDS, STATES, 0, distances, STATES + 1) == SHUNTBERRY_ACCEPTED &&
+                are_distances(),
+            "distances");
+    require(within(STATES - 1) == 1 && within(STATES - 2) == 0 && within(0) == 0 && within(SHUNTBERRY_UNREACHABLE) == 1 &&
+                within(SIZE_MAX) == 1,
+            "within");
+    memset(store + SHUNTBERRY_INITIAL, 0, SHUNTBERRY_SET_WORDS * sizeof *store);
+    require(within(SHUNTBERRY_UNREACHABLE) == 0 && within(SIZE_MAX) == 0, "within, without an initial state");
+    add(SHUNTBERRY_INITIAL, 0);
 }
 
 static int has(size_t set, unsigned state)
@@ -104,6 +135,9 @@ static void refusals(void)
     require(decide(words, STATES - 1, 0, most, room) == SHUNTBERRY_STRAY_BIT, "a state from n up");
     require(decide(words, STATES, 0, most + 1, room) == SHUNTBERRY_ALLOWANCE, "an allowance over 256");
     require(decide(words, STATES, 0, most, room - 1) == SHUNTBERRY_PATH_SHORT, "a short path buffer");
+    require(shuntberry_distances(store, words, STATES, 0, distances, STATES - 1) == SHUNTBERRY_DISTANCES_SHORT,
+            "a short distance buffer");
+    require(shuntberry_within(store, words - 1, STATES, 0, 0).refusal == SHUNTBERRY_STORE_SHORT, "within, a short store");
     require(shuntberry_write(store, words, STATES, 0, file, 511).refusal == SHUNTBERRY_OUTPUT_SHORT, "a short output");
     require(shuntberry_read(file, 511, other, words).refusal == SHUNTBERRY_INPUT_LENGTH, "a length of 511");
     require(shuntberry_generate(0, 0, SHUNTBERRY_MAX_FAN_OUT + 1, other, words - 1) == SHUNTBERRY_STORE_SHORT, "a short store for a load");

@@ -1,5 +1,5 @@
-// Tables A to H of 01 and a ninth (which tells a list that is replaced from one that is added to) through the call decide, with allowances
-// 0, 1, 2, 3 and 256; then refusals, their order and their edges. tests/expected.py works out what this must print, from 01's text.
+// Tables A to H of the specification and a ninth (which tells a list that is replaced from one that is added to) through the call decide, with allowances
+// 0, 1, 2, 3 and 256; then refusals, their order and their edges. tests/expected.py works out what this must print, from its text.
 use rounds::Decision;
 use rounds::Verdict;
 use rounds::decide;
@@ -116,7 +116,7 @@ fn table_g() {
     try_allowances(b"G", &t, 1, 0);
 }
 
-// 01 gives n and g of H alone. Here 58 leads to the forbidden state and shares a cover with the states that a session goes through, till a
+// The specification gives n and g of H alone. Here 58 leads to the forbidden state and shares a cover with the states that a session goes through, till a
 // group parts them.
 fn table_h() {
     let mut t = [0u64; STORE_WORDS];

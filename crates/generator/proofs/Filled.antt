@@ -33,7 +33,7 @@ successors-wide xs n f s = setOf-proper _ .long
 pub laid : (xs : List ℕ) (n f : ℕ) → Laid (tableFrom xs n f)
 unfolding tableFrom
 laid xs n f =
-    record { initial = single-wide 0; forbidden = single-wide (n - 1); group = λ j. empty-proper .long; row = λ s. successors-wide xs n f s }
+    record { initial = single-wide _; forbidden = single-wide _; group = λ j. empty-proper .long; row = λ s. successors-wide xs n f s }
 
 -- the words of a table, all 0
 abbrev zeros : List ℕ

@@ -92,7 +92,7 @@ module _ (store other : List ℕ) (long : storeWords ≤ length store) (long′ 
       (decided (badStates n)))
 
   -- f is given the first ground that holds, and the table, which it reads only where there is none
-  same-call : {A : Type 0} (f : ℕ → Table → A) (n g : ℕ) (later : List Ground) → ((k : ℕ) (t u : Table) → eqb k 0 ≡ false → f k t ≡ f k u)
+  pub same-call : {A : Type 0} (f : ℕ → Table → A) (n g : ℕ) (later : List Ground) → ((k : ℕ) (t u : Table) → eqb k 0 ≡ false → f k t ≡ f k u)
       → f (refuse (sharedGrounds store n g ++ later)) (tableOf store n g) ≡ f (refuse (sharedGrounds other n g ++ later)) (tableOf other n g)
   same-call f n g later only =
       let k = refuse (sharedGrounds store n g ++ later) in

@@ -1,6 +1,6 @@
 -- Paths do not read the groups: the table of a store has the same paths with g groups as with none.
 --
---   NAME-groups       for NAME among reaching, shortest, hasPath, walk, smallestPath, and among foundIn and pathWritten, by which
+--   NAME-groups       for NAME among reaching, distance, shortest, hasPath, walk, smallestPath, and among foundIn and pathWritten, by which
 --                     find_path is stated: NAME of the table with g groups is that of the table with none
 --   holds-table       what a call that is not declined gives to find_path
 use Prim.Native.Nat.{ℕ, zero, suc}
@@ -22,6 +22,11 @@ module _ (store : List ℕ) (n g : ℕ) where
   unfolding reaching tableOf
   reaching-groups zero = refl
   reaching-groups (suc k) = ap (λ (X : Set). union X (states n (λ s. meets ((tableOf store n 0) .row s) X))) (reaching-groups k)
+
+  pub distance-groups : (s : ℕ) → distance (tableOf store n g) s ≡ distance (tableOf store n 0) s
+  unfolding distance tableOf
+  distance-groups s =
+      ap (λ (d : ℕ). cond (ltb d n) d unreachable) (ap (first n) (fun-ext (λ k. ap (λ (X : Set). member X s) (reaching-groups k))))
 
   pub shortest-groups : shortest (tableOf store n g) ≡ shortest (tableOf store n 0)
   unfolding shortest tableOf

@@ -6,4 +6,8 @@ pub mod Nearness
 pub mod Find
 pub mod Groups
 pub mod Answers
+pub mod Outward
+pub mod Duality
+pub mod DistanceAnswers
+pub mod DistancesKept
 pub mod DemandsKept

@@ -1,5 +1,6 @@
 -- From the array of distances to the model.
 --
+--   reach-near, near-reach           a state is within its distance exactly if that is not `unreachable`
 --   distance-near, near-distance     a state is at distance at most k exactly if it is within k steps
 --   near-test, pickBy-is             so the state that walkBy picks is the one that walk picks
 --   least-path, least-none           and the least distance of an initial state is that of a shortest path, or none if there is no path
@@ -27,12 +28,18 @@ use Rattle.paths.proofs.Scans.{first-cong}
 
 module _ {t : Table} (ok : WellFormed t) (small : t .n ≤ maxStates) where
   -- a distance below n is that of a state so near; none is from n up
-  pub distance-near : (s k : ℕ) → k < unreachable → distance t s ≤ k → In (reaching t k) s
-  distance-near s k l m =
+  pub reach-near : (s : ℕ) → (distance t s ≡ unreachable → ⊥) → In (reaching t (distance t s)) s
+  reach-near s f =
       ⊎-elim
-      (λ b. reaching-mono t (distance t s) k m s (distance-reaching t s (distance t s) b small (omega arith)))
-      (λ b. let far : distance t s ≡ unreachable = distance-unreachable t s (λ j c h. omega (arith, reaching-distance t s j c h)) in absurd (omega arith))
+      (λ b. distance-reaching t s (distance t s) b small (omega arith))
+      (λ b. absurd (f (distance-unreachable t s (λ j c h. omega (arith, reaching-distance t s j c h)))))
       (lt-or-ge (distance t s) (t .n))
+
+  pub near-reach : (s k : ℕ) → In (reaching t k) s → distance t s ≡ unreachable → ⊥
+  near-reach s k h e = let a = reaching-at t k h in omega (arith, distance-is t s (a .0) (at-lt ok (a .0) (a .2)) (a .2), at-lt ok (a .0) (a .2))
+
+  pub distance-near : (s k : ℕ) → k < unreachable → distance t s ≤ k → In (reaching t k) s
+  distance-near s k l m = reaching-mono t (distance t s) k m s (reach-near s (λ e. omega arith))
 
   pub near-distance : (s k : ℕ) → In (reaching t k) s → distance t s ≤ k
   near-distance s k h = let a = reaching-at t k h in omega (arith, distance-is t s (a .0) (at-lt ok (a .0) (a .2)) (a .2), a .1)

@@ -9,6 +9,7 @@
 --   pickBy distances d X         the smallest state of X at distance at most d, or maxStates if there is none
 --   walkBy store distances d X   the walk from X in d steps that takes such a state each time: where the array holds the distances of a
 --                                table, the model's walk (proofs/Nearness.antt)
+--   firstLayer store X Y         the number of the first layer outward from X that holds a state of Y: how many steps lead from X to Y
 --   Writable                     a walk that can be written: each state of it is one, and the buffer has room for all from `at` on
 use Prim.Native.Nat.{ℕ, zero, suc, _+_, _≤_, _<_}
 use mathlib.Core.Path.{_≡_}
@@ -16,11 +17,15 @@ use mathlib.Core.Bool.{cond, _&&_}
 use mathlib.Core.List.{List, [], _∷_}
 use lib.Dec.{eqb, leb, ltb}
 use lib.ListN.{length, getD}
-use Rattle.model.specs.Sets.{maxStates, Set, any, first, tabulate, member, states}
+use Rattle.model.specs.Sets.{maxStates, Set, any, first, tabulate, member, empty, meets, states}
 use Rattle.model.specs.Tables.{Table}
+use Rattle.model.specs.Rounds.{iterate}
 use Rattle.model.specs.Paths.{unreachable, distance}
 use Rattle.model.specs.Stores.{storeWords, rowAt, setAt, tableOf}
 use Rattle.model.proofs.WellFormed.{WellFormed}
+use Rattle.reach.specs.Reached.{reachBy}
+use Rattle.paths.specs.declared.Found.{Found}
+use Rattle.paths.specs.declared.Found.the-variants.{Steps, Nothing}
 
 pub record HoldsTable (store : List ℕ) (n : ℕ) : Type 0 where
   pub long : storeWords ≤ length store
@@ -54,6 +59,12 @@ pickBy distances d X = first maxStates (λ s. member X s && leb (getD distances 
 unfoldable pub walkBy : List ℕ → List ℕ → ℕ → Set → List ℕ
 walkBy store distances zero X = pickBy distances zero X ∷ []
 walkBy store distances (suc d) X = let x = pickBy distances (suc d) X in x ∷ walkBy store distances d (setAt store (rowAt x))
+
+-- Layer k is what k steps lead to and no fewer, so layer k is the first with a state of Y where k steps are the first to lead to one.
+unfoldable pub firstLayer : List ℕ → Set → Set → Found
+firstLayer store X Y =
+    let d = first maxStates (λ k. meets (iterate (reachBy store X) empty (suc k)) Y) in
+    cond (ltb d maxStates) (Steps d) Nothing
 
 pub record Writable (store distances : List ℕ) (X : Set) (d room at : ℕ) : Type 0 where
   pub long : storeWords ≤ length store

@@ -1,26 +1,33 @@
-// Paths to a forbidden state (01, "Path"): the distance of each state, the path that 01 names, and the call shortest path.
+// Paths to a forbidden state (01, "Path"): the distance of each state, the path that 01 names, and the calls shortest path, distances and
+// within.
 //
 //   predecessors                         the rows of the store, transposed: for each state the states that step to it
 //   mark                                 one number as the distance of each state of a set
-//   distances, sweep_transposed          the distance of each state, layer by layer from the forbidden states outward
+//   all_distances, sweep_transposed      the distance of each state, layer by layer from the forbidden states outward
 //   least_distance, smallest_within      the least distance of a set's states; its smallest state within d steps
 //   write_path                           the path, state by state
 //   find_path                            whether there is a path, and the path at the front of a buffer
-//   shortest_path                        the call
+//   put_distances                        the distances of the first n states, at the front of a buffer
+//   first_layer                          outward from a set, layer by layer: how many steps lead to another
+//   shortest_path, distances, within     the calls
 //
-// distances, sweep_transposed and find_path ask for a store that holds a table; the call asks for nothing.
+// all_distances, sweep_transposed and find_path ask for a store that holds a table; the calls ask for nothing.
 ghost use mathlib.Core.Path.{_≡_};
 ghost use Prim.Native.Nat.{_≤_, _<_};
-ghost use lib.ListN.{length};
+ghost use lib.ListN.{length, getD};
 ghost use lib.Seq.{sets};
 ghost use mathlib.Core.List.{[]};
 ghost use Rattle.model.specs.Sets.{WORDS, maxStates, tabulate, single, union};
 ghost use Rattle.model.specs.Paths.{unreachable, distance};
 ghost use Rattle.model.specs.Stores.{storeWords, tableOf};
+ghost use Rattle.model.specs.Calls.{overwrite};
 ghost use Rattle.state_set.specs.WordSets.{wordSet};
 ghost use Rattle.table.specs.Rows.{mapAt};
-ghost use Rattle.paths.specs.Search.{HoldsTable, predecessorRows, Swept, leastBy, pickBy, walkBy, Writable};
+ghost use Rattle.paths.specs.Search.{HoldsTable, predecessorRows, Swept, leastBy, pickBy, walkBy, firstLayer, Writable};
 ghost use Rattle.paths.specs.Answers.{foundIn, pathWritten, Called};
+ghost use Rattle.paths.specs.Distances.{CalledDistances};
+ghost use Rattle.paths.specs.Within.{CalledWithin};
+use reach::newly_reached;
 use state_set::StateSet;
 use state_set::WORDS;
 use table::FORBIDDEN_AT;
@@ -124,7 +131,7 @@ fn sweep_transposed(
 
 // The distance of each state, layer by layer from the forbidden states outward. The next `rest` is `rest` meet hold(`rest`) (backward
 // elimination), and the next layer is what it lost.
-pub fn distances(store: &[u64], n: usize) -> [u16; MAX_STATES]
+pub fn all_distances(store: &[u64], n: usize) -> [u16; MAX_STATES]
     requires { ⌜ HoldsTable (now store) n ⌝ }
     ensures { λ r. ⌜ r ≡ tabulate maxStates (distance (tableOf (now (store .entry)) n 0)) ⌝ }
 {
@@ -235,7 +242,7 @@ pub fn find_path(store: &[u64], n: usize, path: &mut [u8]) -> Found
     ensures { λ r. ⌜ (r ≡ foundIn (tableOf (now (store .entry)) n 0))
         × (now (path .exit) ≡ pathWritten (tableOf (now (store .entry)) n 0) (now (path .entry))) ⌝ }
 {
-    let distances = distances(store, n);
+    let distances = all_distances(store, n);
     let initial = set_at(store, 0);
     let d = least_distance(&distances, initial);
     if d == UNREACHABLE {
@@ -265,5 +272,87 @@ pub fn shortest_path(store: &[u64], n: usize, g: usize, path: &mut [u8]) -> Shor
     match find_path(store, n, path) {
         Found::Steps(steps) => Shortest::Path { steps },
         Found::Nothing => Shortest::NoPath,
+    }
+}
+
+// ---- distances
+
+// The distances of the first n states, at the front of the buffer.
+fn put_distances(distances: &[u16; MAX_STATES], n: usize, out: &mut [u16])
+    requires { ⌜ (n ≤ maxStates) × (n ≤ length (now out)) ⌝ }
+    ensures { λ _. ⌜ now (out .exit) ≡ overwrite (tabulate n (λ s. getD (now (distances .entry)) s 0)) (now (out .entry)) ⌝ }
+{
+    for s in 0..n {
+        out[s] = distances[s];
+    }
+}
+
+// What the call distances answers: that they are written, or why it declines.
+pub enum DistancesAnswer {
+    Written,
+    Refused(u8),
+}
+
+// The distance of each state to the nearest forbidden one, UNREACHABLE where none can be reached; places past n stay.
+pub fn distances(store: &[u64], n: usize, g: usize, out: &mut [u16]) -> DistancesAnswer
+    ensures { λ r. ⌜ CalledDistances (now (store .entry)) n g (now (out .entry)) r (now (out .exit)) ⌝ }
+{
+    let refused = refusal(store, n, g);
+    if refused != 0 {
+        return DistancesAnswer::Refused(refused);
+    }
+    if out.len() < n {
+        return DistancesAnswer::Refused(23);
+    }
+    put_distances(&all_distances(store, n), n, out);
+    DistancesAnswer::Written
+}
+
+// ---- within
+
+// The number of the first layer outward from `from` that holds a state of `goal`. A layer is the states that are newly reached; the search
+// ends with that layer, or when a layer brings no new state.
+fn first_layer(store: &[u64], from: StateSet, goal: StateSet) -> Found
+    requires { ⌜ storeWords ≤ length (now store) ⌝ }
+    ensures { λ r. ⌜ r ≡ firstLayer (now (store .entry)) (from .words) (goal .words) ⌝ }
+{
+    let mut found = from;
+    let mut layer = from;
+    let mut steps = 0;
+    while !layer.is_empty() {
+        if layer.meets(goal) {
+            return Found::Steps(steps);
+        }
+        layer = newly_reached(store, layer, found);
+        found = found.union(layer);
+        steps += 1;
+    }
+    Found::Nothing
+}
+
+// What the call within answers: yes, no, or why it declines.
+pub enum WithinAnswer {
+    Yes,
+    No,
+    Refused(u8),
+}
+
+// Is there a path of at most k steps?
+pub fn within(store: &[u64], n: usize, g: usize, k: usize) -> WithinAnswer
+    ensures { λ r. ⌜ CalledWithin (now (store .entry)) n g k r ⌝ }
+{
+    let refused = refusal(store, n, g);
+    if refused != 0 {
+        return WithinAnswer::Refused(refused);
+    }
+    match first_layer(store, set_at(store, 0), set_at(store, FORBIDDEN_AT)) {
+        Found::Steps(steps) => {
+            if steps <= k {
+                WithinAnswer::Yes
+            } else {
+                WithinAnswer::No
+            }
+        }
+        Found::Nothing => WithinAnswer::No,
     }
 }

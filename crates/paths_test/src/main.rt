@@ -1,13 +1,19 @@
 // Runs the call shortest path on tables built here and prints what it answers, the states at the front of the path buffer, and whether the
-// rest of the buffer is as before. The stored output was written by expected.py, a breadth-first search from the initial states made from
+// rest of the buffer is as before; then the calls distances and within, with every place of the distance buffer. The stored output was written by expected.py, a breadth-first search from the initial states made from
 // 01's text alone.
+use paths::DistancesAnswer;
 use paths::Shortest;
+use paths::WithinAnswer;
+use paths::distances;
 use paths::shortest_path;
+use paths::within;
 use table::STORE_WORDS;
 use test_support::bytes;
 use test_support::forbidden;
 use test_support::group;
 use test_support::initial;
+use test_support::labelled;
+use test_support::line;
 use test_support::number;
 use test_support::put_table;
 use test_support::step;
@@ -175,6 +181,105 @@ fn malformed() {
     report_table(b"B, 2 to 5", 5, b"0", b"3", b"01 12 23 44 25");
 }
 
+// ---- distances and within
+
+// What the distance buffers hold before a call.
+const NO_DISTANCE: u16 = 777;
+
+fn wide_place(x: u16) -> usize {
+    x as usize
+}
+
+// All places of a buffer, each after a space.
+fn places(buffer: &[u16]) {
+    for i in 0..buffer.len() {
+        labelled(b" ", wide_place(buffer[i]));
+    }
+}
+
+fn print_refusal(label: &[u8], refusal: u8) {
+    labelled(label, wide(refusal));
+}
+
+fn print_distances(answer: DistancesAnswer) {
+    match answer {
+        DistancesAnswer::Written => text(b": distances"),
+        DistancesAnswer::Refused(refusal) => print_refusal(b": refused ", refusal),
+    }
+}
+
+fn print_within(store: &[u64], n: usize, g: usize, k: usize) {
+    labelled(b", within ", k);
+    match within(store, n, g, k) {
+        WithinAnswer::Yes => text(b" yes"),
+        WithinAnswer::No => text(b" no"),
+        WithinAnswer::Refused(refusal) => print_refusal(b" refused ", refusal),
+    }
+}
+
+fn measure(name: &[u8], store: &[u64], n: usize, g: usize, out: &mut [u16]) {
+    text(name);
+    print_distances(distances(store, n, g, out));
+    text(b", buffer");
+    places(out);
+    print_within(store, n, g, 0);
+    print_within(store, n, g, 1);
+    print_within(store, n, g, 3);
+    print_within(store, n, g, 65535);
+    line();
+}
+
+// With a buffer of 7 and of 5 places.
+fn measure_7(name: &[u8], store: &[u64], n: usize, g: usize) {
+    let mut out = [NO_DISTANCE; 7];
+    measure(name, store, n, g, &mut out);
+}
+
+fn measure_5(name: &[u8], store: &[u64], n: usize, g: usize) {
+    let mut out = [NO_DISTANCE; 5];
+    measure(name, store, n, g, &mut out);
+}
+
+fn measure_table(name: &[u8], n: usize, first: &[u8], last: &[u8], steps: &[u8]) {
+    let mut store = [0u64; STORE_WORDS];
+    put_table(&mut store, first, last, steps);
+    measure_7(name, &store, n, 0);
+}
+
+// A circle that never leaves; a corridor with a dead end; a state that is both; nothing initial; nothing forbidden; two ways of different
+// lengths.
+fn measured() {
+    measure_table(b"A", 3, b"0", b"2", b"01 10 22");
+    measure_table(b"B", 5, b"0", b"3", b"01 12 23 44");
+    measure_table(b"F", 1, b"0", b"0", b"");
+    measure_table(b"no initial state", 2, b"", b"1", b"01");
+    measure_table(b"no forbidden state", 2, b"0", b"", b"01 10");
+    measure_table(
+        b"a short and a long way",
+        7,
+        b"06",
+        b"5",
+        b"01 12 23 34 45 62 25",
+    );
+}
+
+fn measured_edges_of(b: &[u64]) {
+    measure_5(b"B, 5 places", b, 5, 0);
+    measure_5(b"B, n 6, 5 places", b, 6, 0);
+    measure_5(b"B, n 4, 3 groups, 5 places", b, 4, 3);
+    measure_5(b"B, n 0", b, 0, 0);
+    measure_5(b"B, n 257, g 65", b, 257, 65);
+    measure_5(b"B, n 6, g 65", b, 6, 65);
+}
+
+fn measured_edges() {
+    let mut store = [0u64; STORE_WORDS];
+    put_b(&mut store);
+    measured_edges_of(&store);
+    let short = [0u64; STORE_WORDS - 1];
+    measure_5(b"1287 words, n 0", &short, 0, 0);
+}
+
 fn main() {
     worked();
     pathless();
@@ -183,4 +288,6 @@ fn main() {
     edges();
     short_store();
     malformed();
+    measured();
+    measured_edges();
 }

@@ -5,7 +5,8 @@
 --   notForbidden-is              all states without the forbidden ones
 --   coverBy-is, successorsBy-is, meetHold-is      for sets of the table's states, the model's cover, post, and meet with hold
 --   forwardBy-proper, backwardBy-proper     what the steps give is a proper set
---   forward-least, backward-greatest        n steps reach the least and the greatest solution; covers-below: of rows that are covers
+--   coverBy-mono, -within, -closed, -extends, -again     the cover is a closure (monotone, extensive, idempotent) in the states of the table
+--   forward-least, backward-greatest        n steps reach the least and the greatest solution; forward-closed: R is its own cover
 --   iterate-cong                 steps that agree on a kind of set that they keep iterate alike
 --   forward-is, backward-is      R and S
 use Prim.Native.Nat.{ℕ, zero, suc, _<_}
@@ -18,15 +19,15 @@ use Rattle.model.specs.Tables.{post, hold, coverOf, cover, notForbidden}
 use Rattle.model.specs.Rounds.{iterate, forwardStep, forward, backwardStep, backward}
 use Rattle.model.specs.Stores.{rowAt, setAt, tableOf}
 use Rattle.model.proofs.Bounds.{and-true, and-intro, is-false, clash, getD-tabulate}
-use Rattle.model.proofs.SetLaws.{Proper, setOf-proper, In, in-bound, in-setOf, setOf-in, in-union, union-in, in-meet, meet-in, in-difference, difference-in, firstStates-in, _⊆_, subset-in, in-subset, same-set, empty-in, image-in}
+use Rattle.model.proofs.SetLaws.{Proper, setOf-proper, In, in-bound, in-setOf, setOf-in, in-union, union-in, in-meet, meet-in, in-difference, difference-in, firstStates-in, _⊆_, subset-in, in-subset, same-set, empty-in, in-image, image-in}
 use Rattle.model.specs.Promises.{IsLeast, IsGreatest}
 use Rattle.model.proofs.Fixpoints.{iterate-has, from-below, from-above}
-use Rattle.model.proofs.CoverLaws.{image-mono, image-proper, coverOf-within, in-notForbidden, notForbidden-in, notForbidden-within, in-hold, hold-in, forwardStep-within, backwardStep-within}
+use Rattle.model.proofs.CoverLaws.{image-mono, image-proper, coverOf-within, coverOf-self, coverOf-trans, in-notForbidden, notForbidden-in, notForbidden-within, in-hold, hold-in, forwardStep-within, backwardStep-within}
 use Rattle.model.proofs.StoreLaws.{row-is}
 use Rattle.model.proofs.ImageLaws.{image-bound, image-cong}
 use Rattle.table.specs.Rows.{successorsBy, meetHold}
 use Rattle.table.proofs.MapAt.{mapAt-tabulate}
-use Rattle.rounds.specs.Steps.{covers, narrowed, coverBy, forwardBy, backwardBy, Below}
+use Rattle.rounds.specs.Steps.{covers, narrowed, coverBy, forwardBy, backwardBy, IsCover}
 
 -- ---- the cover
 
@@ -84,38 +85,68 @@ module _ (store : List ℕ) (rows : List Set) where
   unfolding backwardBy coverBy
   backwardBy-proper R X = image-proper maxStates _ _
 
-module _ (store : List ℕ) (n : ℕ) (rows : List Set) (below : Below n rows) where
-  coverBy-mono : (X Y : Set) → X ⊆ Y → coverBy rows X ⊆ coverBy rows Y
-  unfolding coverBy
-  coverBy-mono = image-mono maxStates _
+pub coverBy-mono : (rows : List Set) (X Y : Set) → X ⊆ Y → coverBy rows X ⊆ coverBy rows Y
+unfolding coverBy
+coverBy-mono rows = image-mono maxStates _
 
-  coverBy-within : (X : Set) → coverBy rows X ⊆ firstStates n
-  unfolding coverBy
-  coverBy-within X s h = let w = image-in _ X maxStates h in subset-in (below .row (w .0) (w .1)) s (w .3)
+module _ (rows : List Set) (cover : IsCover rows) where
+  abbrev n : ℕ
+  n = cover .n
 
+  row-read : (s : ℕ) → s < maxStates → getD rows s [] ≡ coverOf n (cover .list) s
+  row-read s h = ap (λ (R : List Set). getD R s []) (cover .is) ∙ covers-read n (cover .list) s h
+
+  pub coverBy-within : (X : Set) → coverBy rows X ⊆ firstStates n
+  unfolding coverBy
+  coverBy-within X s h =
+      let w = image-in _ X maxStates h in
+      coverOf-within n (cover .list) (w .0) s (subst (λ (Y : Set). In Y s) (row-read (w .0) (w .1)) (w .3))
+
+  -- the cover of a state of a cover lies in it
+  pub coverBy-closed : (X : Set) {t : ℕ} → In (coverBy rows X) t → getD rows t [] ⊆ coverBy rows X
+  unfolding coverBy
+  coverBy-closed X {t} h s i =
+      let w = image-in _ X maxStates h in
+      let t-in = subst (λ (Y : Set). In Y t) (row-read (w .0) (w .1)) (w .3) in
+      let s-in = subst (λ (Y : Set). In Y s) (row-read t (in-bound h)) i in
+      in-image _ X maxStates (w .1) (w .2) (subst (λ (Y : Set). In Y s) (sym (row-read (w .0) (w .1))) (coverOf-trans n (cover .list) (w .0) t-in s s-in))
+
+  pub coverBy-extends : (X : Set) → X ⊆ firstStates n → X ⊆ coverBy rows X
+  unfolding coverBy
+  coverBy-extends X f s h =
+      in-image _ X maxStates (in-bound h) h (subst (λ (Y : Set). In Y s) (sym (row-read s (in-bound h))) (coverOf-self n (cover .list) (f s h)))
+
+  pub coverBy-again : (X : Set) → coverBy rows (coverBy rows X) ≡ coverBy rows X
+  unfolding coverBy
+  coverBy-again X =
+      same-set _ _ (image-proper maxStates _ _) (image-proper maxStates _ _)
+      (λ s h. let w = image-in _ (coverBy rows X) maxStates h in coverBy-closed X (w .2) s (w .3))
+      (coverBy-extends (coverBy rows X) (coverBy-within X))
+
+module _ (store : List ℕ) (rows : List Set) (cover : IsCover rows) where
   -- n steps from the empty set, and n from all n states, reach the least and the greatest solution
-  pub forward-least : (initial Z : Set) → IsLeast (forwardBy store rows initial Z) (iterate (forwardBy store rows initial Z) empty n)
+  pub forward-least : (initial Z : Set) → IsLeast (forwardBy store rows initial Z) (iterate (forwardBy store rows initial Z) empty (cover .n))
   unfolding forwardBy successorsBy
   forward-least initial Z =
-      from-below _ n
-      (λ X Y i. coverBy-mono _ _ (λ s h. let both = meet-in h in in-meet (both .0) (⊎-elim (λ a. in-union (inl a)) (λ b. in-union (inr (image-mono maxStates _ X Y i s b))) (union-in (both .1)))))
-      (forwardBy-proper store rows initial Z) (λ X. coverBy-within _)
+      from-below _ (cover .n)
+      (λ X Y i. coverBy-mono rows _ _ (λ s h. let both = meet-in h in in-meet (both .0) (⊎-elim (λ a. in-union (inl a)) (λ b. in-union (inr (image-mono maxStates _ X Y i s b))) (union-in (both .1)))))
+      (forwardBy-proper store rows initial Z) (λ X. coverBy-within rows cover _)
 
-  pub backward-greatest : (R : Set) → IsGreatest (backwardBy store rows R) (iterate (backwardBy store rows R) (firstStates n) n)
+  -- R is its own cover
+  pub forward-closed : (initial Z : Set) {R : Set} → IsLeast (forwardBy store rows initial Z) R → coverBy rows R ≡ R
+  unfolding forwardBy
+  forward-closed initial Z e = ap (coverBy rows) (e .solves) ∙ coverBy-again rows cover _ ∙ sym (e .solves)
+
+  pub backward-greatest : (R : Set) → IsGreatest (backwardBy store rows R) (iterate (backwardBy store rows R) (firstStates (cover .n)) (cover .n))
   unfolding backwardBy meetHold
   backward-greatest R =
-      from-above _ n
+      from-above _ (cover .n)
       (λ X Y i.
-      coverBy-mono _ _
+      coverBy-mono rows _ _
       (λ s h.
       let both = and-true (member R s) _ (setOf-in _ h) in
       in-setOf _ (in-bound h) (and-intro (member R s) _ (both .0) (in-subset (λ u r. i u (subset-in (both .1) u r))))))
-      (backwardBy-proper store rows R) (λ X. coverBy-within _)
-
--- the rows for a list are the covers of states of the table
-pub covers-below : (n : ℕ) (L : List Set) {rows : List Set} → rows ≡ covers n L → Below n rows
-covers-below n L e =
-    record { row = λ s h. in-subset (λ u i. coverOf-within n L s u (subst (λ (X : Set). In X u) (ap (λ (R : List Set). getD R s []) e ∙ covers-read n L s h) i)) }
+      (backwardBy-proper store rows R) (λ X. coverBy-within rows cover _)
 
 pub iterate-cong : (P : Set → Type 0) (f g : Set → Set) (x : Set) → P x → ((X : Set) → P X → f X ≡ g X) → ((X : Set) → P (g X)) → (k : ℕ)
     → iterate f x k ≡ iterate g x k

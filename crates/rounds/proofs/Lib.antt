@@ -1,5 +1,9 @@
 pub mod Bridge
-pub mod Loops
+pub mod Lists
+pub mod Looks
+pub mod Expanding
+pub mod FirstCover
+pub mod Staying
 pub mod Running
 pub mod Deciding
 pub mod DemandsKept

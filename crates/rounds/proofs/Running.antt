@@ -29,11 +29,11 @@ use Rattle.model.proofs.Fixpoints.{iterate-has, least-unique, greatest-unique}
 use Rattle.model.proofs.CoverLaws.{hold-within, notForbidden-within, forwardStep-within, backwardStep-within}
 use Rattle.model.proofs.RoundLaws.{first-stop}
 use Rattle.table.specs.Rows.{successorsBy, meetHold}
-use Rattle.rounds.specs.Steps.{covers, narrowed, nextAdded, forwardBy, backwardBy, Below}
+use Rattle.rounds.specs.Steps.{covers, narrowed, nextAdded, forwardBy, backwardBy, IsCover}
 use Rattle.rounds.specs.declared.Conclusion.the-variants.{Safe as ConcludesSafe, Unsafe as ConcludesUnsafe, Open}
 use Rattle.rounds.specs.declared.Concluded.{Concluded}
 use Rattle.rounds.specs.Answers.{concludes, setBeside, Concludes}
-use Rattle.rounds.proofs.Bridge.{covers-add, successorsBy-is, meetHold-is, forwardBy-proper, backwardBy-proper, forward-least, backward-greatest, covers-below, forward-is, backward-is}
+use Rattle.rounds.proofs.Bridge.{covers-add, successorsBy-is, meetHold-is, forwardBy-proper, backwardBy-proper, forward-least, backward-greatest, forward-is, backward-is}
 
 -- ---- sets of the table's states
 
@@ -182,20 +182,20 @@ module _ {store : List ℕ} {n g allowance : ℕ} {initial : Set} {rows : List S
   abbrev unsafeNow : Bool
   unsafeNow = isUnsafe table roundNow
 
-  pub rows-below : Below n rows
-  rows-below = covers-below n listNow (so .rows-are)
+  abbrev pub rows-cover : IsCover rows
+  rows-cover = record { n = n; list = listNow; is = so .rows-are }
 
   R-is : {R : Set} → IsLeast (forwardBy store rows initial Z) R → R ≡ roundNow .R
   unfolding roundOf tableOf
   R-is e =
-      least-unique _ (forwardBy-proper store rows initial Z) e (forward-least store n rows rows-below initial Z)
+      least-unique _ (forwardBy-proper store rows initial Z) e (forward-least store rows rows-cover initial Z)
       ∙ ap₂ (λ (X : List Set) (Y : Set). iterate (forwardBy store X Y Z) empty n) (so .rows-are) (so .initial-is)
       ∙ forward-is store n g listNow Z (so .within)
 
   S-is : {R S : Set} → R ≡ roundNow .R → IsGreatest (backwardBy store rows R) S → S ≡ roundNow .S
   unfolding roundOf tableOf
   S-is {R} r e =
-      greatest-unique _ (backwardBy-proper store rows R) e (backward-greatest store n rows rows-below R)
+      greatest-unique _ (backwardBy-proper store rows R) e (backward-greatest store rows rows-cover R)
       ∙ ap₂ (λ (X : List Set) (Y : Set). iterate (backwardBy store X Y) (firstStates n) n) (so .rows-are) r
       ∙ backward-is store n g listNow _ (forward-within table listNow Z)
 

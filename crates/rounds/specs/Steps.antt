@@ -5,14 +5,14 @@
 --   nextAdded store j Z     the set added next, where the first j groups and then Z are still to be added, from the last to the first
 --   coverBy rows X          the cover of X
 --   forwardBy, backwardBy   R's step and S's step
---   Below n rows            the rows hold states of the table only, so that the steps give such states only
-use Prim.Native.Nat.{ℕ, _-_, _<_}
+--   IsCover rows            the rows hold the cover of each state for some list of sets
+use Prim.Native.Nat.{ℕ, _-_}
 use mathlib.Core.Path.{_≡_}
-use mathlib.Core.Bool.{true, cond}
+use mathlib.Core.Bool.{cond}
 use mathlib.Core.List.{List, []}
 use lib.Dec.{eqb}
 use lib.ListN.{getD}
-use Rattle.model.specs.Sets.{maxStates, Set, union, meet, subset, firstStates, image, tabulate}
+use Rattle.model.specs.Sets.{maxStates, Set, union, meet, image, tabulate}
 use Rattle.model.specs.Tables.{coverOf}
 use Rattle.model.specs.Stores.{groupAt, setAt}
 use Rattle.table.specs.Rows.{successorsBy, meetHold, mapAt}
@@ -35,5 +35,7 @@ forwardBy store rows initial Z X = coverBy rows (meet Z (union initial (successo
 unfoldable pub backwardBy : List ℕ → List Set → Set → Set → Set
 backwardBy store rows R X = coverBy rows (meetHold store R X)
 
-pub record Below (n : ℕ) (rows : List Set) : Type 0 where
-  pub row : (s : ℕ) → s < maxStates → subset (getD rows s []) (firstStates n) ≡ true
+pub record IsCover (rows : List Set) : Type 0 where
+  pub n : ℕ
+  pub list : List Set
+  pub is : rows ≡ covers n list

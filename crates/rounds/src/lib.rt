@@ -1,24 +1,30 @@
-// The rounds (01, "Rounds") and the call `decide`.
+// The rounds (the specification, "Rounds") and the call `decide`.
 //
 //   no_groups, next_added               the cover of the empty list, a row of words for each state; the set that is added to the list next
-//   forward_step, forward               R, by its step until nothing changes
-//   backward_step, backward             S, by its step until nothing changes
+//   expand, expand_word, look, joining, forward
+//                                       R, look by look: each expands the states that joined by the one before
+//   backward                            S, by the states that stay in it
 //   conclude                            what a round comes to
 //   run                                 the rounds: the cover is narrowed by the groups, and by the Z of each round
+//   first_order                         the order in which the first round expands the states of R
 //   decide                              the call
 ghost use mathlib.Core.Path.{_≡_};
-ghost use mathlib.Core.List.{[]};
-ghost use Prim.Native.Nat.{_≤_, _<_};
-ghost use lib.ListN.{length};
-ghost use Rattle.model.specs.Sets.{WORDS, union, meet, subset};
-ghost use Rattle.model.specs.Tables.{notForbidden};
+ghost use mathlib.Core.Bool.{cond};
+ghost use mathlib.Core.List.{[], _∷_};
+ghost use Prim.Native.Nat.{_+_, _≤_, _<_};
+ghost use lib.ListN.{length, set};
+ghost use lib.Seq.{sets};
+ghost use Rattle.model.specs.Sets.{WORDS, maxStates, member, union, meet, difference, members, size};
+ghost use Rattle.state_set.specs.WordSets.{wordSet};
+ghost use Rattle.model.specs.Tables.{coverOf, notForbidden};
 ghost use Rattle.model.specs.Rounds.{run as run·model};
-ghost use Rattle.model.specs.Stores.{storeWords, maxGroups, forbiddenAt, setAt, tableOf, refuse};
+ghost use Rattle.model.specs.Stores.{storeWords, maxGroups, forbiddenAt, rowAt, setAt, tableOf, refuse};
 ghost use Rattle.model.specs.Calls.{decideGrounds};
 ghost use Rattle.model.specs.Promises.{IsLeast, IsGreatest};
-ghost use Rattle.table.specs.Rows.{successorsBy};
-ghost use Rattle.rounds.specs.Steps.{covers, nextAdded, forwardBy, backwardBy, Below};
-ghost use Rattle.rounds.specs.Answers.{Concludes, outcomeOf, invariantOf, stepsIn, Called};
+ghost use Rattle.table.specs.Rows.{successorsBy, meetHold};
+ghost use Rattle.rounds.specs.Steps.{covers, nextAdded, coverBy, forwardBy, backwardBy, IsCover};
+ghost use Rattle.rounds.specs.Order.{orderBy, padded};
+ghost use Rattle.rounds.specs.Answers.{Concludes, outcomeOf, invariantOf, Ordered, stepsIn, Called};
 use paths::Found;
 use paths::find_path;
 use state_set::StateSet;
@@ -29,9 +35,9 @@ use table::Rows;
 use table::group_at;
 use table::meet_hold;
 use table::refusal;
+use table::row_at;
 use table::row_of;
 use table::set_at;
-use table::successors;
 use table::union_of;
 
 // ---- the cover
@@ -57,54 +63,134 @@ fn next_added(store: &[u64], j: usize, z: StateSet) -> StateSet
 
 // ---- R
 
-// cover(z meet (initial union post(x)))
-fn forward_step(store: &[u64], rows: &Rows, initial: StateSet, z: StateSet, x: StateSet) -> StateSet
-    requires { ⌜ storeWords ≤ length (now store) ⌝ }
-    ensures { λ r. ⌜ r .words ≡ forwardBy (now (store .entry)) (now (rows .entry)) (initial .words) (z .words) (x .words) ⌝ }
-{
-    union_of(rows, z.meet(initial.union(successors(store, x))))
+// The states that were expanded, in their order; 0 past them.
+pub type Order = [u16; MAX_STATES];
+
+// What was expanded so far: how many states, and the successors that they have.
+pub struct Expanded {
+    pub count: usize,
+    pub found: StateSet,
 }
 
-// The least x with x = cover(z meet (initial union post(x))).
-fn forward(store: &[u64], n: usize, rows: &Rows, initial: StateSet, z: StateSet) -> StateSet
-    requires { ⌜ (storeWords ≤ length (now store)) × Below n (now rows) ⌝ }
-    ensures { λ r. ⌜ IsLeast (forwardBy (now (store .entry)) (now (rows .entry)) (initial .words) (z .words)) (r .words) ⌝ }
+// State s is expanded: it is recorded, and its successors are joined. Nothing else does either.
+fn expand(store: &[u64], s: usize, order: &mut Order, done: Expanded) -> Expanded
+    requires { ⌜ (s < maxStates) × (done .count < maxStates) × (storeWords ≤ length (now store)) ⌝ }
+    ensures { λ r. ⌜ (r .count ≡ done .count + 1)
+        × (r .found .words ≡ union (done .found .words) (setAt (now (store .entry)) (rowAt s)))
+        × (now (order .exit) ≡ set (now (order .entry)) (done .count) s) ⌝ }
 {
-    let mut x = StateSet::empty();
-    for _ in 0..n {
-        let y = forward_step(store, rows, initial, z, x);
-        if y.equals(x) {
-            return x;
-        }
-        x = y;
+    let count = done.count;
+    let found = done.found;
+    order[count] = s as u16;
+    Expanded {
+        count: count + 1,
+        found: found.union(row_at(store, s)),
     }
-    x
+}
+
+// The states that `bits` has in word w are expanded, rising.
+fn expand_word(store: &[u64], w: usize, bits: u64, order: &mut Order, done: Expanded) -> Expanded
+    requires { ⌜ (w < WORDS) × (done .count + size (wordSet w bits) ≤ maxStates) × (storeWords ≤ length (now store)) ⌝ }
+    ensures { λ r. ⌜ (r .count ≡ done .count + size (wordSet w bits))
+        × (r .found .words ≡ union (done .found .words) (successorsBy (now (store .entry)) (wordSet w bits)))
+        × (now (order .exit) ≡ sets (now (order .entry)) (done .count) (members (wordSet w bits))) ⌝ }
+{
+    let mut so_far = done;
+    let mut rest = bits;
+    while rest != 0 {
+        let s = 64 * w + u64::trailing_zeros(rest) as usize;
+        so_far = expand(store, s, order, so_far);
+        rest &= rest - 1;
+    }
+    so_far
+}
+
+// A look: the states of x are expanded, rising, as numbers `count` and up; `found` has their successors.
+fn look(store: &[u64], x: StateSet, order: &mut Order, count: usize) -> Expanded
+    requires { ⌜ (count + size (x .words) ≤ maxStates) × (storeWords ≤ length (now store)) ⌝ }
+    ensures { λ r. ⌜ (r .count ≡ count + size (x .words))
+        × (r .found .words ≡ successorsBy (now (store .entry)) (x .words))
+        × (now (order .exit) ≡ sets (now (order .entry)) count (members (x .words))) ⌝ }
+{
+    let mut so_far = Expanded {
+        count,
+        found: StateSet::empty(),
+    };
+    for w in 0..WORDS {
+        so_far = expand_word(store, w, x.words[w], order, so_far);
+    }
+    so_far
+}
+
+// cover(z meet found) without r. The states of r bring nothing else, as r has the cover of each of them.
+fn joining(rows: &Rows, z: StateSet, found: StateSet, r: StateSet) -> StateSet
+    ensures { λ x. ⌜ x .words ≡ difference (coverBy (now (rows .entry)) (difference (meet (z .words) (found .words)) (r .words))) (r .words) ⌝ }
+{
+    union_of(rows, z.meet(found).difference(r)).difference(r)
+}
+
+// R, initial union post(R), and the states of R in the order in which they were expanded.
+pub struct Reached {
+    pub r: StateSet,
+    pub entered: StateSet,
+    pub order: Order,
+    pub count: usize,
+}
+
+// The least x with x = cover(z meet (initial union post(x))). Each look expands only the states that joined by the one before.
+fn forward(store: &[u64], rows: &Rows, initial: StateSet, z: StateSet) -> Reached
+    requires { ⌜ (storeWords ≤ length (now store)) × IsCover (now rows) ⌝ }
+    ensures { λ x. ⌜ IsLeast (forwardBy (now (store .entry)) (now (rows .entry)) (initial .words) (z .words)) (x .r .words)
+        × (x .order ≡ padded (orderBy (now (store .entry)) (now (rows .entry)) (initial .words) (z .words)))
+        × (x .count ≡ length (orderBy (now (store .entry)) (now (rows .entry)) (initial .words) (z .words)))
+        × (x .entered .words ≡ union (initial .words) (successorsBy (now (store .entry)) (x .r .words))) ⌝ }
+{
+    let mut order = [0; MAX_STATES];
+    let mut count = 0;
+    let mut entered = initial;
+    let mut fresh = union_of(rows, z.meet(initial));
+    let mut r = fresh;
+    while !fresh.is_empty() {
+        let done = look(store, fresh, &mut order, count);
+        count = done.count;
+        let found = done.found;
+        entered = entered.union(found);
+        fresh = joining(rows, z, found, r);
+        r = r.union(fresh);
+    }
+    Reached {
+        r,
+        entered,
+        order,
+        count,
+    }
 }
 
 // ---- S
 
-// cover(r meet hold(x))
-fn backward_step(store: &[u64], rows: &Rows, r: StateSet, x: StateSet) -> StateSet
-    requires { ⌜ storeWords ≤ length (now store) ⌝ }
-    ensures { λ s. ⌜ s .words ≡ backwardBy (now (store .entry)) (now (rows .entry)) (r .words) (x .words) ⌝ }
-{
-    union_of(rows, meet_hold(store, r, x))
+// S, and S meet hold(S).
+pub struct Held {
+    pub s: StateSet,
+    pub next: StateSet,
 }
 
-// The greatest x with x = cover(r meet hold(x)).
-fn backward(store: &[u64], n: usize, rows: &Rows, r: StateSet) -> StateSet
-    requires { ⌜ (storeWords ≤ length (now store)) × Below n (now rows) ⌝ }
-    ensures { λ s. ⌜ IsGreatest (backwardBy (now (store .entry)) (now (rows .entry)) (r .words)) (s .words) ⌝ }
+// The greatest x with x = cover(r meet hold(x)), where r is its own cover. A state of r that steps out of x once stays out, so only those
+// that stay are looked at again.
+fn backward(store: &[u64], rows: &Rows, r: StateSet) -> Held
+    requires { ⌜ (storeWords ≤ length (now store)) × IsCover (now rows) × (coverBy (now rows) (r .words) ≡ r .words) ⌝ }
+    ensures { λ x. ⌜ IsGreatest (backwardBy (now (store .entry)) (now (rows .entry)) (r .words)) (x .s .words)
+        × (x .next .words ≡ meetHold (now (store .entry)) (x .s .words) (x .s .words)) ⌝ }
 {
-    let mut x = StateSet::first_states(n);
-    for _ in 0..n {
-        let y = backward_step(store, rows, r, x);
-        if y.equals(x) {
-            return x;
+    let mut s = r;
+    let mut staying = r;
+    loop {
+        let still = meet_hold(store, staying, s);
+        if still.equals(staying) {
+            return Held { s, next: staying };
         }
-        x = y;
+        staying = still;
+        s = union_of(rows, staying);
     }
-    x
 }
 
 // ---- the rounds
@@ -130,14 +216,6 @@ fn not_forbidden(store: &[u64], n: usize) -> StateSet
     StateSet::first_states(n).difference(set_at(store, FORBIDDEN_AT))
 }
 
-// Step 2's test: initial union post(r) lies inside z.
-fn stays_inside(store: &[u64], initial: StateSet, z: StateSet, r: StateSet) -> bool
-    requires { ⌜ storeWords ≤ length (now store) ⌝ }
-    ensures { λ b. ⌜ b ≡ subset (union (initial .words) (successorsBy (now (store .entry)) (r .words))) (z .words) ⌝ }
-{
-    initial.union(successors(store, r)).is_subset(z)
-}
-
 // What a round comes to: safe (step 2), unsafe (step 4), or neither.
 pub enum Conclusion {
     Safe,
@@ -152,18 +230,22 @@ pub struct Concluded {
 }
 
 // Steps 1 to 4 of a round, and the Z of step 6.
-fn conclude(store: &[u64], n: usize, rows: &Rows, initial: StateSet, z: StateSet) -> Concluded
-    requires { ⌜ (storeWords ≤ length (now store)) × Below n (now rows) ⌝ }
+fn conclude(store: &[u64], rows: &Rows, initial: StateSet, z: StateSet) -> Concluded
+    requires { ⌜ (storeWords ≤ length (now store)) × IsCover (now rows) ⌝ }
     ensures { λ x. ⌜ Concludes (now (store .entry)) (now (rows .entry)) (initial .words) (z .words) x ⌝ }
 {
-    let r = forward(store, n, rows, initial, z);
-    if stays_inside(store, initial, z, r) {
+    let reached = forward(store, rows, initial, z);
+    let r = reached.r;
+    let entered = reached.entered;
+    if entered.is_subset(z) {
         return Concluded {
             conclusion: Conclusion::Safe,
             set: r,
         };
     }
-    let s = backward(store, n, rows, r);
+    let held = backward(store, rows, r);
+    let s = held.s;
+    let next = held.next;
     if !initial.is_subset(s) {
         return Concluded {
             conclusion: Conclusion::Unsafe,
@@ -172,7 +254,7 @@ fn conclude(store: &[u64], n: usize, rows: &Rows, initial: StateSet, z: StateSet
     }
     Concluded {
         conclusion: Conclusion::Open,
-        set: meet_hold(store, s, s),
+        set: next,
     }
 }
 
@@ -203,7 +285,7 @@ fn run(store: &[u64], n: usize, g: usize, allowance: usize) -> Ended
             j -= 1;
             continue;
         }
-        let round = conclude(store, n, &rows, initial, z);
+        let round = conclude(store, &rows, initial, z);
         let conclusion = round.conclusion;
         let set = round.set;
         match conclusion {
@@ -233,6 +315,81 @@ fn run(store: &[u64], n: usize, g: usize, allowance: usize) -> Ended
     }
 }
 
+// ---- the order of the first round
+
+// The cover of a state s whose cover is `row`, after z is added to the list.
+fn narrowed_row(row: StateSet, s: usize, z: StateSet) -> StateSet
+    ensures { λ r. ⌜ r .words ≡ cond (member (z .words) s) (meet (row .words) (z .words)) (row .words) ⌝ }
+{
+    if z.contains(s) {
+        return row.meet(z);
+    }
+    row
+}
+
+// The cover of state s for the table's groups and z.
+fn cover_of(store: &[u64], n: usize, g: usize, z: StateSet, s: usize) -> StateSet
+    requires { ⌜ (g ≤ maxGroups) × (storeWords ≤ length (now store)) ⌝ }
+    ensures { λ r. ⌜ r .words ≡ coverOf n (z .words ∷ (tableOf (now (store .entry)) n g) .groups) s ⌝ }
+{
+    let mut row = StateSet::first_states(n);
+    let mut j = g;
+    while 0 < j {
+        j -= 1;
+        row = narrowed_row(row, s, group_at(store, j));
+    }
+    narrowed_row(row, s, z)
+}
+
+// The cover of each state for the table's groups and z.
+fn first_cover(store: &[u64], n: usize, g: usize, z: StateSet) -> Rows
+    requires { ⌜ (g ≤ maxGroups) × (storeWords ≤ length (now store)) ⌝ }
+    ensures { λ r. ⌜ r ≡ covers n (z .words ∷ (tableOf (now (store .entry)) n g) .groups) ⌝ }
+{
+    let none = [0; WORDS];
+    let mut rows = [none; MAX_STATES];
+    for s in 0..MAX_STATES {
+        let row = cover_of(store, n, g, z, s);
+        let words = row.words;
+        rows[s] = words;
+    }
+    rows
+}
+
+// How many states were expanded, or the number of the ground on which the call is declined.
+pub enum Expansion {
+    Listed(usize),
+    Refused(u8),
+}
+
+// The answer, with the states beside it where it is not declined.
+pub struct FirstOrder {
+    pub expansion: Expansion,
+    pub states: Order,
+}
+
+// The order in which the first round of a table expands the states of R, for programs and tests.
+pub fn first_order(store: &[u64], n: usize, g: usize) -> FirstOrder
+    ensures { λ r. ⌜ Ordered (now (store .entry)) n g r ⌝ }
+{
+    let refused = refusal(store, n, g);
+    if refused != 0 {
+        return FirstOrder {
+            expansion: Expansion::Refused(refused),
+            states: [0; MAX_STATES],
+        };
+    }
+    let z = not_forbidden(store, n);
+    let rows = first_cover(store, n, g, z);
+    let reached = forward(store, &rows, set_at(store, 0), z);
+    let count = reached.count;
+    let states = reached.order;
+    FirstOrder {
+        expansion: Expansion::Listed(count),
+        states,
+    }
+}
+
 // ---- the call
 
 // As many refinements as there can be states.
@@ -255,7 +412,7 @@ fn decide_refusal(store: &[u64], n: usize, g: usize, allowance: usize, room: usi
     0
 }
 
-// 01's verdicts, each with its count of refinements: safe with the number of states of the invariant, unsafe with the steps of the path.
+// The verdicts, each with its count of refinements: safe with the number of states of the invariant, unsafe with the steps of the path.
 // `Refused` has the number of the ground on which the call is declined.
 pub enum Verdict {
     Safe { count: usize, size: usize },

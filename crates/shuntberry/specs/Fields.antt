@@ -1,11 +1,13 @@
 -- The structs of the calls for C, as the model's answers: field by field, under the same names.
 --
---   decisionFields, shortestFields, tableFields, fileFields     what decide, shortest path, read and write return
---   minuteFields                                                what next open minute returns
+--   decisionFields, shortestFields, withinFields, tableFields, fileFields     what decide, shortest path, within, read and write return
+--   minuteFields                                                              what next open minute returns
 use Rattle.model.specs.Calls.{Decision, Shortest, TableRead, Written}
-use Rattle.release_windows.specs.Answers.{Answer}
+use Rattle.paths.specs.Within.{Answer}
+use Rattle.release_windows.specs.Answers.{Answer as MinuteAnswer}
 use Rattle.shuntberry.specs.declared.DecisionFields.{DecisionFields}
 use Rattle.shuntberry.specs.declared.ShortestFields.{ShortestFields}
+use Rattle.shuntberry.specs.declared.WithinFields.{WithinFields}
 use Rattle.shuntberry.specs.declared.TableFields.{TableFields}
 use Rattle.shuntberry.specs.declared.FileFields.{FileFields}
 use Rattle.shuntberry.specs.declared.MinuteFields.{MinuteFields}
@@ -18,11 +20,14 @@ decisionFields r =
 abbrev pub shortestFields : ShortestFields → Shortest
 shortestFields r = record { refusal = r .refusal; found = r .found; steps = r .steps }
 
+abbrev pub withinFields : WithinFields → Answer
+withinFields r = record { refusal = r .refusal; within = r .within }
+
 abbrev pub tableFields : TableFields → TableRead
 tableFields r = record { refusal = r .refusal; n = r .n; g = r .g }
 
 abbrev pub fileFields : FileFields → Written
 fileFields r = record { refusal = r .refusal; length = r .length }
 
-abbrev pub minuteFields : MinuteFields → Answer
+abbrev pub minuteFields : MinuteFields → MinuteAnswer
 minuteFields r = record { refusal = r .refusal; never = r .never; minute = r .minute }

@@ -10,20 +10,26 @@ ghost use Rattle.model.specs.Calls.{decideAnswer, decideBuffer, shortestAnswer,
 ghost use Rattle.model.proofs.Ranges.{DecisionRange, ReadRange};
 ghost use Rattle.rounds.specs.Answers.{answerOf};
 ghost use Rattle.paths.specs.Answers.{shortestOf};
+ghost use Rattle.paths.specs.Distances.{distancesRefusal, distancesBuffer, refusalOf};
+ghost use Rattle.paths.specs.Within.{withinAnswer, answerOf as withinOf};
 ghost use Rattle.block_file.specs.ReadAnswers.{readOf};
 ghost use Rattle.block_file.specs.WriteAnswers.{writtenOf};
 ghost use Rattle.generator.specs.Load.{generateAnswer, generateBuffer};
 ghost use Rattle.generator.specs.Answers.{generatedOf};
 ghost use Rattle.release_windows.specs.Answers.{nextOpenAnswer, numbersOf};
-ghost use Rattle.shuntberry.specs.Fields.{decisionFields, shortestFields, tableFields, fileFields, minuteFields};
+ghost use Rattle.shuntberry.specs.Fields.{decisionFields, shortestFields, withinFields, tableFields, fileFields, minuteFields};
 use block_file::TableRead;
 use block_file::Written;
 use block_file::read;
 use block_file::write;
 use generator::Generated;
 use generator::generate;
+use paths::DistancesAnswer;
 use paths::Shortest;
+use paths::WithinAnswer;
+use paths::distances;
 use paths::shortest_path;
+use paths::within;
 use release_windows::NextOpen;
 use release_windows::next_open;
 use rounds::Decision;
@@ -147,6 +153,60 @@ pub extern "C" fn shuntberry_shortest_path(
         × (now (path .exit) ≡ shortestBuffer (now (store .entry)) n g (now (path .entry))) ⌝ }
 {
     lay_out_shortest(shortest_path(store, n, g, path))
+}
+
+// ---- distances
+
+// The refusal, or 0.
+fn refusal_number(answer: DistancesAnswer) -> u32
+    ensures { λ r. ⌜ r ≡ refusalOf answer ⌝ }
+{
+    match answer {
+        DistancesAnswer::Written => 0,
+        DistancesAnswer::Refused(refusal) => refusal as u32,
+    }
+}
+
+#[no_mangle]
+pub extern "C" fn shuntberry_distances(store: &[u64], n: usize, g: usize, out: &mut [u16]) -> u32
+    ensures { λ r. ⌜ (r ≡ distancesRefusal (now (store .entry)) n g (length (now (out .entry))))
+        × (now (out .exit) ≡ distancesBuffer (now (store .entry)) n g (now (out .entry))) ⌝ }
+{
+    refusal_number(distances(store, n, g, out))
+}
+
+// ---- within
+
+#[repr(C)]
+pub struct WithinFields {
+    pub refusal: u32,
+    pub within: u32,
+}
+
+fn lay_out_within(answer: WithinAnswer) -> WithinFields
+    ensures { λ r. ⌜ withinFields r ≡ withinOf answer ⌝ }
+{
+    match answer {
+        WithinAnswer::Yes => WithinFields {
+            refusal: 0,
+            within: 1,
+        },
+        WithinAnswer::No => WithinFields {
+            refusal: 0,
+            within: 0,
+        },
+        WithinAnswer::Refused(refusal) => WithinFields {
+            refusal: refusal as u32,
+            within: 0,
+        },
+    }
+}
+
+#[no_mangle]
+pub extern "C" fn shuntberry_within(store: &[u64], n: usize, g: usize, k: usize) -> WithinFields
+    ensures { λ r. ⌜ withinFields r ≡ withinAnswer (now (store .entry)) n g k ⌝ }
+{
+    lay_out_within(within(store, n, g, k))
 }
 
 // ---- read

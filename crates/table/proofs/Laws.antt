@@ -2,14 +2,16 @@
 --
 --   Copying, copied             a loop that copies the words of a set; the set when it is done
 --   beyond-is                   a set has a state from n up exactly if it is not inside the first n states
+--   beyond-none, -union, -turn, -end    a loop that joins sets, one of which may have a state from n up
 --   non-zero-start, -pass, -hit, -end   a loop that looks for a word other than 0
 --   malformed-initial, .., malformed-last   the tests of ground 17, one after the other
 --   refuse-10, .., refuse-17, refuse-none   the grounds that the calls share, in their order
 use Prim.Native.Nat.{ℕ, _+_, _≤_, _<_}
 use native.Mathlib.Nat.{le-antisymm}
+use native.Mathlib.Numerals.{add-one}
 use native.Mathlib.Omega.{arith}
 use mathlib.Core.Path.{_≡_, refl, sym, ap, _∙_, subst}
-use mathlib.Core.Logic.{⊎-elim}
+use mathlib.Core.Logic.{inl, inr, ⊎-elim}
 use mathlib.Core.Bool.{Bool, true, false, not, _&&_, _||_}
 use mathlib.Core.List.{List}
 use borrow.Author.Count.{below-more}
@@ -17,10 +19,10 @@ use borrow.Author.Tests.{lt-ltb, le-ltb, le-leb, leb-true, eq-eqb, ne-eqb, lt-le
 use lib.Dec.{eqb, leb}
 use lib.ListN.{length, getD, set, take, drop, length-set, length-take, length-drop}
 use lib.Seq.{ext-getD, getD-take, getD-drop, getD-set-same, getD-set-other}
-use Rattle.model.specs.Sets.{WORDS, maxStates, Set, member, subset, firstStates, any}
+use Rattle.model.specs.Sets.{WORDS, maxStates, Set, member, subset, firstStates, any, empty, union}
 use Rattle.model.specs.Stores.{maxGroups, forbiddenAt, groupAt, rowAt, storeWords, setAt, beyond, nonZero, malformed, badStates, refuse, sharedGrounds}
-use Rattle.model.proofs.Bounds.{and-true, and-intro, is-false, same-test, lt-or-ge, any-intro, any-find, any-turn, no-any, not-true}
-use Rattle.model.proofs.SetLaws.{In, in-bound, in-firstStates, firstStates-in, subset-in, subset-not}
+use Rattle.model.proofs.Bounds.{and-true, and-intro, or-intro, or-true as or-cases, is-false, same-test, lt-or-ge, any-intro, any-find, any-turn, no-any, not-true}
+use Rattle.model.proofs.SetLaws.{In, in-bound, empty-in, in-firstStates, firstStates-in, in-union, union-in, subset-in, subset-not}
 
 -- ---- a set copied out of the store
 
@@ -53,21 +55,52 @@ module _ (store : List ℕ) (at : ℕ) where
 
 -- ---- acceptance
 
-pub beyond-is : (n : ℕ) (X : Set) → not (subset X (firstStates n)) ≡ beyond n X
+beyond-in : (n : ℕ) (X : Set) → beyond n X ≡ true → (s : ℕ) × (n ≤ s) × In X s
 unfolding beyond
+beyond-in n X e =
+    let w = any-find (λ s. leb n s && member X s) maxStates e in
+    let both = and-true (leb n (w .0)) (member X (w .0)) (w .2) in
+    (w .0, leb-true n (w .0) (both .0), record { is = both .1 })
+
+in-beyond : (n : ℕ) (X : Set) {s : ℕ} → n ≤ s → In X s → beyond n X ≡ true
+unfolding beyond
+in-beyond n X {s} l h = any-intro (λ s. leb n s && member X s) maxStates s (in-bound h) (and-intro (leb n s) (member X s) (le-leb n s l) (h .is))
+
+pub beyond-is : (n : ℕ) (X : Set) → not (subset X (firstStates n)) ≡ beyond n X
 beyond-is n X =
     same-test (not (subset X (firstStates n))) (beyond n X)
     (λ e.
     let w = subset-not X (firstStates n) (not-true (subset X (firstStates n)) e) in
-    let h : n ≤ w .0 = ⊎-elim (λ l. absurd (w .2 (in-firstStates (in-bound (w .1)) l))) (λ l. l) (lt-or-ge (w .0) n) in
-    any-intro _ maxStates (w .0) (in-bound (w .1)) (and-intro (leb n (w .0)) (member X (w .0)) (le-leb n (w .0) h) (w .1 .is)))
-    (λ e.
-    let w = any-find _ maxStates e in
-    let both = and-true (leb n (w .0)) (member X (w .0)) (w .2) in
-    ap not (is-false (subset X (firstStates n)) (λ i. outside (w .0) (leb-true n (w .0) (both .0)) (subset-in i (w .0) (record { is = both .1 })))))
+    in-beyond n X (⊎-elim (λ l. absurd (w .2 (in-firstStates (in-bound (w .1)) l))) (λ l. l) (lt-or-ge (w .0) n)) (w .1))
+    (λ e. let w = beyond-in n X e in ap not (is-false (subset X (firstStates n)) (λ i. outside (w .0) (w .1) (subset-in i (w .0) (w .2)))))
   where
     outside : (s : ℕ) → n ≤ s → In (firstStates n) s → ⊥
     outside s h i = omega (arith, firstStates-in i)
+
+pub beyond-none : (n : ℕ) → beyond n empty ≡ false
+beyond-none n = is-false (beyond n empty) (λ e. empty-in (beyond-in n empty e .2))
+
+pub beyond-union : (n : ℕ) (X Y : Set) → beyond n (union X Y) ≡ (beyond n X || beyond n Y)
+beyond-union n X Y =
+    same-test (beyond n (union X Y)) (beyond n X || beyond n Y)
+    (λ e.
+    let w = beyond-in n (union X Y) e in
+    or-intro (beyond n X) (beyond n Y) (⊎-elim (λ h. inl (in-beyond n X (w .1) h)) (λ h. inr (in-beyond n Y (w .1) h)) (union-in (w .2))))
+    (λ e.
+    ⊎-elim (λ x. let w = beyond-in n X x in in-beyond n (union X Y) (w .1) (in-union (inl (w .2))))
+    (λ y. let w = beyond-in n Y y in in-beyond n (union X Y) (w .1) (in-union (inr (w .2))))
+    (or-cases (beyond n X) (beyond n Y) e))
+
+-- the sets f 0, f 1, .. joined
+module _ (n : ℕ) (f : ℕ → Set) where
+  pub beyond-turn : (j : ℕ) (out : Set) {out′ X : Set} → beyond n out ≡ any j (λ i. beyond n (f i)) → X ≡ f j → out′ ≡ union out X
+      → beyond n out′ ≡ any (j + 1) (λ i. beyond n (f i))
+  unfolding any
+  beyond-turn j out e x u =
+      rw add-one (ap (beyond n) (u ∙ ap (union out) x) ∙ beyond-union n out (f j) ∙ ap (λ (b : Bool). b || beyond n (f j)) e)
+
+  pub beyond-end : (j count : ℕ) (out : Set) → j ≤ count → count ≤ j → beyond n out ≡ any j (λ i. beyond n (f i)) → beyond n out ≡ any count (λ i. beyond n (f i))
+  beyond-end j count out l h e = e ∙ ap (λ (k : ℕ). any k (λ i. beyond n (f i))) (le-antisymm l h)
 
 -- a loop that looks for a word other than 0, from `from` on
 module _ (xs : List ℕ) (from : ℕ) where

@@ -1,4 +1,4 @@
-// The lent store (01, "States and sets"): its layout, the sets in it, and the acceptance test that the calls share.
+// The lent store (the specification, "The store"): its layout, the sets in it, and the acceptance test that the calls share.
 //
 //   set_at, group_at, row_at     a set of the store
 //   successors                   post: all successors of the states of a set
@@ -165,17 +165,16 @@ fn is_beyond(x: StateSet, n: usize) -> bool
     !x.is_subset(StateSet::first_states(n))
 }
 
-// One of the `count` sets that begin at `at` has a state from n up.
+// One of the `count` sets that begin at `at` has a state from n up. The sets are joined and tested once.
 fn any_beyond(store: &[u64], at: usize, count: usize, n: usize) -> bool
     requires { ⌜ at + WORDS * count ≤ length (now store) ⌝ }
     ensures { λ r. ⌜ r ≡ any count (λ j. beyond n (setAt (now (store .entry)) (at + WORDS * j))) ⌝ }
 {
+    let mut joined = StateSet::empty();
     for j in 0..count {
-        if is_beyond(set_at(store, at + WORDS * j), n) {
-            return true;
-        }
+        joined = joined.union(set_at(store, at + WORDS * j));
     }
-    false
+    is_beyond(joined, n)
 }
 
 // Some word from `from` on and before `to` is not 0.

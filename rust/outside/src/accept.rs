@@ -1,4 +1,4 @@
-//! The refusals of decide, shortest path and write, in the specification's order (Refusals), and of read's store.
+//! The refusals of the calls on a store, in their order, and of read's store.
 
 use crate::blocks::{BLOCK, CONTENT, contents_length};
 use crate::table::{MAX_GROUPS, MAX_STATES, STORE_WORDS};
@@ -21,6 +21,15 @@ pub fn decide(
 pub fn shortest_path(store: &[u64], n: usize, g: usize, path_len: usize) -> Result<(), u32> {
     table(store, n, g)?;
     refuse_if(path_len < PATH_BYTES, 21)
+}
+
+pub fn distances(store: &[u64], n: usize, g: usize, room: usize) -> Result<(), u32> {
+    table(store, n, g)?;
+    refuse_if(room < n, 23)
+}
+
+pub fn within(store: &[u64], n: usize, g: usize) -> Result<(), u32> {
+    table(store, n, g)
 }
 
 pub fn write(store: &[u64], n: usize, g: usize, output_len: usize) -> Result<(), u32> {

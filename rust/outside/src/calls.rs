@@ -21,6 +21,13 @@ pub struct Shortest {
     pub steps: u32,
 }
 
+/// What within answers.
+#[derive(Clone, Copy, Debug, Default, PartialEq, Eq)]
+pub struct Within {
+    pub refusal: u32,
+    pub within: u32,
+}
+
 /// What read answers.
 #[derive(Clone, Copy, Debug, Default, PartialEq, Eq)]
 pub struct TableRead {
@@ -51,6 +58,9 @@ pub trait Calls: Sync {
         path: &mut [u8],
     ) -> Decision;
     fn shortest_path(&self, store: &[u64], n: usize, g: usize, path: &mut [u8]) -> Shortest;
+    /// The refusal, or 0.
+    fn distances(&self, store: &[u64], n: usize, g: usize, distances: &mut [u16]) -> u32;
+    fn within(&self, store: &[u64], n: usize, g: usize, k: usize) -> Within;
     fn read(&self, input: &[u8], store: &mut [u64]) -> TableRead;
     fn write(&self, store: &[u64], n: usize, g: usize, output: &mut [u8]) -> Written;
 }
@@ -60,7 +70,7 @@ pub use linked::{Linked, Wrapped};
 
 #[cfg(feature = "library")]
 mod linked {
-    use super::{Calls, Decision, SAFE, Shortest, TableRead, UNDECIDED, UNSAFE, Written};
+    use super::{Calls, Decision, SAFE, Shortest, TableRead, UNDECIDED, UNSAFE, Within, Written};
     use shuntberry::{Refused, Verdict, raw};
 
     /// The library, by its exports for C.
@@ -103,6 +113,20 @@ mod linked {
                 refusal: answer.refusal,
                 found: answer.found,
                 steps: answer.steps,
+            }
+        }
+
+        fn distances(&self, store: &[u64], n: usize, g: usize, distances: &mut [u16]) -> u32 {
+            let (words, length) = (store.as_ptr(), store.len());
+            let (places, room) = (distances.as_mut_ptr(), distances.len());
+            unsafe { raw::shuntberry_distances(words, length, n, g, places, room) }
+        }
+
+        fn within(&self, store: &[u64], n: usize, g: usize, k: usize) -> Within {
+            let answer = unsafe { raw::shuntberry_within(store.as_ptr(), store.len(), n, g, k) };
+            Within {
+                refusal: answer.refusal,
+                within: answer.within,
             }
         }
 
@@ -197,6 +221,23 @@ mod linked {
                         ..none
                     }
                 }
+            }
+        }
+
+        fn distances(&self, store: &[u64], n: usize, g: usize, distances: &mut [u16]) -> u32 {
+            match shuntberry::distances(store, n, g, distances) {
+                Err(Refused(refusal)) => refusal,
+                Ok(()) => 0,
+            }
+        }
+
+        fn within(&self, store: &[u64], n: usize, g: usize, k: usize) -> Within {
+            match shuntberry::within(store, n, g, k) {
+                Err(Refused(refusal)) => Within { refusal, within: 0 },
+                Ok(yes) => Within {
+                    refusal: 0,
+                    within: yes as u32,
+                },
             }
         }
 

@@ -8,7 +8,9 @@ use std::fmt::Debug;
 
 use crate::blocks::{self, BLOCK, CONTENT};
 use crate::buffer::Lent;
-use crate::calls::{Calls, Decision, SAFE, Shortest, TableRead, UNDECIDED, UNSAFE, Written};
+use crate::calls::{
+    Calls, Decision, SAFE, Shortest, TableRead, UNDECIDED, UNSAFE, Within, Written,
+};
 use crate::damage::{self, DAMAGES, Damage};
 use crate::expected::{self, Expected, Judged};
 use crate::generate::{Kind, Random};
@@ -78,6 +80,39 @@ fn shortest_path(
     store.holds(&format!("store after {what}"), &[])
 }
 
+fn distances(
+    library: &dyn Calls,
+    store: &[u64],
+    (n, g): (usize, usize),
+    out: &[u16],
+    expected: &Expected<u32, u16>,
+) -> Outcome {
+    let what = format!("{}'s distances({n}, {g})", library.name());
+    let (store, mut out) = (Lent::new(store), Lent::new(out));
+    let answer = library.distances(store.shared(), n, g, out.mutable());
+    same(&what, answer, expected.answer)?;
+    out.holds(&format!("distances after {what}"), &expected.front)?;
+    store.holds(&format!("store after {what}"), &[])
+}
+
+/// Within for each of the numbers of steps, each with its answer.
+fn within(
+    library: &dyn Calls,
+    store: &[u64],
+    (n, g): (usize, usize),
+    expected: impl IntoIterator<Item = (usize, Within)>,
+) -> Outcome {
+    let store = Lent::new(store);
+    for (k, expected) in expected {
+        let answer = library.within(store.shared(), n, g, k);
+        if answer != expected {
+            let what = format!("{}'s within({n}, {g}, {k})", library.name());
+            return same(&what, answer, expected);
+        }
+    }
+    store.holds("store after within", &[])
+}
+
 fn read(
     library: &dyn Calls,
     input: &[u8],
@@ -113,7 +148,7 @@ fn ensure(holds: bool, what: impl FnOnce() -> String) -> Outcome {
 
 // ---- A table
 
-/// A random table through all four calls, then with spoiled arguments.
+/// A random table through all calls, then with spoiled arguments.
 pub fn random_table(libraries: &[&dyn Calls], random: &mut Random, tally: &mut Tally) -> Outcome {
     let kind = Kind::random(random);
     let table = kind.table(random);
@@ -125,7 +160,7 @@ pub fn random_table(libraries: &[&dyn Calls], random: &mut Random, tally: &mut T
         .map_err(|fault| format!("{kind:?}: {fault}"))
 }
 
-/// The four calls on a table, with demands 2 and 3 and both round trips.
+/// The calls on a table, with demands 2 and 3, both round trips, and what distances and within share.
 pub fn accepted_table(
     libraries: &[&dyn Calls],
     table: &Table,
@@ -160,8 +195,13 @@ pub fn accepted_table(
     if n <= SMALL {
         try_everything(table, &judged)?;
     }
+    let far = judged.distances();
+    agreement(table, &judged, &far.front)?;
     tally.count("states", n);
     tally.count("groups", g);
+    for &steps in &far.front {
+        tally.count("distance", steps);
+    }
     tally.count("backward number", backward);
     for (allowance, Expected { answer, .. }) in &expected {
         let verdict = ["safe", "unsafe", "undecided"][answer.verdict as usize];
@@ -183,7 +223,39 @@ pub fn accepted_table(
         let path = random.bytes(256 + beyond);
         let shortest = judged.shortest_path();
         shortest_path(*library, &store, (n, g), &path, &shortest)?;
+        for room in [n, n + 1, n + beyond] {
+            let out = random.places(room);
+            distances(*library, &store, (n, g), &out, &far)?;
+        }
+        let out = random.places(n - 1);
+        let short = Expected {
+            answer: 23,
+            front: Vec::new(),
+        };
+        distances(*library, &store, (n, g), &out, &short)?;
+        let steps = (0..=n + 1).chain(FAR).map(|k| (k, judged.within(k)));
+        within(*library, &store, (n, g), steps)?;
         round_trips(*library, &store, (n, g), &judged.write(), random)?;
+    }
+    Ok(())
+}
+
+/// Numbers of steps that no path has: either side of 65,535, which stands for no distance, and past 16
+/// and 32 bits.
+const FAR: [usize; 6] = [65_534, 65_535, 65_536, 1 << 32, WIDE, usize::MAX];
+
+/// The distances, which are found backward, and the path, which is found forward: the nearest initial
+/// state is as far as the path is long. Small tables are held to trying everything.
+fn agreement(table: &Table, judged: &Judged, far: &[u16]) -> Outcome {
+    let initial = (0..table.n).filter(|&s| table.initial[s] && far[s] != 65_535);
+    let nearest = initial.map(|s| far[s] as usize).min();
+    let steps = judged.path.as_ref().map(|path| path.len() - 1);
+    same("the nearest initial state", nearest, steps)?;
+    if table.n <= SMALL {
+        for (s, &found) in far.iter().enumerate() {
+            let steps = search::distance_of_all(table, s).map_or(65_535, |steps| steps as u16);
+            same("a distance", found, steps)?;
+        }
     }
     Ok(())
 }
@@ -301,7 +373,7 @@ fn round_trips(
 
 // ---- Refusals of arguments
 
-/// What can be wrong with the arguments of decide, shortest path and write.
+/// What can be wrong with the arguments of the calls that are lent a table.
 #[derive(Clone, Copy, Debug)]
 enum Fault {
     StoreShort,
@@ -313,11 +385,12 @@ enum Fault {
     Allowance,
     PathShort,
     OutputShort,
+    PlacesShort,
     /// One state or group more or fewer than the store was made for.
     OtherSize,
 }
 
-const FAULTS: [Fault; 10] = [
+const FAULTS: [Fault; 11] = [
     Fault::StoreShort,
     Fault::States,
     Fault::Groups,
@@ -327,6 +400,7 @@ const FAULTS: [Fault; 10] = [
     Fault::Allowance,
     Fault::PathShort,
     Fault::OutputShort,
+    Fault::PlacesShort,
     Fault::OtherSize,
 ];
 
@@ -340,6 +414,7 @@ struct Arguments {
     allowance: usize,
     path_len: usize,
     output_len: usize,
+    places: usize,
 }
 
 impl Arguments {
@@ -352,6 +427,7 @@ impl Arguments {
             allowance: random.pick(&[0, 1, 256]),
             path_len: 256,
             output_len: blocks::contents_length(n, g).div_ceil(CONTENT) * BLOCK,
+            places: n,
         }
     }
 
@@ -390,6 +466,9 @@ impl Arguments {
             Fault::OutputShort => {
                 self.output_len = random.pick(&[0, self.output_len.saturating_sub(1)]);
             }
+            Fault::PlacesShort => {
+                self.places = random.pick(&[0, self.places.saturating_sub(1)]);
+            }
             Fault::OtherSize => match random.below(4) {
                 0 => self.n = self.n.wrapping_add(1),
                 1 => self.n = self.n.wrapping_sub(1),
@@ -407,7 +486,7 @@ impl Arguments {
     }
 }
 
-/// Decide, shortest path and write with one to three faults in their arguments.
+/// The calls that are lent a table, with one to three faults in their arguments.
 fn spoiled_arguments(
     libraries: &[&dyn Calls],
     table: &Table,
@@ -428,19 +507,28 @@ fn spoiled_arguments(
         allowance,
         path_len,
         output_len,
+        places,
     } = arguments;
     let path = random.bytes(path_len);
     let output = random.bytes(output_len);
+    let out = random.places(places);
+    let k = random.pick(&[0, 1, 65_535, usize::MAX]);
     let decision = expected::decide(&store, n, g, allowance, path_len);
     let shortest = expected::shortest_path(&store, n, g, path_len);
     let written = expected::write(&store, n, g, output_len);
+    let far = expected::distances(&store, n, g, places);
+    let near = expected::within(&store, n, g, k);
     tally.count("refusal by decide", decision.answer.refusal);
     tally.count("refusal by shortest path", shortest.answer.refusal);
     tally.count("refusal by write", written.answer.refusal);
+    tally.count("refusal by distances", far.answer);
+    tally.count("refusal by within", near.refusal);
     for library in libraries {
         decide(*library, &store, (n, g, allowance), &path, &decision)
             .and_then(|()| shortest_path(*library, &store, (n, g), &path, &shortest))
             .and_then(|()| write(*library, &store, (n, g), &output, &written))
+            .and_then(|()| distances(*library, &store, (n, g), &out, &far))
+            .and_then(|()| within(*library, &store, (n, g), [(k, near)]))
             .map_err(|fault| format!("{faults:?}: {fault}"))?;
     }
     Ok(())

@@ -1,9 +1,9 @@
-//! What the four calls must answer, and what they must leave in the buffer they write, put together
+//! What the calls must answer, and what they must leave in the buffer they write, put together
 //! from the plain implementations.
 
 use crate::accept;
 use crate::blocks;
-use crate::calls::{Decision, SAFE, Shortest, TableRead, UNDECIDED, UNSAFE, Written};
+use crate::calls::{Decision, SAFE, Shortest, TableRead, UNDECIDED, UNSAFE, Within, Written};
 use crate::rounds::{Outcome, Rounds};
 use crate::search;
 use crate::table::{Table, words};
@@ -65,6 +65,27 @@ impl<'t> Judged<'t> {
         Expected { answer, front }
     }
 
+    /// Distances on an accepted store, with room enough.
+    pub fn distances(&self) -> Expected<u32, u16> {
+        let number = |steps: Option<usize>| steps.map_or(65_535, |steps| steps as u16);
+        Expected {
+            answer: 0,
+            front: search::distances(self.table)
+                .into_iter()
+                .map(number)
+                .collect(),
+        }
+    }
+
+    /// Within on an accepted store: by the shortest path from an initial state, not by distances.
+    pub fn within(&self, k: usize) -> Within {
+        let yes = self.path.as_ref().is_some_and(|path| path.len() - 1 <= k);
+        Within {
+            refusal: 0,
+            within: yes as u32,
+        }
+    }
+
     /// Write on an accepted store, with output enough.
     pub fn write(&self) -> Expected<Written, u8> {
         let front = blocks::encode(self.table);
@@ -107,6 +128,25 @@ pub fn shortest_path(store: &[u64], n: usize, g: usize, path_len: usize) -> Expe
             },
             front: Vec::new(),
         },
+    }
+}
+
+/// Distances on any arguments.
+pub fn distances(store: &[u64], n: usize, g: usize, room: usize) -> Expected<u32, u16> {
+    match accept::distances(store, n, g, room) {
+        Ok(()) => Judged::new(&Table::from_store(store, n, g)).distances(),
+        Err(refusal) => Expected {
+            answer: refusal,
+            front: Vec::new(),
+        },
+    }
+}
+
+/// Within on any arguments.
+pub fn within(store: &[u64], n: usize, g: usize, k: usize) -> Within {
+    match accept::within(store, n, g) {
+        Ok(()) => Judged::new(&Table::from_store(store, n, g)).within(k),
+        Err(refusal) => Within { refusal, within: 0 },
     }
 }
 

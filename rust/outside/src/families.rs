@@ -49,6 +49,14 @@ pub fn more_for_shortest_path(random: &mut Random) -> Vec<Family> {
     ]
 }
 
+/// Beside those for distances and within: an initial state that leads nowhere, where within has nothing
+/// to look at but the table it must accept.
+pub fn more_for_distances(random: &mut Random) -> Vec<Family> {
+    let mut families = more_for_shortest_path(random);
+    families.push(family("leads nowhere", some(|| leads_nowhere(256, random))));
+    families
+}
+
 /// Beside those for read and write: one block, either side of its end, and the largest file.
 pub fn more_for_files(random: &mut Random) -> Vec<Family> {
     [(3, 0), (61, 0), (61, 1), (256, 64)]
@@ -105,6 +113,12 @@ fn no_path(n: usize, random: &mut Random) -> Table {
         row[n - 1] = false;
     }
     table.rows[n - 1][n - 1] = true;
+    table
+}
+
+fn leads_nowhere(n: usize, random: &mut Random) -> Table {
+    let mut table = fan_out(n, 4, 0, random);
+    table.rows[0].fill(false);
     table
 }
 

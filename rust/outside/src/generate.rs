@@ -49,6 +49,11 @@ impl Random {
         (0..length).map(|_| self.word() as u8).collect()
     }
 
+    /// Numbers of 16 bits, for a buffer of distances.
+    pub fn places(&mut self, length: usize) -> Vec<u16> {
+        (0..length).map(|_| self.word() as u16).collect()
+    }
+
     pub fn words(&mut self, length: usize) -> Vec<u64> {
         (0..length).map(|_| self.word()).collect()
     }

@@ -5,12 +5,12 @@
 //! each written from the specification's text and without use of the others:
 //!
 //! - `rounds`: the rounds and backward elimination, as the specification writes them, on lists of booleans;
-//! - `search`: a depth-first search for the verdict, a breadth-first one for the smallest path, and
-//!   all sequences of states in order, for small tables;
+//! - `search`: a depth-first search for the verdict, a breadth-first one for the smallest path,
+//!   relaxation for the distances, and all sequences of states in order, for small tables;
 //! - `blocks`: block files, to and from bytes;
 //! - `accept`: refusals of a store and of the other arguments, in order.
 //!
-//! `peer` is an optimised implementation of the four calls on four-word sets: what the library is
+//! `peer` is an optimised implementation of the calls on four-word sets: what the library is
 //! measured against, and a library that the tests themselves can be tested with.
 //!
 //! `windows` is the call next open minute by itself: what is expected of it, and its tests.

@@ -1,11 +1,13 @@
-//! An optimised implementation of the four calls, on sets of four words, with nothing allocated: what
+//! An optimised implementation of the calls, on sets of four words, with nothing allocated: what
 //! the library is measured against. It uses nothing else of this package but the answers' types.
 //!
 //! The rounds are the specification's. Their fixpoints are worked out in one of two ways:
 //! - `Looks::Whole` repeats the step on the whole set until nothing changes;
 //! - `Looks::New` looks again only at what can have changed.
 
-use crate::calls::{Calls, Decision, SAFE, Shortest, TableRead, UNDECIDED, UNSAFE, Written};
+use crate::calls::{
+    Calls, Decision, SAFE, Shortest, TableRead, UNDECIDED, UNSAFE, Within, Written,
+};
 
 #[derive(Clone, Copy, Debug, PartialEq, Eq)]
 pub enum Looks {
@@ -302,6 +304,44 @@ fn write_path(table: &Table, path: &mut [u8]) -> Option<usize> {
     Some(steps)
 }
 
+// ---- Distances
+
+/// The distance of each state, backward from the forbidden states by layers over the rows transposed.
+fn put_distances(table: &Table, out: &mut [u16]) {
+    let mut before = [[0; 4]; 256];
+    for state in 0..table.n {
+        let mut alone = Set::EMPTY;
+        alone.insert(state);
+        Set(table.rows[state]).each(|after| before[after] = Set(before[after]).union(alone).0);
+    }
+    out.fill(u16::MAX);
+    let mut layer = table.forbidden;
+    let mut seen = layer;
+    let mut steps = 0;
+    while !layer.is_empty() {
+        layer.each(|state| out[state] = steps);
+        layer = layer.gather(&before).minus(seen);
+        seen = seen.union(layer);
+        steps += 1;
+    }
+}
+
+/// The number of steps of a shortest path, forward from the initial states by layers.
+fn steps_to_forbidden(table: &Table) -> Option<usize> {
+    let mut layer = table.initial;
+    let mut seen = layer;
+    let mut steps = 0;
+    while !layer.is_empty() {
+        if !layer.meet(table.forbidden).is_empty() {
+            return Some(steps);
+        }
+        layer = table.post(layer).minus(seen);
+        seen = seen.union(layer);
+        steps += 1;
+    }
+    None
+}
+
 // ---- Files
 
 fn blocks_needed(n: usize, g: usize) -> (usize, usize) {
@@ -472,6 +512,28 @@ impl Calls for Peer {
             n: n as u32,
             g: g as u32,
             ..none
+        }
+    }
+
+    fn distances(&self, store: &[u64], n: usize, g: usize, distances: &mut [u16]) -> u32 {
+        let table = match Table::accept(store, n, g) {
+            Err(refusal) => return refusal,
+            Ok(table) => table,
+        };
+        let Some(out) = distances.get_mut(..n) else {
+            return 23;
+        };
+        put_distances(&table, out);
+        0
+    }
+
+    fn within(&self, store: &[u64], n: usize, g: usize, k: usize) -> Within {
+        match Table::accept(store, n, g) {
+            Err(refusal) => Within { refusal, within: 0 },
+            Ok(table) => Within {
+                refusal: 0,
+                within: steps_to_forbidden(&table).is_some_and(|steps| steps <= k) as u32,
+            },
         }
     }
 

@@ -1,7 +1,8 @@
 //! Graph searches that know nothing of rounds: depth first for the verdict, breadth first for the
-//! smallest of the shortest paths, and for small tables all sequences of states in order.
+//! smallest of the shortest paths, relaxation for distances, and for small tables all sequences of
+//! states in order.
 
-use std::collections::BTreeMap;
+use std::collections::{BTreeMap, VecDeque};
 
 use crate::table::Table;
 
@@ -59,8 +60,37 @@ pub fn smallest_shortest_path(table: &Table) -> Option<Vec<usize>> {
     None
 }
 
-/// The same by trying all sequences of states, shorter ones first, each length in rising order; for
-/// small tables. A shortest path repeats no state, so lengths up to n are enough.
+/// The number of steps from each state to the nearest forbidden one, if one can be reached: each state
+/// whose number falls has its predecessors looked at again, till none falls.
+pub fn distances(table: &Table) -> Vec<Option<usize>> {
+    let mut found: Vec<Option<usize>> = (0..table.n)
+        .map(|s| table.forbidden[s].then_some(0))
+        .collect();
+    let mut fallen: VecDeque<usize> = (0..table.n).filter(|&s| table.forbidden[s]).collect();
+    while let Some(state) = fallen.pop_front() {
+        let steps = found[state].map(|steps| steps + 1);
+        for before in (0..table.n).filter(|&s| table.rows[s][state]) {
+            if found[before].is_none() || steps < found[before] {
+                found[before] = steps;
+                fallen.push_back(before);
+            }
+        }
+    }
+    found
+}
+
+/// The same for one state by trying all sequences of states from it, shorter ones first; for small
+/// tables.
+pub fn distance_of_all(table: &Table, state: usize) -> Option<usize> {
+    let from_state = Table {
+        initial: (0..table.n).map(|s| s == state).collect(),
+        ..table.clone()
+    };
+    first_path_of_all(&from_state).map(|path| path.len() - 1)
+}
+
+/// The smallest of the shortest paths by trying all sequences of states, shorter ones first, each
+/// length in rising order; for small tables. A shortest path repeats no state, so lengths up to n are enough.
 pub fn first_path_of_all(table: &Table) -> Option<Vec<usize>> {
     (1..=table.n).find_map(|length| {
         let mut sequence = vec![0; length];

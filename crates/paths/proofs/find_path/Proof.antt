@@ -6,11 +6,11 @@ use Rattle.paths.proofs.find_path.Tie as tie
 
 looked : (c : tie.After-least-distance)
     → Looked (c .before .before .before .before .before .before .args .store .now) (c .before .before .before .before .before .before .args .n)
-    (c .before .before .before .distances .result) (c .before .before .set-at .result .words) (c .least-distance .result)
+    (c .before .before .before .all-distances .result) (c .before .before .set-at .result .words) (c .least-distance .result)
 looked c =
     record {
       held = c .before .before .before .before .before .before .pre .0;
-      known = c .before .before .before .distances .ensures;
+      known = c .before .before .before .all-distances .ensures;
       initial = c .before .before .set-at .ensures;
       least = c .least-distance .ensures;
     }

@@ -1,48 +1,37 @@
--- `backward`: x is what as many steps as turns give, and n of them reach the greatest solution.
-use Prim.Native.Nat.{_-_}
-use mathlib.Core.Path.{_≡_, sym, _∙_, subst}
+-- `backward`: s is the cover of the states that stay.
+use mathlib.Core.Path.{sym, _∙_}
 use borrow.Author.Needs.{needs}
-use Rattle.model.specs.Sets.{Set, states, firstStates}
-use Rattle.model.specs.Rounds.{iterate}
-use Rattle.model.specs.Promises.{IsGreatest}
-use Rattle.model.proofs.SetLaws.{setOf-proper}
-use Rattle.rounds.specs.Steps.{backwardBy}
-use Rattle.rounds.proofs.Bridge.{backwardBy-proper, backward-greatest}
-use Rattle.rounds.proofs.Loops.{Iterating, iterate-start, iterate-turn, iterate-stop, iterate-end}
+use Rattle.model.specs.Sets.{size}
+use Rattle.state_set.proofs.Words.{proper}
+use Rattle.rounds.specs.Steps.{coverBy}
+use Rattle.rounds.proofs.Staying.{Staying, staying-start, staying-less, staying-turn, staying-greatest, staying-next}
 use Rattle.rounds.proofs.backward.Statement.{statement}
 use Rattle.rounds.proofs.backward.Tie as tie
 
 abbrev Inv-loop : tie.InvT-loop
-Inv-loop store n rows r x₀ counter₀ x counter = Iterating (backwardBy store rows (r .words)) (firstStates n) n (x .words) counter
+Inv-loop store rows s₀ staying₀ s staying = Staying store rows (s₀ .words) (staying .words) (s .words)
 
 abbrev μ-loop : tie.MeasureT-loop
-μ-loop store n rows r x₀ counter₀ x counter = n - counter
-
-abbrev step : tie.At-loop Inv-loop μ-loop → Set → Set
-step c = let a = c .before .before .before .args in backwardBy (a .store .now) (a .rows .now) (a .r .words)
-
-greatest : (c : tie.At-loop Inv-loop μ-loop) {X : Set}
-    → X ≡ iterate (step c) (firstStates (c .before .before .before .args .n)) (c .before .before .before .args .n) → IsGreatest (step c) X
-greatest c e = subst (IsGreatest (step c)) (sym e) (backward-greatest _ _ _ (c .before .before .before .pre .1) _)
+μ-loop store rows s₀ staying₀ s staying = size (staying .words)
 
 pub backward-spec : {M : Type 1} → statement M
-unfolding firstStates states
+unfolding coverBy
 backward-spec =
     tie.close
     (tie.spec
     Inv-loop
     μ-loop
-    (λ c κs. search needs)
-    (λ c. iterate-start _ _ _ (c .first-states .ensures))
+    (λ c. staying-start _ _ _ (proper (search needs) (λ w. search needs)) (c .before .pre .2))
     (λ c κs. search needs)
     (λ c κs. search needs)
     (λ c.
-    greatest (c .before .before .before .before)
-    (iterate-stop _ _ _ (setOf-proper _) (backwardBy-proper _ _ _) (sym (c .before .equals .ensures) ∙ c .if1 .taken)
-    (c .before .before .backward-step .ensures) (c .before .before .before .before .loop .inv)))
-    (λ c. search needs)
-    (λ c. search needs)
+    let m = c .before .before in
+    let so = m .before .loop .inv in
+    let e = sym (c .before .equals .ensures) ∙ c .if1 .taken in
+    let pre = m .before .before .before .pre in
+    (staying-greatest _ _ _ so (m .meet-hold .ensures) (pre .1) (pre .2) e, staying-next _ _ _ so (m .meet-hold .ensures) (pre .1) (pre .2) e))
+    (λ c κs. search needs)
     (λ c.
-    iterate-turn _ _ _ (c .before .before .before .loop-test .taken) (c .before .before .backward-step .ensures)
-    (c .before .before .before .before .loop .inv))
-    (λ c. greatest (c .before) (iterate-end _ _ _ (c .loop-test .left) (c .before .loop .inv))))
+    let m = c .before .before .before in
+    staying-less _ _ _ (m .before .loop .inv) (m .meet-hold .ensures) (sym (c .before .before .equals .ensures) ∙ c .before .if1 .left))
+    (λ c. let m = c .before .before .before in staying-turn _ _ _ (m .before .loop .inv) (m .meet-hold .ensures) (c .union-of .ensures)))

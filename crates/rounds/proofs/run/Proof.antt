@@ -15,7 +15,7 @@ use Rattle.state_set.proofs.WordSets.{word-lowest, word-less}
 use Rattle.table.specs.Rows.{mapAt}
 use Rattle.table.proofs.MapAt.{Mapping, mapping-turn, mapping-end, map-start, map-word, map-all}
 use Rattle.rounds.specs.Steps.{narrowed, nextAdded}
-use Rattle.rounds.proofs.Running.{Running, Ready, run-start, run-group, run-ready, rows-below, run-safe, run-unsafe, run-undecided, run-turn}
+use Rattle.rounds.proofs.Running.{Running, Ready, run-start, run-group, run-ready, rows-cover, run-safe, run-unsafe, run-undecided, run-turn}
 use Rattle.rounds.proofs.run.Statement.{statement}
 use Rattle.rounds.proofs.run.Tie as tie
 
@@ -109,7 +109,7 @@ run-spec =
     (λ c. search needs)
     (λ c. search needs)
     (λ c. run-group (turn (c .before) .loop .inv) (c .if1 .taken) (added-now (c .before)))
-    (λ c κs. (search needs, rows-below (ready (c .before))))
+    (λ c κs. (search needs, rows-cover (ready (c .before))))
     (λ c. search needs)
     (λ c.
     let d = c .before .before .before in

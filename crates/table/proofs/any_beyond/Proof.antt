@@ -1,19 +1,19 @@
--- `any_beyond`: no set passed has a state from n up.
+-- `any_beyond`: what is joined has a state from n up where a set passed has.
 use Prim.Native.Nat.{_+_, _*_, _-_, _≤_}
-use mathlib.Core.Path.{_≡_, sym}
-use mathlib.Core.Bool.{false}
+use mathlib.Core.Path.{_≡_, sym, ap, _∙_}
 use borrow.Author.Needs.{needs}
 use Rattle.model.specs.Sets.{WORDS, any}
 use Rattle.model.specs.Stores.{setAt, beyond}
-use Rattle.model.proofs.Bounds.{any-start, any-turn, any-intro, any-end}
+use Rattle.model.proofs.Bounds.{any-start}
+use Rattle.table.proofs.Laws.{beyond-none, beyond-turn, beyond-end}
 use Rattle.table.proofs.any_beyond.Statement.{statement}
 use Rattle.table.proofs.any_beyond.Tie as tie
 
 abbrev Inv-loop : tie.InvT-loop
-Inv-loop store at count n j₀ j = (j ≤ count) × (any j (λ i. beyond n (setAt store (at + WORDS * i))) ≡ false)
+Inv-loop store at count n joined₀ j₀ joined j = (j ≤ count) × (beyond n (joined .words) ≡ any j (λ i. beyond n (setAt store (at + WORDS * i))))
 
 abbrev μ-loop : tie.MeasureT-loop
-μ-loop store at count n j₀ j = count - j
+μ-loop store at count n joined₀ j₀ joined j = count - j
 
 pub any-beyond-spec : {M : Type 1} → statement M
 any-beyond-spec =
@@ -21,13 +21,14 @@ any-beyond-spec =
     (tie.spec
     Inv-loop
     μ-loop
-    (λ c. (search needs, any-start _))
+    (λ c κs. search needs)
+    (λ c. (search needs, ap (beyond _) (c .empty .ensures) ∙ beyond-none _ ∙ sym (any-start _)))
     (λ c. search needs)
     (λ c. search needs)
     (λ c κs. search needs)
     (λ c κs. search needs)
-    (λ c. sym (any-intro _ _ (c .before .before .before .before .loop .j) (search needs) (cc)))
     (λ c. search needs)
     (λ c. search needs)
-    (λ c. (search needs, any-turn _ _ (c .before .before .before .before .loop .inv .1) (cc)))
-    (λ c. sym (any-end _ _ _ (search needs) (search needs) (c .before .loop .inv .1))))
+    (λ c. (search needs, beyond-turn _ _ _ _ (c .before .before .before .loop .inv .1) (c .before .set-at .ensures) (c .union .ensures)))
+    (λ c κs. search needs)
+    (λ c. c .is-beyond .ensures ∙ beyond-end _ _ _ _ _ (search needs) (search needs) (c .before .before .loop .inv .1)))

@@ -1,4 +1,4 @@
-//! The benchmark: the library's four calls beside the optimised peer, and next open minute beside a search
+//! The benchmark: the library's calls beside the optimised peer, and next open minute beside a search
 //! minute by minute, in one run.
 //!
 //!     bench [--peer] [--repetitions R] [--only WORDS] [--runs N]
@@ -50,6 +50,10 @@ impl Case {
 enum Call {
     Decide,
     ShortestPath,
+    Distances,
+    Within,
+    /// A call that is refused once its store is accepted: what the acceptance test alone takes.
+    Acceptance,
     Read,
     Write,
 }
@@ -59,6 +63,9 @@ impl Call {
         match self {
             Call::Decide => "decide",
             Call::ShortestPath => "shortest path",
+            Call::Distances => "distances",
+            Call::Within => "within",
+            Call::Acceptance => "acceptance",
             Call::Read => "read",
             Call::Write => "write",
         }
@@ -75,6 +82,15 @@ impl Call {
                 Call::ShortestPath => {
                     black_box(library.shortest_path(store, *n, *g, &mut buffers.path));
                 }
+                Call::Distances => {
+                    black_box(library.distances(store, *n, *g, &mut buffers.distances));
+                }
+                Call::Within => {
+                    black_box(library.within(store, *n, *g, *n));
+                }
+                Call::Acceptance => {
+                    black_box(library.shortest_path(store, *n, *g, &mut []));
+                }
                 Call::Read => {
                     black_box(library.read(file, &mut buffers.store));
                 }
@@ -88,6 +104,7 @@ impl Call {
 
 struct Buffers {
     path: [u8; 256],
+    distances: [u16; 256],
     store: [u64; STORE_WORDS],
     file: [u8; blocks::LARGEST],
 }
@@ -96,6 +113,7 @@ impl Buffers {
     fn new() -> Buffers {
         Buffers {
             path: [0; 256],
+            distances: [0; 256],
             store: [0; STORE_WORDS],
             file: [0; blocks::LARGEST],
         }
@@ -141,10 +159,14 @@ fn rows(only: &str) -> Vec<Row> {
     let named = families::named(&mut random);
     let paths = families::more_for_shortest_path(&mut random);
     let files = families::more_for_files(&mut random);
+    let distances = families::more_for_distances(&mut random);
     let mut rows = Vec::new();
     for (call, more) in [
         (Call::Decide, &[][..]),
         (Call::ShortestPath, &paths),
+        (Call::Distances, &distances),
+        (Call::Within, &distances),
+        (Call::Acceptance, &distances),
         (Call::Read, &files),
         (Call::Write, &files),
     ] {
@@ -413,6 +435,19 @@ fn agree(libraries: &[&dyn Calls], call: Call, cases: &[Case]) -> Result<(), Str
                     Call::ShortestPath => {
                         let answer = library.shortest_path(store, n, g, &mut buffers.path);
                         (format!("{answer:?}"), buffers.path.to_vec(), Vec::new())
+                    }
+                    Call::Distances => {
+                        let answer = library.distances(store, n, g, &mut buffers.distances);
+                        let written = buffers.distances.map(u64::from);
+                        (format!("{answer:?}"), Vec::new(), written.to_vec())
+                    }
+                    Call::Within => {
+                        let answer = library.within(store, n, g, n);
+                        (format!("{answer:?}"), Vec::new(), Vec::new())
+                    }
+                    Call::Acceptance => {
+                        let answer = library.shortest_path(store, n, g, &mut []);
+                        (format!("{answer:?}"), Vec::new(), Vec::new())
                     }
                     Call::Read => {
                         let answer = library.read(&case.file, &mut buffers.store);

@@ -1,0 +1,204 @@
+-- The promises of the calls distances and within (specs/DistancePromises), by their contracts.
+--
+--   distance-is                        a distance is what DistanceIs says
+--   overwrite-rest                     what lies past a front that was written over stays
+--   Written, written                   what a call of distances that is not declined gives
+--   within-is                          WithinIs
+--   promises                           DistancePromises
+use Prim.Native.Nat.{ℕ, suc, _+_, _-_, _≤_, _<_, suc-le-suc}
+use native.Mathlib.Nat.{le-of-suc-le-suc}
+use native.Mathlib.Omega.{arith}
+use mathlib.Core.Path.{_≡_, refl, sym, ap, _∙_, subst}
+use mathlib.Core.Logic.{_⊎_, _↔_, inl, inr}
+use mathlib.Core.Bool.{Bool, true, false, cond, not, _&&_, false≢true}
+use mathlib.Core.List.{List, [], _∷_, _++_}
+use borrow.Author.Tests.{not-false, eqb-true, eqb-false, ne-eqb, leb-true, le-leb, ltb-false}
+use lib.Dec.{eqb, leb, ltb, lit<}
+use lib.ListN.{length, getD, drop}
+use lib.Seq.{getD-drop}
+use Rattle.model.specs.Sets.{maxStates, tabulate, member}
+use Rattle.model.specs.Tables.{Table}
+use Rattle.model.specs.Paths.{leads, isPath, reaching, unreachable, distance}
+use Rattle.model.specs.Stores.{tableOf, refuse, sharedGrounds}
+use Rattle.model.specs.Calls.{overwrite}
+use Rattle.model.proofs.Bounds.{and-true, and-intro, not-true, by-cond, any-intro, any-find, length-tabulate, getD-tabulate}
+use Rattle.model.proofs.ListLaws.{getD-behind, length-overwrite, overwrite-front}
+use Rattle.model.proofs.SetLaws.{In, in-bound, in-firstStates, firstStates-in, in-meets, meets-in}
+use Rattle.model.proofs.WellFormed.{WellFormed}
+use Rattle.model.proofs.PathLaws.{reaching-leads, leads-reaching, reaching-mono}
+use Rattle.model.proofs.GroundLaws.{refuse-clear}
+use Rattle.model.proofs.Acceptance.{Store, accepted-store, store-accepted, well-formed}
+use Rattle.model.proofs.FirstWords.{same-call}
+use Rattle.paths.specs.Distances.{distancesRefusal, distancesBuffer, isRefused, CalledDistances}
+use Rattle.paths.specs.Within.{canReach, isWithin, Answer, withinAnswer, answerOf, CalledWithin}
+use Rattle.paths.specs.DistancePromises.{DistanceIs, Measured, WithinIs, DistancePromises}
+use Rattle.paths.specs.declared.DistancesAnswer.{DistancesAnswer}
+use Rattle.paths.specs.declared.WithinAnswer.{WithinAnswer}
+use Rattle.paths.proofs.Nearness.{reach-near, near-reach, near-distance}
+use Rattle.paths.proofs.Duality.{within-reaching}
+
+yes : (b : Bool) → _≡_ {A = ℕ} (cond b 1 0) 1 → b ≡ true
+yes true e = refl
+yes false e = absurd (omega arith)
+
+-- ---- one table
+
+module _ {t : Table} (ok : WellFormed t) (small : t .n ≤ maxStates) where
+  distance-is : (s : ℕ) → s < t .n → DistanceIs t s (distance t s)
+  distance-is s l =
+      record {
+        reached = λ f. let w = reaching-leads t (distance t s) (reach-near ok small s f) in (w .0, w .1, omega (arith, w .2, near-distance ok small s (length (w .0)) (near (w .0) (w .1))));
+        nearest = λ xs e. (near-distance ok small s (length xs) (near xs e), near-reach ok small s (length xs) (near xs e));
+      }
+    where
+      near : (xs : List ℕ) → leads t s xs ≡ true → In (reaching t (length xs)) s
+      near xs e = leads-reaching ok xs (in-firstStates (omega arith) l) e
+
+  -- a path of at most k steps
+  within-path : (k : ℕ) → isWithin t k ≡ true → (xs : List ℕ) × (isPath t xs ≡ true) × (length xs ≤ suc k)
+  unfolding isPath
+  within-path k e =
+      let w = meets-in (sym (within-reaching ok small k) ∙ e) in
+      let p = reaching-leads t k (w .2) in
+      (w .0 ∷ p .0, and-intro (member (t .initial) (w .0)) _ (w .1 .is) (p .1), suc-le-suc (p .2))
+
+  path-within : (k : ℕ) (xs : List ℕ) → isPath t xs ≡ true → length xs ≤ suc k → isWithin t k ≡ true
+  unfolding isPath
+  path-within k [] e l = absurd (false≢true e)
+  path-within k (x ∷ xs) e l =
+      let p = and-true (member (t .initial) x) _ e in
+      let i : In (t .initial) x = record { is = p .0 } in
+      within-reaching ok small k ∙ in-meets i (reaching-mono t (length xs) k (le-of-suc-le-suc l) x (leads-reaching ok xs (ok .initial x i) (p .1)))
+
+  within-is : (k : ℕ) → WithinIs t k (cond (isWithin t k) 1 0)
+  unfolding reaching
+  within-is k =
+      record {
+        yes-or-no = by-cond (λ (y : ℕ). (y ≡ 0) ⊎ (y ≡ 1)) (isWithin t k) 1 0 (λ e. inr refl) (λ e. inl refl);
+        path = ((λ y. within-path k (yes (isWithin t k) y)), (λ w. rw (path-within k (w .0) (w .1) (w .2))));
+        at-zero = λ z. (
+          (λ y.
+              let w = meets-in (sym (within-reaching ok small 0) ∙ subst (λ (j : ℕ). isWithin t j ≡ true) z (yes (isWithin t k) y)) in
+              (w .0, w .1 .is, w .2 .is)),
+          (λ w. rw (subst (λ (j : ℕ). isWithin t j ≡ true) (sym z) (within-reaching ok small 0 ∙ in-meets (record { is = w .1 }) (record { is = w .2 })))),
+        );
+      }
+
+-- ---- a call of distances
+
+overwrite-rest : (xs old : List ℕ) (i : ℕ) → length xs ≤ i → getD (overwrite xs old) i 0 ≡ getD old i 0
+unfolding overwrite
+overwrite-rest xs old i l =
+    let e : length xs + (i - length xs) ≡ i = omega arith in
+    ap (λ (j : ℕ). getD (xs ++ drop (length xs) old) j 0) (sym e)
+    ∙ getD-behind xs (drop (length xs) old) (length xs) (i - length xs) 0 refl
+    ∙ getD-drop (length xs) old (i - length xs) 0
+    ∙ ap (λ (j : ℕ). getD old j 0) e
+
+record Written (store : List ℕ) (n g : ℕ) (before after : List ℕ) : Type 0 where
+  held : Store store n g
+  room : n ≤ length before
+  is : after ≡ overwrite (tabulate n (distance (tableOf store n g))) before
+
+written : (store : List ℕ) (n g : ℕ) (before : List ℕ) (r : DistancesAnswer) (after : List ℕ) → CalledDistances store n g before r after → isRefused r ≡ false
+    → Written store n g before after
+unfolding distancesRefusal distancesBuffer refuse
+written store n g before r after c e =
+    let none : distancesRefusal store n g (length before) ≡ 0 = eqb-true _ 0 (not-false _ (sym (c .2) ∙ e)) in
+    let parts = accepted-store store n g ((ltb (length before) n, 23) ∷ []) none in
+    record {
+      held = parts .0;
+      room = ltb-false (length before) n (refuse-clear ((ltb (length before) n, 23) ∷ []) [] refl (parts .1) .0 .0);
+      is = c .1 ∙ rw none;
+    }
+
+module _ (store : List ℕ) (n g : ℕ) (before after : List ℕ) (w : Written store n g before after) where
+  place : (s : ℕ) → s < n → getD after s 0 ≡ distance (tableOf store n g) s
+  place s l =
+      ap (λ (xs : List ℕ). getD xs s 0) (w .is)
+      ∙ overwrite-front _ before s 0 (subst (λ (m : ℕ). s < m) (sym (length-tabulate _ n)) l)
+      ∙ getD-tabulate (distance (tableOf store n g)) n s 0 l
+
+  measured : Measured (tableOf store n g) before after
+  unfolding tableOf
+  measured =
+      record {
+        distances = λ s l. subst (DistanceIs (tableOf store n g) s) (sym (place s l)) (distance-is (well-formed store n g (w .held)) (w .held .small) s l);
+        rest = λ i l.
+            ap (λ (xs : List ℕ). getD xs i 0) (w .is) ∙ overwrite-rest _ before i (subst (λ (m : ℕ). m ≤ i) (sym (length-tabulate _ n)) l);
+        as-long = ap length (w .is) ∙ length-overwrite _ before (subst (λ (m : ℕ). m ≤ length before) (sym (length-tabulate _ n)) (w .room));
+      }
+
+  agrees : (k : ℕ)
+      → (isWithin (tableOf store n g) k ≡ true)
+      ↔ ((s : ℕ) × (member ((tableOf store n g) .initial) s ≡ true) × (getD after s 0 ≡ unreachable → ⊥) × (getD after s 0 ≤ k))
+  unfolding isWithin canReach tableOf
+  agrees k = (
+    (λ e.
+        let f = any-find test maxStates e in
+        let both = and-true (member (t .initial) (f .0)) _ (f .2) in
+        let near = and-true (not (eqb (distance t (f .0)) unreachable)) _ (both .1) in
+        let p = place (f .0) (initial (f .0) (both .0)) in
+        (f .0, both .0, (λ q. eqb-false (distance t (f .0)) unreachable (not-true _ (near .0)) (sym p ∙ q)), subst (λ (d : ℕ). d ≤ k) (sym p) (leb-true _ k (near .1)))),
+    (λ f.
+        let p = place (f .0) (initial (f .0) (f .1)) in
+        any-intro test maxStates (f .0) (in-bound {X = t .initial} (record { is = f .1 }))
+        (and-intro (member (t .initial) (f .0)) _ (f .1)
+        (and-intro (not (eqb (distance t (f .0)) unreachable)) _ (ap not (ne-eqb (distance t (f .0)) unreachable (λ q. f .2 (p ∙ q))))
+        (le-leb (distance t (f .0)) k (subst (λ (d : ℕ). d ≤ k) p (f .3)))))),
+  )
+    where
+      t : Table
+      t = tableOf store n g
+
+      test : ℕ → Bool
+      test s = member (t .initial) s && (not (eqb (distance t s) unreachable) && leb (distance t s) k)
+
+      initial : (s : ℕ) → member (t .initial) s ≡ true → s < n
+      initial s e = firstStates-in (well-formed store n g (w .held) .initial s (record { is = e }))
+
+-- ---- a call of within
+
+-- where none of the shared grounds holds
+answered : (store : List ℕ) (n g k : ℕ) (r : WithinAnswer) → CalledWithin store n g k r → refuse (sharedGrounds store n g) ≡ 0
+    → (answerOf r) .within ≡ cond (isWithin (tableOf store n g) k) 1 0
+unfolding withinAnswer
+answered store n g k r c none = ap (λ (a : Answer). a .within) (c .0) ∙ rw none
+
+accepts : (store : List ℕ) (n g k : ℕ) → (withinAnswer store n g k) .refusal ≡ 0 → refuse (sharedGrounds store n g) ≡ 0
+unfolding withinAnswer
+accepts store n g k =
+    let j = refuse (sharedGrounds store n g) in
+    by-cond (λ (a : Answer). a .refusal ≡ 0 → j ≡ 0) (eqb j 0) _ _ (λ q e. eqb-true j 0 q) (λ q e. e)
+
+-- ---- the promises
+
+pub promises : DistancePromises
+unfolding distancesRefusal distancesBuffer withinAnswer refuse tableOf
+promises =
+    record {
+      untouched = λ store n g before r after c e.
+          let some : eqb (distancesRefusal store n g (length before)) 0 ≡ false = not-true _ (sym (c .2) ∙ e) in
+          c .1 ∙ rw some;
+      distances = λ store n g before r after c e. measured store n g before after (written store n g before r after c e);
+      within = λ store n g k r c e.
+          let none = accepts store n g k (eqb-true _ 0 (not-false _ (sym (c .1) ∙ e))) in
+          let held = accepted-store store n g [] none .0 in
+          subst (WithinIs (tableOf store n g) k) (sym (answered store n g k r c none)) (within-is (well-formed store n g held) (held .small) k);
+      agree = λ store n g before r after k w c e v.
+          let m = written store n g before r after c e in
+          let a = answered store n g k w v (store-accepted store n g [] (m .held)) in
+          let both = agrees store n g before after m k in
+          ((λ y. both .0 (yes _ (sym a ∙ y))), (λ f. a ∙ rw (both .1 f)));
+      first-words = λ store other long long′ e.
+          record {
+            distances = λ n g out. (
+              same-call store other long long′ e (λ k t. k) n g ((ltb (length out) n, 23) ∷ []) (λ k t u q. refl),
+              same-call store other long long′ e (λ k t. cond (eqb k 0) (overwrite (tabulate n (distance t)) out) out) n g
+                  ((ltb (length out) n, 23) ∷ []) (λ k t u q. rw q),
+            );
+            within = λ n g k.
+                same-call store other long long′ e
+                (λ j t. cond (eqb j 0) (record { refusal = 0; within = cond (isWithin t k) 1 0 }) (record { refusal = j; within = 0 })) n g [] (λ j t u q. rw q);
+          };
+    }

@@ -1,0 +1,18 @@
+-- `lay_out_within`: case by case.
+use mathlib.Core.Path.{sym, ap}
+use borrow.Author.Needs.{needs}
+use Rattle.paths.specs.Within.{answerOf}
+use Rattle.shuntberry.proofs.lay_out_within.Statement.{statement}
+use Rattle.shuntberry.proofs.lay_out_within.Tie as tie
+
+pub lay-out-within-spec : {M : Type 1} → statement M
+lay-out-within-spec =
+    tie.close
+    (tie.spec
+    (λ c. search needs)
+    (λ c. search needs)
+    (λ c. search needs)
+    (λ c. search needs)
+    (λ c. sym (ap answerOf (c .enum-told .given .1)))
+    (λ c. sym (ap answerOf (c .enum-told2 .given .1)))
+    (λ c. sym (ap answerOf (c .before .answer .given .1))))

@@ -1,0 +1,16 @@
+-- `refusal_number`: case by case.
+use mathlib.Core.Path.{sym, ap}
+use borrow.Author.Needs.{needs}
+use Rattle.paths.specs.Distances.{refusalOf}
+use Rattle.shuntberry.proofs.refusal_number.Statement.{statement}
+use Rattle.shuntberry.proofs.refusal_number.Tie as tie
+
+pub refusal-number-spec : {M : Type 1} → statement M
+refusal-number-spec =
+    tie.close
+    (tie.spec
+    (λ c. search needs)
+    (λ c. search needs)
+    (λ c. search needs)
+    (λ c. sym (ap refusalOf (c .enum-told .given .1)))
+    (λ c. sym (ap refusalOf (c .before .answer .given .1))))
