@@ -1,11 +1,12 @@
 /*
  * Shuntberry: is a forbidden state of a dialogue table reachable, and by which steps?
  *
- * The calls: decide, shortest path, distances, within, read, write and generate. Link
- * target/staticlib/libshuntberry.a, which `rt staticlib shuntberry` makes. Nothing is allocated, nothing is kept between calls, and no call
- * fails other than by a refusal number. Calls may be made from several threads at once, as long as no
- * buffer that one of them writes is lent to another. A call takes less than 256 KiB of stack
- * (tests/outside measures it on the longest path).
+ * The calls are decide, shortest path, distances, within, read, write and generate, and beside them next
+ * open minute, which says when a release may be loaded and reads no table. Link
+ * target/staticlib/libshuntberry.a, which `rt staticlib shuntberry` makes. Nothing is allocated, nothing is
+ * kept between calls, and no call fails other than by a refusal number. Calls may be made from several
+ * threads at once, as long as no buffer that one of them writes is lent to another. A call takes less than
+ * 256 KiB of stack (tests/outside measures it on the longest path).
  *
  * A TABLE has n states, numbered 0 to n - 1, with n from 0 to 256, and g groups, with g from 0 to 64;
  * a table without states, an untouched draft, has no groups either, and its file has no bytes.
@@ -21,8 +22,8 @@
  * it does not accept, it refuses.
  *
  * A REFUSED call has a refusal number in `refusal`, 0 in all other fields, and every buffer is as it
- * was before. (generate returns the number itself.) Where several grounds apply, the smallest number is given; for 12 and 13 the blocks are
- * taken in order, 12 before 13 in each.
+ * was before. (distances and generate return the number itself.) Where several grounds apply, the one that
+ * the call's comment names first is given; for 12 and 13 the blocks are taken in order, 12 before 13 in each.
  */
 #ifndef SHUNTBERRY_H
 #define SHUNTBERRY_H
@@ -46,6 +47,9 @@ extern "C" {
 #define SHUNTBERRY_BLOCK_BYTES 512   /* a file is whole blocks of this many bytes */
 #define SHUNTBERRY_FILE_BYTES 10752  /* the length of the largest file, 21 blocks */
 #define SHUNTBERRY_MAX_FAN_OUT 16    /* the greatest fan-out of a generated table */
+#define SHUNTBERRY_MAX_TIME 2147483647 /* the greatest time, in minutes: 2^31 - 1 */
+#define SHUNTBERRY_MAX_WINDOWS 32    /* the greatest number of windows */
+#define SHUNTBERRY_MAX_DAYS 64       /* the greatest number of closed days */
 
 /* ---- Where the sets stand in a store, as the index of their first word ---- */
 
@@ -57,21 +61,23 @@ extern "C" {
 /* ---- Refusal numbers ---- */
 
 #define SHUNTBERRY_ACCEPTED 0           /* the call was not refused */
-#define SHUNTBERRY_STORE_SHORT 10       /* the store has under 1,288 words (all calls) */
+#define SHUNTBERRY_STORE_SHORT 10       /* the store has under 1,288 words (all calls but next open) */
 #define SHUNTBERRY_INPUT_LENGTH 11      /* the input's length is no multiple of 512, or over 10,752 (read) */
 #define SHUNTBERRY_BLOCK_NUMBER 12      /* block k does not hold the number k (read) */
 #define SHUNTBERRY_BLOCK_CHECK 13       /* a block's stored check is not its check (read) */
-#define SHUNTBERRY_STATES 14            /* n is over 256, or 0 with g above 0, in a block or in generate (all calls) */
-#define SHUNTBERRY_GROUPS 15            /* g is over 64 (all calls but generate) */
+#define SHUNTBERRY_STATES 14            /* n is over 256, or 0 with g above 0, in a block or in generate (all calls but next open) */
+#define SHUNTBERRY_GROUPS 15            /* g is over 64 (all calls but generate and next open) */
 #define SHUNTBERRY_BLOCK_COUNT 16       /* the file has too few or too many blocks for its n and g (read) */
-#define SHUNTBERRY_STRAY_BIT 17         /* a set holds a state from n up, or a word of an unused group or row is not 0 (all calls but generate) */
+#define SHUNTBERRY_STRAY_BIT 17         /* a set holds a state from n up, or a word of an unused group or row is not 0 (all calls but generate and next open) */
 #define SHUNTBERRY_FILLER 18            /* a byte past the contents is not 0 (read) */
 #define SHUNTBERRY_OUTPUT_SHORT 19      /* the output is shorter than the file (write) */
 #define SHUNTBERRY_ALLOWANCE 20         /* the allowance is over 256 (decide) */
 #define SHUNTBERRY_PATH_SHORT 21        /* the path buffer has under 256 bytes (decide, shortest path) */
 #define SHUNTBERRY_FAN_OUT 22           /* the fan-out is over 16 (generate) */
-
 #define SHUNTBERRY_DISTANCES_SHORT 23   /* the distance buffer has fewer than n places (distances) */
+#define SHUNTBERRY_WINDOW_RANGE 29      /* a window starts past minute 10,079 of the week, or is 0 or over 10,080 minutes long (next open) */
+#define SHUNTBERRY_TOO_MANY 30          /* over 32 windows, or over 64 closed days (next open) */
+#define SHUNTBERRY_TIME 31              /* the time is over 2^31 - 1 (next open) */
 
 /* ---- Verdicts: only where `refusal` is 0. A refused call has 0 here too, so test `refusal` first. ---- */
 
@@ -190,6 +196,42 @@ struct shuntberry_file shuntberry_write(const uint64_t *store, size_t store_len,
  * Returns 0, or refuses with 10, 14 or 22; the store is then as it was before.
  */
 uint32_t shuntberry_generate(uint32_t seed, size_t n, size_t fan_out, uint64_t *store, size_t store_len);
+
+/* ---- When a release may be loaded ---- */
+
+/*
+ * A weekly window: `length` minutes, from `start` minutes into the week on, which begins on Saturday at
+ * 00:00. The number has the start in its low 32 bits and the length in its high 32. A start or length
+ * that does not fit is given as 2^32 - 1, which is out of range too: the call refuses such a window, and
+ * never takes a part of the number for the whole.
+ */
+static inline uint64_t shuntberry_window(uint64_t start, uint64_t length)
+{
+    const uint64_t most = 0xffffffff;
+    return (start < most ? start : most) | (length < most ? length : most) << 32;
+}
+
+/* What shuntberry_next_open answers. */
+struct shuntberry_minute {
+    uint32_t refusal; /* 0, or the number of the refusal */
+    uint32_t never;   /* 1 if there is no window, so that no minute is ever open; else 0 */
+    uint32_t minute;  /* the first open minute; 0, which is no answer, where `refusal` or `never` is not 0 */
+};
+
+/*
+ * The first open minute at or after `time`. Time is whole minutes since 1 January 2000, 00:00, a Saturday.
+ * A minute is open if it lies in one of the windows and its day is not closed. A window's first minute is
+ * in, the minute after its last is out; it may run over the week's end, and it recurs in every week, the
+ * one before minute 0 included. Days are counted from that Saturday as 0, and any 32-bit number may be
+ * named; a day that is named twice counts twice towards the 64.
+ *
+ * With at least one window there always is an open minute, less than 655,200 minutes later; it may lie
+ * past SHUNTBERRY_MAX_TIME. Neither buffer is changed.
+ *
+ * Refuses with 31, 30 or 29, in this order.
+ */
+struct shuntberry_minute shuntberry_next_open(size_t time, const uint64_t *windows, size_t windows_len,
+                                              const uint32_t *closed_days, size_t closed_days_len);
 
 #ifdef __cplusplus
 }

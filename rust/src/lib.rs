@@ -37,6 +37,9 @@
 //! assert_eq!(refused.to_string(), "refused 14: n is over 256, or 0 with groups or in a block");
 //! # Ok::<(), shuntberry::Refused>(())
 //! ```
+//!
+//! When a release may be loaded is a question of its own, about weekly windows and closed days:
+//! [`next_open`].
 
 pub mod raw;
 
@@ -57,6 +60,12 @@ pub const PATH_BYTES: usize = 256;
 pub const FILE_BYTES: usize = 10_752;
 /// The greatest fan-out of a generated table.
 pub const MAX_FAN_OUT: usize = 16;
+/// The greatest time, in minutes.
+pub const MAX_TIME: usize = 2_147_483_647;
+/// The greatest number of windows.
+pub const MAX_WINDOWS: usize = 32;
+/// The greatest number of closed days.
+pub const MAX_DAYS: usize = 64;
 
 /// What [`distances`] writes for a state from which no forbidden state can be reached.
 pub const UNREACHABLE: u16 = 65_535;
@@ -129,7 +138,36 @@ pub struct TableRead {
     pub g: usize,
 }
 
-/// A refused call, by the number of its ground, from 10 to 22. Every buffer is as before the call.
+/// A weekly window in which releases may be loaded: a length in minutes, from a number of minutes into
+/// the week on. Weeks begin on Saturday at 00:00.
+#[derive(Clone, Copy, Debug, PartialEq, Eq, Hash)]
+#[repr(transparent)]
+pub struct Window(u64);
+
+impl Window {
+    /// A window of `length` minutes from minute `start` of the week on. A number that does not fit 32 bits
+    /// is taken for the greatest that does, which is out of range too: [`next_open`] refuses it.
+    pub const fn new(start: u64, length: u64) -> Window {
+        Window(saturated(start) | saturated(length) << 32)
+    }
+
+    /// The minutes from the week's beginning to the window's first minute.
+    pub const fn start(self) -> u32 {
+        self.0 as u32
+    }
+
+    /// The window's length in minutes.
+    pub const fn length(self) -> u32 {
+        (self.0 >> 32) as u32
+    }
+}
+
+const fn saturated(number: u64) -> u64 {
+    let most = u32::MAX as u64;
+    if number < most { number } else { most }
+}
+
+/// A refused call, by the number of its ground. Every buffer is as before the call.
 #[derive(Clone, Copy, Debug, PartialEq, Eq, Hash)]
 pub struct Refused(pub u32);
 
@@ -151,6 +189,11 @@ impl Refused {
             21 => "the path buffer has under 256 bytes",
             22 => "the fan-out is over 16",
             23 => "the distance buffer has fewer than n places",
+            29 => {
+                "a window starts past minute 10,079 of the week, or is 0 or over 10,080 minutes long"
+            }
+            30 => "there are over 32 windows or over 64 closed days",
+            31 => "the time is over 2^31 - 1",
             _ => "no ground that this version of the wrapper knows",
         }
     }
@@ -374,6 +417,49 @@ pub fn generate(seed: u32, n: usize, fan_out: usize, store: &mut [u64]) -> Resul
     let refusal =
         unsafe { raw::shuntberry_generate(seed, n, fan_out, store.as_mut_ptr(), store.len()) };
     accepted(refusal)
+}
+
+/// The first minute at or after `time` that lies in one of the windows, and not on a closed day; `None`,
+/// which is never, if there is no window.
+///
+/// Time is whole minutes since 1 January 2000, 00:00, a Saturday, and days are counted from that one as 0.
+/// A window may run over the week's end, and recurs in every week, the one before minute 0 included. With
+/// at least one window the answer is less than 655,200 minutes after `time`; it may lie past [`MAX_TIME`].
+///
+/// Refused with 31, 30 or 29, in this order.
+///
+/// ```
+/// use shuntberry::{Window, next_open};
+///
+/// // Saturdays from 09:00 to 11:00, and Tuesdays from 22:00 to Wednesdays 02:00.
+/// let windows = [Window::new(540, 120), Window::new(3 * 1440 + 1320, 240)];
+/// assert_eq!(next_open(600, &windows, &[])?, Some(600));
+/// assert_eq!(next_open(660, &windows, &[])?, Some(3 * 1440 + 1320));
+/// // Day 3, the Tuesday, is closed: from midnight on.
+/// assert_eq!(next_open(660, &windows, &[3])?, Some(4 * 1440));
+/// assert_eq!(next_open(660, &[], &[])?, None);
+///
+/// let refused = next_open(0, &[Window::new(10_080, 1)], &[]).unwrap_err();
+/// assert_eq!(refused.0, 29);
+/// # Ok::<(), shuntberry::Refused>(())
+/// ```
+pub fn next_open(
+    time: usize,
+    windows: &[Window],
+    closed_days: &[u32],
+) -> Result<Option<u32>, Refused> {
+    // SAFETY: each pointer and length are those of a slice, and a `Window` is the number that it holds.
+    let answer = unsafe {
+        raw::shuntberry_next_open(
+            time,
+            windows.as_ptr().cast(),
+            windows.len(),
+            closed_days.as_ptr(),
+            closed_days.len(),
+        )
+    };
+    accepted(answer.refusal)?;
+    Ok((answer.never == 0).then_some(answer.minute))
 }
 
 /// The refusal of a call, if its number is one.

@@ -46,6 +46,14 @@ pub struct File {
     pub length: u32,
 }
 
+#[repr(C)]
+#[derive(Clone, Copy, Debug, PartialEq, Eq)]
+pub struct Minute {
+    pub refusal: u32,
+    pub never: u32,
+    pub minute: u32,
+}
+
 unsafe extern "C" {
     pub fn shuntberry_decide(
         store: *const u64,
@@ -106,4 +114,12 @@ unsafe extern "C" {
         store: *mut u64,
         store_len: usize,
     ) -> u32;
+
+    pub fn shuntberry_next_open(
+        time: usize,
+        windows: *const u64,
+        windows_len: usize,
+        closed_days: *const u32,
+        closed_days_len: usize,
+    ) -> Minute;
 }

@@ -1,8 +1,8 @@
 /*
  * The calls from C by the header alone: a corridor of 256 states is laid out with the header's
  * offsets, written, read back, and asked for its path, which is every state in turn; the largest load
- * is generated; then some of the refusals. The calls run on a painted stack, to see how much of it they
- * take.
+ * is generated; then some of the refusals, and next open minute. The calls run on a painted stack, to see
+ * how much of it they take.
  *
  * Without groups all states of Z have one cover, Z itself, so that each round loses the one state that
  * steps out: Z is 0 to 254 in round 0 and state 0 alone in round 254, where S is empty. The count is 254.
@@ -23,6 +23,7 @@ _Static_assert(offsetof(struct shuntberry_within, refusal) == 0, "within.refusal
 _Static_assert(offsetof(struct shuntberry_within, within) == 4, "within.within");
 _Static_assert(sizeof(struct shuntberry_table) == 12, "table");
 _Static_assert(sizeof(struct shuntberry_file) == 8, "file");
+_Static_assert(sizeof(struct shuntberry_minute) == 12, "minute");
 _Static_assert(SHUNTBERRY_ROW(SHUNTBERRY_MAX_STATES) == SHUNTBERRY_STORE_WORDS, "rows");
 _Static_assert(SHUNTBERRY_GROUP(SHUNTBERRY_MAX_GROUPS) == SHUNTBERRY_ROW(0), "groups");
 
@@ -173,6 +174,51 @@ static void nothing(void)
     require(shuntberry_decide(draft, words, 0, 1, 0, path, room).refusal == SHUNTBERRY_STATES, "groups without states");
 }
 
+static int is_minute(struct shuntberry_minute answer, uint32_t minute)
+{
+    return answer.refusal == SHUNTBERRY_ACCEPTED && answer.never == 0 && answer.minute == minute;
+}
+
+static int is_declined(struct shuntberry_minute answer, uint32_t refusal)
+{
+    return answer.refusal == refusal && answer.never == 0 && answer.minute == 0;
+}
+
+/* Saturdays from 09:00 to 11:00, and from Friday 22:40 to Saturday 02:00; then numbers that do not fit a window. */
+static void release_windows(void)
+{
+    const uint64_t windows[] = {shuntberry_window(540, 120), shuntberry_window(10000, 200)};
+    const uint32_t closed[SHUNTBERRY_MAX_DAYS + 1] = {0};
+
+    require(is_minute(shuntberry_next_open(0, windows, 2, closed, 0), 0), "a window begun before minute 0");
+    require(is_minute(shuntberry_next_open(120, windows, 2, closed, 0), 540), "the next window");
+    require(is_minute(shuntberry_next_open(659, windows, 1, closed, 0), 659), "the last minute");
+    require(is_minute(shuntberry_next_open(660, windows, 1, closed, 0), 10080 + 540), "the minute after the last");
+    require(is_minute(shuntberry_next_open(0, windows, 2, closed, 1), 10000), "day 0 closed");
+    require(is_minute(shuntberry_next_open(SHUNTBERRY_MAX_TIME, windows, 1, closed, 0), 2147484060), "past the greatest time");
+
+    struct shuntberry_minute never = shuntberry_next_open(0, windows, 0, closed, 0);
+    require(never.refusal == SHUNTBERRY_ACCEPTED && never.never == 1 && never.minute == 0, "no window");
+
+    const uint64_t out_of_range[] = {
+        shuntberry_window(10080, 1),      shuntberry_window(0, 0),        shuntberry_window(0, 10081),
+        shuntberry_window(4294967301, 1), shuntberry_window(5, 4294967297), shuntberry_window((uint64_t)-1, (uint64_t)-1),
+    };
+    for (size_t i = 0; i < sizeof out_of_range / sizeof out_of_range[0]; i++)
+        require(is_declined(shuntberry_next_open(0, &out_of_range[i], 1, closed, 0), SHUNTBERRY_WINDOW_RANGE),
+                "a window out of range");
+    require(shuntberry_window(10079, 10080) == ((uint64_t)10080 << 32 | 10079), "the largest window");
+
+    uint64_t many[SHUNTBERRY_MAX_WINDOWS + 1];
+    for (size_t i = 0; i < SHUNTBERRY_MAX_WINDOWS + 1; i++)
+        many[i] = shuntberry_window(10080, 0);
+    require(is_declined(shuntberry_next_open(0, many, SHUNTBERRY_MAX_WINDOWS + 1, closed, 0), SHUNTBERRY_TOO_MANY), "33 windows");
+    require(is_declined(shuntberry_next_open(0, many, SHUNTBERRY_MAX_WINDOWS, closed, 0), SHUNTBERRY_WINDOW_RANGE), "32 windows");
+    require(is_declined(shuntberry_next_open(0, windows, 0, closed, SHUNTBERRY_MAX_DAYS + 1), SHUNTBERRY_TOO_MANY), "65 days");
+    require(is_declined(shuntberry_next_open((size_t)SHUNTBERRY_MAX_TIME + 1, many, SHUNTBERRY_MAX_WINDOWS + 1, closed, 65), SHUNTBERRY_TIME),
+            "a time of 2^31");
+}
+
 static void *on_painted_stack(void *unused)
 {
     (void)unused;
@@ -180,6 +226,7 @@ static void *on_painted_stack(void *unused)
     load();
     refusals();
     nothing();
+    release_windows();
     return NULL;
 }
 

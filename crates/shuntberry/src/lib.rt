@@ -16,7 +16,8 @@ ghost use Rattle.block_file.specs.ReadAnswers.{readOf};
 ghost use Rattle.block_file.specs.WriteAnswers.{writtenOf};
 ghost use Rattle.generator.specs.Load.{generateAnswer, generateBuffer};
 ghost use Rattle.generator.specs.Answers.{generatedOf};
-ghost use Rattle.shuntberry.specs.Fields.{decisionFields, shortestFields, withinFields, tableFields, fileFields};
+ghost use Rattle.release_windows.specs.Answers.{nextOpenAnswer, numbersOf};
+ghost use Rattle.shuntberry.specs.Fields.{decisionFields, shortestFields, withinFields, tableFields, fileFields, minuteFields};
 use block_file::TableRead;
 use block_file::Written;
 use block_file::read;
@@ -29,6 +30,8 @@ use paths::WithinAnswer;
 use paths::distances;
 use paths::shortest_path;
 use paths::within;
+use release_windows::NextOpen;
+use release_windows::next_open;
 use rounds::Decision;
 use rounds::Verdict;
 use rounds::decide;
@@ -295,4 +298,42 @@ pub extern "C" fn shuntberry_generate(seed: u32, n: usize, fan_out: usize, store
         × (now (store .exit) ≡ generateBuffer seed n «fan_out» (now (store .entry))) ⌝ }
 {
     lay_out_generated(generate(seed, n, fan_out, store))
+}
+
+// ---- next open minute
+
+#[repr(C)]
+pub struct MinuteFields {
+    pub refusal: u32,
+    pub never: u32,
+    pub minute: u32,
+}
+
+fn lay_out_minute(answer: NextOpen) -> MinuteFields
+    ensures { λ r. ⌜ minuteFields r ≡ numbersOf answer ⌝ }
+{
+    match answer {
+        NextOpen::Minute(minute) => MinuteFields {
+            refusal: 0,
+            never: 0,
+            minute,
+        },
+        NextOpen::Never => MinuteFields {
+            refusal: 0,
+            never: 1,
+            minute: 0,
+        },
+        NextOpen::Refused(refusal) => MinuteFields {
+            refusal: refusal as u32,
+            never: 0,
+            minute: 0,
+        },
+    }
+}
+
+#[no_mangle]
+pub extern "C" fn shuntberry_next_open(time: usize, windows: &[u64], closed: &[u32]) -> MinuteFields
+    ensures { λ r. ⌜ minuteFields r ≡ nextOpenAnswer time (now (windows .entry)) (now (closed .entry)) ⌝ }
+{
+    lay_out_minute(next_open(time, windows, closed))
 }

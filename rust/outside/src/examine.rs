@@ -29,7 +29,7 @@ const SMALL: usize = 6;
 pub struct Tally(pub BTreeMap<(&'static str, String), usize>);
 
 impl Tally {
-    fn count(&mut self, thing: &'static str, kind: impl ToString) {
+    pub fn count(&mut self, thing: &'static str, kind: impl ToString) {
         *self.0.entry((thing, kind.to_string())).or_default() += 1;
     }
 

@@ -13,6 +13,8 @@
 //! `peer` is an optimised implementation of the calls on four-word sets: what the library is
 //! measured against, and a library that the tests themselves can be tested with.
 //!
+//! `windows` is the call next open minute by itself: what is expected of it, and its tests.
+//!
 //! `table` is what all of them speak of, `named` the specification's tables with their figures typed in,
 //! `generate` makes tables at random, `families` those to measure on, `damage` files that earn refusals,
 //! `buffer` lent buffers with guards, and `examine` is the tests; `block_check` are those of damaged
@@ -34,3 +36,4 @@ pub mod regroup;
 pub mod rounds;
 pub mod search;
 pub mod table;
+pub mod windows;

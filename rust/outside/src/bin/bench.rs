@@ -1,4 +1,5 @@
-//! The benchmark: the library's calls beside the optimised peer, in one run.
+//! The benchmark: the library's calls beside the optimised peer, and next open minute beside a search
+//! minute by minute, in one run.
 //!
 //!     bench [--peer] [--repetitions R] [--only WORDS] [--runs N]
 //!
@@ -19,6 +20,7 @@ use shuntberry_outside::families;
 use shuntberry_outside::generate::Random;
 use shuntberry_outside::peer::{Looks, Peer};
 use shuntberry_outside::table::{STORE_WORDS, Table};
+use shuntberry_outside::windows::{self, NextOpen};
 
 const SEED: u64 = 1;
 const REPETITIONS: usize = 41;
@@ -128,13 +130,16 @@ fn main() -> ExitCode {
         return ExitCode::from(2);
     };
     let rows = rows(&options.only);
-    if rows.is_empty() {
+    let questions = questions(&options.only);
+    if rows.is_empty() && questions.is_empty() {
         eprintln!("bench: no row has '{}' in it", options.only);
         return ExitCode::from(2);
     }
     if let Some(runs) = options.runs {
         watch(subject, &rows, runs);
-    } else if let Err(fault) = print_table(subject, &rows, options.repetitions) {
+    } else if let Err(fault) = print_table(subject, &rows, options.repetitions)
+        .and_then(|()| print_questions(options.peer, &questions, options.repetitions))
+    {
         eprintln!("bench: {fault}");
         return ExitCode::FAILURE;
     }
@@ -264,29 +269,44 @@ fn measure(subject: &dyn Calls, row: &Row, repetitions: usize) -> Result<String,
     agree(libraries, *call, cases).map_err(|fault| format!("{name}: {fault}"))?;
 
     let mut buffers = Buffers::new();
-    let mut time = |library: &dyn Calls, rounds: usize| {
+    let time = |which: usize, rounds: usize| {
         let start = Instant::now();
         for _ in 0..rounds {
-            call.run(library, cases, &mut buffers);
+            call.run(libraries[which], cases, &mut buffers);
         }
         start.elapsed().as_nanos() as f64 / rounds as f64
     };
-    let once = time(libraries[1], 3);
-    let rounds = (LEAST / once).ceil() as usize;
+    Ok(figures(count, cases.len(), repetitions, time))
+}
+
+/// The figures of so many libraries, the first of which is the subject. `time` gives the nanoseconds that one of
+/// them takes for all of a row's calls, measured over a number of rounds.
+fn figures(
+    count: usize,
+    calls: usize,
+    repetitions: usize,
+    mut time: impl FnMut(usize, usize) -> f64,
+) -> String {
+    let rounds: Vec<usize> = (0..count)
+        .map(|which| (LEAST / time(which, 3)).ceil() as usize)
+        .collect();
     let mut times = vec![Vec::new(); count];
     for repetition in 0..repetitions {
         for place in 0..count {
             let which = (repetition + place) % count;
-            times[which].push(time(libraries[which], rounds));
+            times[which].push(time(which, rounds[which]));
         }
     }
 
-    let per_call = |which: usize| median(&times[which]) / cases.len() as f64 / 1000.0;
+    let per_call = |which: usize| median(&times[which]) / calls as f64 / 1000.0;
     let ratio = |which: usize| {
         let pairs = times[0].iter().zip(&times[which]);
         let ratios: Vec<f64> = pairs.map(|(subject, peer)| subject / peer).collect();
         let (low, high) = (quantile(&ratios, 0.1), quantile(&ratios, 0.9));
-        format!("{:.2} ({low:.2}–{high:.2})", median(&ratios))
+        let middle = median(&ratios);
+        // A search by jumps takes a small part of the time of one minute by minute.
+        let digits = if middle < 0.1 { 5 } else { 2 };
+        format!("{middle:.digits$} ({low:.digits$}–{high:.digits$})")
     };
     let beside = |which: usize| format!("{:.2} | {}", per_call(which), ratio(which));
     let quick = if count == 3 {
@@ -294,7 +314,109 @@ fn measure(subject: &dyn Calls, row: &Row, repetitions: usize) -> Result<String,
     } else {
         "|".to_string()
     };
-    Ok(format!("{:.2} | {} | {quick}", per_call(0), beside(1)))
+    format!("{:.2} | {} | {quick}", per_call(0), beside(1))
+}
+
+// ---- Next open minute
+
+/// A row of questions for the next open minute: a time, windows and closed days.
+struct Questions {
+    name: String,
+    asked: Vec<(u64, Vec<u64>, Vec<u32>)>,
+}
+
+/// The rows that have the words in their names. Two windows a week, with and without ten closed days near; 32
+/// windows and 64 closed days; and the longest wait that there is.
+fn questions(only: &str) -> Vec<Questions> {
+    let mut random = Random::new(SEED);
+    let week = windows::WEEK as usize;
+    let mut times = || -> Vec<u64> { (0..64).map(|_| random.word() >> 33).collect() };
+    let two = windows::words(&[(540, 120), (5_000, 240)]);
+    let many = windows::words(&(0..32).map(|i| (i * 300, 7)).collect::<Vec<_>>());
+    let once = |time: u64| windows::words(&[((time + windows::WEEK - 1) % windows::WEEK, 1)]);
+    let day = |time: u64| (time / windows::DAY) as u32;
+    let weekly = |time: u64| -> Vec<u32> {
+        let first = time as usize + week - 1;
+        (0..64).map(|k| day((first + k * week) as u64)).collect()
+    };
+    let families: [(&str, Vec<(u64, Vec<u64>, Vec<u32>)>); 4] = [
+        (
+            "two windows",
+            times()
+                .iter()
+                .map(|&t| (t, two.clone(), Vec::new()))
+                .collect(),
+        ),
+        (
+            "two windows, ten closed days",
+            times()
+                .iter()
+                .map(|&t| (t, two.clone(), (0..10).map(|k| day(t) + k).collect()))
+                .collect(),
+        ),
+        (
+            "32 windows, 64 closed days",
+            times()
+                .iter()
+                .map(|&t| (t, many.clone(), (0..64).map(|k| day(t) + k).collect()))
+                .collect(),
+        ),
+        (
+            "longest wait",
+            times()[..4]
+                .iter()
+                .map(|&t| (t, once(t), weekly(t)))
+                .collect(),
+        ),
+    ];
+    families
+        .into_iter()
+        .map(|(name, asked)| Questions {
+            name: format!("next open | {name}"),
+            asked,
+        })
+        .filter(|row| row.name.contains(only))
+        .collect()
+}
+
+fn opener(peer_only: bool) -> &'static dyn NextOpen {
+    if peer_only {
+        return &windows::Plain;
+    }
+    #[cfg(feature = "library")]
+    return &windows::Linked;
+    #[cfg(not(feature = "library"))]
+    &windows::Plain
+}
+
+/// The peer is the search minute by minute.
+fn print_questions(peer: bool, rows: &[Questions], repetitions: usize) -> Result<(), String> {
+    let libraries: [&dyn NextOpen; 2] = [opener(peer), &windows::Plain];
+    for Questions { name, asked } in rows {
+        let ask = |library: &dyn NextOpen, (time, windows, closed): &(u64, Vec<u64>, Vec<u32>)| {
+            library.next_open(*time as usize, windows, closed)
+        };
+        for question in asked {
+            let answers = libraries.map(|library| ask(library, question));
+            if answers[0] != answers[1] {
+                return Err(format!("{name}: answers differ: {answers:?}"));
+            }
+        }
+        let time = |which: usize, rounds: usize| {
+            let start = Instant::now();
+            for _ in 0..rounds {
+                for question in asked {
+                    black_box(ask(libraries[which], black_box(question)));
+                }
+            }
+            start.elapsed().as_nanos() as f64 / rounds as f64
+        };
+        println!(
+            "| {name} | {} |",
+            figures(2, asked.len(), repetitions, time)
+        );
+    }
+    Ok(())
 }
 
 /// That all answer the same, with the same in their buffers.

@@ -1,5 +1,5 @@
 //! The outside tests: tables and files at random, those of the specification, and damaged blocks, through the
-//! library's calls, held to implementations that share nothing with it.
+//! library's calls, and questions for the next open minute, held to implementations that share nothing with it.
 //!
 //!     outside [--peer] [--seed S] [--count N] [--case I]
 //!
@@ -19,9 +19,12 @@ use shuntberry_outside::examine::{self, Outcome, Tally};
 use shuntberry_outside::generate::Random;
 use shuntberry_outside::peer::{Looks, Peer};
 use shuntberry_outside::regroup;
+use shuntberry_outside::windows::{self, NextOpen};
 
 const SEED: u64 = 20_260_401;
 const COUNT: u64 = 40_000;
+/// One question for the next open minute to so many tables and files.
+const CASES_PER_QUESTION: u64 = 4;
 const THREADS: usize = 2;
 /// Failures that are printed before the run is given up.
 const FAILURES: usize = 5;
@@ -108,6 +111,18 @@ fn libraries(peer: bool) -> Result<Vec<&'static dyn Calls>, String> {
     Err("built without the library; only --peer can be tested".to_string())
 }
 
+/// What is asked for the next open minute, and every how many minutes of 70 weeks.
+fn next_open_libraries(peer: bool) -> (Vec<&'static dyn NextOpen>, u64) {
+    if peer {
+        // It looks at each minute up to the answer, so that every minute of the weeks would take too long.
+        return (vec![&windows::Plain], 40_009);
+    }
+    #[cfg(feature = "library")]
+    return (vec![&windows::Linked, &windows::Wrapped], 1);
+    #[cfg(not(feature = "library"))]
+    (Vec::new(), 1)
+}
+
 /// Runs the named tables, then the random cases on a few threads. Each case has a seed of its own, so
 /// the threads change nothing.
 fn run(libraries: &[&dyn Calls], options: &Options) -> (Tally, Vec<String>, f64) {
@@ -116,6 +131,7 @@ fn run(libraries: &[&dyn Calls], options: &Options) -> (Tally, Vec<String>, f64)
     let failures = Mutex::new(Vec::new());
     let next = AtomicU64::new(options.case.unwrap_or(0));
     let end = options.case.map_or(options.count, |case| case + 1);
+    let (openers, stride) = next_open_libraries(options.peer);
 
     if options.case.is_none() {
         let mut random = Random::new(options.seed);
@@ -133,6 +149,14 @@ fn run(libraries: &[&dyn Calls], options: &Options) -> (Tally, Vec<String>, f64)
             let fault = format!("groups put another way: {fault}");
             failures.lock().expect("no thread yet").push(fault);
         }
+        let examined = caught(|| {
+            windows::edges(&openers, &mut tally)?;
+            windows::seventy_weeks(&openers, &mut random, stride)
+        });
+        if let Err(fault) = examined {
+            let fault = format!("next open: {fault}");
+            failures.lock().expect("no thread yet").push(fault);
+        }
     }
     std::thread::scope(|scope| {
         for _ in 0..THREADS {
@@ -143,7 +167,10 @@ fn run(libraries: &[&dyn Calls], options: &Options) -> (Tally, Vec<String>, f64)
                     if case >= end {
                         break;
                     }
-                    let examined = caught(|| random_case(libraries, options.seed, case, &mut own));
+                    let examined = caught(|| {
+                        random_case(libraries, options.seed, case, &mut own)?;
+                        random_question(&openers, options.seed, case, &mut own)
+                    });
                     if let Err(fault) = examined {
                         let mut failures = failures.lock().expect("no thread panics");
                         failures.push(format!("--seed {} --case {case}: {fault}", options.seed));
@@ -175,6 +202,14 @@ fn random_case(libraries: &[&dyn Calls], seed: u64, case: u64, tally: &mut Tally
     } else {
         examine::random_table(libraries, &mut random, tally)
     }
+}
+
+/// In some of the cases, a question for the next open minute.
+fn random_question(openers: &[&dyn NextOpen], seed: u64, case: u64, tally: &mut Tally) -> Outcome {
+    if case % CASES_PER_QUESTION != 0 {
+        return Ok(());
+    }
+    windows::random_case(openers, &mut Random::for_case(!seed, case), tally)
 }
 
 /// A line for each thing that was counted, with its kinds in the order of their numbers, or, where
@@ -219,13 +254,14 @@ fn earned_each_refusal(tally: &Tally, count: u64) -> bool {
 
 /// Refusals of the calls that no case earned.
 fn unearned_refusals(tally: &Tally) -> Vec<String> {
-    let table: [(&str, &[u32]); 6] = [
+    let table: [(&str, &[u32]); 7] = [
         ("refusal by decide", &[10, 14, 15, 17, 20, 21]),
         ("refusal by shortest path", &[10, 14, 15, 17, 21]),
         ("refusal by read", &[10, 11, 12, 13, 14, 15, 16, 17, 18]),
         ("refusal by write", &[10, 14, 15, 17, 19]),
         ("refusal by distances", &[10, 14, 15, 17, 23]),
         ("refusal by within", &[10, 14, 15, 17]),
+        ("refusal by next open", &[29, 30, 31]),
     ];
     let mut unearned = Vec::new();
     for (call, numbers) in table {

@@ -1,0 +1,110 @@
+-- Windows from week to week, and why there is an open minute within 65 weeks: one minute of a window in each, on 65 different days, at most
+-- 64 of which are closed.
+--
+--   in-held, held-in     a minute is in a window exactly when the window holds it in some week
+--   soon-in              within a week a minute is in the window; weekly: and so is the minute a number of weeks later
+--   without              a list without one occurrence of a number
+--   spare-day            of more days, seven apart, than are closed, one is not closed (pigeonhole)
+--   soon-open            within the span a minute is open
+use Prim.Native.Nat.{ℕ, zero, suc, _+_, _-_, _*_, _/_, _%_, _≤_, _<_}
+use native.Mathlib.Nat.{not-suc-le-zero}
+use native.Mathlib.Omega.{arith}
+use mathlib.Core.Path.{_≡_, refl, sym, ap, _∙_}
+use mathlib.Core.Logic.{_⊎_, inl, inr, ⊎-elim}
+use mathlib.Core.Bool.{Bool, true, false, cond, _||_, false≢true}
+use mathlib.Core.List.{List, [], _∷_}
+use borrow.Author.Tests.{lt-ltb, ltb-true, eqb-true}
+use lib.Dec.{eqb}
+use lib.ListN.{length}
+use Rattle.release_windows.specs.Windows.{day, week, startOf, lengthOf, some, inWindow, inSome, isOpen, first}
+use Rattle.release_windows.specs.Answers.{span, maxDays, waiting}
+use Rattle.release_windows.specs.Promises.{Held}
+use Rattle.release_windows.proofs.Searches.{or-true, or-intro, is-false, clash, decided, by-cond, lt-or-ge, first-passes, first-before}
+use Rattle.release_windows.proofs.Waits.{InRange, wait-none, wait-some}
+use Rattle.release_windows.proofs.Jumps.{open-where}
+
+-- ---- one window
+
+module _ {w : ℕ} (so : InRange w) (m : ℕ) where
+  pub in-held : inWindow m w ≡ true → (k : ℕ) × Held w k m
+  unfolding inWindow
+  in-held e =
+      let l = ltb-true ((m + week - startOf w) % week) (lengthOf w) e in
+      ((m + week - startOf w) / week, record { begun = omega (arith, so .start); not-over = omega (arith, so .start, l) })
+
+  pub held-in : (k : ℕ) → Held w k m → inWindow m w ≡ true
+  unfolding inWindow
+  held-in k h = lt-ltb ((m + week - startOf w) % week) (lengthOf w) (omega (arith, so .start, so .a-week, h .begun, h .not-over))
+
+  soon-in : (k : ℕ) × (k < week) × (inWindow (m + k) w ≡ true)
+  soon-in =
+      let wait = first week (λ k. inWindow (m + k) w) in
+      let within : wait < week =
+      ⊎-elim (λ l. omega (arith, wait-none w m l)) (λ l. omega (arith, wait-some w m so l, so .some-minutes, l))
+      (lt-or-ge ((m + week - startOf w) % week) (lengthOf w)) in
+      (wait, within, first-passes (λ k. inWindow (m + k) w) week within)
+
+  weekly : (i : ℕ) → inWindow m w ≡ true → inWindow (m + week * i) w ≡ true
+  unfolding inWindow
+  weekly i e =
+      let l = ltb-true ((m + week - startOf w) % week) (lengthOf w) e in
+      lt-ltb ((m + week * i + week - startOf w) % week) (lengthOf w) (omega (arith, so .start, l))
+
+-- ---- days
+
+without : ℕ → List ℕ → List ℕ
+without x [] = []
+without x (y ∷ ys) = cond (eqb x y) ys (y ∷ without x ys)
+
+without-length : (x : ℕ) (ys : List ℕ) → some (eqb x) ys ≡ true → suc (length (without x ys)) ≡ length ys
+unfolding without some
+without-length x [] e = absurd (false≢true e)
+without-length x (y ∷ ys) e = go (eqb x y) e (without-length x ys)
+  where
+    go : (b : Bool) → (b || some (eqb x) ys) ≡ true → (some (eqb x) ys ≡ true → suc (length (without x ys)) ≡ length ys)
+        → suc (length (cond b ys (y ∷ without x ys))) ≡ suc (length ys)
+    go true e later = refl
+    go false e later = ap suc (later e)
+
+-- every other number is still there
+without-other : (x u : ℕ) (ys : List ℕ) → (u ≡ x → ⊥) → some (eqb u) ys ≡ true → some (eqb u) (without x ys) ≡ true
+unfolding without some
+without-other x u [] f e = e
+without-other x u (y ∷ ys) f e =
+    by-cond (λ (l : List ℕ). some (eqb u) l ≡ true) (eqb x y) ys (y ∷ without x ys)
+    (λ t. ⊎-elim (λ h. absurd (f (eqb-true u y h ∙ sym (eqb-true x y t)))) (λ h. h) (or-true (eqb u y) (some (eqb u) ys) e))
+    (λ t.
+    or-intro (eqb u y) (some (eqb u) (without x ys))
+    (⊎-elim (λ h. inl h) (λ h. inr (without-other x u ys f h)) (or-true (eqb u y) (some (eqb u) ys) e)))
+
+spare-day : (d n : ℕ) (days : List ℕ) → length days < n → (i : ℕ) × (i < n) × (some (eqb (d + 7 * i)) days ≡ false)
+spare-day d zero days h = absurd (not-suc-le-zero h)
+spare-day d (suc n) days h = go (decided (some (eqb (d + 7 * n)) days)) (spare-day d n (without (d + 7 * n) days))
+  where
+    go : (some (eqb (d + 7 * n)) days ≡ true) ⊎ (some (eqb (d + 7 * n)) days ≡ false)
+        → (length (without (d + 7 * n) days) < n → (i : ℕ) × (i < n) × (some (eqb (d + 7 * i)) (without (d + 7 * n) days) ≡ false))
+        → (i : ℕ) × (i < suc n) × (some (eqb (d + 7 * i)) days ≡ false)
+    go (inr f) fewer = (n, omega arith, f)
+    go (inl e) fewer =
+        let it = fewer (omega (arith, without-length (d + 7 * n) days e, h)) in
+        let i = it .0 in
+        (i, omega (arith, it .1), is-false _ (λ t. clash (without-other (d + 7 * n) (d + 7 * i) days (λ q. omega (arith, q, it .1)) t) (it .2)))
+
+-- ---- an open minute
+
+pub soon-open : (time : ℕ) (w : ℕ) (others days : List ℕ) → InRange w → length days ≤ maxDays → waiting time (w ∷ others) days < span
+unfolding waiting inSome some
+soon-open time w others days so few =
+    let entry = soon-in so time in
+    let m = time + entry .0 in
+    let spare = spare-day (m / day) (maxDays + 1) days (omega (arith, few)) in
+    let i = spare .0 in
+    let k = entry .0 + week * i in
+    let there : m + week * i ≡ time + k = omega arith in
+    let date : m / day + 7 * i ≡ (time + k) / day = omega arith in
+    let entered : inWindow (time + k) w ≡ true = ap (λ (x : ℕ). inWindow x w) (sym there) ∙ weekly so m i (entry .2) in
+    let open-then : isOpen (w ∷ others) days (time + k) ≡ true =
+    open-where (w ∷ others) days (time + k)
+    (ap (λ (d : ℕ). some (eqb d) days) (sym date) ∙ spare .2)
+    (or-intro (inWindow (time + k) w) (some (inWindow (time + k)) others) (inl entered)) in
+    omega (arith, first-before (λ j. isOpen (w ∷ others) days (time + j)) span k open-then, entry .1, spare .1)
