@@ -7,7 +7,6 @@ use Prim.Native.Nat.{ℕ, zero, suc, _+_, _≤_, zero-le}
 use native.Mathlib.Nat.{not-suc-le-zero}
 use native.Mathlib.Omega.{arith}
 use mathlib.Core.Path.{_≡_, refl, sym, ap, ap₂, _∙_}
-use mathlib.Core.Logic.{⊎-elim}
 use mathlib.Core.Bool.{Bool, true, false, cond}
 use mathlib.Core.List.{List, []}
 use borrow.Author.Tests.{le-ltb, eqb-false, ne-eqb}
@@ -24,12 +23,13 @@ use Rattle.model.specs.Contents.{setIn, setNumber, tableIn}
 use Rattle.model.specs.Calls.{overwrite, Decision, decisionOf, decideBuffer, Shortest, shortestGrounds, shortestAnswer}
 use Rattle.model.specs.Draft.{Draft}
 use Rattle.model.proofs.Bounds.{is-false, by-cond, length-tabulate, getD-tabulate}
-use Rattle.model.proofs.SetLaws.{setOf-cong, empty-in, union-in, firstStates-in, in-subset}
+use Rattle.model.proofs.SetLaws.{setOf-cong, empty-in, firstStates-in}
 use Rattle.model.proofs.Fixpoints.{backward-is}
 use Rattle.model.proofs.ListLaws.{getD-past}
 use Rattle.model.proofs.GroundLaws.{refuse-skip, refuse-take}
 use Rattle.model.proofs.StoreLaws.{setAt-empty, Holds, holds-layout}
 use Rattle.model.proofs.FileLaws.{file-draft, length-draft}
+use Rattle.model.proofs.RoundLaws.{isSafe-intro}
 use Rattle.model.proofs.Acceptance.{Store, accepted-store, well-formed, check-of}
 use Rattle.model.proofs.CallLaws.{Writable, write-answer, write-buffer, draft-refusal, read-answer, read-buffer, draft-says}
 
@@ -76,10 +76,10 @@ size-empty = ap length (filter-none maxStates (member empty) (λ s. is-false (me
 
 module _ (store : List ℕ) (held : Store store 0 0) where
   draft-safe : isSafe (tableOf store 0 0) (firstRound (tableOf store 0 0)) ≡ true
-  unfolding tableOf isSafe post image
+  unfolding tableOf post image
   draft-safe =
-      in-subset
-      (λ s h. absurd (⊎-elim (λ a. not-suc-le-zero (firstStates-in (well-formed store 0 0 held .initial s a))) (λ b. empty-in b) (union-in h)))
+      isSafe-intro (tableOf store 0 0) (firstRound (tableOf store 0 0))
+      (λ s a. absurd (not-suc-le-zero (firstStates-in (well-formed store 0 0 held .initial s a)))) (λ s b. absurd (empty-in b))
 
   draft-R : (firstRound (tableOf store 0 0)) .R ≡ empty
   unfolding tableOf firstRound roundOf forward iterate

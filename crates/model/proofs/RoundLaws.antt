@@ -217,7 +217,7 @@ module _ (t : Table) (r : Round) where
   unfolding isSafe
   isSafe-true e = subset-in e
 
-  isSafe-intro : t .initial ⊆ r .Z → post (t .n) (t .row) (r .R) ⊆ r .Z → isSafe t r ≡ true
+  pub isSafe-intro : t .initial ⊆ r .Z → post (t .n) (t .row) (r .R) ⊆ r .Z → isSafe t r ≡ true
   unfolding isSafe
   isSafe-intro f g = in-subset (λ s h. ⊎-elim (f s) (g s) (union-in h))
 
