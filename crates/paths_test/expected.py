@@ -1,7 +1,7 @@
 #!/usr/bin/env python3
 """What paths_test must print: writes the file stdout beside this one; with --check writes nothing, and fails if it differs.
 
-Made from document 01 alone and not from the code under test. The code measures distances backward from the forbidden states over sets of
+Made from the specification alone and not from the code under test. The code measures distances backward from the forbidden states over sets of
 words and then walks forward; this goes forward from the initial states over Python sets, with the smallest path to each state in hand.
 """
 
@@ -31,7 +31,7 @@ def shortest(n, initial, forbidden, steps):
 
 
 def refusal(words, n, g, initial, forbidden, groups, steps, room):
-    """01's grounds by number, those of shortest path."""
+    """The grounds by number, those of shortest path."""
     if words < STORE_WORDS:
         return 10
     if n == 0 and g > 0 or n > GREATEST_N:

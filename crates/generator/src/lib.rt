@@ -7,7 +7,7 @@
 //   clear, put_set, put_rows     0 in every word of a table; one set; the row of each state
 //   successors                   the numbers that a state takes, each modulo n
 //
-// n is the number of states and f the fan-out. Only `generate` asks for nothing.
+// n is the number of states and f the fan-out. The call, `generate`, asks for nothing.
 ghost use mathlib.Core.Path.{_≡_};
 ghost use Prim.Native.Nat.{_+_, _*_, _≤_, _<_};
 ghost use lib.ListN.{length, take};

@@ -1,7 +1,7 @@
 -- What find_path and the call shortest path answer.
 --
 --   foundIn t, pathWritten t path     find_path: the steps of a shortest path, and the buffer with the path at its front
---   shortestOf                        01's numbers for each case of the call's answer
+--   shortestOf                        the specification's numbers for each case of the call's answer
 --   isRefused                         the case in which the call is declined
 --   Called                            a call of shortest_path and what it gave: its contract
 use Prim.Native.Nat.{ℕ}

@@ -1,4 +1,4 @@
-// Paths to a forbidden state (01, "Path"): the distance of each state, the path that 01 names, and the calls shortest path, distances and
+// Paths to a forbidden state (the specification, "Paths"): the distance of each state, the path that it names, and the calls shortest path, distances and
 // within.
 //
 //   predecessors                         the rows of the store, transposed: for each state the states that step to it
@@ -236,7 +236,7 @@ pub enum Found {
     Nothing,
 }
 
-// The path that 01 names, at the front of the buffer.
+// The path that the specification names, at the front of the buffer.
 pub fn find_path(store: &[u64], n: usize, path: &mut [u8]) -> Found
     requires { ⌜ HoldsTable (now store) n × (maxStates ≤ length (now path)) ⌝ }
     ensures { λ r. ⌜ (r ≡ foundIn (tableOf (now (store .entry)) n 0))

@@ -1,6 +1,6 @@
 // Runs the call shortest path on tables built here and prints what it answers, the states at the front of the path buffer, and whether the
 // rest of the buffer is as before; then the calls distances and within, with every place of the distance buffer. The stored output was written by expected.py, a breadth-first search from the initial states made from
-// 01's text alone.
+// the specification's text alone.
 use paths::DistancesAnswer;
 use paths::Shortest;
 use paths::WithinAnswer;

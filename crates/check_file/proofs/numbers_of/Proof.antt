@@ -1,4 +1,4 @@
--- `numbers_of`: 01's numbers for each of the cases.
+-- `numbers_of`: the specification's numbers for each of the cases.
 use borrow.Author.Needs.{needs}
 use Rattle.check_file.proofs.numbers_of.Statement.{statement}
 use Rattle.check_file.proofs.numbers_of.Tie as tie
