@@ -193,9 +193,9 @@ module _ (s w : ℕ) (h : w < WORDS) where
 
 module _ (X : Set) (s : ℕ) (x : Proper X) where
   -- a word of the union with {s}
-  concat : (w : ℕ) → w < WORDS → bitOr (getD X w 0) (getD (single s) w 0) ≡ getD (union X (single s)) w 0
+  joined-word : (w : ℕ) → w < WORDS → bitOr (getD X w 0) (getD (single s) w 0) ≡ getD (union X (single s)) w 0
   unfolding union single
-  concat w h = wordwise-word or-wise X (single s) x (setOf-proper _) w h
+  joined-word w h = wordwise-word or-wise X (single s) x (setOf-proper _) w h
 
   pub with-bit : s / 64 < WORDS → set X (s / 64) (bitOr (getD X (s / 64) 0) (1 * 2 ^ (s % 64) % 2 ^ 64)) ≡ union X (single s)
   unfolding union
@@ -209,10 +209,10 @@ module _ (X : Set) (s : ℕ) (x : Proper X) where
       ⊎-elim
       (λ e.
       subst (λ (u : ℕ). getD (set X w y) u 0 ≡ getD (union X (single s)) u 0) (sym (eqb-true v w e))
-      (getD-set-same X w y 0 (omega (arith, x .long)) ∙ ap (bitOr (getD X w 0)) (single-here s w h refl) ∙ concat w h))
+      (getD-set-same X w y 0 (omega (arith, x .long)) ∙ ap (bitOr (getD X w 0)) (single-here s w h refl) ∙ joined-word w h))
       (λ e.
       getD-set-other X w v y 0 (eqb-false v w e)
-      ∙ sym (or-zero-r (getD X v 0)) ∙ ap (bitOr (getD X v 0)) (single-other s v below (eqb-false v w e)) ∙ concat v below)
+      ∙ sym (or-zero-r (getD X v 0)) ∙ ap (bitOr (getD X v 0)) (single-other s v below (eqb-false v w e)) ∙ joined-word v below)
       (decided (eqb v w)))
 
   pub with-past : WORDS ≤ s / 64 → X ≡ union X (single s)
