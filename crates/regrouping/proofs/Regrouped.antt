@@ -14,10 +14,10 @@ use Rattle.model.specs.Sets.{Set, empty}
 use Rattle.model.specs.Tables.{Table}
 use Rattle.model.specs.Rounds.{Outcome, safe, unsafe, undecided, run}
 use Rattle.model.specs.Paths.{smallestPath}
-use Rattle.model.specs.Stores.{tableOf, refuse}
+use Rattle.model.specs.Stores.{tableOf, refuse, AcceptedStore}
 use Rattle.model.specs.Calls.{overwrite, Decision, decideLimits, decideGrounds, decisionOf, declined, decideAnswer, decideBuffer}
 use Rattle.model.proofs.Acceptance.{accepted-store, store-accepted}
-use Rattle.regrouping.specs.Regrouping.{Alike, SameCovers, firstList, HoldsTable, SameDecisions, Regrouping}
+use Rattle.regrouping.specs.Regrouping.{Alike, SameCovers, firstList, SameDecisions, Regrouping}
 use Rattle.regrouping.proofs.CoversKept.{rewriting-same}
 use Rattle.regrouping.proofs.RoundsKept.{regroup, covers-add, run-same, shortest-same, smallest-same}
 
@@ -46,7 +46,7 @@ module _ (t u : Table) (a : Alike t u) where
   path-same : smallestPath t ≡ smallestPath u
   path-same = smallest-same t (u .groups) ∙ ap smallestPath (alike-is t u a)
 
-module _ (store other : List ℕ) (n g h : ℕ) (held : HoldsTable store n g) (held′ : HoldsTable other n h)
+module _ (store other : List ℕ) (n g h : ℕ) (held : AcceptedStore store n g) (held′ : AcceptedStore other n h)
     (a : Alike (tableOf store n g) (tableOf other n h))
     (c : SameCovers n (firstList (tableOf store n g)) (firstList (tableOf other n h))) where
   answers : (allowance room : ℕ) → decideAnswer store n g allowance room ≡ decideAnswer other n h allowance room
