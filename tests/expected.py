@@ -17,6 +17,7 @@ H_GROUP = Table(61, {0}, {60}, H_STEPS, [{0, 59}])
 NINTH = Table(4, {0}, {2}, {(0, 0), (0, 1), (1, 3), (2, 3), (3, 0), (3, 2)}, [{0}])
 DRAFT = Table(0, set(), set(), set())
 KEPT = ", the rest unchanged"
+MAX_STATES, MAX_GROUPS, STORE_WORDS = 256, 64, 1288
 
 
 def answer(table, allowance):
@@ -49,7 +50,7 @@ def decide_test():
     return "".join(line + "\n" for line in lines)
 
 
-# ---- order_test: the looks of the first round, as request 3 has them
+# ---- order_test: the looks of the first round (docs/SPECIFICATION.md, Rounds)
 
 def order(table):
     z = table.states() - table.forbidden
@@ -66,8 +67,9 @@ def order(table):
 def order_test():
     alone = lambda n: [{s} for s in range(n)]
     steps = lambda text: {(int(pair[0]), int(pair[1])) for pair in text.split()}
-    digits = [{s for s in range(256) if s >> b & 1 == digit} for b in range(8) for digit in (0, 1)]
-    corridor = {(s + 1, s) for s in range(255)}
+    digits = [
+        {s for s in range(MAX_STATES) if s >> b & 1 == digit} for b in range((MAX_STATES - 1).bit_length()) for digit in (0, 1)]
+    corridor = Table(MAX_STATES, {MAX_STATES - 1}, set(), {(s + 1, s) for s in range(MAX_STATES - 1)}, digits)
     branches = steps("57 53 74 70 71 34 35 43 08 16 61 85")
     groups = alone(10)
     groups[3] = {3, 8}
@@ -80,13 +82,18 @@ def order_test():
             ("branches, 3 with 8", Table(10, {1, 5}, {9}, branches, groups)),
             ("G", G), ("nothing initial", Table(3, set(), {2}, steps("01 12"))),
             ("only a forbidden state initial", Table(3, {2}, {2}, steps("01 12"))),
-            ("corridor", Table(256, {255}, set(), corridor, digits)),
+            ("corridor", corridor),
         ]
     ]
-    # The words of a group that is not counted are not 0.
-    lines.append("corridor, its last group not counted: refused 17")
-    lines += [f"{name}: refused {refusal}" for name, refusal in [
-        ("n 0", 17), ("n 257", 14), ("g 65", 15), ("state 2 of 2", 17), ("g 65 and state 2 of 2", 15), ("store one word short, n 0", 10)]]
+    small = Table(3, {0}, {2}, steps("01 12"))
+    for name, table, words, n, g in [
+        ("corridor, its last group not counted", corridor, STORE_WORDS, MAX_STATES, len(digits) - 1),
+        ("n 0", small, STORE_WORDS, 0, 0), ("a state too many", small, STORE_WORDS, MAX_STATES + 1, 0),
+        ("a group too many", small, STORE_WORDS, 3, MAX_GROUPS + 1), ("state 2 of 2", small, STORE_WORDS, 2, 0),
+        ("a group too many and state 2 of 2", small, STORE_WORDS, 2, MAX_GROUPS + 1),
+        ("store one word short, n 0", DRAFT, STORE_WORDS - 1, 0, 0),
+    ]:
+        lines.append(f"{name}: refused {refusal(store_of(table), words, n, g)}")
     return "".join(line + "\n" for line in lines)
 
 
@@ -167,18 +174,30 @@ def largest():
     return [{s for s in range(256) if words[4 * k + s // 64] >> s % 64 & 1} for k in range(322)]
 
 
+def used(store, n, g):
+    """The sets that are counted: initial, forbidden, g groups, n rows."""
+    return store[:2 + g] + store[2 + MAX_GROUPS:][:n]
+
+
+def refusal(store, words, n, g):
+    """The first ground that holds of a store of so many words (docs/SPECIFICATION.md, Refusals), or 0."""
+    if words < STORE_WORDS:
+        return 10
+    if n > MAX_STATES or n == 0 and g > 0:
+        return 14
+    if g > MAX_GROUPS:
+        return 15
+    unused = store[2 + g:2 + MAX_GROUPS] + store[2 + MAX_GROUPS + n:]
+    if any(s >= n for states in used(store, n, g) for s in states) or any(unused):
+        return 17
+    return 0
+
+
 def write(store, words, n, g, room):
     """The file, or the refusal."""
-    if words < 1288:
-        return 10
-    if n > 256 or n == 0 and g > 0:
-        return 14
-    if g > 64:
-        return 15
-    used = store[:2 + g] + store[66:66 + n]
-    if any(s >= n for states in used for s in states) or any(store[2 + g:66] + store[66 + n:]):
-        return 17
-    contents = make.two(n) + make.two(g) + b"".join(make.set_bytes(states, n) for states in used)
+    if refused := refusal(store, words, n, g):
+        return refused
+    contents = make.two(n) + make.two(g) + b"".join(make.set_bytes(states, n) for states in used(store, n, g))
     file = b"".join(make.blocks(contents)) if n else b""
     return 19 if room < len(file) else file
 
