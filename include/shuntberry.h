@@ -35,6 +35,16 @@
 extern "C" {
 #endif
 
+/* ---- Version ---- */
+
+/*
+ * Goes up by one with each change for which a program must be changed or compiled again; what changed is
+ * in docs/changes. 1 is the header that had no such macro. From 2 on shuntberry_read and shuntberry_write
+ * are given the site of the file, behind the input and behind g: their signatures changed. Site 0 gives
+ * the files of version 1.
+ */
+#define SHUNTBERRY_VERSION 2
+
 /* ---- Sizes ---- */
 
 #define SHUNTBERRY_MAX_STATES 256    /* the greatest n */
@@ -46,6 +56,7 @@ extern "C" {
 #define SHUNTBERRY_UNREACHABLE 65535 /* the distance of a state from which no forbidden state can be reached */
 #define SHUNTBERRY_BLOCK_BYTES 512   /* a file is whole blocks of this many bytes */
 #define SHUNTBERRY_FILE_BYTES 10752  /* the length of the largest file, 21 blocks */
+#define SHUNTBERRY_MAX_SITE 65520    /* the greatest site number */
 #define SHUNTBERRY_MAX_FAN_OUT 16    /* the greatest fan-out of a generated table */
 #define SHUNTBERRY_MAX_TIME 2147483647 /* the greatest time, in minutes: 2^31 - 1 */
 #define SHUNTBERRY_MAX_WINDOWS 32    /* the greatest number of windows */
@@ -64,7 +75,7 @@ extern "C" {
 #define SHUNTBERRY_STORE_SHORT 10       /* the store has under 1,288 words (all calls but next open) */
 #define SHUNTBERRY_INPUT_LENGTH 11      /* the input's length is no multiple of 512, or over 10,752 (read) */
 #define SHUNTBERRY_BLOCK_NUMBER 12      /* block k does not hold the number k (read) */
-#define SHUNTBERRY_BLOCK_CHECK 13       /* a block's stored check is not its check (read) */
+#define SHUNTBERRY_BLOCK_CHECK 13       /* a block's stored check is not its check for the site (read) */
 #define SHUNTBERRY_STATES 14            /* n is over 256, or 0 with g above 0, in a block or in generate (all calls but next open) */
 #define SHUNTBERRY_GROUPS 15            /* g is over 64 (all calls but generate and next open) */
 #define SHUNTBERRY_BLOCK_COUNT 16       /* the file has too few or too many blocks for its n and g (read) */
@@ -75,6 +86,7 @@ extern "C" {
 #define SHUNTBERRY_PATH_SHORT 21        /* the path buffer has under 256 bytes (decide, shortest path) */
 #define SHUNTBERRY_FAN_OUT 22           /* the fan-out is over 16 (generate) */
 #define SHUNTBERRY_DISTANCES_SHORT 23   /* the distance buffer has fewer than n places (distances) */
+#define SHUNTBERRY_SITE 24              /* the site is over 65,520 (read, write); given straight after 10 */
 #define SHUNTBERRY_WINDOW_RANGE 29      /* a window starts past minute 10,079 of the week, or is 0 or over 10,080 minutes long (next open) */
 #define SHUNTBERRY_TOO_MANY 30          /* over 32 windows, or over 64 closed days (next open) */
 #define SHUNTBERRY_TIME 31              /* the time is over 2^31 - 1 (next open) */
@@ -162,13 +174,15 @@ struct shuntberry_table {
 };
 
 /*
- * Reads a block file into the first 1,288 words of `store`; no other word is touched. The input is
- * never changed. An input of no bytes is an untouched draft: n and g are 0, and so is each of those words.
- * So a read that failed must not be passed on as one of no bytes.
+ * Reads a block file of a site into the first 1,288 words of `store`; no other word is touched. The input
+ * is never changed. The check of each block starts from the site, so a block of another site that stands
+ * at its own number is refused with 13. An input of no bytes is an untouched draft, at every site: n and g
+ * are 0, and so is each of those words. So a read that failed must not be passed on as one of no bytes.
  *
- * Refuses with 10, 11, 12, 13, 14, 15, 16, 17 (of set bytes only) or 18.
+ * Refuses with 10, 24, 11, 12, 13, 14, 15, 16, 17 (of set bytes only) or 18.
  */
-struct shuntberry_table shuntberry_read(const uint8_t *input, size_t input_len, uint64_t *store, size_t store_len);
+struct shuntberry_table shuntberry_read(const uint8_t *input, size_t input_len, size_t site, uint64_t *store,
+                                        size_t store_len);
 
 /* What shuntberry_write answers. */
 struct shuntberry_file {
@@ -177,13 +191,13 @@ struct shuntberry_file {
 };
 
 /*
- * Writes the table as a block file at the front of `output`, and no other byte. An output of
+ * Writes the table as a block file for a site at the front of `output`, and no other byte. An output of
  * SHUNTBERRY_FILE_BYTES is always long enough. The store is never changed.
  *
- * Refuses with 10, 14, 15, 17 or 19.
+ * Refuses with 10, 24, 14, 15, 17 or 19.
  */
-struct shuntberry_file shuntberry_write(const uint64_t *store, size_t store_len, size_t n, size_t g, uint8_t *output,
-                                        size_t output_len);
+struct shuntberry_file shuntberry_write(const uint64_t *store, size_t store_len, size_t n, size_t g, size_t site,
+                                        uint8_t *output, size_t output_len);
 
 /*
  * Fills the first 1,288 words of `store` with the table that a seed gives, and touches no other word:

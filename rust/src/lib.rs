@@ -58,6 +58,8 @@ pub const STORE_WORDS: usize = 1288;
 pub const PATH_BYTES: usize = 256;
 /// The length of the largest file: 21 blocks of 512 bytes.
 pub const FILE_BYTES: usize = 10_752;
+/// The greatest site number.
+pub const MAX_SITE: usize = 65_520;
 /// The greatest fan-out of a generated table.
 pub const MAX_FAN_OUT: usize = 16;
 /// The greatest time, in minutes.
@@ -178,7 +180,7 @@ impl Refused {
             10 => "the store has under 1,288 words",
             11 => "the input's length is no multiple of 512, or over 10,752",
             12 => "a block does not hold its own number",
-            13 => "a block's stored check is not its check",
+            13 => "a block's stored check is not its check for the site",
             14 => "n is over 256, or 0 with groups or in a block",
             15 => "g is over 64",
             16 => "the number of blocks is not that of a file with this n and g",
@@ -189,6 +191,7 @@ impl Refused {
             21 => "the path buffer has under 256 bytes",
             22 => "the fan-out is over 16",
             23 => "the distance buffer has fewer than n places",
+            24 => "the site is over 65,520",
             29 => {
                 "a window starts past minute 10,079 of the week, or is 0 or over 10,080 minutes long"
             }
@@ -339,14 +342,21 @@ pub fn within(store: &[u64], n: usize, g: usize, k: usize) -> Result<bool, Refus
     Ok(answer.within != 0)
 }
 
-/// Reads a block file into the first [`STORE_WORDS`] words of `store`; no other word is touched. An
+/// Reads a block file of a site, 0 to [`MAX_SITE`], into the first [`STORE_WORDS`] words of `store`; no other word is touched. An
 /// input of no bytes is an untouched draft: `n` and `g` are 0, and so is each of those words.
 ///
-/// Refused with 10, 11, 12, 13, 14, 15, 16, 17 or 18.
-pub fn read(input: &[u8], store: &mut [u64]) -> Result<TableRead, Refused> {
+/// Refused with 10, 24, 11, 12, 13, 14, 15, 16, 17 or 18. A block that was made for another site is refused
+/// with 13.
+pub fn read(input: &[u8], site: usize, store: &mut [u64]) -> Result<TableRead, Refused> {
     // SAFETY: as in `decide`.
     let table = unsafe {
-        raw::shuntberry_read(input.as_ptr(), input.len(), store.as_mut_ptr(), store.len())
+        raw::shuntberry_read(
+            input.as_ptr(),
+            input.len(),
+            site,
+            store.as_mut_ptr(),
+            store.len(),
+        )
     };
     accepted(table.refusal)?;
     Ok(TableRead {
@@ -355,10 +365,10 @@ pub fn read(input: &[u8], store: &mut [u64]) -> Result<TableRead, Refused> {
     })
 }
 
-/// Writes the table as a block file at the front of `output` and returns the file; no other byte of
+/// Writes the table as a block file for a site, 0 to [`MAX_SITE`], at the front of `output` and returns the file; no other byte of
 /// `output` is touched. An output of [`FILE_BYTES`] is always long enough.
 ///
-/// Refused with 10, 14, 15, 17 or 19.
+/// Refused with 10, 24, 14, 15, 17 or 19.
 ///
 /// ```
 /// use shuntberry::{FILE_BYTES, STORE_WORDS, TableRead, read, write};
@@ -366,18 +376,21 @@ pub fn read(input: &[u8], store: &mut [u64]) -> Result<TableRead, Refused> {
 /// let mut store = [0; STORE_WORDS];
 /// store[shuntberry::row(1)] = 0b101; // steps 1 → 0 and 1 → 2
 /// let mut output = [0; FILE_BYTES];
-/// let file = write(&store, 3, 0, &mut output)?;
+/// let file = write(&store, 3, 0, 17, &mut output)?;
 /// assert_eq!(file.len(), 512);
 ///
 /// let mut copy = [0; STORE_WORDS];
-/// assert_eq!(read(file, &mut copy)?, TableRead { n: 3, g: 0 });
+/// assert_eq!(read(file, 17, &mut copy)?, TableRead { n: 3, g: 0 });
 /// assert_eq!(copy, store);
+/// // At another site it is turned away.
+/// assert_eq!(read(file, 18, &mut copy).unwrap_err().0, 13);
 /// # Ok::<(), shuntberry::Refused>(())
 /// ```
 pub fn write<'o>(
     store: &[u64],
     n: usize,
     g: usize,
+    site: usize,
     output: &'o mut [u8],
 ) -> Result<&'o [u8], Refused> {
     // SAFETY: as in `decide`.
@@ -387,6 +400,7 @@ pub fn write<'o>(
             store.len(),
             n,
             g,
+            site,
             output.as_mut_ptr(),
             output.len(),
         )
@@ -409,7 +423,7 @@ pub fn write<'o>(
 /// assert_eq!([store[row(0)], store[row(1)], store[row(2)]], [0b011, 0b110, 0b110]);
 ///
 /// let mut output = [0; FILE_BYTES];
-/// assert_eq!(write(&store, 3, 0, &mut output)?.len(), 512);
+/// assert_eq!(write(&store, 3, 0, 0, &mut output)?.len(), 512);
 /// # Ok::<(), shuntberry::Refused>(())
 /// ```
 pub fn generate(seed: u32, n: usize, fan_out: usize, store: &mut [u64]) -> Result<(), Refused> {

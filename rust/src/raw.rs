@@ -94,6 +94,7 @@ unsafe extern "C" {
     pub fn shuntberry_read(
         input: *const u8,
         input_len: usize,
+        site: usize,
         store: *mut u64,
         store_len: usize,
     ) -> Table;
@@ -103,6 +104,7 @@ unsafe extern "C" {
         store_len: usize,
         n: usize,
         g: usize,
+        site: usize,
         output: *mut u8,
         output_len: usize,
     ) -> File;

@@ -237,11 +237,11 @@ fn lay_out_table(answer: TableRead) -> TableFields
 }
 
 #[no_mangle]
-pub extern "C" fn shuntberry_read(input: &[u8], store: &mut [u64]) -> TableFields
-    ensures { λ r. ⌜ (tableFields r ≡ readAnswer (now (input .entry)) (length (now (store .entry))))
-        × (now (store .exit) ≡ readBuffer (now (input .entry)) (now (store .entry))) ⌝ }
+pub extern "C" fn shuntberry_read(input: &[u8], site: usize, store: &mut [u64]) -> TableFields
+    ensures { λ r. ⌜ (tableFields r ≡ readAnswer (now (input .entry)) site (length (now (store .entry))))
+        × (now (store .exit) ≡ readBuffer (now (input .entry)) site (now (store .entry))) ⌝ }
 {
-    lay_out_table(read(input, store))
+    lay_out_table(read(input, site, store))
 }
 
 // ---- write
@@ -273,12 +273,13 @@ pub extern "C" fn shuntberry_write(
     store: &[u64],
     n: usize,
     g: usize,
+    site: usize,
     output: &mut [u8],
 ) -> FileFields
-    ensures { λ r. ⌜ (fileFields r ≡ writeAnswer (now (store .entry)) n g (length (now (output .entry))))
-        × (now (output .exit) ≡ writeBuffer (now (store .entry)) n g (now (output .entry))) ⌝ }
+    ensures { λ r. ⌜ (fileFields r ≡ writeAnswer (now (store .entry)) n g site (length (now (output .entry))))
+        × (now (output .exit) ≡ writeBuffer (now (store .entry)) n g site (now (output .entry))) ⌝ }
 {
-    lay_out_file(write(store, n, g, output))
+    lay_out_file(write(store, n, g, site, output))
 }
 
 // ---- generate

@@ -1,6 +1,6 @@
-//! The refusals of the calls on a store, in their order, and of read's store.
+//! The refusals of the calls on a store, in their order, and of read's store and site.
 
-use crate::blocks::file_length;
+use crate::blocks::{MAX_SITE, file_length};
 use crate::table::{MAX_GROUPS, MAX_STATES, STORE_WORDS};
 
 pub const PATH_BYTES: usize = 256;
@@ -32,14 +32,16 @@ pub fn within(store: &[u64], n: usize, g: usize) -> Result<(), u32> {
     table(store, n, g)
 }
 
-pub fn write(store: &[u64], n: usize, g: usize, output_len: usize) -> Result<(), u32> {
+pub fn write(store: &[u64], n: usize, g: usize, site: usize, output_len: usize) -> Result<(), u32> {
+    read(store.len(), site)?;
     table(store, n, g)?;
     refuse_if(output_len < file_length(n, g), 19)
 }
 
-/// The store that read is to fill.
-pub fn read_store(store_len: usize) -> Result<(), u32> {
-    refuse_if(store_len < STORE_WORDS, 10)
+/// What read asks before it looks at the input: a store to fill, and a site.
+pub fn read(store_len: usize, site: usize) -> Result<(), u32> {
+    refuse_if(store_len < STORE_WORDS, 10)?;
+    refuse_if(site > MAX_SITE, 24)
 }
 
 /// What all but read ask of a store with n and g.

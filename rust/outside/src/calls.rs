@@ -61,8 +61,8 @@ pub trait Calls: Sync {
     /// The refusal, or 0.
     fn distances(&self, store: &[u64], n: usize, g: usize, distances: &mut [u16]) -> u32;
     fn within(&self, store: &[u64], n: usize, g: usize, k: usize) -> Within;
-    fn read(&self, input: &[u8], store: &mut [u64]) -> TableRead;
-    fn write(&self, store: &[u64], n: usize, g: usize, output: &mut [u8]) -> Written;
+    fn read(&self, input: &[u8], site: usize, store: &mut [u64]) -> TableRead;
+    fn write(&self, store: &[u64], n: usize, g: usize, site: usize, output: &mut [u8]) -> Written;
 }
 
 #[cfg(feature = "library")]
@@ -130,10 +130,10 @@ mod linked {
             }
         }
 
-        fn read(&self, input: &[u8], store: &mut [u64]) -> TableRead {
+        fn read(&self, input: &[u8], site: usize, store: &mut [u64]) -> TableRead {
             let (bytes, length) = (input.as_ptr(), input.len());
             let (words, room) = (store.as_mut_ptr(), store.len());
-            let answer = unsafe { raw::shuntberry_read(bytes, length, words, room) };
+            let answer = unsafe { raw::shuntberry_read(bytes, length, site, words, room) };
             TableRead {
                 refusal: answer.refusal,
                 n: answer.n,
@@ -141,10 +141,17 @@ mod linked {
             }
         }
 
-        fn write(&self, store: &[u64], n: usize, g: usize, output: &mut [u8]) -> Written {
+        fn write(
+            &self,
+            store: &[u64],
+            n: usize,
+            g: usize,
+            site: usize,
+            output: &mut [u8],
+        ) -> Written {
             let (words, length) = (store.as_ptr(), store.len());
             let (bytes, room) = (output.as_mut_ptr(), output.len());
-            let answer = unsafe { raw::shuntberry_write(words, length, n, g, bytes, room) };
+            let answer = unsafe { raw::shuntberry_write(words, length, n, g, site, bytes, room) };
             Written {
                 refusal: answer.refusal,
                 length: answer.length,
@@ -241,8 +248,8 @@ mod linked {
             }
         }
 
-        fn read(&self, input: &[u8], store: &mut [u64]) -> TableRead {
-            match shuntberry::read(input, store) {
+        fn read(&self, input: &[u8], site: usize, store: &mut [u64]) -> TableRead {
+            match shuntberry::read(input, site, store) {
                 Err(Refused(refusal)) => TableRead {
                     refusal,
                     ..TableRead::default()
@@ -255,8 +262,15 @@ mod linked {
             }
         }
 
-        fn write(&self, store: &[u64], n: usize, g: usize, output: &mut [u8]) -> Written {
-            match shuntberry::write(store, n, g, output) {
+        fn write(
+            &self,
+            store: &[u64],
+            n: usize,
+            g: usize,
+            site: usize,
+            output: &mut [u8],
+        ) -> Written {
+            match shuntberry::write(store, n, g, site, output) {
                 Err(Refused(refusal)) => Written { refusal, length: 0 },
                 Ok(file) => {
                     let file = file.to_vec();

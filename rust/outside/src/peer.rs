@@ -26,6 +26,7 @@ const PATH_BYTES: usize = 256;
 const BLOCK: usize = 512;
 const CONTENT: usize = 508;
 const MAX_BLOCKS: usize = 21;
+const MAX_SITE: usize = 65_520;
 
 /// Room for the contents of the largest file, and for a whole set past them.
 const CONTENTS_ROOM: usize = MAX_BLOCKS * CONTENT + 32;
@@ -349,13 +350,13 @@ fn blocks_needed(n: usize, g: usize) -> (usize, usize) {
     (length, length.div_ceil(CONTENT))
 }
 
-fn check_of(block: &[u8]) -> u16 {
+fn check_of(block: &[u8], site: usize) -> u16 {
     let sum: u32 = block[..510]
         .iter()
         .zip(1..)
         .map(|(&byte, place)| place * byte as u32)
         .sum();
-    (sum % 65_521) as u16
+    ((site as u32 + sum) % 65_521) as u16
 }
 
 fn u16_at(bytes: &[u8], at: usize) -> usize {
@@ -363,7 +364,11 @@ fn u16_at(bytes: &[u8], at: usize) -> usize {
 }
 
 /// n and g of a file, with its contents joined in `joined`, or the refusal 11 to 18.
-fn open(input: &[u8], joined: &mut [u8; CONTENTS_ROOM]) -> Result<(usize, usize), u32> {
+fn open(
+    input: &[u8],
+    site: usize,
+    joined: &mut [u8; CONTENTS_ROOM],
+) -> Result<(usize, usize), u32> {
     let (blocks, rest) = input.as_chunks::<BLOCK>();
     if input.is_empty() {
         return Ok((0, 0));
@@ -375,7 +380,7 @@ fn open(input: &[u8], joined: &mut [u8; CONTENTS_ROOM]) -> Result<(usize, usize)
         if u16_at(block, 0) != k {
             return Err(12);
         }
-        if u16_at(block, 510) != check_of(block) as usize {
+        if u16_at(block, 510) != check_of(block, site) as usize {
             return Err(13);
         }
         joined[CONTENT * k..][..CONTENT].copy_from_slice(&block[2..510]);
@@ -488,7 +493,7 @@ impl Calls for Peer {
         }
     }
 
-    fn read(&self, input: &[u8], store: &mut [u64]) -> TableRead {
+    fn read(&self, input: &[u8], site: usize, store: &mut [u64]) -> TableRead {
         let none = TableRead::default();
         let Some(store) = store.first_chunk_mut::<STORE_WORDS>() else {
             return TableRead {
@@ -496,8 +501,14 @@ impl Calls for Peer {
                 ..none
             };
         };
+        if site > MAX_SITE {
+            return TableRead {
+                refusal: 24,
+                ..none
+            };
+        }
         let mut joined = [0; CONTENTS_ROOM];
-        let (n, g) = match open(input, &mut joined) {
+        let (n, g) = match open(input, site, &mut joined) {
             Err(refusal) => return TableRead { refusal, ..none },
             Ok(sizes) => sizes,
         };
@@ -540,7 +551,13 @@ impl Calls for Peer {
         }
     }
 
-    fn write(&self, store: &[u64], n: usize, g: usize, output: &mut [u8]) -> Written {
+    fn write(&self, store: &[u64], n: usize, g: usize, site: usize, output: &mut [u8]) -> Written {
+        if store.len() >= STORE_WORDS && site > MAX_SITE {
+            return Written {
+                refusal: 24,
+                length: 0,
+            };
+        }
         let table = match Table::accept(store, n, g) {
             Err(refusal) => return Written { refusal, length: 0 },
             Ok(table) => table,
@@ -571,7 +588,7 @@ impl Calls for Peer {
         for (k, block) in output.chunks_exact_mut(BLOCK).enumerate() {
             block[0..2].copy_from_slice(&(k as u16).to_le_bytes());
             block[2..510].copy_from_slice(&joined[CONTENT * k..][..CONTENT]);
-            let check = check_of(block);
+            let check = check_of(block, site);
             block[510..512].copy_from_slice(&check.to_le_bytes());
         }
         Written {

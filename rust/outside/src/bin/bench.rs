@@ -23,6 +23,8 @@ use shuntberry_outside::table::{STORE_WORDS, Table};
 use shuntberry_outside::windows::{self, NextOpen};
 
 const SEED: u64 = 1;
+/// The site of the files.
+const SITE: usize = 0;
 const REPETITIONS: usize = 41;
 /// The least time that a measurement takes, in nanoseconds.
 const LEAST: f64 = 1e6;
@@ -39,7 +41,7 @@ impl Case {
     fn of(table: &Table) -> Case {
         Case {
             store: table.to_store(),
-            file: blocks::encode(table),
+            file: blocks::encode(table, SITE),
             n: table.n,
             g: table.g(),
         }
@@ -92,10 +94,10 @@ impl Call {
                     black_box(library.shortest_path(store, *n, *g, &mut []));
                 }
                 Call::Read => {
-                    black_box(library.read(file, &mut buffers.store));
+                    black_box(library.read(file, SITE, &mut buffers.store));
                 }
                 Call::Write => {
-                    black_box(library.write(store, *n, *g, &mut buffers.file));
+                    black_box(library.write(store, *n, *g, SITE, &mut buffers.file));
                 }
             }
         }
@@ -450,11 +452,11 @@ fn agree(libraries: &[&dyn Calls], call: Call, cases: &[Case]) -> Result<(), Str
                         (format!("{answer:?}"), Vec::new(), Vec::new())
                     }
                     Call::Read => {
-                        let answer = library.read(&case.file, &mut buffers.store);
+                        let answer = library.read(&case.file, SITE, &mut buffers.store);
                         (format!("{answer:?}"), Vec::new(), buffers.store.to_vec())
                     }
                     Call::Write => {
-                        let answer = library.write(store, n, g, &mut buffers.file);
+                        let answer = library.write(store, n, g, SITE, &mut buffers.file);
                         (format!("{answer:?}"), buffers.file.to_vec(), Vec::new())
                     }
                 }
