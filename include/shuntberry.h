@@ -1,8 +1,8 @@
 /*
  * Shuntberry: is a forbidden state of a dialogue table reachable, and by which steps?
  *
- * The calls are decide, shortest path, distances, within, read, write and generate, and beside them next
- * open minute, which says when a release may be loaded and reads no table. Link
+ * The calls are decide, shortest path, distances, within, read, write, generate and replay, and beside them
+ * next open minute, which says when a release may be loaded and reads no table. Link
  * target/staticlib/libshuntberry.a, which `rt staticlib shuntberry` makes. Nothing is allocated, nothing is
  * kept between calls, and no call fails other than by a refusal number. Calls may be made from several
  * threads at once, as long as no buffer that one of them writes is lent to another. A call takes less than

@@ -192,6 +192,9 @@ static void nothing(void)
     require(shuntberry_read(NULL, 0, NULL, 0).refusal == SHUNTBERRY_STORE_SHORT, "read, nothing");
     require(shuntberry_write(NULL, 0, STATES, 0, file, sizeof file).refusal == SHUNTBERRY_STORE_SHORT, "write, no store");
     require(shuntberry_write(store, words, STATES, 0, NULL, 0).refusal == SHUNTBERRY_OUTPUT_SHORT, "write, no output");
+    require(shuntberry_replay(NULL, 0, STATES, 0, NULL, 0).refusal == SHUNTBERRY_STORE_SHORT, "replay, nothing");
+    struct shuntberry_replay walk = shuntberry_replay(store, words, STATES, 0, NULL, 0);
+    require(walk.refusal == SHUNTBERRY_ACCEPTED && walk.followed == 0 && walk.seen == 0, "replay, no log");
 
     memset(other, PAINT, sizeof other);
     struct shuntberry_table table = shuntberry_read(NULL, 0, other, words);
