@@ -1,8 +1,8 @@
 /*
  * Shuntberry: is a forbidden state of a dialogue table reachable, and by which steps?
  *
- * The calls are decide, shortest path, distances, within, read, write and generate, and beside them next
- * open minute, which says when a release may be loaded and reads no table. Link
+ * The calls are decide, shortest path, distances, within, read, write, generate and replay, and beside them
+ * next open minute, which says when a release may be loaded and reads no table. Link
  * target/staticlib/libshuntberry.a, which `rt staticlib shuntberry` makes. Nothing is allocated, nothing is
  * kept between calls, and no call fails other than by a refusal number. Calls may be made from several
  * threads at once, as long as no buffer that one of them writes is lent to another. A call takes less than
@@ -58,6 +58,7 @@ extern "C" {
 #define SHUNTBERRY_FILE_BYTES 10752  /* the length of the largest file, 21 blocks */
 #define SHUNTBERRY_MAX_SITE 65520    /* the greatest site number */
 #define SHUNTBERRY_MAX_FAN_OUT 16    /* the greatest fan-out of a generated table */
+#define SHUNTBERRY_MAX_LOG 32768     /* the greatest length of a pump's log, in bytes: 16,384 entries */
 #define SHUNTBERRY_MAX_TIME 2147483647 /* the greatest time, in minutes: 2^31 - 1 */
 #define SHUNTBERRY_MAX_WINDOWS 32    /* the greatest number of windows */
 #define SHUNTBERRY_MAX_DAYS 64       /* the greatest number of closed days */
@@ -87,6 +88,8 @@ extern "C" {
 #define SHUNTBERRY_FAN_OUT 22           /* the fan-out is over 16 (generate) */
 #define SHUNTBERRY_DISTANCES_SHORT 23   /* the distance buffer has fewer than n places (distances) */
 #define SHUNTBERRY_SITE 24              /* the site is over 65,520 (read, write); given straight after 10 */
+#define SHUNTBERRY_LOG_ODD 25           /* the log's length is odd, also where it is over 32,768 (replay) */
+#define SHUNTBERRY_LOG_LONG 26          /* the log has over 32,768 bytes (replay) */
 #define SHUNTBERRY_WINDOW_RANGE 29      /* a window starts past minute 10,079 of the week, or is 0 or over 10,080 minutes long (next open) */
 #define SHUNTBERRY_TOO_MANY 30          /* over 32 windows, or over 64 closed days (next open) */
 #define SHUNTBERRY_TIME 31              /* the time is over 2^31 - 1 (next open) */
@@ -210,6 +213,26 @@ struct shuntberry_file shuntberry_write(const uint64_t *store, size_t store_len,
  * Returns 0, or refuses with 10, 14 or 22; the store is then as it was before.
  */
 uint32_t shuntberry_generate(uint32_t seed, size_t n, size_t fan_out, uint64_t *store, size_t store_len);
+
+/* What shuntberry_replay answers. */
+struct shuntberry_replay {
+    uint32_t refusal;   /* 0, or the number of the refusal */
+    uint32_t followed;  /* the number of entries before the first that breaks the walk; all of them if none does */
+    uint32_t seen;      /* the number of different states that those hold */
+    uint32_t percent;   /* 100 times `seen`, divided by the number of states that can be reached; 0 if there are none */
+    uint32_t remainder; /* what that division leaves; 0 if there are none */
+};
+
+/*
+ * Walks a pump's log through the table. The log is a list of state numbers of two bytes each, low byte
+ * first. The first entry must be initial, each later one a successor of the entry before; an entry of
+ * n or more is neither. The states that can be reached include the initial ones. On a table that
+ * shuntberry_decide calls safe, no followed entry is forbidden. Nothing is written.
+ *
+ * Refuses with 10, 14, 15, 17, 25 or 26.
+ */
+struct shuntberry_replay shuntberry_replay(const uint64_t *store, size_t store_len, size_t n, size_t g,
+                                           const uint8_t *log, size_t log_len);
 
 /* ---- When a release may be loaded ---- */
 

@@ -1,7 +1,7 @@
 //! Is a forbidden state of a dialogue table reachable, and by which steps?
 //!
-//! A safe wrapper around the proved library: [`decide`], [`shortest_path`], [`read`], [`write()`] and
-//! [`generate`], with slices in and enums out. No input makes a call panic: what the library does not accept, it
+//! A safe wrapper around the proved library: [`decide`], [`shortest_path`], [`read`], [`write()`],
+//! [`generate`] and [`replay`], with slices in and enums out. No input makes a call panic: what the library does not accept, it
 //! refuses with a number ([`Refused`]), and every buffer is then as it was before.
 //!
 //! A table has `n` states, numbered 0 to `n` − 1 ([`MAX_STATES`] at most), and `g` groups
@@ -62,6 +62,8 @@ pub const FILE_BYTES: usize = 10_752;
 pub const MAX_SITE: usize = 65_520;
 /// The greatest fan-out of a generated table.
 pub const MAX_FAN_OUT: usize = 16;
+/// The greatest length of a pump's log, in bytes.
+pub const MAX_LOG: usize = 32_768;
 /// The greatest time, in minutes.
 pub const MAX_TIME: usize = 2_147_483_647;
 /// The greatest number of windows.
@@ -192,6 +194,8 @@ impl Refused {
             22 => "the fan-out is over 16",
             23 => "the distance buffer has fewer than n places",
             24 => "the site is over 65,520",
+            25 => "the log's length is odd",
+            26 => "the log has over 32,768 bytes",
             29 => {
                 "a window starts past minute 10,079 of the week, or is 0 or over 10,080 minutes long"
             }
@@ -431,6 +435,52 @@ pub fn generate(seed: u32, n: usize, fan_out: usize, store: &mut [u64]) -> Resul
     let refusal =
         unsafe { raw::shuntberry_generate(seed, n, fan_out, store.as_mut_ptr(), store.len()) };
     accepted(refusal)
+}
+
+/// What [`replay`] found of a log.
+#[derive(Clone, Copy, Debug, PartialEq, Eq)]
+pub struct Replay {
+    /// The entries before the first that breaks the walk; all of them if none does.
+    pub followed: usize,
+    /// The different states that those hold.
+    pub seen: usize,
+    /// 100 times `seen`, divided by the number of states that can be reached; 0 if there are none.
+    pub percent: usize,
+    /// What that division leaves; 0 if there are none.
+    pub remainder: usize,
+}
+
+/// Walks a pump's log through the table: a list of state numbers of two bytes each, low byte first.
+///
+/// The first entry must be initial, each later one a successor of the entry before. On a table that
+/// [`decide`] calls safe, no followed entry is forbidden. Refused with 10, 14, 15, 17, 25 or 26.
+///
+/// ```
+/// use shuntberry::{INITIAL, Replay, STORE_WORDS, replay, row};
+///
+/// // 0 is initial; steps 0 → 1, 1 → 0 and 1 → 2: three states can be reached.
+/// let mut store = [0; STORE_WORDS];
+/// store[INITIAL] = 1 << 0;
+/// store[row(0)] = 1 << 1;
+/// store[row(1)] = 1 << 0 | 1 << 2;
+///
+/// // 0, 1, 0, then 2, which is no successor of 0.
+/// let walk = replay(&store, 3, 0, &[0, 0, 1, 0, 0, 0, 2, 0])?;
+/// assert_eq!(walk, Replay { followed: 3, seen: 2, percent: 66, remainder: 2 });
+/// # Ok::<(), shuntberry::Refused>(())
+/// ```
+pub fn replay(store: &[u64], n: usize, g: usize, log: &[u8]) -> Result<Replay, Refused> {
+    // SAFETY: as in `decide`; nothing is written.
+    let walk = unsafe {
+        raw::shuntberry_replay(store.as_ptr(), store.len(), n, g, log.as_ptr(), log.len())
+    };
+    accepted(walk.refusal)?;
+    Ok(Replay {
+        followed: walk.followed as usize,
+        seen: walk.seen as usize,
+        percent: walk.percent as usize,
+        remainder: walk.remainder as usize,
+    })
 }
 
 /// The first minute at or after `time` that lies in one of the windows, and not on a closed day; `None`,

@@ -48,6 +48,16 @@ pub struct File {
 
 #[repr(C)]
 #[derive(Clone, Copy, Debug, PartialEq, Eq)]
+pub struct Replay {
+    pub refusal: u32,
+    pub followed: u32,
+    pub seen: u32,
+    pub percent: u32,
+    pub remainder: u32,
+}
+
+#[repr(C)]
+#[derive(Clone, Copy, Debug, PartialEq, Eq)]
 pub struct Minute {
     pub refusal: u32,
     pub never: u32,
@@ -116,6 +126,15 @@ unsafe extern "C" {
         store: *mut u64,
         store_len: usize,
     ) -> u32;
+
+    pub fn shuntberry_replay(
+        store: *const u64,
+        store_len: usize,
+        n: usize,
+        g: usize,
+        log: *const u8,
+        log_len: usize,
+    ) -> Replay;
 
     pub fn shuntberry_next_open(
         time: usize,

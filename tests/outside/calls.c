@@ -1,8 +1,8 @@
 /*
  * The calls from C by the header alone: a corridor of 256 states is laid out with the header's
  * offsets, written, read back, and asked for its path, which is every state in turn; the largest load
- * is generated; then some of the refusals, and next open minute. The calls run on a painted stack, to see
- * how much of it they take.
+ * is generated; then some of the refusals, logs of the corridor, and next open minute. The calls run on a
+ * painted stack, to see how much of it they take.
  *
  * Without groups all states of Z have one cover, Z itself, so that each round loses the one state that
  * steps out: Z is 0 to 254 in round 0 and state 0 alone in round 254, where S is empty. The count is 254.
@@ -23,6 +23,8 @@ _Static_assert(offsetof(struct shuntberry_within, refusal) == 0, "within.refusal
 _Static_assert(offsetof(struct shuntberry_within, within) == 4, "within.within");
 _Static_assert(sizeof(struct shuntberry_table) == 12, "table");
 _Static_assert(sizeof(struct shuntberry_file) == 8, "file");
+_Static_assert(sizeof(struct shuntberry_replay) == 20, "replay");
+_Static_assert(offsetof(struct shuntberry_replay, remainder) == 16, "replay.remainder");
 _Static_assert(sizeof(struct shuntberry_minute) == 12, "minute");
 _Static_assert(SHUNTBERRY_ROW(SHUNTBERRY_MAX_STATES) == SHUNTBERRY_STORE_WORDS, "rows");
 _Static_assert(SHUNTBERRY_GROUP(SHUNTBERRY_MAX_GROUPS) == SHUNTBERRY_ROW(0), "groups");
@@ -172,6 +174,36 @@ static void sites(void)
     }
 }
 
+/* The corridor walked to its end, broken after two entries and from the start, and the two refusals. */
+static void replays(void)
+{
+    static uint8_t log[SHUNTBERRY_MAX_LOG + 2];
+    const size_t words = SHUNTBERRY_STORE_WORDS;
+
+    for (unsigned state = 0; state < STATES; state++) {
+        log[2 * state] = state % 256;
+        log[2 * state + 1] = (uint8_t)(state / 256);
+    }
+    struct shuntberry_replay walk = shuntberry_replay(store, words, STATES, 0, log, 2 * STATES);
+    require(walk.refusal == SHUNTBERRY_ACCEPTED && walk.followed == STATES && walk.seen == STATES &&
+                walk.percent == 100 && walk.remainder == 0,
+            "a whole walk");
+    walk = shuntberry_replay(store, words, STATES, 0, log, SHUNTBERRY_MAX_LOG);
+    require(walk.refusal == SHUNTBERRY_ACCEPTED && walk.followed == STATES && walk.seen == STATES, "the longest log");
+    log[4] = 1;
+    walk = shuntberry_replay(store, words, STATES, 0, log, 2 * STATES);
+    require(walk.refusal == SHUNTBERRY_ACCEPTED && walk.followed == 2 && walk.seen == 2 &&
+                walk.percent == 200 / STATES && walk.remainder == 200 % STATES,
+            "a broken walk");
+    walk = shuntberry_replay(store, words, STATES, 0, log + 2, 2);
+    require(walk.refusal == SHUNTBERRY_ACCEPTED && walk.followed == 0 && walk.seen == 0 && walk.percent == 0, "no walk");
+    require(shuntberry_replay(store, words, STATES, 0, log, 0).followed == 0, "an empty log");
+    require(shuntberry_replay(store, words, STATES, 0, log, SHUNTBERRY_MAX_LOG + 1).refusal == SHUNTBERRY_LOG_ODD,
+            "an odd length");
+    require(shuntberry_replay(store, words, STATES, 0, log, SHUNTBERRY_MAX_LOG + 2).refusal == SHUNTBERRY_LOG_LONG,
+            "a log that is too long");
+}
+
 /* An empty buffer as C and C++ have it: null and 0, for each buffer of each call; and an untouched draft. */
 static void nothing(void)
 {
@@ -187,6 +219,9 @@ static void nothing(void)
     require(shuntberry_read(NULL, 0, 0, NULL, 0).refusal == SHUNTBERRY_STORE_SHORT, "read, nothing");
     require(shuntberry_write(NULL, 0, STATES, 0, 0, file, sizeof file).refusal == SHUNTBERRY_STORE_SHORT, "write, no store");
     require(shuntberry_write(store, words, STATES, 0, 0, NULL, 0).refusal == SHUNTBERRY_OUTPUT_SHORT, "write, no output");
+    require(shuntberry_replay(NULL, 0, STATES, 0, NULL, 0).refusal == SHUNTBERRY_STORE_SHORT, "replay, nothing");
+    struct shuntberry_replay walk = shuntberry_replay(store, words, STATES, 0, NULL, 0);
+    require(walk.refusal == SHUNTBERRY_ACCEPTED && walk.followed == 0 && walk.seen == 0, "replay, no log");
 
     memset(other, PAINT, sizeof other);
     struct shuntberry_table table = shuntberry_read(NULL, 0, SHUNTBERRY_MAX_SITE, other, words);
@@ -252,6 +287,7 @@ static void *on_painted_stack(void *unused)
     answers();
     load();
     refusals();
+    replays();
     nothing();
     sites();
     release_windows();

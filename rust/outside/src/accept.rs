@@ -5,6 +5,7 @@ use crate::table::{MAX_GROUPS, MAX_STATES, STORE_WORDS};
 
 pub const PATH_BYTES: usize = 256;
 pub const MAX_ALLOWANCE: usize = 256;
+pub const MAX_LOG: usize = 32_768;
 
 pub fn decide(
     store: &[u64],
@@ -36,6 +37,12 @@ pub fn write(store: &[u64], n: usize, g: usize, site: usize, output_len: usize) 
     read(store.len(), site)?;
     table(store, n, g)?;
     refuse_if(output_len < file_length(n, g), 19)
+}
+
+pub fn replay(store: &[u64], n: usize, g: usize, log_len: usize) -> Result<(), u32> {
+    table(store, n, g)?;
+    refuse_if(log_len % 2 == 1, 25)?;
+    refuse_if(log_len > MAX_LOG, 26)
 }
 
 /// What read asks before it looks at the input: a store to fill, and a site.

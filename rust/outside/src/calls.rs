@@ -43,6 +43,16 @@ pub struct Written {
     pub length: u32,
 }
 
+/// What replay answers.
+#[derive(Clone, Copy, Debug, Default, PartialEq, Eq)]
+pub struct Replay {
+    pub refusal: u32,
+    pub followed: u32,
+    pub seen: u32,
+    pub percent: u32,
+    pub remainder: u32,
+}
+
 pub const SAFE: u32 = 0;
 pub const UNSAFE: u32 = 1;
 pub const UNDECIDED: u32 = 2;
@@ -63,6 +73,7 @@ pub trait Calls: Sync {
     fn within(&self, store: &[u64], n: usize, g: usize, k: usize) -> Within;
     fn read(&self, input: &[u8], site: usize, store: &mut [u64]) -> TableRead;
     fn write(&self, store: &[u64], n: usize, g: usize, site: usize, output: &mut [u8]) -> Written;
+    fn replay(&self, store: &[u64], n: usize, g: usize, log: &[u8]) -> Replay;
 }
 
 #[cfg(feature = "library")]
@@ -70,7 +81,9 @@ pub use linked::{Linked, Wrapped};
 
 #[cfg(feature = "library")]
 mod linked {
-    use super::{Calls, Decision, SAFE, Shortest, TableRead, UNDECIDED, UNSAFE, Within, Written};
+    use super::{
+        Calls, Decision, Replay, SAFE, Shortest, TableRead, UNDECIDED, UNSAFE, Within, Written,
+    };
     use shuntberry::{Refused, Verdict, raw};
 
     /// The library, by its exports for C.
@@ -155,6 +168,19 @@ mod linked {
             Written {
                 refusal: answer.refusal,
                 length: answer.length,
+            }
+        }
+
+        fn replay(&self, store: &[u64], n: usize, g: usize, log: &[u8]) -> Replay {
+            let (words, length) = (store.as_ptr(), store.len());
+            let answer =
+                unsafe { raw::shuntberry_replay(words, length, n, g, log.as_ptr(), log.len()) };
+            Replay {
+                refusal: answer.refusal,
+                followed: answer.followed,
+                seen: answer.seen,
+                percent: answer.percent,
+                remainder: answer.remainder,
             }
         }
     }
@@ -279,6 +305,22 @@ mod linked {
                         length: length_of_front(output, &file),
                     }
                 }
+            }
+        }
+
+        fn replay(&self, store: &[u64], n: usize, g: usize, log: &[u8]) -> Replay {
+            match shuntberry::replay(store, n, g, log) {
+                Err(Refused(refusal)) => Replay {
+                    refusal,
+                    ..Replay::default()
+                },
+                Ok(walk) => Replay {
+                    refusal: 0,
+                    followed: walk.followed as u32,
+                    seen: walk.seen as u32,
+                    percent: walk.percent as u32,
+                    remainder: walk.remainder as u32,
+                },
             }
         }
     }

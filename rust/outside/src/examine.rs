@@ -14,6 +14,7 @@ use crate::calls::{
 use crate::damage::{self, DAMAGES, Damage};
 use crate::expected::{self, Expected, Judged};
 use crate::generate::{Kind, Random};
+use crate::logs;
 use crate::named;
 use crate::rounds::{self, Rounds};
 use crate::search;
@@ -157,6 +158,7 @@ pub fn random_table(libraries: &[&dyn Calls], random: &mut Random, tally: &mut T
     tally.count("kind of groups", format!("{:?}", kind.groups));
     accepted_table(libraries, &table, random, tally)
         .and_then(|()| spoiled_arguments(libraries, &table, random, tally))
+        .and_then(|()| logs::random_logs(libraries, &table, random, tally))
         .map_err(|fault| format!("{kind:?}: {fault}"))
 }
 
@@ -557,7 +559,8 @@ fn spoiled_arguments(
             .and_then(|()| within(*library, &store, (n, g), [(k, near)]))
             .map_err(|fault| format!("{faults:?}: {fault}"))?;
     }
-    Ok(())
+    logs::spoiled(libraries, &store, (n, g), random, tally)
+        .map_err(|fault| format!("{faults:?}: {fault}"))
 }
 
 // ---- A file
@@ -638,6 +641,7 @@ pub fn named_tables(libraries: &[&dyn Calls], random: &mut Random, tally: &mut T
     named_files(libraries, random, tally)?;
     drafts(libraries, random, tally)?;
     sites(libraries, random)?;
+    logs::edges(libraries, random)?;
     edges(libraries, random, tally)
 }
 

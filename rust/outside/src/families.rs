@@ -1,7 +1,7 @@
 //! Tables to measure on: each family is a few tables of one kind, all of one size.
 
 use crate::generate::{Random, Steps, add_fan_out, rows};
-use crate::table::{Set, Table, set_where};
+use crate::table::{MAX_STATES, Set, Table, set_where};
 
 pub struct Family {
     pub name: String,
@@ -66,6 +66,19 @@ pub fn more_for_files(random: &mut Random) -> Vec<Family> {
             family(format!("{n} states, {g} groups"), tables)
         })
         .collect()
+}
+
+/// For replay: logs of 16,384 entries that are walked to their end, and one that breaks at the corridor's.
+pub fn for_logs(random: &mut Random) -> Vec<Family> {
+    let around = |n: usize| with_rows((0..n).map(|s| set_where(n, |t| t == (s + 1) % n)).collect());
+    vec![
+        family("16,384 entries, cycle", vec![around(MAX_STATES)]),
+        family(
+            "16,384 entries, dense rows",
+            some(|| dense(MAX_STATES, random)),
+        ),
+        family("16,384 entries, corridor", vec![corridor(MAX_STATES)]),
+    ]
 }
 
 fn some(mut table: impl FnMut() -> Table) -> Vec<Table> {

@@ -6,7 +6,7 @@
 //! - `Looks::New` looks again only at what can have changed.
 
 use crate::calls::{
-    Calls, Decision, SAFE, Shortest, TableRead, UNDECIDED, UNSAFE, Within, Written,
+    Calls, Decision, Replay, SAFE, Shortest, TableRead, UNDECIDED, UNSAFE, Within, Written,
 };
 
 #[derive(Clone, Copy, Debug, PartialEq, Eq)]
@@ -421,6 +421,37 @@ fn load(joined: &[u8], at: usize, all: Set) -> [u64; 4] {
     set.meet(all).0
 }
 
+// ---- Logs
+
+const MAX_LOG: usize = 32_768;
+
+/// How many entries are followed, and the states that they hold.
+fn follow(table: &Table, log: &[u8]) -> (u32, Set) {
+    let mut next = &table.initial.0;
+    let mut seen = Set::EMPTY;
+    let (entries, _) = log.as_chunks::<2>();
+    for (followed, &entry) in entries.iter().enumerate() {
+        let state = u16::from_le_bytes(entry) as usize;
+        if state >= MAX_STATES || next[state / 64] >> (state % 64) & 1 == 0 {
+            return (followed as u32, seen);
+        }
+        seen.insert(state);
+        next = &table.rows[state];
+    }
+    (entries.len() as u32, seen)
+}
+
+/// The states that can be reached from the initial ones.
+fn reached(table: &Table) -> Set {
+    let mut reached = table.initial;
+    let mut new = reached;
+    while !new.is_empty() {
+        new = table.post(new).minus(reached);
+        reached = reached.union(new);
+    }
+    reached
+}
+
 // ---- The calls
 
 impl Calls for Peer {
@@ -594,6 +625,28 @@ impl Calls for Peer {
         Written {
             refusal: 0,
             length: output.len() as u32,
+        }
+    }
+
+    fn replay(&self, store: &[u64], n: usize, g: usize, log: &[u8]) -> Replay {
+        let refused = |refusal| Replay {
+            refusal,
+            ..Replay::default()
+        };
+        let table = match Table::accept(store, n, g) {
+            Err(refusal) => return refused(refusal),
+            Ok(_) if !log.len().is_multiple_of(2) => return refused(25),
+            Ok(_) if log.len() > MAX_LOG => return refused(26),
+            Ok(table) => table,
+        };
+        let (followed, seen) = follow(&table, log);
+        let (seen, reached) = (seen.size(), reached(&table).size());
+        Replay {
+            refusal: 0,
+            followed,
+            seen,
+            percent: (100 * seen).checked_div(reached).unwrap_or(0),
+            remainder: (100 * seen).checked_rem(reached).unwrap_or(0),
         }
     }
 }
