@@ -1,8 +1,12 @@
 -- The promises of replay (specs/Promises), by its contract.
 --
---   number-is          the number that a call gives is that of the first ground that holds
---   safe-closed        where a check says safe, its invariant holds the initial states and each step out of it
---   promises           Promises
+--   invariant-closed             an invariant holds the initial states and each step out of it
+--   of-call                      what holds of the walk and of the refusal, each where it is given, holds of what the call gave
+--   number-is                    the number is that of the first ground that holds; number-zero, number-other: by the case
+--   walk, all-declined           WalkIs of a call that is not declined; all that one gives that is
+--   none-forbidden               where the table has an invariant, no followed entry is forbidden
+--   without-states               a draft
+--   promises                     Promises
 use Prim.Native.Nat.{ℕ, _<_}
 use native.Mathlib.Nat.{not-suc-le-zero}
 use native.Mathlib.Omega.{arith}
