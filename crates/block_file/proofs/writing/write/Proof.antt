@@ -20,7 +20,7 @@ write-spec =
     (λ c.
     let some = c .before .before .before in
     let accepted = some .before in
-    declined-room _ _ _ _ _ (accepted .before .refusal .ensures) (accepted .if1 .left) (some .if2 .left) _ (cc) (c .if3 .taken))
+    declined-room _ _ _ _ _ (accepted .before .refusal .ensures) (accepted .if1 .left) (some .if2 .left) (c .before .blocks-for .result) (cc) (search needs))
     (λ c κs.
     let accepted = c .before .before .before .before .before in
     (held _ _ _ _ (accepted .before .refusal .ensures) (accepted .if1 .left), search needs, search needs))
