@@ -28,7 +28,7 @@ write-spec =
     let some = c .before .before .before in
     let accepted = some .before in
     let known = accepted .before .before in
-    declined-room _ _ _ _ _ (known .before .if1 .left) (known .if2 .left) _ (accepted .before .refusal .ensures) (accepted .if3 .left) (some .if4 .left) _ (cc) (c .if5 .taken))
+    declined-room _ _ _ _ _ (known .before .if1 .left) (known .if2 .left) _ (accepted .before .refusal .ensures) (accepted .if3 .left) (some .if4 .left) (c .before .blocks-for .result) (cc) (search needs))
     (λ c κs.
     let accepted = c .before .before .before .before .before in
     (held _ _ _ _ (accepted .before .refusal .ensures) (accepted .if3 .left), accepted .before .before .if2 .left, search needs, search needs))
