@@ -350,7 +350,7 @@ pub fn within(store: &[u64], n: usize, g: usize, k: usize) -> Result<bool, Refus
 /// input of no bytes is an untouched draft: `n` and `g` are 0, and so is each of those words.
 ///
 /// Refused with 10, 24, 11, 12, 13, 14, 15, 16, 17 or 18. A block that was made for another site is refused
-/// with 13.
+/// with 13 where it stands at its own number, and with 12 elsewhere.
 pub fn read(input: &[u8], site: usize, store: &mut [u64]) -> Result<TableRead, Refused> {
     // SAFETY: as in `decide`.
     let table = unsafe {
