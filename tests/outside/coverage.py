@@ -1,5 +1,6 @@
 #!/usr/bin/env python3
-"""What examples/coverage.c prints for logs on the files of tables/, worked out here from the files' own bytes.
+"""What examples/coverage.c prints for logs on the files of tables/, worked out here from the files' own bytes; for a refused one the text
+beside it. Where nothing can be printed the status is 2.
 
   tests/outside/coverage.py PROGRAM TABLE..
 """
