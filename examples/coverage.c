@@ -37,10 +37,20 @@ static long contents(const char *name, uint8_t *bytes, size_t room)
     return (long)length;
 }
 
-static int print_refused(uint32_t refusal)
+/* The status: the one given if all could be printed, else 2. */
+static int printed(const char *program, int status)
+{
+    if (fflush(stdout) != 0 || ferror(stdout)) {
+        fprintf(stderr, "%s: cannot print\n", program);
+        return 2;
+    }
+    return status;
+}
+
+static int print_refused(const char *program, uint32_t refusal)
 {
     printf("refused %u\n", (unsigned)refusal);
-    return 1;
+    return printed(program, 1);
 }
 
 int main(int argc, char **argv)
@@ -60,11 +70,11 @@ int main(int argc, char **argv)
 
     struct shuntberry_table table = shuntberry_read(input, (size_t)length, 0, store, SHUNTBERRY_STORE_WORDS);
     if (table.refusal != SHUNTBERRY_ACCEPTED)
-        return print_refused(table.refusal);
+        return print_refused(argv[0], table.refusal);
     struct shuntberry_replay walk =
         shuntberry_replay(store, SHUNTBERRY_STORE_WORDS, table.n, table.g, log, (size_t)bytes);
     if (walk.refusal != SHUNTBERRY_ACCEPTED)
-        return print_refused(walk.refusal);
+        return print_refused(argv[0], walk.refusal);
 
     unsigned entries = (unsigned)bytes / 2;
     printf("followed %u of %u entries", (unsigned)walk.followed, entries);
@@ -72,9 +82,5 @@ int main(int argc, char **argv)
         printf(", broken by %u", log[2 * walk.followed] + 256u * log[2 * walk.followed + 1]);
     printf("\nseen %u states\n", (unsigned)walk.seen);
     printf("coverage %u %% remainder %u\n", (unsigned)walk.percent, (unsigned)walk.remainder);
-    if (fflush(stdout) != 0 || ferror(stdout)) {
-        fprintf(stderr, "%s: cannot print\n", argv[0]);
-        return 2;
-    }
-    return walk.followed < entries;
+    return printed(argv[0], walk.followed < entries);
 }

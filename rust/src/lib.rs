@@ -351,7 +351,7 @@ pub fn within(store: &[u64], n: usize, g: usize, k: usize) -> Result<bool, Refus
 /// not be passed on as one of no bytes.
 ///
 /// Refused with 10, 24, 11, 12, 13, 14, 15, 16, 17 or 18. A block that was made for another site is refused
-/// with 13.
+/// with 13 where it stands at its own number, and with 12 elsewhere.
 pub fn read(input: &[u8], site: usize, store: &mut [u64]) -> Result<TableRead, Refused> {
     // SAFETY: as in `decide`.
     let table = unsafe {

@@ -1,5 +1,6 @@
 #!/usr/bin/env python3
-"""What examples/coverage.c prints for logs on the files of tables/, worked out here from the files' own bytes.
+"""What examples/coverage.c prints for logs on the files of tables/, worked out here from the files' own bytes; for a refused one the text
+beside it. Where nothing can be printed the status is 2.
 
   tests/outside/coverage.py PROGRAM TABLE..
 """
@@ -75,16 +76,20 @@ def main():
     with tempfile.TemporaryDirectory() as folder:
         file = Path(folder) / "log"
         for path in map(Path, tables):
-            if path.with_suffix(".expected").read_text().startswith("refused"):
-                continue
-            table = table_in(path)
+            expected = path.with_suffix(".expected").read_text()
+            refused = expected.startswith("refused")
+            table = (0, set(), []) if refused else table_in(path)
             for log in logs(table, draw):
                 file.write_bytes(log)
                 ran = subprocess.run([program, path, file], capture_output=True, text=True)
-                text, status = printed(table, log)
+                text, status = (expected, 1) if refused else printed(table, log)
                 if (ran.stdout, ran.returncode) != (text, status):
                     sys.exit(f"coverage of {path}, {len(log)} bytes, {log[:40].hex()}: {ran.stdout!r}, status {ran.returncode}; expected {text!r}, {status}")
                 count += 1
+            with open("/dev/full", "w") as full:
+                status = subprocess.run([program, path, file], stdout=full, stderr=subprocess.DEVNULL).returncode
+            if status != 2:
+                sys.exit(f"coverage of {path}: status {status} where nothing could be printed; expected 2")
     if not count:
         sys.exit("coverage: no table was tried")
     print(f"the C example of coverage: {count} logs on the files of tables/ printed as expected")

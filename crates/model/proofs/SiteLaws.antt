@@ -3,17 +3,19 @@
 --   checks-apart      the checks of one block for two sites are different
 --   foreign-fault     so a block that passes at one site gets 13 at the other, and foreign-block: read gives it
 --   own-block         what write wrote for a site passes there
+--   framed-zero       a block for site 0 has the plain sum for its check; grounds-zero: and is held to that
 --   sites             specs/Sites
-use Prim.Native.Nat.{ℕ, _+_, _/_, _%_, _≤_, _<_}
+use Prim.Native.Nat.{ℕ, _+_, _*_, _/_, _%_, _≤_, _<_}
 use native.Mathlib.Nat.{zero-add}
 use native.Mathlib.Omega.{arith}
 use mathlib.Core.Path.{_≡_, refl, sym, ap, _∙_, subst}
 use mathlib.Core.Bool.{false, not}
-use mathlib.Core.List.{List, [], append-nil}
+use mathlib.Core.List.{List, [], _∷_, _++_, append-nil}
 use borrow.Author.Tests.{eq-eqb, ne-eqb}
-use lib.ListN.{length, take}
+use lib.Dec.{eqb}
+use lib.ListN.{length, take, drop, replicate}
 use Rattle.model.specs.Stores.{storeWords, tableOf, concat, Ground, refuse}
-use Rattle.model.specs.Blocks.{blockBytes, checkAt, modulus, maxSite, le16At, weighted, checkOf, part, blockGrounds}
+use Rattle.model.specs.Blocks.{blockBytes, contentBytes, checkAt, modulus, maxSite, le16, le16At, weighted, checkOf, blockOf, part, blockGrounds}
 use Rattle.model.specs.Contents.{contents}
 use Rattle.model.specs.Files.{fileLength}
 use Rattle.model.specs.Calls.{badLength, blocksGrounds, readGrounds, readAnswer, Written, writeGrounds, writeAnswer, writeBuffer}
@@ -80,14 +82,29 @@ own-block store n g site out k e =
     (λ (a : Written). k < a .length / blockBytes → refuse (blockGrounds site (part (take (a .length) (writeBuffer store n g site out)) k) k) ≡ 0)
     (sym (write-answer store n g site (length out) w)) (written-block store n g site out k w)
 
+-- ---- site 0
+
+-- over a variable, since the zeros of `blockOf` would be written out
+framed-zero : (front : List ℕ) → front ++ le16 (checkOf 0 front) ≡ front ++ le16 (weighted front checkAt % modulus)
+unfolding checkOf
+framed-zero front = ap (λ (x : ℕ). front ++ le16 (x % modulus)) (zero-add (weighted front checkAt))
+
+grounds-zero : (block : List ℕ) (k : ℕ)
+    → blockGrounds 0 block k ≡ (not (eqb (le16At block 0) k), 12) ∷ (not (eqb (le16At block checkAt) (weighted block checkAt % modulus)), 13) ∷ []
+unfolding blockGrounds checkOf
+grounds-zero block k =
+    ap (λ (x : ℕ). (not (eqb (le16At block 0) k), 12) ∷ (not (eqb (le16At block checkAt) (x % modulus)), 13) ∷ []) (zero-add (weighted block checkAt))
+
 -- ---- all of them
 
 pub sites : Sites
-unfolding checkOf readGrounds writeGrounds refuse
+unfolding checkOf blockOf readGrounds writeGrounds refuse
 sites =
     record {
       greatest = refl;
       check-zero = λ block. ap (λ (x : ℕ). x % modulus) (zero-add (weighted block checkAt));
+      block-zero = λ bytes k. framed-zero (le16 k ++ take contentBytes (drop (contentBytes * k) bytes ++ replicate contentBytes 0));
+      grounds-zero = grounds-zero;
       read-zero = λ input room. refl;
       write-zero = λ store n g room. refl;
       own-block = own-block;

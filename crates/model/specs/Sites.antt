@@ -1,21 +1,27 @@
 -- Files that know their site (the specification, "Files"). The proof stands in proofs/.
 --
 --   Sites      what the site number of a file is good for, and that site 0 changes nothing
-use Prim.Native.Nat.{ℕ, _%_, _/_, _≤_, _<_}
+use Prim.Native.Nat.{ℕ, _*_, _%_, _/_, _≤_, _<_}
 use mathlib.Core.Path.{_≡_}
-use mathlib.Core.Bool.{cond, false}
+use mathlib.Core.Bool.{cond, false, not}
 use mathlib.Core.List.{List, [], _∷_, _++_}
 use lib.Dec.{eqb}
-use lib.ListN.{length, take}
+use lib.ListN.{length, take, drop, replicate}
 use Rattle.model.specs.Stores.{storeWords, concat, refuse, storeGround, sharedGrounds}
-use Rattle.model.specs.Blocks.{blockBytes, checkAt, modulus, maxSite, weighted, checkOf, part, blockGrounds}
+use Rattle.model.specs.Blocks.{blockBytes, contentBytes, checkAt, modulus, maxSite, le16, le16At, weighted, checkOf, blockOf, part, blockGrounds}
 use Rattle.model.specs.Calls.{badLength, fileGrounds, readGrounds, readAnswer, outputGround, writeGrounds, writeAnswer, writeBuffer}
 
 pub record Sites : Type 0 where
   pub greatest : maxSite ≡ 65520
-  -- The site stands in the check and in ground 24 alone. At site 0 the check is the plain weighted sum, and the grounds are those of a call
-  -- that is given no site.
+  -- at site 0 the check is the plain weighted sum, in a block that is made and in a block that is looked at
   pub check-zero : (block : List ℕ) → checkOf 0 block ≡ weighted block checkAt % modulus
+  pub block-zero : (bytes : List ℕ) (k : ℕ)
+      → let front = le16 k ++ take contentBytes (drop (contentBytes * k) bytes ++ replicate contentBytes 0) in
+      blockOf 0 bytes k ≡ front ++ le16 (weighted front checkAt % modulus)
+  pub grounds-zero : (block : List ℕ) (k : ℕ)
+      → blockGrounds 0 block k
+      ≡ (not (eqb (le16At block 0) k), 12) ∷ (not (eqb (le16At block checkAt) (weighted block checkAt % modulus)), 13) ∷ []
+  -- and read and write are declined as without ground 24
   pub read-zero : (input : List ℕ) (room : ℕ)
       → refuse (readGrounds input 0 room) ≡ refuse (storeGround room ∷ cond (eqb (length input) 0) [] (fileGrounds input 0))
   pub write-zero : (store : List ℕ) (n g room : ℕ)
