@@ -9,13 +9,21 @@ from pathlib import Path
 TOP = Path(__file__).resolve().parent.parent
 sys.path.insert(0, str(TOP / "tables"))
 import make  # noqa: E402
-from make import A, B, D, E, F, G, Table  # noqa: E402
+from make import A, B, BLOCK, CONTENT, D, E, F, G, LARGEST_FILE, MOST_GROUPS, MOST_STATES, Table  # noqa: E402
 
 H_STEPS = {(0, 59), (59, 0), (58, 60)}
 H = Table(61, {0}, {60}, H_STEPS)
 H_GROUP = Table(61, {0}, {60}, H_STEPS, [{0, 59}])
 NINTH = Table(4, {0}, {2}, {(0, 0), (0, 1), (1, 3), (2, 3), (3, 0), (3, 2)}, [{0}])
 DRAFT = Table(0, set(), set(), set())
+CORRIDOR = make.CORRIDOR
+
+# A store is a list of sets: those before the groups, the groups, the rows.
+HEAD_SETS, WORDS = 2, MOST_STATES // 64
+ROWS_FROM = HEAD_SETS + MOST_GROUPS
+STORE_SETS = ROWS_FROM + MOST_STATES
+STORE_WORDS = STORE_SETS * WORDS
+
 KEPT = ", the rest unchanged"
 
 
@@ -32,20 +40,26 @@ def answer(table, allowance):
 def decide_test():
     lines = []
     for name, table in [("A", A), ("B", B), ("D", D), ("E", E), ("F", F), ("G", G), ("draft", DRAFT), ("H", H), ("H with a group", H_GROUP), ("ninth", NINTH)]:
-        for allowance in (0, 1, 2, 3, 256):
+        for allowance in (0, 1, 2, 3, MOST_STATES):
             lines.append(f"{name} {allowance}: {answer(table, allowance)}{KEPT}")
+    over = MOST_STATES + 1
     for name, allowance, refusal in [
-        ("store of 1287", 0, 10), ("store of 1287 and all else", 257, 10),
-        ("n 0 g 1", 0, 14), ("n 0 g 65 and all else", 257, 14), ("state 5 of 0", 0, 17), ("n 257", 0, 14), ("n 257 and all else", 257, 14),
-        ("g 65", 0, 15), ("g 65 and all else", 257, 15),
-        ("state 5 of 5", 0, 17), ("state 5 of 5 and all else", 257, 17),
-        ("allowance 257", 257, 20), ("allowance 257 and path buffer of 255", 257, 20),
-        ("path buffer of 255", 0, 21),
+        ("store one word short", 0, 10), ("store one word short and all else", over, 10),
+        ("n 0 g 1", 0, 14), ("n 0 with groups and all else", over, 14), ("state 5 of 0", 0, 17),
+        ("n too great", 0, 14), ("n too great and all else", over, 14),
+        ("g too great", 0, 15), ("g too great and all else", over, 15),
+        ("state 5 of 5", 0, 17), ("state 5 of 5 and all else", over, 17),
+        ("allowance too great", over, 20), ("allowance too great and all else", over, 20),
+        ("path buffer one place short", 0, 21),
     ]:
         lines.append(f"{name} {allowance}: refused {refusal}{KEPT}")
-    lines.append(f"state 5 of 6 256: {answer(Table(6, {5}, set(), set()), 256)}{KEPT}")
-    nothing = Table(256, set(), set(), set(), [set() for _ in range(64)])
-    lines.append(f"n 256, g 64, store of 1300 256: {answer(nothing, 256)}{KEPT}")
+    nothing = Table(MOST_STATES, set(), set(), set(), [set() for _ in range(MOST_GROUPS)])
+    for name, table, allowance in [
+        ("state 5 of 6", Table(6, {5}, set(), set()), MOST_STATES),
+        ("n and g at their greatest, store of 12 words more", nothing, MOST_STATES),
+        ("corridor", CORRIDOR, MOST_STATES), ("corridor", CORRIDOR, MOST_STATES - 3),
+    ]:
+        lines.append(f"{name} {allowance}: {answer(table, allowance)}{KEPT}")
     return "".join(line + "\n" for line in lines)
 
 
@@ -66,8 +80,8 @@ def order(table):
 def order_test():
     alone = lambda n: [{s} for s in range(n)]
     steps = lambda text: {(int(pair[0]), int(pair[1])) for pair in text.split()}
-    digits = [{s for s in range(256) if s >> b & 1 == digit} for b in range(8) for digit in (0, 1)]
-    corridor = {(s + 1, s) for s in range(255)}
+    digits = [{s for s in range(MOST_STATES) if s >> b & 1 == digit} for b in range(MOST_GROUPS // 2) for digit in (0, 1)]
+    corridor = {(s + 1, s) for s in range(MOST_STATES - 1)}
     branches = steps("57 53 74 70 71 34 35 43 08 16 61 85")
     groups = alone(10)
     groups[3] = {3, 8}
@@ -80,19 +94,20 @@ def order_test():
             ("branches, 3 with 8", Table(10, {1, 5}, {9}, branches, groups)),
             ("G", G), ("nothing initial", Table(3, set(), {2}, steps("01 12"))),
             ("only a forbidden state initial", Table(3, {2}, {2}, steps("01 12"))),
-            ("corridor", Table(256, {255}, set(), corridor, digits)),
+            ("corridor", Table(MOST_STATES, {MOST_STATES - 1}, set(), corridor, digits)),
         ]
     ]
     # The words of a group that is not counted are not 0.
-    lines.append("corridor, its last group not counted: refused 17")
+    lines.append("corridor, its last digit's groups not counted: refused 17")
     lines += [f"{name}: refused {refusal}" for name, refusal in [
-        ("n 0", 17), ("n 257", 14), ("g 65", 15), ("state 2 of 2", 17), ("g 65 and state 2 of 2", 15), ("store one word short, n 0", 10)]]
+        ("n 0", 17), ("n too great", 14), ("g too great", 15), ("state 2 of 2", 17), ("g too great and state 2 of 2", 15), ("store one word short, n 0", 10)]]
     return "".join(line + "\n" for line in lines)
 
 
 # ---- generated tables, by the comment at the head of crates/test_support/src/generated.rt
 
 WORD = 2 ** 32
+PLACES = 32 * MOST_STATES
 
 
 def noise(x):
@@ -101,12 +116,12 @@ def noise(x):
 
 
 def drawn(t, place):
-    return noise(noise(noise(t * 8192 + place)))
+    return noise(noise(noise(t * PLACES + place)))
 
 
 def generated(t):
     draw = lambda place: drawn(t, place)
-    n = 1 + draw(0) % (256 if t % 37 == 0 else 40)
+    n = 1 + draw(0) % (MOST_STATES if t % 37 == 0 else 40)
     few = lambda count, at: {draw(at + k) % n for k in range((5 + draw(count) % 13) // 6)}
     place = lambda s: 16 + 16 * s
     fan_out = lambda s: draw(8) % 4 if draw(place(s)) % 4 else 0
@@ -118,7 +133,7 @@ def generated(t):
     )
 
 
-# ---- digests of numbers; a set goes in as its four words, each as its lower and its upper half
+# ---- digests of numbers; a set goes in as its words, each as its lower and its upper half
 
 def digest(numbers, start=0):
     for x in numbers:
@@ -127,13 +142,13 @@ def digest(numbers, start=0):
 
 
 def halves(states):
-    return [sum(1 << s % 32 for s in states if s // 32 == half) for half in range(8)]
+    return [sum(1 << s % 32 for s in states if s // 32 == half) for half in range(2 * WORDS)]
 
 
 # ---- agreement_test
 
 def agreement_test():
-    make.ALLOWANCE = 256
+    make.ALLOWANCE = MOST_STATES
     tables, safe, unsafe, taken = 4000, 0, 0, 0
     for t in range(tables):
         table = generated(t)
@@ -153,30 +168,30 @@ def agreement_test():
     )
 
 
-# ---- files_test: read and write on Python's bytes, and on a store as the list of its 322 sets
+# ---- files_test: read and write on Python's bytes, and on a store as the list of its sets
 
 def store_of(table):
-    rows = [set() for _ in range(256)]
+    rows = [set() for _ in range(MOST_STATES)]
     for a, b in table.steps:
         rows[a].add(b)
-    return [table.initial, table.forbidden, *table.groups, *[set()] * (64 - len(table.groups)), *rows]
+    return [table.initial, table.forbidden, *table.groups, *[set()] * (MOST_GROUPS - len(table.groups)), *rows]
 
 
 def largest():
-    words = [WORD * drawn(0, 2 * i) + drawn(0, 2 * i + 1) for i in range(1288)]
-    return [{s for s in range(256) if words[4 * k + s // 64] >> s % 64 & 1} for k in range(322)]
+    words = [WORD * drawn(0, 2 * i) + drawn(0, 2 * i + 1) for i in range(STORE_WORDS)]
+    return [{s for s in range(MOST_STATES) if words[WORDS * k + s // 64] >> s % 64 & 1} for k in range(STORE_SETS)]
 
 
 def write(store, words, n, g, room):
     """The file, or the refusal."""
-    if words < 1288:
+    if words < STORE_WORDS:
         return 10
-    if n > 256 or n == 0 and g > 0:
+    if n > MOST_STATES or n == 0 and g > 0:
         return 14
-    if g > 64:
+    if g > MOST_GROUPS:
         return 15
-    used = store[:2 + g] + store[66:66 + n]
-    if any(s >= n for states in used for s in states) or any(store[2 + g:66] + store[66 + n:]):
+    used = store[:HEAD_SETS + g] + store[ROWS_FROM:ROWS_FROM + n]
+    if any(s >= n for states in used for s in states) or any(store[HEAD_SETS + g:ROWS_FROM] + store[ROWS_FROM + n:]):
         return 17
     contents = make.two(n) + make.two(g) + b"".join(make.set_bytes(states, n) for states in used)
     file = b"".join(make.blocks(contents)) if n else b""
@@ -189,13 +204,13 @@ def number(data):
 
 def read(data, words):
     """n, g and the store, or the refusal."""
-    if words < 1288:
+    if words < STORE_WORDS:
         return 10
     if len(data) == 0:
-        return 0, 0, [set()] * 322
-    if len(data) % 512 or len(data) > 10_752:
+        return 0, 0, [set()] * STORE_SETS
+    if len(data) % BLOCK or len(data) > LARGEST_FILE:
         return 11
-    split = [data[at:at + 512] for at in range(0, len(data), 512)]
+    split = [data[at:at + BLOCK] for at in range(0, len(data), BLOCK)]
     for k, block in enumerate(split):
         if number(block[:2]) != k:
             return 12
@@ -203,21 +218,21 @@ def read(data, words):
             return 13
     content = b"".join(block[2:510] for block in split)
     n, g = number(content[:2]), number(content[2:4])
-    if not 1 <= n <= 256:
+    if not 1 <= n <= MOST_STATES:
         return 14
-    if g > 64:
+    if g > MOST_GROUPS:
         return 15
     w = (n + 7) // 8
-    length = 4 + w * (2 + g + n)
-    if len(split) != -(-length // 508):
+    length = 4 + w * (HEAD_SETS + g + n)
+    if len(split) != -(-length // CONTENT):
         return 16
     sets = [{s for s in range(8 * w) if content[at + s // 8] >> s % 8 & 1} for at in range(4, length, w)]
     if any(s >= n for states in sets for s in states):
         return 17
     if any(content[length:]):
         return 18
-    nothing = [set()] * 256
-    return n, g, sets[:2 + g] + nothing[:64 - g] + sets[2 + g:] + nothing[:256 - n]
+    nothing = [set()] * MOST_STATES
+    return n, g, sets[:HEAD_SETS + g] + nothing[:MOST_GROUPS - g] + sets[HEAD_SETS + g:] + nothing[:MOST_STATES - n]
 
 
 def digest_store(store, start=0):

@@ -1,10 +1,12 @@
 // The order in which the first round expands the states that it reaches (request 3): tables with circles, with groups, with nothing initial, a
 // corridor whose states the groups tell apart, and refusals. tests/expected.py works out what this must print, from the papers' text.
-ghost use Prim.Native.Nat.{_<_};
+ghost use Prim.Native.Nat.{_/_, _<_};
 ghost use Rattle.model.specs.Sets.{maxStates};
+ghost use Rattle.model.specs.Stores.{maxGroups};
 use rounds::Expansion;
 use rounds::Order;
 use rounds::first_order;
+use table::MAX_GROUPS;
 use table::MAX_STATES;
 use table::STORE_WORDS;
 use test_support::group;
@@ -95,9 +97,12 @@ fn nothing_initial() {
     try_one(b"only a forbidden state initial", &t, 3, 0);
 }
 
+// Two groups for each binary digit of a state, as many digits as there can be groups for: more than tell all states apart.
+const DIGITS: usize = MAX_GROUPS / 2;
+
 // State s in the group of its digit b, of the two groups that there are for it.
 fn put_digit(store: &mut [u64], s: usize, b: usize)
-    requires { ⌜ b < 8 ⌝ }
+    requires { ⌜ b < maxGroups / 2 ⌝ }
 {
     if s >> b & 1 == 1 {
         group(store, 2 * b + 1, s);
@@ -107,7 +112,7 @@ fn put_digit(store: &mut [u64], s: usize, b: usize)
 }
 
 fn put_digits(store: &mut [u64], s: usize) {
-    for b in 0..8 {
+    for b in 0..DIGITS {
         put_digit(store, s, b);
     }
 }
@@ -129,20 +134,25 @@ fn put_corridor(store: &mut [u64]) {
 
 fn corridor() {
     let mut t = [0u64; STORE_WORDS];
-    initial(&mut t, 255);
+    initial(&mut t, MAX_STATES - 1);
     put_corridor(&mut t);
-    try_one(b"corridor", &t, 256, 16);
-    try_one(b"corridor, its last group not counted", &t, 256, 15);
+    try_one(b"corridor", &t, MAX_STATES, MAX_GROUPS);
+    try_one(
+        b"corridor, its last digit's groups not counted",
+        &t,
+        MAX_STATES,
+        MAX_GROUPS - 2,
+    );
 }
 
 fn refusals() {
     let mut t = [0u64; STORE_WORDS];
     put_table(&mut t, b"0", b"2", b"01 12");
     try_one(b"n 0", &t, 0, 0);
-    try_one(b"n 257", &t, 257, 0);
-    try_one(b"g 65", &t, 3, 65);
+    try_one(b"n too great", &t, MAX_STATES + 1, 0);
+    try_one(b"g too great", &t, 3, MAX_GROUPS + 1);
     try_one(b"state 2 of 2", &t, 2, 0);
-    try_one(b"g 65 and state 2 of 2", &t, 2, 65);
+    try_one(b"g too great and state 2 of 2", &t, 2, MAX_GROUPS + 1);
     let short = [0u64; STORE_WORDS - 1];
     try_one(b"store one word short, n 0", &short, 0, 0);
 }
