@@ -15,10 +15,10 @@ from itertools import count
 from operator import or_
 from pathlib import Path
 
-MOST_STATES, MOST_GROUPS = 512, 64
-ALLOWANCE = MOST_STATES
+MAX_STATES, MAX_GROUPS = 512, 64
+ALLOWANCE = MAX_STATES
 BLOCK, CONTENT = 512, 508
-LARGEST_FILE = 37_376
+MAX_FILE = 37_376
 PRIME = 65_521
 
 
@@ -184,21 +184,21 @@ H = Table(61, {0}, {60}, H_STEPS)
 H1 = Table(61, {0}, {60}, H_STEPS, [set(range(41))])
 
 # As many states as there can be, each a step to the next: the longest path. One state fewer: the last byte of a set is not full.
-CORRIDOR = Table(MOST_STATES, {0}, {MOST_STATES - 1}, {(s, s + 1) for s in range(MOST_STATES - 1)})
-ONE_FEWER = Table(MOST_STATES - 1, {0}, {MOST_STATES - 2}, {(s, s + 1) for s in range(MOST_STATES - 2)})
+CORRIDOR = Table(MAX_STATES, {0}, {MAX_STATES - 1}, {(s, s + 1) for s in range(MAX_STATES - 1)})
+ONE_FEWER = Table(MAX_STATES - 1, {0}, {MAX_STATES - 2}, {(s, s + 1) for s in range(MAX_STATES - 2)})
 
 # The same, but its last state cannot be reached, and a group spares all refinements: an invariant of all other states.
 ALL_BUT_ONE = Table(
-    MOST_STATES, {0}, {MOST_STATES - 1},
-    {(s, (s + 1) % (MOST_STATES - 1)) for s in range(MOST_STATES)},
-    [set(range(MOST_STATES - 1))],
+    MAX_STATES, {0}, {MAX_STATES - 1},
+    {(s, (s + 1) % (MAX_STATES - 1)) for s in range(MAX_STATES)},
+    [set(range(MAX_STATES - 1))],
 )
 
 # The largest file: as many states and groups as there can be, a corridor with steps back. The groups are of neighbours.
 LARGEST = Table(
-    MOST_STATES, {0, 1}, {MOST_STATES - 1},
-    {(s, s + 1) for s in range(MOST_STATES - 1)} | {(s, s * 7 % MOST_STATES) for s in range(MOST_STATES)},
-    [{s for s in range(MOST_STATES) if s * MOST_GROUPS // MOST_STATES == j} for j in range(MOST_GROUPS)],
+    MAX_STATES, {0, 1}, {MAX_STATES - 1},
+    {(s, s + 1) for s in range(MAX_STATES - 1)} | {(s, s * 7 % MAX_STATES) for s in range(MAX_STATES)},
+    [{s for s in range(MAX_STATES) if s * MAX_GROUPS // MAX_STATES == j} for j in range(MAX_GROUPS)],
 )
 
 COMPUTED = {"h": H, "h1": H1, "corridor": CORRIDOR, "one-fewer": ONE_FEWER, "all-but-one": ALL_BUT_ONE, "largest": LARGEST}
@@ -217,7 +217,7 @@ def refused():
     return {
         "short": (e[:-1], 11),
         "long": (encode(LARGEST) + bytes(1), 11),
-        "too-many-blocks": (encode(LARGEST) + sealed(LARGEST_FILE // BLOCK, b""), 11),
+        "too-many-blocks": (encode(LARGEST) + sealed(MAX_FILE // BLOCK, b""), 11),
         "bad-number": (with_byte(e, 0, 1), 12),
         "bad-number-high-byte": (sealed(256, content), 12),
         "bad-number-second-block": (h1[:BLOCK] + sealed(0, h1[BLOCK + 2:-2]), 12),
@@ -226,10 +226,10 @@ def refused():
         "bad-check-then-bad-number": (corrupt[:BLOCK] + with_byte(h1, BLOCK, 7)[BLOCK:], 13),
         "no-states": (sealed(0, two(0) + content[2:]), 14),
         "no-states-no-groups": (sealed(0, b""), 14),
-        "no-states-and-too-many-groups": (sealed(0, two(0) + two(MOST_GROUPS + 1)), 14),
-        "too-many-states": (sealed(0, two(MOST_STATES + 1) + content[2:]), 14),
-        "too-many-states-and-groups": (sealed(0, two(MOST_STATES + 1) + two(MOST_GROUPS + 1)), 14),
-        "too-many-groups": (sealed(0, two(3) + two(MOST_GROUPS + 1) + content[4:]), 15),
+        "no-states-and-too-many-groups": (sealed(0, two(0) + two(MAX_GROUPS + 1)), 14),
+        "too-many-states": (sealed(0, two(MAX_STATES + 1) + content[2:]), 14),
+        "too-many-states-and-groups": (sealed(0, two(MAX_STATES + 1) + two(MAX_GROUPS + 1)), 14),
+        "too-many-groups": (sealed(0, two(3) + two(MAX_GROUPS + 1) + content[4:]), 15),
         "block-missing": (h1[:BLOCK], 16),
         "block-extra": (e + sealed(1, b""), 16),
         "state-past-n": (sealed(0, with_byte(content, 4, 0x09)), 17),
@@ -245,7 +245,7 @@ def checked_figures():
     assert check(encode(E)) == 97
     assert len(contents(H)) == 508 and len(encode(H)) == BLOCK
     assert len(contents(H1)) == 516 and len(encode(H1)) == 2 * BLOCK
-    assert len(encode(LARGEST)) == 73 * BLOCK == LARGEST_FILE
+    assert len(encode(LARGEST)) == 73 * BLOCK == MAX_FILE
 
 
 def files():

@@ -9,19 +9,17 @@ from pathlib import Path
 TOP = Path(__file__).resolve().parent.parent
 sys.path.insert(0, str(TOP / "tables"))
 import make  # noqa: E402
-from make import A, B, BLOCK, CONTENT, D, E, F, G, LARGEST_FILE, MOST_GROUPS, MOST_STATES, Table  # noqa: E402
+from make import A, B, BLOCK, CONTENT, D, E, F, G, MAX_FILE, MAX_GROUPS, MAX_STATES, Table  # noqa: E402
 
 H_STEPS = {(0, 59), (59, 0), (58, 60)}
 H = Table(61, {0}, {60}, H_STEPS)
 H_GROUP = Table(61, {0}, {60}, H_STEPS, [{0, 59}])
 NINTH = Table(4, {0}, {2}, {(0, 0), (0, 1), (1, 3), (2, 3), (3, 0), (3, 2)}, [{0}])
 DRAFT = Table(0, set(), set(), set())
-CORRIDOR = make.CORRIDOR
-
 # A store is a list of sets: those before the groups, the groups, the rows.
-HEAD_SETS, WORDS = 2, MOST_STATES // 64
-ROWS_FROM = HEAD_SETS + MOST_GROUPS
-STORE_SETS = ROWS_FROM + MOST_STATES
+HEAD_SETS, WORDS = 2, MAX_STATES // 64
+ROWS_FROM = HEAD_SETS + MAX_GROUPS
+STORE_SETS = ROWS_FROM + MAX_STATES
 STORE_WORDS = STORE_SETS * WORDS
 
 KEPT = ", the rest unchanged"
@@ -40,9 +38,9 @@ def answer(table, allowance):
 def decide_test():
     lines = []
     for name, table in [("A", A), ("B", B), ("D", D), ("E", E), ("F", F), ("G", G), ("draft", DRAFT), ("H", H), ("H with a group", H_GROUP), ("ninth", NINTH)]:
-        for allowance in (0, 1, 2, 3, MOST_STATES):
+        for allowance in (0, 1, 2, 3, MAX_STATES):
             lines.append(f"{name} {allowance}: {answer(table, allowance)}{KEPT}")
-    over = MOST_STATES + 1
+    over = MAX_STATES + 1
     for name, allowance, refusal in [
         ("store one word short", 0, 10), ("store one word short and all else", over, 10),
         ("n 0 g 1", 0, 14), ("n 0 with groups and all else", over, 14), ("state 5 of 0", 0, 17),
@@ -53,17 +51,17 @@ def decide_test():
         ("path buffer one place short", 0, 21),
     ]:
         lines.append(f"{name} {allowance}: refused {refusal}{KEPT}")
-    nothing = Table(MOST_STATES, set(), set(), set(), [set() for _ in range(MOST_GROUPS)])
+    nothing = Table(MAX_STATES, set(), set(), set(), [set() for _ in range(MAX_GROUPS)])
     for name, table, allowance in [
-        ("state 5 of 6", Table(6, {5}, set(), set()), MOST_STATES),
-        ("n and g at their greatest, store of 12 words more", nothing, MOST_STATES),
-        ("corridor", CORRIDOR, MOST_STATES), ("corridor", CORRIDOR, MOST_STATES - 3),
+        ("state 5 of 6", Table(6, {5}, set(), set()), MAX_STATES),
+        ("n and g at their greatest, store of 12 words more", nothing, MAX_STATES),
+        ("corridor", make.CORRIDOR, MAX_STATES), ("corridor", make.CORRIDOR, MAX_STATES - 3),
     ]:
         lines.append(f"{name} {allowance}: {answer(table, allowance)}{KEPT}")
     return "".join(line + "\n" for line in lines)
 
 
-# ---- order_test: the looks of the first round, as request 3 has them
+# ---- order_test: the looks of the first round (docs/SPECIFICATION.md, Rounds)
 
 def order(table):
     z = table.states() - table.forbidden
@@ -80,8 +78,9 @@ def order(table):
 def order_test():
     alone = lambda n: [{s} for s in range(n)]
     steps = lambda text: {(int(pair[0]), int(pair[1])) for pair in text.split()}
-    digits = [{s for s in range(MOST_STATES) if s >> b & 1 == digit} for b in range(MOST_GROUPS // 2) for digit in (0, 1)]
-    corridor = {(s + 1, s) for s in range(MOST_STATES - 1)}
+    digits = [
+        {s for s in range(MAX_STATES) if s >> b & 1 == digit} for b in range(MAX_GROUPS // 2) for digit in (0, 1)]
+    corridor = Table(MAX_STATES, {MAX_STATES - 1}, set(), {(s + 1, s) for s in range(MAX_STATES - 1)}, digits)
     branches = steps("57 53 74 70 71 34 35 43 08 16 61 85")
     groups = alone(10)
     groups[3] = {3, 8}
@@ -94,20 +93,25 @@ def order_test():
             ("branches, 3 with 8", Table(10, {1, 5}, {9}, branches, groups)),
             ("G", G), ("nothing initial", Table(3, set(), {2}, steps("01 12"))),
             ("only a forbidden state initial", Table(3, {2}, {2}, steps("01 12"))),
-            ("corridor", Table(MOST_STATES, {MOST_STATES - 1}, set(), corridor, digits)),
+            ("corridor", corridor),
         ]
     ]
-    # The words of a group that is not counted are not 0.
-    lines.append("corridor, its last digit's groups not counted: refused 17")
-    lines += [f"{name}: refused {refusal}" for name, refusal in [
-        ("n 0", 17), ("n too great", 14), ("g too great", 15), ("state 2 of 2", 17), ("g too great and state 2 of 2", 15), ("store one word short, n 0", 10)]]
+    small = Table(3, {0}, {2}, steps("01 12"))
+    for name, table, words, n, g in [
+        ("corridor, its last digit's groups not counted", corridor, STORE_WORDS, MAX_STATES, MAX_GROUPS - 2),
+        ("n 0", small, STORE_WORDS, 0, 0), ("a state too many", small, STORE_WORDS, MAX_STATES + 1, 0),
+        ("a group too many", small, STORE_WORDS, 3, MAX_GROUPS + 1), ("state 2 of 2", small, STORE_WORDS, 2, 0),
+        ("a group too many and state 2 of 2", small, STORE_WORDS, 2, MAX_GROUPS + 1),
+        ("store one word short, n 0", DRAFT, STORE_WORDS - 1, 0, 0),
+    ]:
+        lines.append(f"{name}: refused {refusal(store_of(table), words, n, g)}")
     return "".join(line + "\n" for line in lines)
 
 
 # ---- generated tables, by the comment at the head of crates/test_support/src/generated.rt
 
 WORD = 2 ** 32
-PLACES = 32 * MOST_STATES
+PLACES = 32 * MAX_STATES
 
 
 def noise(x):
@@ -121,7 +125,7 @@ def drawn(t, place):
 
 def generated(t):
     draw = lambda place: drawn(t, place)
-    n = 1 + draw(0) % (MOST_STATES if t % 37 == 0 else 40)
+    n = 1 + draw(0) % (MAX_STATES if t % 37 == 0 else 40)
     few = lambda count, at: {draw(at + k) % n for k in range((5 + draw(count) % 13) // 6)}
     place = lambda s: 16 + 16 * s
     fan_out = lambda s: draw(8) % 4 if draw(place(s)) % 4 else 0
@@ -148,7 +152,7 @@ def halves(states):
 # ---- agreement_test
 
 def agreement_test():
-    make.ALLOWANCE = MOST_STATES
+    make.ALLOWANCE = MAX_STATES
     tables, safe, unsafe, taken = 4000, 0, 0, 0
     for t in range(tables):
         table = generated(t)
@@ -171,29 +175,41 @@ def agreement_test():
 # ---- files_test: read and write on Python's bytes, and on a store as the list of its sets
 
 def store_of(table):
-    rows = [set() for _ in range(MOST_STATES)]
+    rows = [set() for _ in range(MAX_STATES)]
     for a, b in table.steps:
         rows[a].add(b)
-    return [table.initial, table.forbidden, *table.groups, *[set()] * (MOST_GROUPS - len(table.groups)), *rows]
+    return [table.initial, table.forbidden, *table.groups, *[set()] * (MAX_GROUPS - len(table.groups)), *rows]
 
 
 def largest():
     words = [WORD * drawn(0, 2 * i) + drawn(0, 2 * i + 1) for i in range(STORE_WORDS)]
-    return [{s for s in range(MOST_STATES) if words[WORDS * k + s // 64] >> s % 64 & 1} for k in range(STORE_SETS)]
+    return [{s for s in range(MAX_STATES) if words[WORDS * k + s // 64] >> s % 64 & 1} for k in range(STORE_SETS)]
+
+
+def used(store, n, g):
+    """The sets that are counted: initial, forbidden, g groups, n rows."""
+    return store[:HEAD_SETS + g] + store[ROWS_FROM:][:n]
+
+
+def refusal(store, words, n, g):
+    """The first ground that holds of a store of so many words (docs/SPECIFICATION.md, Refusals), or 0."""
+    if words < STORE_WORDS:
+        return 10
+    if n > MAX_STATES or n == 0 and g > 0:
+        return 14
+    if g > MAX_GROUPS:
+        return 15
+    unused = store[HEAD_SETS + g:ROWS_FROM] + store[ROWS_FROM + n:]
+    if any(s >= n for states in used(store, n, g) for s in states) or any(unused):
+        return 17
+    return 0
 
 
 def write(store, words, n, g, room):
     """The file, or the refusal."""
-    if words < STORE_WORDS:
-        return 10
-    if n > MOST_STATES or n == 0 and g > 0:
-        return 14
-    if g > MOST_GROUPS:
-        return 15
-    used = store[:HEAD_SETS + g] + store[ROWS_FROM:ROWS_FROM + n]
-    if any(s >= n for states in used for s in states) or any(store[HEAD_SETS + g:ROWS_FROM] + store[ROWS_FROM + n:]):
-        return 17
-    contents = make.two(n) + make.two(g) + b"".join(make.set_bytes(states, n) for states in used)
+    if refused := refusal(store, words, n, g):
+        return refused
+    contents = make.two(n) + make.two(g) + b"".join(make.set_bytes(states, n) for states in used(store, n, g))
     file = b"".join(make.blocks(contents)) if n else b""
     return 19 if room < len(file) else file
 
@@ -208,7 +224,7 @@ def read(data, words):
         return 10
     if len(data) == 0:
         return 0, 0, [set()] * STORE_SETS
-    if len(data) % BLOCK or len(data) > LARGEST_FILE:
+    if len(data) % BLOCK or len(data) > MAX_FILE:
         return 11
     split = [data[at:at + BLOCK] for at in range(0, len(data), BLOCK)]
     for k, block in enumerate(split):
@@ -218,9 +234,9 @@ def read(data, words):
             return 13
     content = b"".join(block[2:510] for block in split)
     n, g = number(content[:2]), number(content[2:4])
-    if not 1 <= n <= MOST_STATES:
+    if not 1 <= n <= MAX_STATES:
         return 14
-    if g > MOST_GROUPS:
+    if g > MAX_GROUPS:
         return 15
     w = (n + 7) // 8
     length = 4 + w * (HEAD_SETS + g + n)
@@ -231,8 +247,8 @@ def read(data, words):
         return 17
     if any(content[length:]):
         return 18
-    nothing = [set()] * MOST_STATES
-    return n, g, sets[:HEAD_SETS + g] + nothing[:MOST_GROUPS - g] + sets[HEAD_SETS + g:] + nothing[:MOST_STATES - n]
+    nothing = [set()] * MAX_STATES
+    return n, g, sets[:HEAD_SETS + g] + nothing[:MAX_GROUPS - g] + sets[HEAD_SETS + g:] + nothing[:MAX_STATES - n]
 
 
 def digest_store(store, start=0):

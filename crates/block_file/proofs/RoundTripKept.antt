@@ -1,14 +1,25 @@
 -- The round trips of the calls: the model's, by the contracts of read and write.
 use Prim.Native.Nat.{ℕ}
 use mathlib.Core.Path.{_≡_, sym, ap, ap₂, _∙_}
+use mathlib.Core.Bool.{true, false, not}
 use mathlib.Core.List.{List}
+use borrow.Author.Tests.{eqb-true, eqb-false, not-false}
+use lib.Dec.{eqb}
 use lib.ListN.{length, take}
 use Rattle.model.specs.Calls.{readAnswer, readBuffer, writeAnswer, writeBuffer}
 use Rattle.model.specs.Calls.{TableRead as ReadNumbers, Written as WriteNumbers}
+use Rattle.model.proofs.Bounds.{not-true}
 use Rattle.model.proofs.RoundTrips.{round-trips}
 use Rattle.model.proofs.Kept.{untouched}
 use Rattle.block_file.specs.WriteAnswers.{writtenOf}
 use Rattle.block_file.specs.RoundTripCalls.{CallsRoundTrip, CallsDeclined}
+
+-- the number of a call by its case
+accepted : (k : ℕ) → not (eqb k 0) ≡ false → k ≡ 0
+accepted k e = eqb-true k 0 (not-false (eqb k 0) e)
+
+refused : (k : ℕ) → not (eqb k 0) ≡ true → k ≡ 0 → ⊥
+refused k e = eqb-false k 0 (not-true (eqb k 0) e)
 
 pub calls-round-trip : CallsRoundTrip
 calls-round-trip =
@@ -16,13 +27,16 @@ calls-round-trip =
       write-read = λ store n g out w out′ other r other′ cw e words cr long.
           let file : take ((writtenOf w) .length) out′ ≡ take ((writeAnswer store n g (length out)) .length) (writeBuffer store n g out) =
           ap₂ (λ (a : WriteNumbers) (xs : List ℕ). take (a .length) xs) (cw .0) (cw .1) in
-          let back = round-trips .write-read store n g out other words long (sym (ap (λ (a : WriteNumbers). a .refusal) (cw .0)) ∙ e) in (
+          let back = round-trips .write-read store n g out other words long (accepted _ (sym (cw .2) ∙ e)) in (
+            cr .2 ∙ ap (λ (a : ReadNumbers). not (eqb (a .refusal) 0)) (ap (λ (f : List ℕ). readAnswer f (length other)) file ∙ back .answer),
             cr .0 ∙ ap (λ (f : List ℕ). readAnswer f (length other)) file ∙ back .answer,
             cr .1 ∙ ap (λ (f : List ℕ). readBuffer f other) file ∙ back .buffer,
           );
       read-write = λ input store r store′ out w out′ cr e bytes cw long.
-          let back = round-trips .read-write input store out bytes long (sym (ap (λ (a : ReadNumbers). a .refusal) (cr .0)) ∙ e) in (
-            cw .0 ∙ ap₂ (λ (xs : List ℕ) (a : ReadNumbers). writeAnswer xs (a .n) (a .g) (length out)) (cr .1) (cr .0) ∙ back .answer,
+          let back = round-trips .read-write input store out bytes long (accepted _ (sym (cr .2) ∙ e)) in
+          let answer = ap₂ (λ (xs : List ℕ) (a : ReadNumbers). writeAnswer xs (a .n) (a .g) (length out)) (cr .1) (cr .0) ∙ back .answer in (
+            cw .2 ∙ ap (λ (a : WriteNumbers). not (eqb (a .refusal) 0)) answer,
+            cw .0 ∙ answer,
             cw .1 ∙ ap₂ (λ (xs : List ℕ) (a : ReadNumbers). writeBuffer xs (a .n) (a .g) out) (cr .1) (cr .0) ∙ back .buffer,
           );
     }
@@ -30,6 +44,6 @@ calls-round-trip =
 pub calls-declined : CallsDeclined
 calls-declined =
     record {
-      read = λ input store r store′ c f. c .1 ∙ untouched .read input store (λ e. f (ap (λ (a : ReadNumbers). a .refusal) (c .0) ∙ e));
-      write = λ store n g out w out′ c f. c .1 ∙ untouched .write store n g out (λ e. f (ap (λ (a : WriteNumbers). a .refusal) (c .0) ∙ e));
+      read = λ input store r store′ c f. c .1 ∙ untouched .read input store (refused _ (sym (c .2) ∙ f));
+      write = λ store n g out w out′ c f. c .1 ∙ untouched .write store n g out (refused _ (sym (c .2) ∙ f));
     }

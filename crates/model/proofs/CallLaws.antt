@@ -5,6 +5,7 @@
 --   Readable                                    no ground of read holds of a file with a block, and n and g are those of the input
 --   blocks-clear                                no ground of the blocks holds, if nothing is refused
 --   clear-block, right-block                    no ground of a block holds exactly if its number and its check are right
+--   behind-store, behind-length                 the grounds of a file behind 10, and those behind 11
 --   readable                                    where nothing is refused the input has no bytes or is readable
 --   draft-refusal, readable-refusal             and back
 --   read-refusal, read-answer, read-buffer      the refusal of any answer; the answer and the store where nothing is refused
@@ -103,7 +104,17 @@ module _ (input : List ℕ) (room : ℕ) where
       let k = refuse (readGrounds input room) in
       by-cond (λ (a : TableRead). a .refusal ≡ k) (eqb k 0) _ _ (λ q. sym (eqb-true k 0 q)) (λ q. refl)
 
-  -- a file with any block
+  -- a file with any block: the grounds behind 10, and those behind 11
+  module _ (fits : storeWords ≤ room) (present : length input ≡ 0 → ⊥) where
+    pub behind-store : refuse (readGrounds input room) ≡ refuse (fileGrounds input)
+    unfolding readGrounds
+    behind-store = refuse-skip _ 10 _ (le-ltb room storeWords fits) ∙ rw (ne-eqb (length input) 0 present)
+
+    pub behind-length : badLength input ≡ false
+        → refuse (readGrounds input room) ≡ refuse (blocksGrounds input ++ contentGrounds input (statesIn input) (groupsIn input))
+    unfolding fileGrounds
+    behind-length whole = behind-store ∙ refuse-skip _ 11 _ whole
+
   file-readable : storeWords ≤ room → (length input ≡ 0 → ⊥) → refuse (fileGrounds input) ≡ 0 → Readable input room (statesIn input) (groupsIn input)
   unfolding fileGrounds badLength blocksGrounds contentGrounds
   file-readable fits present e =

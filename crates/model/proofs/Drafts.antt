@@ -8,8 +8,8 @@ use native.Mathlib.Nat.{not-suc-le-zero}
 use native.Mathlib.Omega.{arith}
 use mathlib.Core.Path.{_≡_, refl, sym, ap, ap₂, _∙_}
 use mathlib.Core.Bool.{Bool, true, false, cond}
-use mathlib.Core.List.{List, []}
-use borrow.Author.Tests.{le-ltb, eqb-false, ne-eqb}
+use mathlib.Core.List.{List, [], append-nil}
+use borrow.Author.Tests.{le-ltb, eqb-false, eq-eqb, ne-eqb}
 use lib.Dec.{eqb}
 use lib.ListN.{length}
 use lib.Seq.{take-all}
@@ -20,18 +20,19 @@ use Rattle.model.specs.Paths.{shortest, hasPath, smallestPath}
 use Rattle.model.specs.Stores.{headSets, forbiddenAt, groupAt, rowAt, storeWords, setAt, tableOf, layout, refuse, badStates}
 use Rattle.model.specs.Blocks.{contentsOf}
 use Rattle.model.specs.Contents.{setIn, setNumber, tableIn}
-use Rattle.model.specs.Calls.{overwrite, Decision, decisionOf, decideBuffer, Shortest, shortestGrounds, shortestAnswer}
+use Rattle.model.specs.Calls.{overwrite, Decision, decisionOf, decideBuffer, Shortest, shortestGrounds, shortestAnswer, shortestBuffer, TableRead, statesIn, blocksGrounds, contentGrounds, readBuffer, Written, writeAnswer}
 use Rattle.model.specs.Draft.{Draft}
 use Rattle.model.proofs.Bounds.{is-false, by-cond, length-tabulate, getD-tabulate}
 use Rattle.model.proofs.SetLaws.{setOf-cong, empty-in, firstStates-in}
 use Rattle.model.proofs.Fixpoints.{backward-is}
 use Rattle.model.proofs.ListLaws.{getD-past}
-use Rattle.model.proofs.GroundLaws.{refuse-skip, refuse-take}
+use Rattle.model.proofs.GroundLaws.{refuse-none, refuse-skip, refuse-take, refuse-behind}
 use Rattle.model.proofs.StoreLaws.{setAt-empty, Holds, holds-layout}
 use Rattle.model.proofs.FileLaws.{file-draft, length-draft}
 use Rattle.model.proofs.RoundLaws.{isSafe-intro}
-use Rattle.model.proofs.Acceptance.{Store, accepted-store, well-formed, check-of}
-use Rattle.model.proofs.CallLaws.{Writable, write-answer, write-buffer, draft-refusal, read-answer, read-buffer, draft-says}
+use Rattle.model.proofs.Acceptance.{Store, accepted-store, store-accepted, well-formed, check-of}
+use Rattle.model.proofs.CallLaws.{Writable, write-refusal, writable, write-answer, write-buffer, blocks-clear, read-refusal, behind-length, draft-refusal, read-answer, read-buffer, draft-says}
+use Rattle.model.proofs.RoundTrips.{round-trips}
 
 -- ---- words that are 0
 
@@ -97,7 +98,7 @@ no-path store = le-ltb (shortest (tableOf store 0 0)) 0 zero-le
 -- ---- the calls
 
 pub draft : Draft
-unfolding decisionOf decideBuffer shortestAnswer overwrite tableOf badStates
+unfolding decisionOf decideBuffer shortestAnswer shortestBuffer overwrite tableOf badStates contentGrounds
 draft =
     record {
       read = λ store h.
@@ -108,6 +109,14 @@ draft =
                 ∙ ap₂ (λ (a b : ℕ). overwrite (layout (tableIn (contentsOf []) a b)) store) (says .0) (says .1)
                 ∙ ap (λ xs. overwrite xs store) (draft-layout (contentsOf [])),
           );
+      read-accepted = λ store h.
+          let none = draft-refusal [] (length store) h refl in
+          let back = round-trips .read-write [] store [] (λ i. omega arith) (omega arith) (read-refusal [] (length store) ∙ none) in
+          let numbers = read-answer [] (length store) none ∙ ap₂ (λ (a b : ℕ). record { refusal = 0; n = a; g = b }) (draft-says [] refl .0) (draft-says [] refl .1) in
+          let answer = ap (λ (a : TableRead). (writeAnswer (readBuffer [] store) (a .n) (a .g) 0) .refusal) (sym numbers) ∙ ap (λ (a : Written). a .refusal) (back .answer) in
+          store-accepted (readBuffer [] store) 0 0 []
+          (writable (readBuffer [] store) 0 0 0 (sym (write-refusal (readBuffer [] store) 0 0 0) ∙ answer) .held)
+          ∙ refuse-none;
       decide = λ store allowance path e.
           let t = tableOf store 0 0 in
           let check = check-of store 0 0 allowance (length path) (record { accepted = e }) in
@@ -117,10 +126,12 @@ draft =
           ∙ ap (λ (m : ℕ). record { refusal = 0; verdict = 0; count = 0; invariant = empty; size = m; steps = 0 }) size-empty in
           (answer, ap (λ (a : Decision). cond (eqb (a .verdict) 1) (overwrite (smallestPath t) path) path) answer);
       backward-number = λ t e. omega (arith, backward-is t .bounded);
-      shortest-path = λ store room.
-          let k = refuse (shortestGrounds store 0 0 room) in
+      shortest-path = λ store path e.
+          let k = refuse (shortestGrounds store 0 0 (length path)) in
+          let answer : shortestAnswer store 0 0 (length path) ≡ record { refusal = 0; found = 0; steps = 0 } =
           by-cond (λ (a : Shortest). a .refusal ≡ 0 → a ≡ record { refusal = 0; found = 0; steps = 0 }) (eqb k 0) _ _
-          (λ q e. rw (no-path store)) (λ q e. absurd (eqb-false k 0 q e));
+          (λ q r. rw (no-path store)) (λ q r. absurd (eqb-false k 0 q r)) e in
+          (answer, ap (λ (a : Shortest). cond (eqb (a .found) 1) (overwrite (smallestPath (tableOf store 0 0)) path) path) answer);
       write = λ store output e.
           let w : Writable store 0 0 (length output) =
           record { held = accepted-store store 0 0 [] e .0; fits = omega (arith, length-draft 0 0 refl) } in (
@@ -129,4 +140,9 @@ draft =
           );
       groups-alone = λ store g later h f.
           refuse-skip _ 10 _ (le-ltb (length store) storeWords h) ∙ refuse-take _ 14 _ (rw (ne-eqb g 0 f));
+      block-without-states = λ input room h some whole blocks none.
+          read-refusal input room
+          ∙ behind-length input room h some whole
+          ∙ refuse-behind (blocksGrounds input) _ (blocks-clear input [] (ap refuse (append-nil (blocksGrounds input)) ∙ blocks) .0)
+          ∙ refuse-take _ 14 _ (rw (eq-eqb (statesIn input) 0 none));
     }

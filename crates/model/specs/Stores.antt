@@ -12,8 +12,10 @@
 --   Ground                     a ground of refusal: whether it holds, and its number (the error code)
 --   refuse grounds             the number of the first ground that holds, or 0 for none
 --   storeGround room           ground 10; tableGrounds store n g: those of a table in a store, 14, 15 and 17
---   sharedGrounds store n g    the grounds that decide, shortest path and write share, in order
+--   sharedGrounds store n g    the grounds that every call on a table in a store looks at first, in order
+--   AcceptedStore store n g    none of them holds
 use Prim.Native.Nat.{ℕ, zero, suc, _+_, _*_}
+use mathlib.Core.Path.{_≡_}
 use mathlib.Core.Bool.{Bool, cond, not, _&&_, _||_}
 use mathlib.Core.List.{List, [], _∷_, _++_}
 use lib.Dec.{eqb, leb, ltb}
@@ -105,3 +107,6 @@ tableGrounds store n g = (badStates n g, 14) ∷ (ltb maxGroups g, 15) ∷ (malf
 
 abbrev pub sharedGrounds : List ℕ → ℕ → ℕ → List Ground
 sharedGrounds store n g = storeGround (length store) ∷ tableGrounds store n g
+
+abbrev pub AcceptedStore : List ℕ → ℕ → ℕ → Type 0
+AcceptedStore store n g = refuse (sharedGrounds store n g) ≡ 0

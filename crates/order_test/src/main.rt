@@ -1,5 +1,5 @@
-// The order in which the first round expands the states that it reaches (request 3): tables with circles, with groups, with nothing initial, a
-// corridor whose states the groups tell apart, and refusals. tests/expected.py works out what this must print, from the papers' text.
+// The order in which the first round expands the states that it reaches: tables with circles, with groups, with nothing initial, a corridor
+// whose states the groups tell apart, and refusals. tests/expected.py works out what this must print, from the specification's text.
 ghost use Prim.Native.Nat.{_/_, _<_};
 ghost use Rattle.model.specs.Sets.{maxStates};
 ghost use Rattle.model.specs.Stores.{maxGroups};
@@ -149,10 +149,10 @@ fn refusals() {
     let mut t = [0u64; STORE_WORDS];
     put_table(&mut t, b"0", b"2", b"01 12");
     try_one(b"n 0", &t, 0, 0);
-    try_one(b"n too great", &t, MAX_STATES + 1, 0);
-    try_one(b"g too great", &t, 3, MAX_GROUPS + 1);
+    try_one(b"a state too many", &t, MAX_STATES + 1, 0);
+    try_one(b"a group too many", &t, 3, MAX_GROUPS + 1);
     try_one(b"state 2 of 2", &t, 2, 0);
-    try_one(b"g too great and state 2 of 2", &t, 2, MAX_GROUPS + 1);
+    try_one(b"a group too many and state 2 of 2", &t, 2, MAX_GROUPS + 1);
     let short = [0u64; STORE_WORDS - 1];
     try_one(b"store one word short, n 0", &short, 0, 0);
 }

@@ -18,8 +18,9 @@ use Rattle.model.specs.Rounds.{iterate}
 use Rattle.model.specs.Stores.{tableOf}
 use Rattle.model.specs.Promises.{IsLeast}
 use Rattle.model.proofs.Bounds.{and-true, and-intro}
-use Rattle.model.proofs.SetLaws.{Proper, setOf-proper, In, empty-in, in-union, union-in, firstStates-in, _⊆_, ⊆-of-eq, subset-in, same-set}
+use Rattle.model.proofs.SetLaws.{Proper, setOf-proper, In, empty-in, in-union, union-in, firstStates-in, _⊆_, ⊆-of-eq, subset-in, in-subset, same-set}
 use Rattle.model.proofs.WellFormed.{WellFormed}
+use Rattle.model.proofs.Acceptance.{accepted-store, well-formed}
 use Rattle.model.proofs.Fixpoints.{iterate-has, from-below}
 use Rattle.model.proofs.CoverLaws.{in-post, post-in, post-mono}
 use Rattle.model.proofs.ImageLaws.{image-bound, image-cong}
@@ -146,4 +147,5 @@ reaching =
     record {
       reachable-is = λ t X ok within. reachable-is t X ok (subset-in within);
       reached-is = λ store n g X Y ok within y. reached-is store n g X ok (subset-in within) y;
+      accepted = λ store n g e. let ok = well-formed store n g (accepted-store store n g [] e .0) in (ok, in-subset (ok .initial));
     }

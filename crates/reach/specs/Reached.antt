@@ -6,7 +6,8 @@
 --   end x xs            the last of them
 --   ReachableIs         what `reachable` is: that least Y, and the states in which the walks from X end
 --   reachBy store X Y   reachStep as the code takes it, over the words of a store
---   Reaching            ReachableIs, of every set of states of a well-formed table; and what the contract of `reached` gives is reachable
+--   Reaching            ReachableIs, of every set of states of a well-formed table; what the contract of `reached` gives is reachable; and the
+--                       table of an accepted store is well formed, its initial states a set of its states
 use Prim.Native.Nat.{ℕ}
 use mathlib.Core.Path.{_≡_}
 use mathlib.Core.Logic.{_↔_}
@@ -15,7 +16,7 @@ use mathlib.Core.List.{List, [], _∷_}
 use Rattle.model.specs.Sets.{Set, member, empty, union, subset, firstStates}
 use Rattle.model.specs.Tables.{Table, post}
 use Rattle.model.specs.Rounds.{iterate}
-use Rattle.model.specs.Stores.{tableOf}
+use Rattle.model.specs.Stores.{tableOf, AcceptedStore}
 use Rattle.model.specs.Promises.{IsLeast}
 use Rattle.model.proofs.WellFormed.{WellFormed}
 use Rattle.table.specs.Rows.{successorsBy}
@@ -48,3 +49,5 @@ pub record Reaching : Type 0 where
   pub reachable-is : (t : Table) (X : Set) → WellFormed t → subset X (firstStates (t .n)) ≡ true → ReachableIs t X
   pub reached-is : (store : List ℕ) (n g : ℕ) (X Y : Set) → WellFormed (tableOf store n g) → subset X (firstStates n) ≡ true
       → IsLeast (reachBy store X) Y → Y ≡ reachable (tableOf store n g) X
+  pub accepted : (store : List ℕ) (n g : ℕ) → AcceptedStore store n g
+      → WellFormed (tableOf store n g) × (subset ((tableOf store n g) .initial) (firstStates n) ≡ true)

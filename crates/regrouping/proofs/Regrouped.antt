@@ -6,7 +6,7 @@
 --   regrouping        all of specs/Regrouping
 use Prim.Native.Nat.{ℕ}
 use mathlib.Core.Path.{_≡_, refl, sym, ap, ap₂, _∙_, subst, fun-ext}
-use mathlib.Core.Bool.{cond}
+use mathlib.Core.Bool.{cond, not}
 use mathlib.Core.List.{List, []}
 use lib.Dec.{eqb}
 use lib.ListN.{length}
@@ -14,10 +14,10 @@ use Rattle.model.specs.Sets.{Set, empty}
 use Rattle.model.specs.Tables.{Table}
 use Rattle.model.specs.Rounds.{Outcome, safe, unsafe, undecided, run}
 use Rattle.model.specs.Paths.{smallestPath}
-use Rattle.model.specs.Stores.{tableOf, refuse}
+use Rattle.model.specs.Stores.{tableOf, refuse, AcceptedStore}
 use Rattle.model.specs.Calls.{overwrite, Decision, decideLimits, decideGrounds, decisionOf, declined, decideAnswer, decideBuffer}
 use Rattle.model.proofs.Acceptance.{accepted-store, store-accepted}
-use Rattle.regrouping.specs.Regrouping.{Alike, SameCovers, firstList, Held, SameDecisions, Regrouping}
+use Rattle.regrouping.specs.Regrouping.{Alike, SameCovers, firstList, SameDecisions, Regrouping}
 use Rattle.regrouping.proofs.CoversKept.{rewriting-same}
 use Rattle.regrouping.proofs.RoundsKept.{regroup, covers-add, run-same, shortest-same, smallest-same}
 
@@ -46,7 +46,7 @@ module _ (t u : Table) (a : Alike t u) where
   path-same : smallestPath t ≡ smallestPath u
   path-same = smallest-same t (u .groups) ∙ ap smallestPath (alike-is t u a)
 
-module _ (store other : List ℕ) (n g h : ℕ) (held : Held store n g) (held′ : Held other n h)
+module _ (store other : List ℕ) (n g h : ℕ) (held : AcceptedStore store n g) (held′ : AcceptedStore other n h)
     (a : Alike (tableOf store n g) (tableOf other n h))
     (c : SameCovers n (firstList (tableOf store n g)) (firstList (tableOf other n h))) where
   answers : (allowance room : ℕ) → decideAnswer store n g allowance room ≡ decideAnswer other n h allowance room
@@ -60,14 +60,24 @@ module _ (store other : List ℕ) (n g h : ℕ) (held : Held store n g) (held′
       ∙ ap (by limits) (decided-same t u a c allowance)
       ∙ sym (ap (λ (k : ℕ). by k (decisionOf u (run u allowance))) (store-accepted other n h (decideLimits allowance room) (accepted-store other n h [] held′ .0)))
 
-  decisions : SameDecisions store other n g h
+  buffers : (allowance : ℕ) (path : List ℕ) → decideBuffer store n g allowance path ≡ decideBuffer other n h allowance path
   unfolding decideBuffer
+  buffers allowance path =
+      ap₂ (λ (d : Decision) (xs : List ℕ). cond (eqb (d .verdict) 1) (overwrite xs path) path)
+      (answers allowance (length path)) (path-same (tableOf store n g) (tableOf other n h) a)
+
+  decisions : SameDecisions store other n g h
   decisions =
       record {
+        calls = λ allowance before r s after-r after-s c d.
+            let same = answers allowance (length before) in
+            record {
+              answer = c .0 ∙ same ∙ sym (d .0);
+              declined = c .2 ∙ ap (λ (a : Decision). not (eqb (a .refusal) 0)) same ∙ sym (d .2);
+              buffer = c .1 ∙ buffers allowance before ∙ sym (d .1);
+            };
         answers = answers;
-        buffers = λ allowance path.
-            ap₂ (λ (d : Decision) (xs : List ℕ). cond (eqb (d .verdict) 1) (overwrite xs path) path)
-            (answers allowance (length path)) (path-same (tableOf store n g) (tableOf other n h) a);
+        buffers = buffers;
       }
 
 pub regrouping : Regrouping

@@ -4,8 +4,8 @@
 --   Alike t u              two tables alike but for their lists of groups
 --   SameCovers n L M       each of n states has the same cover for the lists L and M
 --   firstList t            list 0 of a table: its groups and Z0
---   Held store n g         the store holds a table: grounds 10, 14, 15 and 17 do not hold
---   SameDecisions          decide returns and leaves the same, at every allowance and in every path buffer, grounds 20 and 21 included
+--   SameResults            two calls of decide, by its contract, returned and left the same: answer, declined or not, and path buffer
+--   SameDecisions          so do any two, at every allowance and in every path buffer, grounds 20 and 21 included
 --   Rewriting L M          the list L put another way: in another order, with sets repeated, with a union or an overlap of two of its sets
 --                          added anywhere, any of these undone, one after the other
 --   Regrouping             the promise
@@ -15,8 +15,10 @@ use mathlib.Core.Logic.{_↔_}
 use mathlib.Core.List.{List, _∷_, _++_, List·Memᴰ, List·Permᴰ}
 use Rattle.model.specs.Sets.{Set, union, meet}
 use Rattle.model.specs.Tables.{Table, coverOf, notForbidden}
-use Rattle.model.specs.Stores.{tableOf, refuse, sharedGrounds}
+use Rattle.model.specs.Stores.{tableOf, AcceptedStore}
 use Rattle.model.specs.Calls.{decideAnswer, decideBuffer}
+use Rattle.rounds.specs.declared.Decision.{Decision}
+use Rattle.rounds.specs.Answers.{answerOf, isRefused, Called}
 
 pub record Alike (t u : Table) : Type 0 where
   pub n : t .n ≡ u .n
@@ -30,10 +32,16 @@ pub record SameCovers (n : ℕ) (L M : List Set) : Type 0 where
 abbrev pub firstList : Table → List Set
 firstList t = notForbidden (t .n) (t .forbidden) ∷ t .groups
 
-abbrev pub Held : List ℕ → ℕ → ℕ → Type 0
-Held store n g = refuse (sharedGrounds store n g) ≡ 0
+pub record SameResults (r s : Decision) (after-r after-s : List ℕ) : Type 0 where
+  pub answer : answerOf r ≡ answerOf s
+  pub declined : isRefused (r .verdict) ≡ isRefused (s .verdict)
+  pub buffer : after-r ≡ after-s
 
 pub record SameDecisions (store other : List ℕ) (n g h : ℕ) : Type 0 where
+  -- a call on each store, with the same allowance and the same path buffer
+  pub calls : (allowance : ℕ) (before : List ℕ) (r s : Decision) (after-r after-s : List ℕ)
+      → Called store n g allowance before r after-r → Called other n h allowance before s after-s → SameResults r s after-r after-s
+  -- as the specification fixes them
   pub answers : (allowance room : ℕ) → decideAnswer store n g allowance room ≡ decideAnswer other n h allowance room
   pub buffers : (allowance : ℕ) (path : List ℕ) → decideBuffer store n g allowance path ≡ decideBuffer other n h allowance path
 
@@ -47,18 +55,18 @@ pub data Rewriting : List Set → List Set → Type 0 where
   undone : {L M : List Set} → Rewriting L M → Rewriting M L
   followed : {L M N : List Set} → Rewriting L M → Rewriting M N → Rewriting L N
 
--- Of every two stores that hold tables alike but for their groups.
+-- Of every two accepted stores (grounds 10, 14, 15 and 17 do not hold) whose tables are alike but for their groups.
 pub record Regrouping : Type 0 where
   -- each state has the same cover at the start of the rounds
-  pub covers : (store other : List ℕ) (n g h : ℕ) → Held store n g → Held other n h → Alike (tableOf store n g) (tableOf other n h)
+  pub covers : (store other : List ℕ) (n g h : ℕ) → AcceptedStore store n g → AcceptedStore other n h → Alike (tableOf store n g) (tableOf other n h)
       → SameCovers n (firstList (tableOf store n g)) (firstList (tableOf other n h))
       → SameDecisions store other n g h
   -- or for the groups alone
-  pub groups-covers : (store other : List ℕ) (n g h : ℕ) → Held store n g → Held other n h → Alike (tableOf store n g) (tableOf other n h)
+  pub groups-covers : (store other : List ℕ) (n g h : ℕ) → AcceptedStore store n g → AcceptedStore other n h → Alike (tableOf store n g) (tableOf other n h)
       → SameCovers n ((tableOf store n g) .groups) ((tableOf other n h) .groups)
       → SameDecisions store other n g h
   -- the rewritings are among them
   pub rewriting-covers : (n : ℕ) (L M : List Set) → Rewriting L M → SameCovers n L M
-  pub rewritten : (store other : List ℕ) (n g h : ℕ) → Held store n g → Held other n h → Alike (tableOf store n g) (tableOf other n h)
+  pub rewritten : (store other : List ℕ) (n g h : ℕ) → AcceptedStore store n g → AcceptedStore other n h → Alike (tableOf store n g) (tableOf other n h)
       → Rewriting ((tableOf store n g) .groups) ((tableOf other n h) .groups)
       → SameDecisions store other n g h

@@ -26,7 +26,7 @@ use Rattle.model.proofs.CoverLaws.{notForbidden-within}
 use Rattle.rounds.specs.Steps.{covers, coverBy, forwardBy, IsCover}
 use Rattle.rounds.specs.Order.{Look, lookAt, orderOf, firstLook, joinedBy, forwardOrder, firstBy, joinsBy, orderBy, padded}
 use Rattle.rounds.specs.declared.Expansion.the-variants.{Listed, Refused as ExpansionRefused}
-use Rattle.rounds.specs.Answers.{OrderAnswer, orderAnswer, Ordered}
+use Rattle.rounds.specs.OrderAnswers.{OrderAnswer, orderAnswer, Ordered}
 use Rattle.rounds.proofs.Bridge.{coverBy-is, successorsBy-is, coverBy-within, forwardBy-proper, forward-least}
 use Rattle.rounds.proofs.Looks.{look-before, fixed-done, order-still, lookAt-cong}
 use Rattle.rounds.proofs.Expanding.{forward-none, forward-more}

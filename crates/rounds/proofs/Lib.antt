@@ -7,3 +7,4 @@ pub mod Staying
 pub mod Running
 pub mod Deciding
 pub mod DemandsKept
+pub mod OrderKept

@@ -1,4 +1,4 @@
--- The looks of R (request 3): what is expanded before look k is what k steps of R's equation give, and the order has each of its states once.
+-- The looks of R: what is expanded before look k is what k steps of R's equation give, and the order has each of its states once.
 --
 --   step-empty, step-union     R's step of no states, and of a union: the step of the one with what the other brings
 --   look-before, look-steps    the looks as iterations of a step that goes so through unions
@@ -235,7 +235,7 @@ module _ (t : Table) (L : List Set) (Z : Set) where
   unfolding joinedBy
   fresh-later k s = later-fresh (firstLook t L Z) (joinedBy t L Z) k s
 
-pub in-order : (t : Table) (L : List Set) (Z : Set) → InOrder t L Z
+pub in-order : (t : Table) (L : List Set) (Z : Set) → InOrder t L Z (forwardOrder t L Z)
 unfolding forwardOrder orderOf members
 in-order t L Z =
     record {

@@ -3,19 +3,17 @@
 --   Concludes         what a round comes to, and the set that goes with it: R where it is safe, the next Z where it is open
 --   outcomeOf r       how the rounds ended, as the model's outcome
 --   invariantOf o     the invariant that goes with an outcome: R where it is safe, and the empty set where it is not
---   Ordered           a call of first_order and what it gave: its contract
 --   answerOf r        what decide answers, in the specification's numbers for each of its cases
 --   isRefused v       the case in which decide is declined
 --   Called            a call of decide and what it gave: its contract
 use Prim.Native.Nat.{ℕ}
 use mathlib.Core.Path.{_≡_}
-use mathlib.Core.Bool.{Bool, true, false, cond, not}
-use mathlib.Core.List.{List, []}
+use mathlib.Core.Bool.{Bool, true, false, not}
+use mathlib.Core.List.{List}
 use lib.Dec.{eqb}
 use lib.ListN.{length}
 use Rattle.model.specs.Sets.{Set, empty, union, subset}
-use Rattle.model.specs.Rounds.{firstRound, Outcome, safe, unsafe, undecided}
-use Rattle.model.specs.Stores.{tableOf, refuse, sharedGrounds}
+use Rattle.model.specs.Rounds.{Outcome, safe, unsafe, undecided}
 use Rattle.model.specs.Calls.{Decision as Answer, decideAnswer, decideBuffer}
 use Rattle.model.specs.Promises.{IsLeast, IsGreatest}
 use Rattle.table.specs.Rows.{successorsBy, meetHold}
@@ -25,10 +23,6 @@ use Rattle.rounds.specs.Steps.{forwardBy, backwardBy}
 use Rattle.rounds.specs.declared.Conclusion.{Conclusion}
 use Rattle.rounds.specs.declared.Conclusion.the-variants.{Safe as ConcludesSafe, Unsafe as ConcludesUnsafe, Open}
 use Rattle.rounds.specs.declared.Concluded.{Concluded}
-use Rattle.rounds.specs.Order.{forwardOrder, padded}
-use Rattle.rounds.specs.declared.Expansion.{Expansion}
-use Rattle.rounds.specs.declared.Expansion.the-variants.{Listed, Refused as ExpansionRefused}
-use Rattle.rounds.specs.declared.FirstOrder.{FirstOrder}
 use Rattle.rounds.specs.declared.Ending.{Ending}
 use Rattle.rounds.specs.declared.Ending.the-variants.{Safe as EndsSafe, Unsafe as EndsUnsafe, Undecided as EndsUndecided}
 use Rattle.rounds.specs.declared.Ended.{Ended}
@@ -73,33 +67,6 @@ invariantOf (undecided i) = empty
 abbrev pub stepsIn : Found → ℕ
 stepsIn (Steps d) = d
 stepsIn Nothing = 0
-
--- The answer of first_order, in numbers: `refusal` is 0 where the call is not declined, and there is no state where it is.
-pub record OrderAnswer : Type 0 where
-  pub refusal : ℕ
-  pub count : ℕ  -- of the states that are expanded
-  pub states : List ℕ  -- those, in their order, and 0 past them
-
-unfoldable pub orderAnswer : List ℕ → ℕ → ℕ → OrderAnswer
-orderAnswer store n g =
-    let t = tableOf store n g in
-    let k = refuse (sharedGrounds store n g) in
-    let xs = forwardOrder t ((firstRound t) .list) ((firstRound t) .Z) in
-    cond (eqb k 0) (record { refusal = 0; count = length xs; states = padded xs }) (record { refusal = k; count = 0; states = padded [] })
-
-abbrev pub orderedWith : Expansion → List ℕ → OrderAnswer
-orderedWith (Listed m) states = record { refusal = 0; count = m; states = states }
-orderedWith (ExpansionRefused k) states = record { refusal = k; count = 0; states = states }
-
-abbrev pub isDeclined : Expansion → Bool
-isDeclined (Listed m) = false
-isDeclined (ExpansionRefused k) = true
-
--- The contract of first_order: its answer, and whether it is declined.
-abbrev pub Ordered : List ℕ → ℕ → ℕ → FirstOrder → Type 0
-Ordered store n g r =
-    (orderedWith (r .expansion) (r .states) ≡ orderAnswer store n g)
-    × (isDeclined (r .expansion) ≡ not (eqb ((orderAnswer store n g) .refusal) 0))
 
 abbrev pub answersWith : Verdict → Set → Answer
 answersWith (Safe i k) R = record { refusal = 0; verdict = 0; count = i; invariant = R; size = k; steps = 0 }

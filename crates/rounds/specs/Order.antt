@@ -1,4 +1,4 @@
--- The order in which the states of R are expanded (request 3, "Newly reached states first").
+-- The order in which the states of R are expanded (the specification, "Rounds").
 --
 --   Look                      a look: the states that it expands, and those that the looks before it have expanded
 --   lookAt first joined k     look k. The first expands `first`, each later one what joined by the one before: joined X is what the
@@ -8,7 +8,7 @@
 --   orderBy store rows ..     that order over the rows of the cover and the words of the store
 --   padded xs                 xs at the front of an array of maxStates places, the others 0
 --   times s xs                how often s stands in xs
---   InOrder                   each state of R stands in the order once, and no other; the looks are those that the request names; each rises
+--   InOrder t L Z xs          xs has each state of R once, and no other, look by look; each look is what the specification says; each rises
 use Prim.Native.Nat.{ℕ, zero, suc, _+_, _<_}
 use mathlib.Core.Path.{_≡_}
 use mathlib.Core.Bool.{cond, not, _&&_}
@@ -73,11 +73,11 @@ times s (x ∷ xs) = cond (eqb x s) 1 0 + times s xs
 abbrev pub freshAt : Table → List Set → Set → ℕ → Set
 freshAt t L Z k = (lookAt (firstLook t L Z) (joinedBy t L Z) k) .fresh
 
-pub record InOrder (t : Table) (L : List Set) (Z : Set) : Type 0 where
+pub record InOrder (t : Table) (L : List Set) (Z : Set) (xs : List ℕ) : Type 0 where
   -- each state of R once, and no other
-  pub each-once : (s : ℕ) → times s (forwardOrder t L Z) ≡ cond (member (forward t L Z) s) 1 0
+  pub each-once : (s : ℕ) → times s xs ≡ cond (member (forward t L Z) s) 1 0
   -- the looks, one after the other
-  pub by-looks : forwardOrder t L Z ≡ concat (t .n) (λ k. members (freshAt t L Z k))
+  pub by-looks : xs ≡ concat (t .n) (λ k. members (freshAt t L Z k))
   -- the first: cover(Z meet Init)
   pub first-look : freshAt t L Z 0 ≡ cover (t .n) L (meet Z (t .initial))
   -- a later one: what joined by the one before, and was in none so far

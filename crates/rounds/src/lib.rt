@@ -24,7 +24,8 @@ ghost use Rattle.model.specs.Promises.{IsLeast, IsGreatest};
 ghost use Rattle.table.specs.Rows.{successorsBy, meetHold};
 ghost use Rattle.rounds.specs.Steps.{covers, nextAdded, coverBy, forwardBy, backwardBy, IsCover};
 ghost use Rattle.rounds.specs.Order.{orderBy, padded};
-ghost use Rattle.rounds.specs.Answers.{Concludes, outcomeOf, invariantOf, Ordered, stepsIn, Called};
+ghost use Rattle.rounds.specs.Answers.{Concludes, outcomeOf, invariantOf, stepsIn, Called};
+ghost use Rattle.rounds.specs.OrderAnswers.{Ordered};
 use paths::Found;
 use paths::find_path;
 use state_set::StateSet;
@@ -169,14 +170,14 @@ fn forward(store: &[u64], rows: &Rows, initial: StateSet, z: StateSet) -> Reache
 // ---- S
 
 // S, and S meet hold(S).
-pub struct Held {
+pub struct Remaining {
     pub s: StateSet,
     pub next: StateSet,
 }
 
 // The greatest x with x = cover(r meet hold(x)), where r is its own cover. A state of r that steps out of x once stays out, so only those
 // that stay are looked at again.
-fn backward(store: &[u64], rows: &Rows, r: StateSet) -> Held
+fn backward(store: &[u64], rows: &Rows, r: StateSet) -> Remaining
     requires { ⌜ (storeWords ≤ length (now store)) × IsCover (now rows) × (coverBy (now rows) (r .words) ≡ r .words) ⌝ }
     ensures { λ x. ⌜ IsGreatest (backwardBy (now (store .entry)) (now (rows .entry)) (r .words)) (x .s .words)
         × (x .next .words ≡ meetHold (now (store .entry)) (x .s .words) (x .s .words)) ⌝ }
@@ -186,7 +187,7 @@ fn backward(store: &[u64], rows: &Rows, r: StateSet) -> Held
     loop {
         let still = meet_hold(store, staying, s);
         if still.equals(staying) {
-            return Held { s, next: staying };
+            return Remaining { s, next: staying };
         }
         staying = still;
         s = union_of(rows, staying);

@@ -1,82 +1,162 @@
-//! Groups put another way: a table whose groups are in another order, repeated, or joined by a union or
-//! an overlap of two of them gets the same answer from decide, all of it, and the same path.
+//! Groups put another way: a table whose groups are in another order, twice over, or with a union or an
+//! overlap of two of them added gets the same answer from decide, all of it, and the same path.
 
-use crate::calls::Calls;
-use crate::examine::Outcome;
+use crate::accept::{MAX_ALLOWANCE, PATH_BYTES};
+use crate::calls::{Calls, Decision};
+use crate::examine::{Outcome, Tally};
 use crate::generate::{Kind, Random};
-use crate::table::{MAX_GROUPS, MAX_STATES, Set, Table};
+use crate::table::{MAX_GROUPS, Set, Table};
 
 const TABLES: usize = 400;
-/// Of these at least so many have two groups or more to put another way.
-const WITH_GROUPS: usize = 100;
+/// At least so many tables are put another way in each of these ways.
+const ENOUGH: usize = 50;
 
-/// Random tables and the same with their groups put another way, by some rewritings in turn.
-pub fn regrouped_tables(libraries: &[&dyn Calls], random: &mut Random) -> Outcome {
-    let mut with_groups = 0;
+const THING: &str = "groups put another way";
+const ORDER: &str = "another order";
+const TWICE: &str = "twice over";
+const UNION: &str = "a union";
+const OVERLAP: &str = "an overlap";
+const REWRITINGS: [&str; 4] = [ORDER, TWICE, UNION, OVERLAP];
+/// Several rewritings one after the other; some of them to as many groups as there can be.
+const SEQUENCE: &str = "one after the other";
+const FULL: &str = "up to the greatest g";
+/// Tables that get another answer without their groups: these would show one that was lost.
+const NEEDED: &str = "groups that the answer needs";
+
+/// Allowances, each with the length of a path buffer: few refinements, a release check, and grounds 20 and 21.
+const CALLS: [(usize, usize); 7] = [
+    (0, PATH_BYTES),
+    (1, PATH_BYTES),
+    (2, PATH_BYTES),
+    (3, PATH_BYTES),
+    (MAX_ALLOWANCE, PATH_BYTES),
+    (MAX_ALLOWANCE + 1, PATH_BYTES),
+    (MAX_ALLOWANCE, PATH_BYTES - 1),
+];
+
+/// Random tables, each with every rewriting of its groups by itself, and with some in turn.
+pub fn regrouped_tables(
+    libraries: &[&dyn Calls],
+    random: &mut Random,
+    tally: &mut Tally,
+) -> Outcome {
     for _ in 0..TABLES {
         let table = Kind::random(random).table(random);
-        if table.g() > 1 {
-            with_groups += 1;
-        }
-        let mut other = table.clone();
-        for _ in 0..random.within(1, 8) {
-            rewrite(&mut other.groups, random);
-        }
+        let others = put_another_way(&table, random, tally);
+        let path = random.bytes(PATH_BYTES);
+        let mut needed = false;
         for library in libraries {
-            for allowance in [0, 1, 2, MAX_STATES, MAX_STATES + 1] {
-                same_answer(*library, &table, &other, allowance, random)?;
+            for (allowance, room) in CALLS {
+                let call = |table: &Table| decide(*library, table, allowance, &path[..room]);
+                let expected = call(&table);
+                needed |= call(&regrouped(&table, Vec::new())) != expected;
+                for other in &others {
+                    let found = call(other);
+                    if found != expected {
+                        return Err(format!(
+                            "{}'s decide at allowance {allowance} answered {:?} for {table:?}, and {:?} with the groups {:?}",
+                            library.name(),
+                            expected.0,
+                            found.0,
+                            other.groups,
+                        ));
+                    }
+                }
             }
         }
+        if needed {
+            tally.count(THING, NEEDED);
+        }
     }
-    if with_groups < WITH_GROUPS {
-        return Err(format!("only {with_groups} tables had two groups or more"));
+    came_up(tally)
+}
+
+fn came_up(tally: &Tally) -> Outcome {
+    for way in REWRITINGS.iter().chain(&[SEQUENCE, FULL, NEEDED]) {
+        let tables = tally.0.get(&(THING, way.to_string())).copied().unwrap_or(0);
+        if tables < ENOUGH {
+            return Err(format!("only {tables} tables with {way}"));
+        }
     }
     Ok(())
 }
 
-/// One rewriting: two groups exchanged, one repeated, or a union or an overlap put in anywhere.
-fn rewrite(groups: &mut Vec<Set>, random: &mut Random) {
-    if groups.is_empty() {
-        return;
+/// The answer, and the path buffer after it.
+fn decide(
+    library: &dyn Calls,
+    table: &Table,
+    allowance: usize,
+    path: &[u8],
+) -> (Decision, Vec<u8>) {
+    let mut path = path.to_vec();
+    let answer = library.decide(&table.to_store(), table.n, table.g(), allowance, &mut path);
+    (answer, path)
+}
+
+fn regrouped(table: &Table, groups: Vec<Set>) -> Table {
+    Table {
+        groups,
+        ..table.clone()
     }
-    let (i, j) = (random.below(groups.len()), random.below(groups.len()));
-    let added: Set = match random.below(4) {
-        0 => return groups.swap(i, j),
-        1 => groups[i].clone(),
-        2 => pairwise(&groups[i], &groups[j], |x, y| x || y),
-        _ => pairwise(&groups[i], &groups[j], |x, y| x && y),
+}
+
+fn put_another_way(table: &Table, random: &mut Random, tally: &mut Tally) -> Vec<Table> {
+    let mut others = Vec::new();
+    for rewriting in REWRITINGS {
+        if let Some(groups) = rewritten(&table.groups, rewriting, random) {
+            tally.count(THING, rewriting);
+            others.push(regrouped(table, groups));
+        }
+    }
+    if table.g() > 0 {
+        let other = regrouped(table, in_turn(&table.groups, random));
+        tally.count(THING, SEQUENCE);
+        if table.g() < other.g() && other.g() == MAX_GROUPS {
+            tally.count(THING, FULL);
+        }
+        others.push(other);
+    }
+    others
+}
+
+/// The groups put another way; nothing where there are none, or no room for more.
+fn rewritten(groups: &[Set], rewriting: &str, random: &mut Random) -> Option<Vec<Set>> {
+    let g = groups.len();
+    if g == 0 {
+        return None;
+    }
+    let (x, y) = (&groups[random.below(g)], &groups[random.below(g)]);
+    let added = match rewriting {
+        ORDER => return Some(random.order(g).iter().map(|&j| groups[j].clone()).collect()),
+        TWICE if random.once_in(2) => groups.to_vec(),
+        TWICE => vec![x.clone()],
+        UNION => vec![pairwise(x, y, |x, y| x || y)],
+        _ => vec![pairwise(x, y, |x, y| x && y)],
     };
-    if groups.len() < MAX_GROUPS {
-        groups.insert(random.within(0, groups.len()), added);
+    if g + added.len() > MAX_GROUPS {
+        return None;
     }
+    let mut other = groups.to_vec();
+    for set in added {
+        other.insert(random.within(0, other.len()), set);
+    }
+    Some(other)
+}
+
+/// Rewritings one after the other: a few, or as many as bring the greatest g.
+fn in_turn(groups: &[Set], random: &mut Random) -> Vec<Set> {
+    let mut other = groups.to_vec();
+    let to_the_full = random.once_in(3);
+    let mut left = random.within(2, 8);
+    while left > 0 || to_the_full && other.len() < MAX_GROUPS {
+        if let Some(groups) = rewritten(&other, random.pick(&REWRITINGS), random) {
+            other = groups;
+        }
+        left = left.saturating_sub(1);
+    }
+    other
 }
 
 fn pairwise(x: &Set, y: &Set, join: impl Fn(bool, bool) -> bool) -> Set {
     x.iter().zip(y).map(|(&x, &y)| join(x, y)).collect()
-}
-
-fn same_answer(
-    library: &dyn Calls,
-    table: &Table,
-    other: &Table,
-    allowance: usize,
-    random: &mut Random,
-) -> Outcome {
-    let path = random.bytes(MAX_STATES);
-    let decide = |table: &Table| {
-        let mut path = path.clone();
-        let answer = library.decide(&table.to_store(), table.n, table.g(), allowance, &mut path);
-        (answer, path)
-    };
-    let (first, second) = (decide(table), decide(other));
-    if first == second {
-        return Ok(());
-    }
-    Err(format!(
-        "{}'s decide at allowance {allowance} answered {:?}, and {:?} with the groups of {table:?} as in {:?}",
-        library.name(),
-        first.0,
-        second.0,
-        other.groups
-    ))
 }

@@ -34,7 +34,7 @@ use Rattle.model.specs.Files.{maxFile}
 use Rattle.model.specs.Calls.{overwrite, statesIn, groupsIn, badLength, blocksGrounds, contentGrounds, fileGrounds, readGrounds, readAnswer, readBuffer}
 use Rattle.model.proofs.GroundLaws.{Clear, refuse-none, refuse-skip, refuse-take, refuse-append, refuse-behind, clear-refuse, refuse-clear, clear-next, refuse-stop}
 use Rattle.model.proofs.BlockLaws.{getD-contentsOf-at}
-use Rattle.model.proofs.CallLaws.{right-block, blocks-clear, Readable, readable, draft-refusal, read-answer, read-buffer, draft-says}
+use Rattle.model.proofs.CallLaws.{right-block, blocks-clear, Readable, behind-store, behind-length, readable, draft-refusal, read-answer, read-buffer, draft-says}
 use Rattle.model.proofs.Drafts.{draft-layout}
 use Rattle.block_file.specs.declared.reading.TableRead.the-variants.{Table, Refused}
 use Rattle.block_file.specs.ReadAnswers.{CalledRead}
@@ -174,14 +174,10 @@ module _ (input : List ℕ) (room : ℕ) where
     no-input e = sym (draft-refusal input room fits e)
 
     module _ (some : length input ≡ 0 → ⊥) where
-      behind-store : refuse (readGrounds input room) ≡ refuse (fileGrounds input)
-      unfolding readGrounds
-      behind-store = refuse-skip _ 10 _ (le-ltb room storeWords fits) ∙ rw (ne-eqb (length input) 0 some)
-
       -- ground 11 decides
       length-wrong : badLength input ≡ true → 11 ≡ refuse (readGrounds input room)
       unfolding fileGrounds
-      length-wrong b = sym (behind-store ∙ refuse-take _ 11 _ b)
+      length-wrong b = sym (behind-store input room fits some ∙ refuse-take _ 11 _ b)
 
       pub part-block : (length input % blockBytes ≡ 0 → ⊥) → 11 ≡ refuse (readGrounds input room)
       unfolding badLength
@@ -193,10 +189,9 @@ module _ (input : List ℕ) (room : ℕ) where
 
 module _ {input : List ℕ} {room : ℕ} (w : Whole input room) {fault : ℕ} (e : fault ≡ refuse (blocksGrounds input)) where
   behind-whole : refuse (readGrounds input room) ≡ refuse (blocksGrounds input ++ contentGrounds input (statesIn input) (groupsIn input))
-  unfolding fileGrounds badLength
+  unfolding badLength
   behind-whole =
-      behind-store input room (w .fits) (w .some)
-      ∙ refuse-skip _ 11 _ (rw (eq-eqb (length input % blockBytes) 0 (w .whole)) (le-ltb maxFile (length input) (w .short)))
+      behind-length input room (w .fits) (w .some) (rw (eq-eqb (length input % blockBytes) 0 (w .whole)) (le-ltb maxFile (length input) (w .short)))
 
   pub block-wrong : (fault ≡ 0 → ⊥) → fault ≡ refuse (readGrounds input room)
   block-wrong x = refuse-append (blocksGrounds input) _ e x ∙ sym behind-whole

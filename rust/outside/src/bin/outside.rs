@@ -145,7 +145,8 @@ fn run(libraries: &[&dyn Calls], options: &Options) -> (Tally, Vec<String>, f64)
             let fault = format!("damaged blocks: {fault}");
             failures.lock().expect("no thread yet").push(fault);
         }
-        if let Err(fault) = caught(|| regroup::regrouped_tables(libraries, &mut random)) {
+        let examined = caught(|| regroup::regrouped_tables(libraries, &mut random, &mut tally));
+        if let Err(fault) = examined {
             let fault = format!("groups put another way: {fault}");
             failures.lock().expect("no thread yet").push(fault);
         }
