@@ -275,7 +275,7 @@ def replace(data, at, value):
 def reads(file, *cases):
     """A line for each case of a length, words and bytes replaced; zeros stand behind the file."""
     for length, words, damage in cases:
-        data = file.ljust(11264, b"\0")
+        data = file.ljust(MAX_FILE + BLOCK, b"\0")
         for at, value in damage.items():
             data = replace(data, at, value)
         answer = read(data[:length], words)
@@ -288,53 +288,53 @@ def round_trip(t):
     """The numbers of the file of one block and of the store that is read back, either as sevens where the call refuses."""
     table = generated(t)
     n, g, store = table.n, len(table.groups), store_of(table)
-    file = write(store, 1288, n, g, 512)
+    file = write(store, STORE_WORDS, n, g, 512)
     if file == 19:
-        return [7] * 512 + [7, 0] * 1288
-    assert file == make.encode(table) and read(file, 1288) == (n, g, store)
+        return [7] * 512 + [7, 0] * STORE_WORDS
+    assert file == make.encode(table) and read(file, STORE_WORDS) == (n, g, store)
     return [*file, *(half for states in store for half in halves(states))]
 
 
 def files_test():
     e, more, most = store_of(E), store_of(Table(4, {0}, {2}, E.steps | {(3, 0)}, [{0}])), largest()
     h = store_of(Table(61, {0, 8}, {60}, {(0, 60), (31, 32), (60, 60)}))
-    e_file, h_file, h1_file = (write(t, 1288, n, g, 1024) for t, n, g in ((e, 3, 0), (h, 61, 0), (h, 61, 1)))
-    most_file = write(most, 1288, 256, 64, 10752)
+    e_file, h_file, h1_file = (write(t, STORE_WORDS, n, g, 1024) for t, n, g in ((e, 3, 0), (h, 61, 0), (h, 61, 1)))
+    most_file = write(most, STORE_WORDS, MAX_STATES, MAX_GROUPS, MAX_FILE)
     # The figures of docs/SPECIFICATION.md, Files.
     assert e_file[2:11].hex(" ") == "03 00 00 00 01 04 01 04 00" and number(e_file[510:]) == 97
-    assert [len(file) for file in (e_file, h_file, h1_file, most_file)] == [512, 512, 1024, 10752]
+    assert [len(file) for file in (e_file, h_file, h1_file, most_file)] == [512, 512, 1024, MAX_FILE]
     trips = 300
     lines = [
         "file of E: " + " ".join(map(str, e_file)),
         *writes("write E", e,
-                (1288, 3, 0, 10800), (1288, 3, 0, 512), (1288, 3, 0, 511), (1288, 3, 0, 0), (1287, 3, 0, 512), (1287, 0, 65, 511),
-                (1288, 0, 0, 512), (1288, 257, 0, 10752), (1288, 0, 65, 511), (1288, 3, 64, 512), (1288, 3, 65, 512),
-                (1288, 2, 65, 511), (1288, 2, 0, 512), (1288, 2, 0, 511)),
+                (STORE_WORDS, 3, 0, MAX_FILE + 48), (STORE_WORDS, 3, 0, 512), (STORE_WORDS, 3, 0, 511), (STORE_WORDS, 3, 0, 0), (STORE_WORDS - 1, 3, 0, 512), (STORE_WORDS - 1, 0, MAX_GROUPS + 1, 511),
+                (STORE_WORDS, 0, 0, 512), (STORE_WORDS, MAX_STATES + 1, 0, MAX_FILE), (STORE_WORDS, 0, MAX_GROUPS + 1, 511), (STORE_WORDS, 3, MAX_GROUPS, 512), (STORE_WORDS, 3, MAX_GROUPS + 1, 512),
+                (STORE_WORDS, 2, MAX_GROUPS + 1, 511), (STORE_WORDS, 2, 0, 512), (STORE_WORDS, 2, 0, 511)),
         *writes("write a draft", store_of(DRAFT),
-                (1288, 0, 0, 0), (1300, 0, 0, 512), (1287, 0, 0, 0), (1288, 0, 1, 512), (1288, 0, 65, 0)),
+                (STORE_WORDS, 0, 0, 0), (STORE_WORDS + 12, 0, 0, 512), (STORE_WORDS - 1, 0, 0, 0), (STORE_WORDS, 0, 1, 512), (STORE_WORDS, 0, MAX_GROUPS + 1, 0)),
         "read E",
-        *reads(e_file, (512, 1288, {}), (512, 1300, {}), (512, 1287, {}), (0, 1287, {}),
-               (0, 1288, {}), (511, 1288, {}), (513, 1288, {}), (511, 1288, {0: 1})),
-        *reads(e_file, *((512, 1288, damage) for damage in (
+        *reads(e_file, (512, STORE_WORDS, {}), (512, STORE_WORDS + 12, {}), (512, STORE_WORDS - 1, {}), (0, STORE_WORDS - 1, {}),
+               (0, STORE_WORDS, {}), (511, STORE_WORDS, {}), (513, STORE_WORDS, {}), (511, STORE_WORDS, {0: 1})),
+        *reads(e_file, *((512, STORE_WORDS, damage) for damage in (
             {0: 1}, {1: 1}, {0: 1, 510: 97}, {510: 98}, {511: 1}, {2: 0, 510: 97},
-            {2: 0}, {2: 1, 3: 1}, {3: 1, 5: 1}, {4: 64}, {4: 65}, {5: 1}, {2: 61, 4: 65}, {2: 62}, {2: 62, 13: 128}))),
-        *reads(e_file, (1024, 1288, {}), (1024, 1288, {512: 1}), (1024, 1288, {512: 1, 6: 9})),
-        *reads(e_file, *((512, 1288, damage) for damage in (
+            {2: 0}, {2: 1, 3: 2}, {3: 2, 5: 1}, {4: 64}, {4: 65}, {5: 1}, {2: 61, 4: 65}, {2: 62}, {2: 62, 13: 128}))),
+        *reads(e_file, (1024, STORE_WORDS, {}), (1024, STORE_WORDS, {512: 1}), (1024, STORE_WORDS, {512: 1, 6: 9})),
+        *reads(e_file, *((512, STORE_WORDS, damage) for damage in (
             {6: 9}, {7: 12}, {10: 128}, {6: 9, 11: 1}, {11: 1}, {509: 128}))),
-        *writes("write E with a group and a step from 3", more, (1288, 4, 0, 512), (1288, 3, 1, 512), (1288, 4, 1, 512)),
-        *writes("write H", h, (1288, 61, 0, 512), (1288, 61, 1, 1024), (1288, 61, 1, 1023)),
+        *writes("write E with a group and a step from 3", more, (STORE_WORDS, 4, 0, 512), (STORE_WORDS, 3, 1, 512), (STORE_WORDS, 4, 1, 512)),
+        *writes("write H", h, (STORE_WORDS, 61, 0, 512), (STORE_WORDS, 61, 1, 1024), (STORE_WORDS, 61, 1, 1023)),
         "read H",
-        *reads(h_file, (512, 1288, {}), (512, 1288, {509: 48})),
+        *reads(h_file, (512, STORE_WORDS, {}), (512, STORE_WORDS, {509: 48})),
         "read H with a group",
-        *reads(h1_file, (1024, 1288, {}), (512, 1288, {}), *((1024, 1288, damage) for damage in (
+        *reads(h1_file, (1024, STORE_WORDS, {}), (512, STORE_WORDS, {}), *((1024, STORE_WORDS, damage) for damage in (
             {512: 0}, {1023: 255}, {512: 7, 1023: 255}, {0: 9, 1023: 255}, {511: 255, 512: 7},
             {29: 32}, {521: 48}, {522: 1}, {1021: 1}))),
         *writes("write the largest table", most,
-                (1300, 256, 64, 10752), (1288, 256, 64, 10751), (1288, 257, 64, 10752), (1288, 256, 65, 10752),
-                (1288, 256, 63, 10752), (1288, 255, 64, 10752)),
+                (STORE_WORDS + 12, MAX_STATES, MAX_GROUPS, MAX_FILE), (STORE_WORDS, MAX_STATES, MAX_GROUPS, MAX_FILE - 1), (STORE_WORDS, MAX_STATES + 1, MAX_GROUPS, MAX_FILE), (STORE_WORDS, MAX_STATES, MAX_GROUPS + 1, MAX_FILE),
+                (STORE_WORDS, MAX_STATES, MAX_GROUPS - 1, MAX_FILE), (STORE_WORDS, MAX_STATES - 1, MAX_GROUPS, MAX_FILE)),
         "read the largest table",
-        *reads(most_file, (10752, 1300, {}), (10753, 1288, {}), (11264, 1288, {}), (10240, 1288, {}),
-               (10752, 1288, {4: 65}), (10752, 1288, {2: 1, 4: 65})),
+        *reads(most_file, (MAX_FILE, STORE_WORDS + 12, {}), (MAX_FILE + 1, STORE_WORDS, {}), (MAX_FILE + BLOCK, STORE_WORDS, {}), (MAX_FILE - BLOCK, STORE_WORDS, {}),
+               (MAX_FILE, STORE_WORDS, {4: 65}), (MAX_FILE, STORE_WORDS, {2: 1, 4: 65})),
         f"round trips {trips}, digest {digest(x for t in range(trips) for x in round_trip(t))}",
     ]
     return "".join(line + "\n" for line in lines)
