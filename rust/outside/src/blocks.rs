@@ -1,12 +1,12 @@
 //! Block files, written from the specification's section Files: a table to bytes, and bytes to a table or
 //! to the number of a refusal.
 
-use crate::table::{MAX_GROUPS, MAX_STATES, Set, Table, set_where};
+use crate::table::{HEAD_SETS, MAX_GROUPS, MAX_STATES, Set, Table, set_where};
 
 pub const BLOCK: usize = 512;
 /// Content bytes of a block.
 pub const CONTENT: usize = 508;
-pub const LARGEST: usize = 10_752;
+pub const LARGEST: usize = 37_376;
 
 /// The file of a table: no bytes for the draft, which has no states.
 pub fn encode(table: &Table) -> Vec<u8> {
@@ -67,7 +67,7 @@ pub fn contents(table: &Table) -> Vec<u8> {
 
 /// The length of the contents for n states and g groups.
 pub fn contents_length(n: usize, g: usize) -> usize {
-    4 + n.div_ceil(8) * (2 + g + n)
+    4 + n.div_ceil(8) * (HEAD_SETS + g + n)
 }
 
 /// The table in a file, or the number of the first ground to refuse it.
