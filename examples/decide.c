@@ -58,7 +58,7 @@ int main(int argc, char **argv)
         return 1;
     }
 
-    struct shuntberry_table table = shuntberry_read(input, length, store, SHUNTBERRY_STORE_WORDS);
+    struct shuntberry_table table = shuntberry_read(input, length, 0, store, SHUNTBERRY_STORE_WORDS);
     if (table.refusal != SHUNTBERRY_ACCEPTED) {
         print_refused(table.refusal);
         return 0;

@@ -1,8 +1,8 @@
 /*
  * Shuntberry: is a forbidden state of a dialogue table reachable, and by which steps?
  *
- * The calls are decide, shortest path, distances, within, read, write and generate, and beside them next
- * open minute, which says when a release may be loaded and reads no table. Link
+ * The calls are decide, shortest path, distances, within, read, write, generate and replay, and beside them
+ * next open minute, which says when a release may be loaded and reads no table. Link
  * target/staticlib/libshuntberry.a, which `rt staticlib shuntberry` makes. Nothing is allocated, nothing is
  * kept between calls, and no call fails other than by a refusal number. Calls may be made from several
  * threads at once, as long as no buffer that one of them writes is lent to another. A call takes less than
@@ -37,6 +37,16 @@
 extern "C" {
 #endif
 
+/* ---- Version ---- */
+
+/*
+ * Goes up by one with each change for which a program must be changed or compiled again; what changed is
+ * in docs/changes. 1 is the header that had no such macro. From 2 on shuntberry_read and shuntberry_write
+ * are given the site of the file, behind the input and behind g: their signatures changed. Site 0 gives
+ * the files of version 1.
+ */
+#define SHUNTBERRY_VERSION 2
+
 /* ---- Sizes ---- */
 
 #define SHUNTBERRY_VERSION 2         /* raised where a size, a type or an argument changes: compile with the header of the library */
@@ -50,7 +60,9 @@ extern "C" {
 #define SHUNTBERRY_UNREACHABLE 65535 /* the distance of a state from which no forbidden state can be reached */
 #define SHUNTBERRY_BLOCK_BYTES 512   /* a file is whole blocks of this many bytes */
 #define SHUNTBERRY_FILE_BYTES 37376  /* the length of the largest file, 73 blocks */
+#define SHUNTBERRY_MAX_SITE 65520    /* the greatest site number */
 #define SHUNTBERRY_MAX_FAN_OUT 16    /* the greatest fan-out of a generated table */
+#define SHUNTBERRY_MAX_LOG 32768     /* the greatest length of a pump's log, in bytes: 16,384 entries */
 #define SHUNTBERRY_MAX_TIME 2147483647 /* the greatest time, in minutes: 2^31 - 1 */
 #define SHUNTBERRY_MAX_WINDOWS 32    /* the greatest number of windows */
 #define SHUNTBERRY_MAX_DAYS 64       /* the greatest number of closed days */
@@ -68,7 +80,7 @@ extern "C" {
 #define SHUNTBERRY_STORE_SHORT 10       /* the store has under SHUNTBERRY_STORE_WORDS words (all calls but next open) */
 #define SHUNTBERRY_INPUT_LENGTH 11      /* the input's length is no multiple of 512, or over SHUNTBERRY_FILE_BYTES (read) */
 #define SHUNTBERRY_BLOCK_NUMBER 12      /* block k does not hold the number k (read) */
-#define SHUNTBERRY_BLOCK_CHECK 13       /* a block's stored check is not its check (read) */
+#define SHUNTBERRY_BLOCK_CHECK 13       /* a block's stored check is not its check for the site (read) */
 #define SHUNTBERRY_STATES 14            /* n is over SHUNTBERRY_MAX_STATES, or 0 with g above 0, in a block or in generate (all calls but next open) */
 #define SHUNTBERRY_GROUPS 15            /* g is over SHUNTBERRY_MAX_GROUPS (all calls but generate and next open) */
 #define SHUNTBERRY_BLOCK_COUNT 16       /* the file has too few or too many blocks for its n and g (read) */
@@ -79,6 +91,9 @@ extern "C" {
 #define SHUNTBERRY_PATH_SHORT 21        /* the path buffer has under SHUNTBERRY_PATH_PLACES places (decide, shortest path) */
 #define SHUNTBERRY_FAN_OUT 22           /* the fan-out is over 16 (generate) */
 #define SHUNTBERRY_DISTANCES_SHORT 23   /* the distance buffer has fewer than n places (distances) */
+#define SHUNTBERRY_SITE 24              /* the site is over 65,520 (read, write); given straight after 10 */
+#define SHUNTBERRY_LOG_ODD 25           /* the log's length is odd, also where it is over 32,768 (replay) */
+#define SHUNTBERRY_LOG_LONG 26          /* the log has over 32,768 bytes (replay) */
 #define SHUNTBERRY_WINDOW_RANGE 29      /* a window starts past minute 10,079 of the week, or is 0 or over 10,080 minutes long (next open) */
 #define SHUNTBERRY_TOO_MANY 30          /* over 32 windows, or over 64 closed days (next open) */
 #define SHUNTBERRY_TIME 31              /* the time is over 2^31 - 1 (next open) */
@@ -166,13 +181,15 @@ struct shuntberry_table {
 };
 
 /*
- * Reads a block file into the first SHUNTBERRY_STORE_WORDS words of `store`; no other word is touched. The input is
- * never changed. An input of no bytes is an untouched draft: n and g are 0, and so is each of those words.
- * So a read that failed must not be passed on as one of no bytes.
+ * Reads a block file of a site into the first SHUNTBERRY_STORE_WORDS words of `store`; no other word is touched. The input
+ * is never changed. The check of each block starts from the site, so a block of another site that stands
+ * at its own number is refused with 13. An input of no bytes is an untouched draft, at every site: n and g
+ * are 0, and so is each of those words. So a read that failed must not be passed on as one of no bytes.
  *
- * Refuses with 10, 11, 12, 13, 14, 15, 16, 17 (of set bytes only) or 18.
+ * Refuses with 10, 24, 11, 12, 13, 14, 15, 16, 17 (of set bytes only) or 18.
  */
-struct shuntberry_table shuntberry_read(const uint8_t *input, size_t input_len, uint64_t *store, size_t store_len);
+struct shuntberry_table shuntberry_read(const uint8_t *input, size_t input_len, size_t site, uint64_t *store,
+                                        size_t store_len);
 
 /* What shuntberry_write answers. */
 struct shuntberry_file {
@@ -181,13 +198,13 @@ struct shuntberry_file {
 };
 
 /*
- * Writes the table as a block file at the front of `output`, and no other byte. An output of
+ * Writes the table as a block file for a site at the front of `output`, and no other byte. An output of
  * SHUNTBERRY_FILE_BYTES is always long enough. The store is never changed.
  *
- * Refuses with 10, 14, 15, 17 or 19.
+ * Refuses with 10, 24, 14, 15, 17 or 19.
  */
-struct shuntberry_file shuntberry_write(const uint64_t *store, size_t store_len, size_t n, size_t g, uint8_t *output,
-                                        size_t output_len);
+struct shuntberry_file shuntberry_write(const uint64_t *store, size_t store_len, size_t n, size_t g, size_t site,
+                                        uint8_t *output, size_t output_len);
 
 /*
  * Fills the first SHUNTBERRY_STORE_WORDS words of `store` with the table that a seed gives, and touches no other word:
@@ -200,6 +217,26 @@ struct shuntberry_file shuntberry_write(const uint64_t *store, size_t store_len,
  * Returns 0, or refuses with 10, 14 or 22; the store is then as it was before.
  */
 uint32_t shuntberry_generate(uint32_t seed, size_t n, size_t fan_out, uint64_t *store, size_t store_len);
+
+/* What shuntberry_replay answers. */
+struct shuntberry_replay {
+    uint32_t refusal;   /* 0, or the number of the refusal */
+    uint32_t followed;  /* the number of entries before the first that breaks the walk; all of them if none does */
+    uint32_t seen;      /* the number of different states that those hold */
+    uint32_t percent;   /* 100 times `seen`, divided by the number of states that can be reached; 0 if there are none */
+    uint32_t remainder; /* what that division leaves; 0 if there are none */
+};
+
+/*
+ * Walks a pump's log through the table. The log is a list of state numbers of two bytes each, low byte
+ * first. The first entry must be initial, each later one a successor of the entry before; an entry of
+ * n or more is neither. The states that can be reached include the initial ones. On a table that
+ * shuntberry_decide calls safe, no followed entry is forbidden. Nothing is written.
+ *
+ * Refuses with 10, 14, 15, 17, 25 or 26.
+ */
+struct shuntberry_replay shuntberry_replay(const uint64_t *store, size_t store_len, size_t n, size_t g,
+                                           const uint8_t *log, size_t log_len);
 
 /* ---- When a release may be loaded ---- */
 

@@ -205,12 +205,29 @@ def refusal(store, words, n, g):
     return 0
 
 
-def write(store, words, n, g, room):
+MAX_SITE = 65_520
+FAR_SITES = (65_521, 2 ** 32, 2 ** 64 - 1)
+
+
+def site_check(block, site):
+    """The check of a block of a site: its sum starts from the site."""
+    return (site + make.check(block)) % make.PRIME
+
+
+def for_site(block, site):
+    return block[:510] + make.two(site_check(block, site))
+
+
+def write(store, words, n, g, room, site=0):
     """The file, or the refusal."""
+    if words < STORE_WORDS:
+        return 10
+    if site > MAX_SITE:
+        return 24
     if refused := refusal(store, words, n, g):
         return refused
     contents = make.two(n) + make.two(g) + b"".join(make.set_bytes(states, n) for states in used(store, n, g))
-    file = b"".join(make.blocks(contents)) if n else b""
+    file = b"".join(for_site(block, site) for block in make.blocks(contents)) if n else b""
     return 19 if room < len(file) else file
 
 
@@ -218,10 +235,12 @@ def number(data):
     return int.from_bytes(data, "little")
 
 
-def read(data, words):
+def read(data, words, site=0):
     """n, g and the store, or the refusal."""
     if words < STORE_WORDS:
         return 10
+    if site > MAX_SITE:
+        return 24
     if len(data) == 0:
         return 0, 0, [set()] * STORE_SETS
     if len(data) % BLOCK or len(data) > MAX_FILE:
@@ -230,7 +249,7 @@ def read(data, words):
     for k, block in enumerate(split):
         if number(block[:2]) != k:
             return 12
-        if number(block[510:]) != make.check(block):
+        if number(block[510:]) != site_check(block, site):
             return 13
     content = b"".join(block[2:510] for block in split)
     n, g = number(content[:2]), number(content[2:4])
@@ -255,13 +274,17 @@ def digest_store(store, start=0):
     return digest([half for states in store for half in halves(states)], start)
 
 
+def written(store, words, n, g, room, site=0):
+    answer = write(store, words, n, g, room, site)
+    said = f"refused {answer}" if isinstance(answer, int) else f"file of {len(answer)}, digest {digest(answer)}"
+    return f" from {words} n {n} g {g} into {room}: {said}{KEPT}"
+
+
 def writes(heading, store, *cases):
     """A line for each case of words, n, g and room."""
     yield heading
-    for words, n, g, room in cases:
-        answer = write(store, words, n, g, room)
-        said = f"refused {answer}" if isinstance(answer, int) else f"file of {len(answer)}, digest {digest(answer)}"
-        yield f" from {words} n {n} g {g} into {room}: {said}{KEPT}"
+    for case in cases:
+        yield written(store, *case)
 
 
 def replace(data, at, value):
@@ -272,27 +295,48 @@ def replace(data, at, value):
     return data
 
 
+def what_is_read(data, words, site=0):
+    answer = read(data, words, site)
+    said = f"refused {answer}" if isinstance(answer, int) else (
+        f"n {answer[0]} g {answer[1]}, digest {digest_store(answer[2])}")
+    return f" from {len(data)} into {words}: {said}{KEPT}"
+
+
 def reads(file, *cases):
     """A line for each case of a length, words and bytes replaced; zeros stand behind the file."""
     for length, words, damage in cases:
         data = file.ljust(MAX_FILE + BLOCK, b"\0")
         for at, value in damage.items():
             data = replace(data, at, value)
-        answer = read(data[:length], words)
-        said = f"refused {answer}" if isinstance(answer, int) else (
-            f"n {answer[0]} g {answer[1]}, digest {digest_store(answer[2])}")
-        yield "".join(f" {at}={value}" for at, value in damage.items()) + f" from {length} into {words}: {said}{KEPT}"
+        yield "".join(f" {at}={value}" for at, value in damage.items()) + what_is_read(data[:length], words)
 
 
 def round_trip(t):
-    """The numbers of the file of one block and of the store that is read back, either as sevens where the call refuses."""
+    """The numbers of the file of one block for site t and of the store that is read back there, either as sevens where the call refuses."""
     table = generated(t)
     n, g, store = table.n, len(table.groups), store_of(table)
-    file = write(store, STORE_WORDS, n, g, 512)
+    file = write(store, STORE_WORDS, n, g, 512, t)
     if file == 19:
         return [7] * 512 + [7, 0] * STORE_WORDS
-    assert file == make.encode(table) and read(file, STORE_WORDS) == (n, g, store)
+    assert write(store, STORE_WORDS, n, g, 512) == make.encode(table) and read(file, STORE_WORDS, t) == (n, g, store)
     return [*file, *(half for states in store for half in halves(states))]
+
+
+def sites(e):
+    yield "write E for a site"
+    for words, n, g, site, room in [
+        *((STORE_WORDS, 3, 0, site, 512) for site in (0, 1, 65_424, MAX_SITE, *FAR_SITES)),
+        (STORE_WORDS - 1, 3, 0, 65_521, 512), (STORE_WORDS, 0, 1, 65_521, 512), (STORE_WORDS, 0, 65, 65_521, 0), (STORE_WORDS, 3, 0, 65_521, 0),
+    ]:
+        yield f" site {site}" + written(e, words, n, g, room, site)
+    yield "read E at a site"
+    for made, length, site, words in [
+        *((made, 512, site, STORE_WORDS) for made in (0, 1, MAX_SITE) for site in (0, 1, MAX_SITE, 65_521, 2 ** 32 + 1, 2 ** 64 - 1)),
+        (0, 0, 0, STORE_WORDS), (0, 0, MAX_SITE, STORE_WORDS), (0, 0, 65_521, STORE_WORDS), (0, 0, 65_521, STORE_WORDS - 1),
+        (0, 511, MAX_SITE, STORE_WORDS), (0, 511, 65_521, STORE_WORDS), (0, 511, 65_521, STORE_WORDS - 1),
+    ]:
+        file = write(e, STORE_WORDS, 3, 0, 512, made)
+        yield f" made for {made} site {site}" + what_is_read(file[:length], words, site)
 
 
 def files_test():
@@ -335,6 +379,7 @@ def files_test():
         "read the largest table",
         *reads(most_file, (MAX_FILE, STORE_WORDS + 12, {}), (MAX_FILE + 1, STORE_WORDS, {}), (MAX_FILE + BLOCK, STORE_WORDS, {}), (MAX_FILE - BLOCK, STORE_WORDS, {}),
                (MAX_FILE, STORE_WORDS, {4: 65}), (MAX_FILE, STORE_WORDS, {2: 1, 4: 65})),
+        *sites(e),
         f"round trips {trips}, digest {digest(x for t in range(trips) for x in round_trip(t))}",
     ]
     return "".join(line + "\n" for line in lines)

@@ -1,7 +1,7 @@
 //! Is a forbidden state of a dialogue table reachable, and by which steps?
 //!
-//! A safe wrapper around the proved library: [`decide`], [`shortest_path`], [`read`], [`write()`] and
-//! [`generate`], with slices in and enums out. No input makes a call panic: what the library does not accept, it
+//! A safe wrapper around the proved library: [`decide`], [`shortest_path`], [`read`], [`write()`],
+//! [`generate`] and [`replay`], with slices in and enums out. No input makes a call panic: what the library does not accept, it
 //! refuses with a number ([`Refused`]), and every buffer is then as it was before.
 //!
 //! A table has `n` states, numbered 0 to `n` − 1 ([`MAX_STATES`] at most), and `g` groups
@@ -63,8 +63,12 @@ pub const STORE_WORDS: usize = row(MAX_STATES);
 pub const PATH_PLACES: usize = MAX_STATES;
 /// The length of the largest file: 73 blocks of 512 bytes.
 pub const FILE_BYTES: usize = 37_376;
+/// The greatest site number.
+pub const MAX_SITE: usize = 65_520;
 /// The greatest fan-out of a generated table.
 pub const MAX_FAN_OUT: usize = 16;
+/// The greatest length of a pump's log, in bytes.
+pub const MAX_LOG: usize = 32_768;
 /// The greatest time, in minutes.
 pub const MAX_TIME: usize = 2_147_483_647;
 /// The greatest number of windows.
@@ -183,7 +187,7 @@ impl Refused {
             10 => "the store has under 4,624 words",
             11 => "the input's length is no multiple of 512, or over 37,376",
             12 => "a block does not hold its own number",
-            13 => "a block's stored check is not its check",
+            13 => "a block's stored check is not its check for the site",
             14 => "n is over 512, or 0 with groups or in a block",
             15 => "g is over 64",
             16 => "the number of blocks is not that of a file with this n and g",
@@ -194,6 +198,9 @@ impl Refused {
             21 => "the path buffer has under 512 places",
             22 => "the fan-out is over 16",
             23 => "the distance buffer has fewer than n places",
+            24 => "the site is over 65,520",
+            25 => "the log's length is odd",
+            26 => "the log has over 32,768 bytes",
             29 => {
                 "a window starts past minute 10,079 of the week, or is 0 or over 10,080 minutes long"
             }
@@ -344,14 +351,21 @@ pub fn within(store: &[u64], n: usize, g: usize, k: usize) -> Result<bool, Refus
     Ok(answer.within != 0)
 }
 
-/// Reads a block file into the first [`STORE_WORDS`] words of `store`; no other word is touched. An
+/// Reads a block file of a site, 0 to [`MAX_SITE`], into the first [`STORE_WORDS`] words of `store`; no other word is touched. An
 /// input of no bytes is an untouched draft: `n` and `g` are 0, and so is each of those words.
 ///
-/// Refused with 10, 11, 12, 13, 14, 15, 16, 17 or 18.
-pub fn read(input: &[u8], store: &mut [u64]) -> Result<TableRead, Refused> {
+/// Refused with 10, 24, 11, 12, 13, 14, 15, 16, 17 or 18. A block that was made for another site is refused
+/// with 13.
+pub fn read(input: &[u8], site: usize, store: &mut [u64]) -> Result<TableRead, Refused> {
     // SAFETY: as in `decide`.
     let table = unsafe {
-        raw::shuntberry_read(input.as_ptr(), input.len(), store.as_mut_ptr(), store.len())
+        raw::shuntberry_read(
+            input.as_ptr(),
+            input.len(),
+            site,
+            store.as_mut_ptr(),
+            store.len(),
+        )
     };
     accepted(table.refusal)?;
     Ok(TableRead {
@@ -360,10 +374,10 @@ pub fn read(input: &[u8], store: &mut [u64]) -> Result<TableRead, Refused> {
     })
 }
 
-/// Writes the table as a block file at the front of `output` and returns the file; no other byte of
+/// Writes the table as a block file for a site, 0 to [`MAX_SITE`], at the front of `output` and returns the file; no other byte of
 /// `output` is touched. An output of [`FILE_BYTES`] is always long enough.
 ///
-/// Refused with 10, 14, 15, 17 or 19.
+/// Refused with 10, 24, 14, 15, 17 or 19.
 ///
 /// ```
 /// use shuntberry::{FILE_BYTES, STORE_WORDS, TableRead, read, write};
@@ -371,18 +385,21 @@ pub fn read(input: &[u8], store: &mut [u64]) -> Result<TableRead, Refused> {
 /// let mut store = [0; STORE_WORDS];
 /// store[shuntberry::row(1)] = 0b101; // steps 1 → 0 and 1 → 2
 /// let mut output = [0; FILE_BYTES];
-/// let file = write(&store, 3, 0, &mut output)?;
+/// let file = write(&store, 3, 0, 17, &mut output)?;
 /// assert_eq!(file.len(), 512);
 ///
 /// let mut copy = [0; STORE_WORDS];
-/// assert_eq!(read(file, &mut copy)?, TableRead { n: 3, g: 0 });
+/// assert_eq!(read(file, 17, &mut copy)?, TableRead { n: 3, g: 0 });
 /// assert_eq!(copy, store);
+/// // At another site it is turned away.
+/// assert_eq!(read(file, 18, &mut copy).unwrap_err().0, 13);
 /// # Ok::<(), shuntberry::Refused>(())
 /// ```
 pub fn write<'o>(
     store: &[u64],
     n: usize,
     g: usize,
+    site: usize,
     output: &'o mut [u8],
 ) -> Result<&'o [u8], Refused> {
     // SAFETY: as in `decide`.
@@ -392,6 +409,7 @@ pub fn write<'o>(
             store.len(),
             n,
             g,
+            site,
             output.as_mut_ptr(),
             output.len(),
         )
@@ -414,7 +432,7 @@ pub fn write<'o>(
 /// assert_eq!([store[row(0)], store[row(1)], store[row(2)]], [0b011, 0b110, 0b110]);
 ///
 /// let mut output = [0; FILE_BYTES];
-/// assert_eq!(write(&store, 3, 0, &mut output)?.len(), 512);
+/// assert_eq!(write(&store, 3, 0, 0, &mut output)?.len(), 512);
 /// # Ok::<(), shuntberry::Refused>(())
 /// ```
 pub fn generate(seed: u32, n: usize, fan_out: usize, store: &mut [u64]) -> Result<(), Refused> {
@@ -422,6 +440,52 @@ pub fn generate(seed: u32, n: usize, fan_out: usize, store: &mut [u64]) -> Resul
     let refusal =
         unsafe { raw::shuntberry_generate(seed, n, fan_out, store.as_mut_ptr(), store.len()) };
     accepted(refusal)
+}
+
+/// What [`replay`] found of a log.
+#[derive(Clone, Copy, Debug, PartialEq, Eq)]
+pub struct Replay {
+    /// The entries before the first that breaks the walk; all of them if none does.
+    pub followed: usize,
+    /// The different states that those hold.
+    pub seen: usize,
+    /// 100 times `seen`, divided by the number of states that can be reached; 0 if there are none.
+    pub percent: usize,
+    /// What that division leaves; 0 if there are none.
+    pub remainder: usize,
+}
+
+/// Walks a pump's log through the table: a list of state numbers of two bytes each, low byte first.
+///
+/// The first entry must be initial, each later one a successor of the entry before. On a table that
+/// [`decide`] calls safe, no followed entry is forbidden. Refused with 10, 14, 15, 17, 25 or 26.
+///
+/// ```
+/// use shuntberry::{INITIAL, Replay, STORE_WORDS, replay, row};
+///
+/// // 0 is initial; steps 0 → 1, 1 → 0 and 1 → 2: three states can be reached.
+/// let mut store = [0; STORE_WORDS];
+/// store[INITIAL] = 1 << 0;
+/// store[row(0)] = 1 << 1;
+/// store[row(1)] = 1 << 0 | 1 << 2;
+///
+/// // 0, 1, 0, then 2, which is no successor of 0.
+/// let walk = replay(&store, 3, 0, &[0, 0, 1, 0, 0, 0, 2, 0])?;
+/// assert_eq!(walk, Replay { followed: 3, seen: 2, percent: 66, remainder: 2 });
+/// # Ok::<(), shuntberry::Refused>(())
+/// ```
+pub fn replay(store: &[u64], n: usize, g: usize, log: &[u8]) -> Result<Replay, Refused> {
+    // SAFETY: as in `decide`; nothing is written.
+    let walk = unsafe {
+        raw::shuntberry_replay(store.as_ptr(), store.len(), n, g, log.as_ptr(), log.len())
+    };
+    accepted(walk.refusal)?;
+    Ok(Replay {
+        followed: walk.followed as usize,
+        seen: walk.seen as usize,
+        percent: walk.percent as usize,
+        remainder: walk.remainder as usize,
+    })
 }
 
 /// The first minute at or after `time` that lies in one of the windows, and not on a closed day; `None`,

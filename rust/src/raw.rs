@@ -50,6 +50,16 @@ pub struct File {
 
 #[repr(C)]
 #[derive(Clone, Copy, Debug, PartialEq, Eq)]
+pub struct Replay {
+    pub refusal: u32,
+    pub followed: u32,
+    pub seen: u32,
+    pub percent: u32,
+    pub remainder: u32,
+}
+
+#[repr(C)]
+#[derive(Clone, Copy, Debug, PartialEq, Eq)]
 pub struct Minute {
     pub refusal: u32,
     pub never: u32,
@@ -96,6 +106,7 @@ unsafe extern "C" {
     pub fn shuntberry_read(
         input: *const u8,
         input_len: usize,
+        site: usize,
         store: *mut u64,
         store_len: usize,
     ) -> Table;
@@ -105,6 +116,7 @@ unsafe extern "C" {
         store_len: usize,
         n: usize,
         g: usize,
+        site: usize,
         output: *mut u8,
         output_len: usize,
     ) -> File;
@@ -116,6 +128,15 @@ unsafe extern "C" {
         store: *mut u64,
         store_len: usize,
     ) -> u32;
+
+    pub fn shuntberry_replay(
+        store: *const u64,
+        store_len: usize,
+        n: usize,
+        g: usize,
+        log: *const u8,
+        log_len: usize,
+    ) -> Replay;
 
     pub fn shuntberry_next_open(
         time: usize,

@@ -1,8 +1,8 @@
 /*
  * The calls from C by the header alone: a corridor of as many states as there can be is laid out with the header's
  * offsets, written, read back, and asked for its path, which is every state in turn; the largest load
- * is generated; then some of the refusals, and next open minute. The calls run on a painted stack, to see
- * how much of it they take.
+ * is generated; then some of the refusals, logs of the corridor, and next open minute. The calls run on a
+ * painted stack, to see how much of it they take.
  *
  * Without groups all states of Z have one cover, Z itself, so that each round loses the one state that
  * steps out: Z is all but the last state in round 0 and state 0 alone in round STATES - 2, where S is empty. That
@@ -26,6 +26,8 @@ _Static_assert(offsetof(struct shuntberry_within, refusal) == 0, "within.refusal
 _Static_assert(offsetof(struct shuntberry_within, within) == 4, "within.within");
 _Static_assert(sizeof(struct shuntberry_table) == 12, "table");
 _Static_assert(sizeof(struct shuntberry_file) == 8, "file");
+_Static_assert(sizeof(struct shuntberry_replay) == 20, "replay");
+_Static_assert(offsetof(struct shuntberry_replay, remainder) == 16, "replay.remainder");
 _Static_assert(sizeof(struct shuntberry_minute) == 12, "minute");
 _Static_assert(SHUNTBERRY_ROW(SHUNTBERRY_MAX_STATES) == SHUNTBERRY_STORE_WORDS, "rows");
 _Static_assert(SHUNTBERRY_GROUP(SHUNTBERRY_MAX_GROUPS) == SHUNTBERRY_ROW(0), "groups");
@@ -78,9 +80,9 @@ static uint32_t within(size_t k)
 static void answers(void)
 {
     struct shuntberry_file written =
-        shuntberry_write(store, SHUNTBERRY_STORE_WORDS, STATES, 0, file, sizeof file);
+        shuntberry_write(store, SHUNTBERRY_STORE_WORDS, STATES, 0, 0, file, sizeof file);
     require(written.refusal == SHUNTBERRY_ACCEPTED && written.length == 65 * SHUNTBERRY_BLOCK_BYTES, "write");
-    struct shuntberry_table table = shuntberry_read(file, written.length, other, SHUNTBERRY_STORE_WORDS);
+    struct shuntberry_table table = shuntberry_read(file, written.length, 0, other, SHUNTBERRY_STORE_WORDS);
     require(table.refusal == SHUNTBERRY_ACCEPTED && table.n == STATES && table.g == 0, "read");
     require(memcmp(store, other, sizeof store) == 0, "read gives back what was written");
 
@@ -121,7 +123,7 @@ static void load(void)
     require(has(SHUNTBERRY_INITIAL, 0) && has(SHUNTBERRY_FORBIDDEN, STATES - 1), "the ends of a load");
     require(has(SHUNTBERRY_ROW(0), first % STATES) && has(SHUNTBERRY_ROW(0), second % STATES), "the successors of state 0");
     struct shuntberry_file written =
-        shuntberry_write(other, SHUNTBERRY_STORE_WORDS, STATES, 0, file, sizeof file);
+        shuntberry_write(other, SHUNTBERRY_STORE_WORDS, STATES, 0, SHUNTBERRY_MAX_SITE, file, sizeof file);
     require(written.refusal == SHUNTBERRY_ACCEPTED, "write of a load");
 }
 
@@ -143,11 +145,68 @@ static void refusals(void)
     require(shuntberry_distances(store, words, STATES, 0, distances, STATES - 1) == SHUNTBERRY_DISTANCES_SHORT,
             "a short distance buffer");
     require(shuntberry_within(store, words - 1, STATES, 0, 0).refusal == SHUNTBERRY_STORE_SHORT, "within, a short store");
-    require(shuntberry_write(store, words, STATES, 0, file, 511).refusal == SHUNTBERRY_OUTPUT_SHORT, "a short output");
-    require(shuntberry_read(file, 511, other, words).refusal == SHUNTBERRY_INPUT_LENGTH, "a length of 511");
+    require(shuntberry_write(store, words, STATES, 0, 0, file, 511).refusal == SHUNTBERRY_OUTPUT_SHORT, "a short output");
+    require(shuntberry_read(file, 511, 0, other, words).refusal == SHUNTBERRY_INPUT_LENGTH, "a length of 511");
     require(shuntberry_generate(0, 0, SHUNTBERRY_MAX_FAN_OUT + 1, other, words - 1) == SHUNTBERRY_STORE_SHORT, "a short store for a load");
     require(shuntberry_generate(0, 0, SHUNTBERRY_MAX_FAN_OUT + 1, other, words) == SHUNTBERRY_STATES, "a load of no states");
     require(shuntberry_generate(0, 1, SHUNTBERRY_MAX_FAN_OUT + 1, other, words) == SHUNTBERRY_FAN_OUT, "a fan-out over 16");
+}
+
+/* A file of one site at others; 24 behind 10 and before all else; null buffers beside a bad site. */
+static void sites(void)
+{
+    const size_t words = SHUNTBERRY_STORE_WORDS;
+    const size_t some[] = {0, 1, SHUNTBERRY_MAX_SITE};
+    const size_t far[] = {SHUNTBERRY_MAX_SITE + 1, (size_t)1 << 32, SIZE_MAX};
+
+    require(SHUNTBERRY_VERSION == 2, "the version");
+    for (size_t a = 0; a < 3; a++) {
+        struct shuntberry_file written = shuntberry_write(store, words, STATES, 0, some[a], file, sizeof file);
+        require(written.refusal == SHUNTBERRY_ACCEPTED, "write for a site");
+        for (size_t b = 0; b < 3; b++)
+            require(shuntberry_read(file, written.length, some[b], other, words).refusal ==
+                        (a == b ? SHUNTBERRY_ACCEPTED : SHUNTBERRY_BLOCK_CHECK),
+                    "read at a site");
+        for (size_t b = 0; b < 3; b++) {
+            require(shuntberry_read(file, 511, far[b], other, words).refusal == SHUNTBERRY_SITE, "a site over the greatest, and 11");
+            require(shuntberry_read(file, written.length, far[b], other, words - 1).refusal == SHUNTBERRY_STORE_SHORT,
+                    "a short store and a bad site");
+            require(shuntberry_write(store, words, 0, 1, far[b], file, 0).refusal == SHUNTBERRY_SITE, "a bad site and 14");
+            require(shuntberry_read(NULL, 0, far[b], other, words).refusal == SHUNTBERRY_SITE, "a draft at a bad site");
+            require(shuntberry_read(NULL, 0, far[b], NULL, 0).refusal == SHUNTBERRY_STORE_SHORT, "nothing at a bad site");
+            require(shuntberry_write(NULL, 0, 0, 0, far[b], NULL, 0).refusal == SHUNTBERRY_STORE_SHORT, "write of nothing at a bad site");
+        }
+    }
+}
+
+/* The corridor walked to its end, broken after two entries and from the start, and the two refusals. */
+static void replays(void)
+{
+    static uint8_t log[SHUNTBERRY_MAX_LOG + 2];
+    const size_t words = SHUNTBERRY_STORE_WORDS;
+
+    for (unsigned state = 0; state < STATES; state++) {
+        log[2 * state] = state % 256;
+        log[2 * state + 1] = (uint8_t)(state / 256);
+    }
+    struct shuntberry_replay walk = shuntberry_replay(store, words, STATES, 0, log, 2 * STATES);
+    require(walk.refusal == SHUNTBERRY_ACCEPTED && walk.followed == STATES && walk.seen == STATES &&
+                walk.percent == 100 && walk.remainder == 0,
+            "a whole walk");
+    walk = shuntberry_replay(store, words, STATES, 0, log, SHUNTBERRY_MAX_LOG);
+    require(walk.refusal == SHUNTBERRY_ACCEPTED && walk.followed == STATES && walk.seen == STATES, "the longest log");
+    log[4] = 1;
+    walk = shuntberry_replay(store, words, STATES, 0, log, 2 * STATES);
+    require(walk.refusal == SHUNTBERRY_ACCEPTED && walk.followed == 2 && walk.seen == 2 &&
+                walk.percent == 200 / STATES && walk.remainder == 200 % STATES,
+            "a broken walk");
+    walk = shuntberry_replay(store, words, STATES, 0, log + 2, 2);
+    require(walk.refusal == SHUNTBERRY_ACCEPTED && walk.followed == 0 && walk.seen == 0 && walk.percent == 0, "no walk");
+    require(shuntberry_replay(store, words, STATES, 0, log, 0).followed == 0, "an empty log");
+    require(shuntberry_replay(store, words, STATES, 0, log, SHUNTBERRY_MAX_LOG + 1).refusal == SHUNTBERRY_LOG_ODD,
+            "an odd length");
+    require(shuntberry_replay(store, words, STATES, 0, log, SHUNTBERRY_MAX_LOG + 2).refusal == SHUNTBERRY_LOG_LONG,
+            "a log that is too long");
 }
 
 /* An empty buffer as C and C++ have it: null and 0, for each buffer of each call; and an untouched draft. */
@@ -161,16 +220,19 @@ static void nothing(void)
     require(shuntberry_decide(NULL, 0, 0, 0, 0, NULL, 0).refusal == SHUNTBERRY_STORE_SHORT, "decide, nothing");
     require(shuntberry_shortest_path(NULL, 0, STATES, 0, path, room).refusal == SHUNTBERRY_STORE_SHORT, "path, no store");
     require(shuntberry_shortest_path(store, words, STATES, 0, NULL, 0).refusal == SHUNTBERRY_PATH_SHORT, "path, no path");
-    require(shuntberry_read(file, sizeof file, NULL, 0).refusal == SHUNTBERRY_STORE_SHORT, "read, no store");
-    require(shuntberry_read(NULL, 0, NULL, 0).refusal == SHUNTBERRY_STORE_SHORT, "read, nothing");
-    require(shuntberry_write(NULL, 0, STATES, 0, file, sizeof file).refusal == SHUNTBERRY_STORE_SHORT, "write, no store");
-    require(shuntberry_write(store, words, STATES, 0, NULL, 0).refusal == SHUNTBERRY_OUTPUT_SHORT, "write, no output");
+    require(shuntberry_read(file, sizeof file, 0, NULL, 0).refusal == SHUNTBERRY_STORE_SHORT, "read, no store");
+    require(shuntberry_read(NULL, 0, 0, NULL, 0).refusal == SHUNTBERRY_STORE_SHORT, "read, nothing");
+    require(shuntberry_write(NULL, 0, STATES, 0, 0, file, sizeof file).refusal == SHUNTBERRY_STORE_SHORT, "write, no store");
+    require(shuntberry_write(store, words, STATES, 0, 0, NULL, 0).refusal == SHUNTBERRY_OUTPUT_SHORT, "write, no output");
+    require(shuntberry_replay(NULL, 0, STATES, 0, NULL, 0).refusal == SHUNTBERRY_STORE_SHORT, "replay, nothing");
+    struct shuntberry_replay walk = shuntberry_replay(store, words, STATES, 0, NULL, 0);
+    require(walk.refusal == SHUNTBERRY_ACCEPTED && walk.followed == 0 && walk.seen == 0, "replay, no log");
 
     memset(other, PAINT, sizeof other);
-    struct shuntberry_table table = shuntberry_read(NULL, 0, other, words);
+    struct shuntberry_table table = shuntberry_read(NULL, 0, SHUNTBERRY_MAX_SITE, other, words);
     require(table.refusal == SHUNTBERRY_ACCEPTED && table.n == 0 && table.g == 0, "read of no bytes");
     require(memcmp(other, draft, sizeof draft) == 0, "read of no bytes makes each word 0");
-    struct shuntberry_file written = shuntberry_write(draft, words, 0, 0, NULL, 0);
+    struct shuntberry_file written = shuntberry_write(draft, words, 0, 0, SHUNTBERRY_MAX_SITE, NULL, 0);
     require(written.refusal == SHUNTBERRY_ACCEPTED && written.length == 0, "write of a draft");
     struct shuntberry_decision decision = shuntberry_decide(draft, words, 0, 0, 0, path, room);
     require(decision.refusal == SHUNTBERRY_ACCEPTED && decision.verdict == SHUNTBERRY_SAFE && decision.count == 0 &&
@@ -230,7 +292,9 @@ static void *on_painted_stack(void *unused)
     answers();
     load();
     refusals();
+    replays();
     nothing();
+    sites();
     release_windows();
     return NULL;
 }

@@ -4,28 +4,28 @@
 --   term-fits, sum-fits                     what the loop multiplies and adds fits a word
 --   sets-fit, contents-fit, contents-le     so does the length of the contents, which is at most that of the largest table
 use Prim.Native.Nat.{ℕ, _+_, _*_, _%_, _^_, _≤_, _<_}
-use native.Mathlib.Nat.{mul-le-mul}
+use native.Mathlib.Nat.{add-assoc, mul-le-mul}
 use native.Mathlib.Numerals.{add-one}
 use native.Mathlib.Omega.{arith}
-use mathlib.Core.Path.{_≡_, refl, sym, ap, ap₂, _∙_}
+use mathlib.Core.Path.{_≡_, sym, ap, ap₂, _∙_}
 use mathlib.Core.List.{List}
 use lib.ListN.{getD}
 use Rattle.model.specs.Sets.{WORDS, maxStates}
 use Rattle.model.specs.Stores.{headSets, maxGroups}
-use Rattle.model.specs.Blocks.{checkAt, modulus, weighted, checkOf}
+use Rattle.model.specs.Blocks.{checkAt, modulus, maxSite, weighted, checkOf}
 use Rattle.model.specs.Contents.{setWidth, headerBytes, contentLength}
 
 -- ---- the check
 
 -- each byte adds less than checkAt * 256
-pub record Summing (block : List ℕ) (sum i : ℕ) : Type 0 where
+pub record Summing (site : ℕ) (block : List ℕ) (sum i : ℕ) : Type 0 where
   pub within : i ≤ checkAt
-  pub is : sum ≡ weighted block i
-  pub low : sum ≤ 130560 * i
+  pub is : sum ≡ site + weighted block i
+  pub low : sum ≤ maxSite + 130560 * i
 
-pub sum-none : (block : List ℕ) → Summing block 0 0
+pub sum-none : (site : ℕ) (block : List ℕ) → site ≤ maxSite → Summing site block site 0
 unfolding weighted
-sum-none block = record { within = omega arith; is = refl; low = omega arith }
+sum-none site block h = record { within = omega arith; is = omega arith; low = omega arith }
 
 -- one byte more
 module _ {i x : ℕ} (h : i < checkAt) (l : x < 256) where
@@ -38,24 +38,27 @@ module _ {i x : ℕ} (h : i < checkAt) (l : x < 256) where
   pub term-fits : (i + 1) * x < 2 ^ 64
   term-fits = omega (arith, term-low)
 
-  module _ {block : List ℕ} {sum : ℕ} (s : Summing block sum i) where
+  module _ {site : ℕ} {block : List ℕ} {sum : ℕ} (s : Summing site block sum i) where
     pub sum-fits : sum + (i + 1) * x < 2 ^ 64
     sum-fits = omega (arith, term-low)
 
-    pub sum-more : x ≡ getD block i 0 → Summing block (sum + (i + 1) * x) (i + 1)
+    pub sum-more : x ≡ getD block i 0 → Summing site block (sum + (i + 1) * x) (i + 1)
     unfolding weighted
     sum-more e =
         record {
           within = omega arith;
-          is = ap₂ (λ (a b : ℕ). a + (i + 1) * b) (s .is) e ∙ sym (ap (weighted block) (add-one i));
+          is =
+              ap₂ (λ (a b : ℕ). a + (i + 1) * b) (s .is) e
+              ∙ add-assoc site (weighted block i) ((i + 1) * getD block i 0)
+              ∙ ap (λ (x : ℕ). site + x) (sym (ap (weighted block) (add-one i)));
           low = omega (arith, term-low);
         }
 
-pub sum-all : {block : List ℕ} {sum i : ℕ} → Summing block sum i → checkAt ≤ i → sum % modulus ≡ checkOf block
+pub sum-all : {site : ℕ} {block : List ℕ} {sum i : ℕ} → Summing site block sum i → checkAt ≤ i → sum % modulus ≡ checkOf site block
 unfolding checkOf
-sum-all {block} {sum} {i} s h =
+sum-all {site} {block} {sum} {i} s h =
     let done : i ≡ checkAt = omega arith in
-    ap (λ (x : ℕ). x % modulus) (s .is ∙ ap (weighted block) done)
+    ap (λ (x : ℕ). x % modulus) (s .is ∙ ap (λ (j : ℕ). site + weighted block j) done)
 
 -- ---- lengths
 

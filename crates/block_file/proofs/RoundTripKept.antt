@@ -24,26 +24,26 @@ refused k e = eqb-false k 0 (not-true (eqb k 0) e)
 pub calls-round-trip : CallsRoundTrip
 calls-round-trip =
     record {
-      write-read = λ store n g out w out′ other r other′ cw e words cr long.
-          let file : take ((writtenOf w) .length) out′ ≡ take ((writeAnswer store n g (length out)) .length) (writeBuffer store n g out) =
+      write-read = λ store n g site out w out′ other r other′ cw e words cr long.
+          let file : take ((writtenOf w) .length) out′ ≡ take ((writeAnswer store n g site (length out)) .length) (writeBuffer store n g site out) =
           ap₂ (λ (a : WriteNumbers) (xs : List ℕ). take (a .length) xs) (cw .0) (cw .1) in
-          let back = round-trips .write-read store n g out other words long (accepted _ (sym (cw .2) ∙ e)) in (
-            cr .2 ∙ ap (λ (a : ReadNumbers). not (eqb (a .refusal) 0)) (ap (λ (f : List ℕ). readAnswer f (length other)) file ∙ back .answer),
-            cr .0 ∙ ap (λ (f : List ℕ). readAnswer f (length other)) file ∙ back .answer,
-            cr .1 ∙ ap (λ (f : List ℕ). readBuffer f other) file ∙ back .buffer,
+          let back = round-trips .write-read store n g site out other words long (accepted _ (sym (cw .2) ∙ e)) in (
+            cr .2 ∙ ap (λ (a : ReadNumbers). not (eqb (a .refusal) 0)) (ap (λ (f : List ℕ). readAnswer f site (length other)) file ∙ back .answer),
+            cr .0 ∙ ap (λ (f : List ℕ). readAnswer f site (length other)) file ∙ back .answer,
+            cr .1 ∙ ap (λ (f : List ℕ). readBuffer f site other) file ∙ back .buffer,
           );
-      read-write = λ input store r store′ out w out′ cr e bytes cw long.
-          let back = round-trips .read-write input store out bytes long (accepted _ (sym (cr .2) ∙ e)) in
-          let answer = ap₂ (λ (xs : List ℕ) (a : ReadNumbers). writeAnswer xs (a .n) (a .g) (length out)) (cr .1) (cr .0) ∙ back .answer in (
+      read-write = λ input site store r store′ out w out′ cr e bytes cw long.
+          let back = round-trips .read-write input site store out bytes long (accepted _ (sym (cr .2) ∙ e)) in
+          let answer = ap₂ (λ (xs : List ℕ) (a : ReadNumbers). writeAnswer xs (a .n) (a .g) site (length out)) (cr .1) (cr .0) ∙ back .answer in (
             cw .2 ∙ ap (λ (a : WriteNumbers). not (eqb (a .refusal) 0)) answer,
             cw .0 ∙ answer,
-            cw .1 ∙ ap₂ (λ (xs : List ℕ) (a : ReadNumbers). writeBuffer xs (a .n) (a .g) out) (cr .1) (cr .0) ∙ back .buffer,
+            cw .1 ∙ ap₂ (λ (xs : List ℕ) (a : ReadNumbers). writeBuffer xs (a .n) (a .g) site out) (cr .1) (cr .0) ∙ back .buffer,
           );
     }
 
 pub calls-declined : CallsDeclined
 calls-declined =
     record {
-      read = λ input store r store′ c f. c .1 ∙ untouched .read input store (refused _ (sym (c .2) ∙ f));
-      write = λ store n g out w out′ c f. c .1 ∙ untouched .write store n g out (refused _ (sym (c .2) ∙ f));
+      read = λ input site store r store′ c f. c .1 ∙ untouched .read input site store (refused _ (sym (c .2) ∙ f));
+      write = λ store n g site out w out′ c f. c .1 ∙ untouched .write store n g site out (refused _ (sym (c .2) ∙ f));
     }

@@ -9,7 +9,7 @@
 --   blockFront, block-written            a block up to its check, and with it
 --   blocksOf, blocks-none, blocks-more   a loop that writes blocks
 --   held                                 where no shared ground holds, the store is long enough and n and g are in bounds
---   declined-shared, draft-written, declined-room, written   the contract of `write` in each case
+--   declined-short, declined-site, declined-shared, draft-written, declined-room, written   the contract of `write` in each case
 use Prim.Native.Nat.{ℕ, zero, suc, _+_, _*_, _-_, _/_, _%_, _^_, _≤_, _<_}
 use native.Mathlib.Nat.{div-add-mod}
 use native.Mathlib.Omega.{arith}
@@ -18,11 +18,11 @@ use mathlib.Core.List.{List, [], _∷_, _++_}
 use borrow.Author.Tests.{lt-ltb, ne-eqb}
 use lib.ListN.{set, length, getD, take, drop, List·getD-append}
 use Rattle.model.specs.Sets.{WORDS, maxStates, Set, member, number}
-use Rattle.model.specs.Stores.{headSets, forbiddenAt, groupAt, rowAt, setAt, tableOf, concat, refuse, sharedGrounds}
-use Rattle.model.specs.Blocks.{blockBytes, contentBytes, checkAt, le16, blocksFor, checkOf, blockOf}
+use Rattle.model.specs.Stores.{headSets, forbiddenAt, groupAt, rowAt, storeWords, setAt, tableOf, concat, refuse, sharedGrounds}
+use Rattle.model.specs.Blocks.{blockBytes, contentBytes, checkAt, maxSite, le16, blocksFor, checkOf, blockOf}
 use Rattle.model.specs.Contents.{setWidth, sets, headerBytes, contents, contentLength}
 use Rattle.model.specs.Files.{blockFile, fileOf, fileLength}
-use Rattle.model.specs.Calls.{overwrite, writeGrounds, writeAnswer, writeBuffer}
+use Rattle.model.specs.Calls.{overwrite, outputGround, writeGrounds, writeAnswer, writeBuffer}
 use Rattle.model.proofs.Bounds.{length-tabulate, getD-tabulate}
 use Rattle.model.proofs.ListLaws.{getD-behind, getD-past, div-below, mod-below, length-concat, concat-next, overwrite-front, overwrite-set}
 use Rattle.model.proofs.GroundLaws.{refuse-take, refuse-append}
@@ -30,7 +30,7 @@ use Rattle.model.proofs.BlockLaws.{checkOf-cong, block-unique, framed-is, block
 use Rattle.model.proofs.ContentLaws.{byte-number, sets-each, length-contents, contents-header, contents-set}
 use Rattle.model.proofs.StoreLaws.{getD-setAt, row-is}
 use Rattle.model.proofs.FileLaws.{file-draft, file-blocks, length-draft, length-blocks}
-use Rattle.model.proofs.CallLaws.{Writable, write-answer, write-buffer}
+use Rattle.model.proofs.CallLaws.{Writable, write-over, write-behind, write-answer, write-buffer}
 use Rattle.model.proofs.Acceptance.{Store, accepted-store, store-accepted}
 use Rattle.block_file.specs.declared.writing.Written.the-variants.{File, Refused}
 use Rattle.block_file.specs.WriteAnswers.{CalledWrite}
@@ -157,41 +157,41 @@ module _ (bytes : List ℕ) (k : ℕ) where
   pub length-blockFront : length blockFront ≡ checkAt
   length-blockFront = omega (arith, content-long)
 
-  blockFront-is : blockFront ++ le16 (checkOf blockFront) ≡ blockOf bytes k
+  blockFront-is : (site : ℕ) → blockFront ++ le16 (checkOf site blockFront) ≡ blockOf site bytes k
   unfolding contentFrom
-  blockFront-is =
-      block-unique (framed-is bytes k (contentFrom bytes (contentBytes * k) contentBytes) content-long (λ i h. getD-tabulate _ contentBytes i 0 h)) (blockOf-is bytes k)
+  blockFront-is site =
+      block-unique (framed-is site bytes k (contentFrom bytes (contentBytes * k) contentBytes) content-long (λ i h. getD-tabulate _ contentBytes i 0 h)) (blockOf-is site bytes k)
 
   -- with the check taken of the buffer
-  pub block-written : (old out : List ℕ) (check : ℕ) → out ≡ overwrite blockFront old → check ≡ checkOf out
-      → overwrite (blockFront ++ le16 check) old ≡ overwrite (blockOf bytes k) old
-  block-written old out check e f =
-      let same : checkOf out ≡ checkOf blockFront =
-      ap checkOf e ∙ checkOf-cong (overwrite blockFront old) blockFront (λ i h. overwrite-front blockFront old i 0 (omega (arith, length-blockFront))) in
-      ap (λ (x : ℕ). overwrite (blockFront ++ le16 x) old) (f ∙ same) ∙ ap (λ xs. overwrite xs old) blockFront-is
+  pub block-written : (site : ℕ) (old out : List ℕ) (check : ℕ) → out ≡ overwrite blockFront old → check ≡ checkOf site out
+      → overwrite (blockFront ++ le16 check) old ≡ overwrite (blockOf site bytes k) old
+  block-written site old out check e f =
+      let same : checkOf site out ≡ checkOf site blockFront =
+      ap (checkOf site) e ∙ checkOf-cong site (overwrite blockFront old) blockFront (λ i h. overwrite-front blockFront old i 0 (omega (arith, length-blockFront))) in
+      ap (λ (x : ℕ). overwrite (blockFront ++ le16 x) old) (f ∙ same) ∙ ap (λ xs. overwrite xs old) (blockFront-is site)
 
 -- ---- the blocks
 
 -- the first k blocks of a file with these contents
-abbrev pub blocksOf : List ℕ → ℕ → List ℕ
-blocksOf bytes k = concat k (blockOf bytes)
+abbrev pub blocksOf : ℕ → List ℕ → ℕ → List ℕ
+blocksOf site bytes k = concat k (blockOf site bytes)
 
-module _ (bytes old : List ℕ) where
-  pub blocks-none : Over (blocksOf bytes 0) old old
+module _ (site : ℕ) (bytes old : List ℕ) where
+  pub blocks-none : Over (blocksOf site bytes 0) old old
   unfolding concat overwrite
   blocks-none = record { long = refl; is = refl }
 
-  pub blocks-more : (out rest : List ℕ) (k : ℕ) → Over (blocksOf bytes k) old out
-      → rest ≡ overwrite (blockOf bytes k) (take (length out - blockBytes * k) (drop (blockBytes * k) out))
+  pub blocks-more : (out rest : List ℕ) (k : ℕ) → Over (blocksOf site bytes k) old out
+      → rest ≡ overwrite (blockOf site bytes k) (take (length out - blockBytes * k) (drop (blockBytes * k) out))
       → length (take (blockBytes * k) out ++ (rest ++ drop (length out - blockBytes * k) (drop (blockBytes * k) out))) ≡ length out
-      → Over (blocksOf bytes (k + 1)) old (take (blockBytes * k) out ++ (rest ++ drop (length out - blockBytes * k) (drop (blockBytes * k) out)))
+      → Over (blocksOf site bytes (k + 1)) old (take (blockBytes * k) out ++ (rest ++ drop (length out - blockBytes * k) (drop (blockBytes * k) out)))
   blocks-more out rest k w e long =
       record {
         long = long ∙ w .long;
         is =
-            overwrite-lent (blocksOf bytes k) (blockOf bytes k) old out rest (blockBytes * k)
-            (length-concat (blockOf bytes) blockBytes k (λ j h. (blockOf-is bytes j) .long)) (w .is) e
-            ∙ ap (λ xs. overwrite xs old) (sym (concat-next (blockOf bytes) k));
+            overwrite-lent (blocksOf site bytes k) (blockOf site bytes k) old out rest (blockBytes * k)
+            (length-concat (blockOf site bytes) blockBytes k (λ j h. (blockOf-is site bytes j) .long)) (w .is) e
+            ∙ ap (λ xs. overwrite xs old) (sym (concat-next (blockOf site bytes) k));
       }
 
 -- ---- the call
@@ -200,55 +200,63 @@ module _ (bytes old : List ℕ) where
 pub held : (store : List ℕ) (n g k : ℕ) → k ≡ refuse (sharedGrounds store n g) → k ≡ 0 → LongEnough store n g
 held store n g k e z = let s = accepted-store store n g [] (sym e ∙ z) .0 in record { long = s .long; small = s .small; few = s .few }
 
-module _ (store : List ℕ) (n g : ℕ) (out : List ℕ) where
+module _ (store : List ℕ) (n g site : ℕ) (out : List ℕ) where
   -- a ground k holds
-  declined : (k : ℕ) → k ≡ refuse (writeGrounds store n g (length out)) → (k ≡ 0 → ⊥) → CalledWrite store n g out (Refused k) out
+  declined : (k : ℕ) → k ≡ refuse (writeGrounds store n g site (length out)) → (k ≡ 0 → ⊥) → CalledWrite store n g site out (Refused k) out
   unfolding writeAnswer writeBuffer
   declined k e f = let no = ne-eqb k 0 f in (rw (← e, no), rw (← e, no, no), rw (← e, no, no))
 
   -- none holds, and l bytes are written
-  accepted : {l : ℕ} {after : List ℕ} → Writable store n g (length out) → l ≡ fileLength n g → after ≡ overwrite (fileOf (tableOf store n g)) out
-      → CalledWrite store n g out (File l) after
+  accepted : {l : ℕ} {after : List ℕ} → Writable store n g site (length out) → l ≡ fileLength n g → after ≡ overwrite (fileOf site (tableOf store n g)) out
+      → CalledWrite store n g site out (File l) after
   accepted w e f =
-      let answer = write-answer store n g (length out) w in
-      (ap (λ (m : ℕ). record { refusal = 0; length = m }) e ∙ sym answer, f ∙ sym (write-buffer store n g out w), rw answer)
+      let answer = write-answer store n g site (length out) w in
+      (ap (λ (m : ℕ). record { refusal = 0; length = m }) e ∙ sym answer, f ∙ sym (write-buffer store n g site out w), rw answer)
+
+  pub declined-short : length store < storeWords → CalledWrite store n g site out (Refused 10) out
+  unfolding writeGrounds
+  declined-short h = declined 10 (sym (refuse-take _ 10 _ (lt-ltb (length store) storeWords h))) (λ x. omega arith)
+
+  pub declined-site : storeWords ≤ length store → maxSite < site → CalledWrite store n g site out (Refused 24) out
+  declined-site long h = declined 24 (sym (write-over store n g site (length out) long h)) (λ x. omega arith)
 
   -- k is the first of the grounds that the calls share, or 0
-  module _ (k : ℕ) (e : k ≡ refuse (sharedGrounds store n g)) where
-    pub declined-shared : (k ≡ 0 → ⊥) → CalledWrite store n g out (Refused k) out
-    unfolding writeGrounds
-    declined-shared f = declined k (refuse-append (sharedGrounds store n g) _ e f) f
+  module _ (long : storeWords ≤ length store) (known : site ≤ maxSite) (k : ℕ) (e : k ≡ refuse (sharedGrounds store n g)) where
+    behind : refuse (writeGrounds store n g site (length out)) ≡ refuse (sharedGrounds store n g ++ (outputGround n g (length out) ∷ []))
+    behind = write-behind store n g site (length out) long known
+
+    pub declined-shared : (k ≡ 0 → ⊥) → CalledWrite store n g site out (Refused k) out
+    declined-shared f = declined k (refuse-append (sharedGrounds store n g) _ e f ∙ sym behind) f
 
     module _ (z : k ≡ 0) where
       table-held : Store store n g
       table-held = accepted-store store n g [] (sym e ∙ z) .0
 
-      pub draft-written : n ≡ 0 → CalledWrite store n g out (File 0) out
+      pub draft-written : n ≡ 0 → CalledWrite store n g site out (File 0) out
       unfolding overwrite tableOf
       draft-written d =
           let none = length-draft n g d in
-          accepted (record { held = table-held; fits = omega (arith, none) }) (sym none)
-          (ap (λ xs. overwrite xs out) (sym (file-draft (tableOf store n g) d)))
+          accepted (record { held = table-held; known = known; fits = omega (arith, none) }) (sym none)
+          (ap (λ xs. overwrite xs out) (sym (file-draft site (tableOf store n g) d)))
 
       module _ (some : n ≡ 0 → ⊥) (blocks : ℕ) (b : blocks ≡ blocksFor (contentLength n g)) where
         size : fileLength n g ≡ blockBytes * blocks
         size = length-blocks n g some ∙ ap (λ (m : ℕ). blockBytes * m) (sym b)
 
-        pub declined-room : length out < blockBytes * blocks → CalledWrite store n g out (Refused 19) out
-        unfolding writeGrounds
+        pub declined-room : length out < blockBytes * blocks → CalledWrite store n g site out (Refused 19) out
         declined-room h =
             declined 19
             (sym
-            (store-accepted store n g _ table-held ∙ refuse-take _ 19 _ (lt-ltb (length out) (fileLength n g) (omega (arith, size)))))
+            (behind ∙ store-accepted store n g _ table-held ∙ refuse-take _ 19 _ (lt-ltb (length out) (fileLength n g) (omega (arith, size)))))
             (λ x. omega arith)
 
-        pub written : (after : List ℕ) → blockBytes * blocks ≤ length out → after ≡ overwrite (concat blocks (blockOf (contents (tableOf store n g)))) out
-            → CalledWrite store n g out (File (blockBytes * blocks)) after
+        pub written : (after : List ℕ) → blockBytes * blocks ≤ length out → after ≡ overwrite (concat blocks (blockOf site (contents (tableOf store n g)))) out
+            → CalledWrite store n g site out (File (blockBytes * blocks)) after
         unfolding blockFile tableOf
         written after h w =
             let t = tableOf store n g in
             let many = ap (λ (l : ℕ). blocksFor l) (length-contents t (length-tabulate _ g)) in
-            accepted (record { held = table-held; fits = omega (arith, size) }) (sym size)
+            accepted (record { held = table-held; known = known; fits = omega (arith, size) }) (sym size)
             (w
-            ∙ ap (λ (m : ℕ). overwrite (concat m (blockOf (contents t))) out) (b ∙ sym many)
-            ∙ ap (λ xs. overwrite xs out) (sym (file-blocks t some)))
+            ∙ ap (λ (m : ℕ). overwrite (concat m (blockOf site (contents t))) out) (b ∙ sym many)
+            ∙ ap (λ xs. overwrite xs out) (sym (file-blocks site t some)))

@@ -23,8 +23,8 @@ isRefused (Table n g) = false
 isRefused (Refused k) = true
 
 -- The store before the call and after it.
-abbrev pub CalledRead : List ℕ → List ℕ → TableRead → List ℕ → Type 0
-CalledRead input before r after =
-    (readOf r ≡ readAnswer input (length before))
-    × (after ≡ readBuffer input before)
-    × (isRefused r ≡ not (eqb ((readAnswer input (length before)) .refusal) 0))
+abbrev pub CalledRead : List ℕ → ℕ → List ℕ → TableRead → List ℕ → Type 0
+CalledRead input site before r after =
+    (readOf r ≡ readAnswer input site (length before))
+    × (after ≡ readBuffer input site before)
+    × (isRefused r ≡ not (eqb ((readAnswer input site (length before)) .refusal) 0))

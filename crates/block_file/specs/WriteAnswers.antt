@@ -23,8 +23,8 @@ isRefused (File l) = false
 isRefused (Refused k) = true
 
 -- The output before the call and after it.
-abbrev pub CalledWrite : List ℕ → ℕ → ℕ → List ℕ → Written → List ℕ → Type 0
-CalledWrite store n g before r after =
-    (writtenOf r ≡ writeAnswer store n g (length before))
-    × (after ≡ writeBuffer store n g before)
-    × (isRefused r ≡ not (eqb ((writeAnswer store n g (length before)) .refusal) 0))
+abbrev pub CalledWrite : List ℕ → ℕ → ℕ → ℕ → List ℕ → Written → List ℕ → Type 0
+CalledWrite store n g site before r after =
+    (writtenOf r ≡ writeAnswer store n g site (length before))
+    × (after ≡ writeBuffer store n g site before)
+    × (isRefused r ≡ not (eqb ((writeAnswer store n g site (length before)) .refusal) 0))

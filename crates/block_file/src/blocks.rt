@@ -4,7 +4,7 @@
 //   HEADER                                   the content bytes of n and g, which stand before the sets
 //   wide                                     a byte as a 64-bit number
 //   le16_at                                  the number whose two bytes stand at a place, low byte first
-//   check_of                                 the check of a block
+//   MAX_SITE, check_of                       the greatest site number; the check of a block for a site
 //   set_width, content_length, blocks_for    the bytes of a set, those of the contents (L), the blocks that hold so many
 //   place_of                                 where a set of the file begins in the store
 ghost use Prim.Native.Nat.{_+_, _≤_, _<_};
@@ -12,7 +12,7 @@ ghost use mathlib.Core.Path.{_≡_};
 ghost use lib.ListN.{length};
 ghost use Rattle.model.specs.Sets.{WORDS, maxStates};
 ghost use Rattle.model.specs.Stores.{headSets, maxGroups, storeWords};
-ghost use Rattle.model.specs.Blocks.{checkAt, le16At, blocksFor, checkOf};
+ghost use Rattle.model.specs.Blocks.{checkAt, maxSite, le16At, blocksFor, checkOf};
 ghost use Rattle.model.specs.Contents.{setWidth, contentLength};
 ghost use Rattle.block_file.specs.Places.{placeOf};
 use state_set::WORDS;
@@ -29,6 +29,8 @@ pub const CHECK_AT: usize = 510;
 
 pub const HEADER: usize = 4;
 
+pub const MAX_SITE: usize = 65520;
+
 pub fn wide(b: u8) -> u64
     ensures { λ r. ⌜ (r ≡ b) × (r < 256) ⌝ }
 {
@@ -42,12 +44,12 @@ pub fn le16_at(bytes: &[u8], i: usize) -> usize
     (wide(bytes[i]) + 256 * wide(bytes[i + 1])) as usize
 }
 
-// The sum stays below 2^64 by far, so it is reduced once, at the end.
-pub fn check_of(block: &[u8]) -> u64
-    requires { ⌜ checkAt ≤ length (now block) ⌝ }
-    ensures { λ r. ⌜ r ≡ checkOf (now (block .entry)) ⌝ }
+// The sum starts from the site. It stays below 2^64 by far, so it is reduced once, at the end.
+pub fn check_of(block: &[u8], site: usize) -> u64
+    requires { ⌜ (checkAt ≤ length (now block)) × (site ≤ maxSite) ⌝ }
+    ensures { λ r. ⌜ r ≡ checkOf site (now (block .entry)) ⌝ }
 {
-    let mut sum: u64 = 0;
+    let mut sum: u64 = site as u64;
     for i in 0..CHECK_AT {
         sum += (i as u64 + 1) * wide(block[i]);
     }

@@ -14,7 +14,7 @@ ghost use Prim.Native.Nat.{_+_, _*_, _/_, _≤_, _<_};
 ghost use lib.ListN.{length, getD};
 ghost use Rattle.model.specs.Sets.{WORDS, member, number, any};
 ghost use Rattle.model.specs.Stores.{headSets, storeWords, layout, refuse, beyond, nonZero};
-ghost use Rattle.model.specs.Blocks.{blockBytes, contentBytes, contentsOf, blockGrounds};
+ghost use Rattle.model.specs.Blocks.{blockBytes, contentBytes, maxSite, contentsOf, blockGrounds};
 ghost use Rattle.model.specs.Contents.{setWidth, headerBytes, setIn, setNumber, tableIn};
 ghost use Rattle.model.specs.Calls.{overwrite, blocksGrounds, contentGrounds, readGrounds};
 ghost use Rattle.block_file.specs.Reading.{SetInside, TableInside, cleared, fillSets};
@@ -24,6 +24,7 @@ use crate::blocks::CHECK_AT;
 use crate::blocks::CONTENT;
 use crate::blocks::CONTENT_AT;
 use crate::blocks::HEADER;
+use crate::blocks::MAX_SITE;
 use crate::blocks::blocks_for;
 use crate::blocks::check_of;
 use crate::blocks::content_length;
@@ -49,10 +50,10 @@ pub enum TableRead {
 }
 
 // Nothing is put into the store before the last ground has been looked at. An input of no bytes is an untouched draft.
-pub fn read(input: &[u8], store: &mut [u64]) -> TableRead
-    ensures { λ r. ⌜ CalledRead (now (input .entry)) (now (store .entry)) r (now (store .exit)) ⌝ }
+pub fn read(input: &[u8], site: usize, store: &mut [u64]) -> TableRead
+    ensures { λ r. ⌜ CalledRead (now (input .entry)) site (now (store .entry)) r (now (store .exit)) ⌝ }
 {
-    let fault = refusal(input, store.len());
+    let fault = refusal(input, site, store.len());
     if fault != 0 {
         return TableRead::Refused(fault);
     }
@@ -68,12 +69,15 @@ pub fn read(input: &[u8], store: &mut [u64]) -> TableRead
 
 // ---- grounds
 
-// Why an input is declined where the store has `room` words, or 0. One of no bytes has no other ground.
-fn refusal(input: &[u8], room: usize) -> u8
-    ensures { λ r. ⌜ r ≡ refuse (readGrounds (now (input .entry)) room) ⌝ }
+// Why an input is declined where the store has `room` words, or 0. One of no bytes has no ground but 10 and 24.
+fn refusal(input: &[u8], site: usize, room: usize) -> u8
+    ensures { λ r. ⌜ r ≡ refuse (readGrounds (now (input .entry)) site room) ⌝ }
 {
     if room < STORE_WORDS {
         return 10;
+    }
+    if MAX_SITE < site {
+        return 24;
     }
     if input.len() == 0 {
         return 0;
@@ -84,7 +88,7 @@ fn refusal(input: &[u8], room: usize) -> u8
     if MAX_FILE < input.len() {
         return 11;
     }
-    let fault = first_fault(input);
+    let fault = first_fault(input, site);
     if fault != 0 {
         return fault;
     }
@@ -94,13 +98,14 @@ fn refusal(input: &[u8], room: usize) -> u8
 }
 
 // What is wrong with the first block that has a fault, or 0.
-fn first_fault(input: &[u8]) -> u8
-    ensures { λ r. ⌜ r ≡ refuse (blocksGrounds (now (input .entry))) ⌝ }
+fn first_fault(input: &[u8], site: usize) -> u8
+    requires { ⌜ site ≤ maxSite ⌝ }
+    ensures { λ r. ⌜ r ≡ refuse (blocksGrounds (now (input .entry)) site) ⌝ }
 {
     for k in 0..input.len() / BLOCK {
         let a = BLOCK * k;
         let e = a + BLOCK;
-        let fault = block_fault(&input[a..e], k);
+        let fault = block_fault(&input[a..e], site, k);
         if fault != 0 {
             return fault;
         }
@@ -109,13 +114,13 @@ fn first_fault(input: &[u8]) -> u8
 }
 
 // What is wrong with block k, or 0.
-fn block_fault(block: &[u8], k: usize) -> u8
-    requires { ⌜ length (now block) ≡ blockBytes ⌝ }
-    ensures { λ r. ⌜ r ≡ refuse (blockGrounds (now (block .entry)) k) ⌝ }
+fn block_fault(block: &[u8], site: usize, k: usize) -> u8
+    requires { ⌜ (length (now block) ≡ blockBytes) × (site ≤ maxSite) ⌝ }
+    ensures { λ r. ⌜ r ≡ refuse (blockGrounds site (now (block .entry)) k) ⌝ }
 {
     let number = le16_at(block, 0);
     let check = le16_at(block, CHECK_AT) as u64;
-    let sum = check_of(block);
+    let sum = check_of(block, site);
     if number != k {
         return 12;
     }

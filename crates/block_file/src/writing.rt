@@ -13,7 +13,7 @@ ghost use mathlib.Core.Path.{_≡_};
 ghost use lib.ListN.{length, getD};
 ghost use Rattle.model.specs.Sets.{WORDS, member, number};
 ghost use Rattle.model.specs.Stores.{headSets, setAt, tableOf, concat};
-ghost use Rattle.model.specs.Blocks.{blockBytes, contentBytes, le16, blockOf};
+ghost use Rattle.model.specs.Blocks.{blockBytes, contentBytes, maxSite, le16, blockOf};
 ghost use Rattle.model.specs.Contents.{setWidth, headerBytes, contents};
 ghost use Rattle.model.specs.Calls.{overwrite};
 ghost use Rattle.block_file.specs.WriteAnswers.{CalledWrite};
@@ -23,11 +23,13 @@ use crate::blocks::CHECK_AT;
 use crate::blocks::CONTENT;
 use crate::blocks::CONTENT_AT;
 use crate::blocks::HEADER;
+use crate::blocks::MAX_SITE;
 use crate::blocks::blocks_for;
 use crate::blocks::check_of;
 use crate::blocks::content_length;
 use crate::blocks::place_of;
 use crate::blocks::set_width;
+use table::STORE_WORDS;
 use table::refusal;
 
 pub enum Written {
@@ -37,9 +39,15 @@ pub enum Written {
 }
 
 // Nothing is written before the last ground of refusal has been tested. A draft is a file of no bytes, for which no output is too short.
-pub fn write(store: &[u64], n: usize, g: usize, output: &mut [u8]) -> Written
-    ensures { λ r. ⌜ CalledWrite (now (store .entry)) n g (now (output .entry)) r (now (output .exit)) ⌝ }
+pub fn write(store: &[u64], n: usize, g: usize, site: usize, output: &mut [u8]) -> Written
+    ensures { λ r. ⌜ CalledWrite (now (store .entry)) n g site (now (output .entry)) r (now (output .exit)) ⌝ }
 {
+    if store.len() < STORE_WORDS {
+        return Written::Refused(10);
+    }
+    if MAX_SITE < site {
+        return Written::Refused(24);
+    }
     let declined = refusal(store, n, g);
     if declined != 0 {
         return Written::Refused(declined);
@@ -53,28 +61,28 @@ pub fn write(store: &[u64], n: usize, g: usize, output: &mut [u8]) -> Written
     if output.len() < size {
         return Written::Refused(19);
     }
-    write_blocks(store, n, g, blocks, output);
+    write_blocks(store, n, g, site, blocks, output);
     Written::File(size)
 }
 
 // The number of a block has two bytes.
-fn write_blocks(store: &[u64], n: usize, g: usize, blocks: usize, out: &mut [u8])
-    requires { ⌜ LongEnough (now store) n g × (blocks ≤ 65536) × (blockBytes * blocks ≤ length (now out)) ⌝ }
-    ensures { λ r. ⌜ now (out .exit) ≡ overwrite (concat blocks (blockOf (contents (tableOf (now (store .entry)) n g)))) (now (out .entry)) ⌝ }
+fn write_blocks(store: &[u64], n: usize, g: usize, site: usize, blocks: usize, out: &mut [u8])
+    requires { ⌜ LongEnough (now store) n g × (site ≤ maxSite) × (blocks ≤ 65536) × (blockBytes * blocks ≤ length (now out)) ⌝ }
+    ensures { λ r. ⌜ now (out .exit) ≡ overwrite (concat blocks (blockOf site (contents (tableOf (now (store .entry)) n g)))) (now (out .entry)) ⌝ }
 {
     for k in 0..blocks {
         let at = BLOCK * k;
-        write_block(store, n, g, k, &mut out[at..]);
+        write_block(store, n, g, site, k, &mut out[at..]);
     }
 }
 
-fn write_block(store: &[u64], n: usize, g: usize, k: usize, out: &mut [u8])
-    requires { ⌜ LongEnough (now store) n g × (k < 65536) × (blockBytes ≤ length (now out)) ⌝ }
-    ensures { λ r. ⌜ now (out .exit) ≡ overwrite (blockOf (contents (tableOf (now (store .entry)) n g)) k) (now (out .entry)) ⌝ }
+fn write_block(store: &[u64], n: usize, g: usize, site: usize, k: usize, out: &mut [u8])
+    requires { ⌜ LongEnough (now store) n g × (site ≤ maxSite) × (k < 65536) × (blockBytes ≤ length (now out)) ⌝ }
+    ensures { λ r. ⌜ now (out .exit) ≡ overwrite (blockOf site (contents (tableOf (now (store .entry)) n g)) k) (now (out .entry)) ⌝ }
 {
     write_le16(k, out);
     write_content(store, n, g, CONTENT * k, &mut out[CONTENT_AT..]);
-    let check = check_of(out) as usize;
+    let check = check_of(out, site) as usize;
     write_le16(check, &mut out[CHECK_AT..]);
 }
 

@@ -9,7 +9,7 @@ use native.Mathlib.Nat.{le-refl}
 use native.Mathlib.Omega.{arith}
 use mathlib.Core.Path.{_≡_, sym, ap, _∙_}
 use mathlib.Core.Bool.{cond, or-true}
-use mathlib.Core.List.{List, [], _∷_}
+use mathlib.Core.List.{List}
 use borrow.Author.Tests.{lt-ltb, ne-eqb}
 use lib.Dec.{eqb}
 use lib.ListN.{length}
@@ -17,12 +17,12 @@ use Rattle.model.specs.Sets.{maxStates}
 use Rattle.model.specs.Rounds.{run}
 use Rattle.model.specs.Stores.{storeWords, tableOf, refuse}
 use Rattle.model.specs.Files.{maxFile}
-use Rattle.model.specs.Calls.{release, decideLimits, decideGrounds, decisionOf, declined, decideAnswer, badLength, fileGrounds, readGrounds, readAnswer, Written, outputGround, writeGrounds}
+use Rattle.model.specs.Calls.{release, decideLimits, decideGrounds, decisionOf, declined, decideAnswer, badLength, fileGrounds, readGrounds, readAnswer, Written}
 use Rattle.model.specs.Promises.{Accepted}
 use Rattle.model.specs.RoundTrip.{Bounded}
-use Rattle.model.proofs.CallLaws.{write-refusal}
+use Rattle.model.proofs.CallLaws.{write-refusal, writable}
 use Rattle.model.proofs.RoundTrips.{round-trips}
-use Rattle.model.proofs.Acceptance.{Store, accepted-store, store-accepted}
+use Rattle.model.proofs.Acceptance.{Store, store-accepted}
 use Rattle.model.proofs.Kept.{not-refused, promises}
 use Rattle.report.specs.Text.{refusedText}
 use Rattle.check_file.specs.CheckText.{zeroStore, zeroPath, tableText, checkText}
@@ -35,13 +35,12 @@ held-accepted store n g held =
     let clear = store-accepted store n g (decideLimits release maxStates) held in
     record { accepted = ap (λ (k : ℕ). (cond (eqb k 0) (decisionOf t (run t release)) (declined k)) .refusal) clear ∙ not-refused t (run t release) }
 
-module _ (input : List ℕ) (bytes : Bounded 256 input) (e : (readAnswer input storeWords) .refusal ≡ 0) where
+module _ (input : List ℕ) (bytes : Bounded 256 input) (e : (readAnswer input 0 storeWords) .refusal ≡ 0) where
   file-held : Store (fileStore input) (fileStates input) (fileGroups input)
-  unfolding writeGrounds
   file-held =
-      let written = round-trips .read-write input zeroStore input bytes (le-refl (length input)) e .answer in
-      accepted-store _ _ _ (outputGround (fileStates input) (fileGroups input) (length input) ∷ [])
-      (sym (write-refusal (fileStore input) (fileStates input) (fileGroups input) (length input)) ∙ ap (λ (w : Written). w .refusal) written) .0
+      let written = round-trips .read-write input 0 zeroStore input bytes (le-refl (length input)) e .answer in
+      writable (fileStore input) (fileStates input) (fileGroups input) 0 (length input)
+      (sym (write-refusal (fileStore input) (fileStates input) (fileGroups input) 0 (length input)) ∙ ap (λ (w : Written). w .refusal) written) .held
 
   pub reported : Reported input
   unfolding checkText tableText

@@ -14,15 +14,15 @@ use Rattle.report.specs.Put.{Front}
 use Rattle.check_file.specs.CheckText.{zeroStore, tableText, checkText}
 
 module _ (input : List ℕ) {before after : List ℕ} {end : ℕ} where
-  pub check-refused : {k : ℕ} → record { refusal = k; n = 0; g = 0 } ≡ readAnswer input storeWords → true ≡ not (eqb ((readAnswer input storeWords) .refusal) 0)
+  pub check-refused : {k : ℕ} → record { refusal = k; n = 0; g = 0 } ≡ readAnswer input 0 storeWords → true ≡ not (eqb ((readAnswer input 0 storeWords) .refusal) 0)
       → Front (refusedText k) before end after → Front (checkText input) before end after
   unfolding checkText
   check-refused {k} e c f =
-      let number : k ≡ (readAnswer input storeWords) .refusal = ap (λ (a : TableRead). a .refusal) e in
-      let some = ap (λ (m : ℕ). eqb m 0) number ∙ not-true (eqb ((readAnswer input storeWords) .refusal) 0) (sym c) in
+      let number : k ≡ (readAnswer input 0 storeWords) .refusal = ap (λ (a : TableRead). a .refusal) e in
+      let some = ap (λ (m : ℕ). eqb m 0) number ∙ not-true (eqb ((readAnswer input 0 storeWords) .refusal) 0) (sym c) in
       rw (← e, some) f
 
-  pub check-read : {n g : ℕ} {store : List ℕ} → record { refusal = 0; n = n; g = g } ≡ readAnswer input storeWords → store ≡ readBuffer input zeroStore
+  pub check-read : {n g : ℕ} {store : List ℕ} → record { refusal = 0; n = n; g = g } ≡ readAnswer input 0 storeWords → store ≡ readBuffer input 0 zeroStore
       → Front (tableText store n g) before end after → Front (checkText input) before end after
   unfolding checkText
   check-read e s f = rw (← e, ← s) f

@@ -24,7 +24,8 @@ tableText store n g =
     let a = decideAnswer store n g release maxStates in
     cond (eqb (a .refusal) 0) (reportText n g a (decideBuffer store n g release zeroPath)) (refusedText (a .refusal))
 
+-- The file is one of site 0.
 unfoldable pub checkText : List ℕ → List ℕ
 checkText input =
-    let a = readAnswer input storeWords in
-    cond (eqb (a .refusal) 0) (tableText (readBuffer input zeroStore) (a .n) (a .g)) (refusedText (a .refusal))
+    let a = readAnswer input 0 storeWords in
+    cond (eqb (a .refusal) 0) (tableText (readBuffer input 0 zeroStore) (a .n) (a .g)) (refusedText (a .refusal))

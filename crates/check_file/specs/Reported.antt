@@ -14,13 +14,13 @@ use Rattle.report.specs.Text.{reportText}
 use Rattle.check_file.specs.CheckText.{zeroStore, zeroPath, checkText}
 
 abbrev pub fileStore : List ℕ → List ℕ
-fileStore input = readBuffer input zeroStore
+fileStore input = readBuffer input 0 zeroStore
 
 abbrev pub fileStates : List ℕ → ℕ
-fileStates input = (readAnswer input storeWords) .n
+fileStates input = (readAnswer input 0 storeWords) .n
 
 abbrev pub fileGroups : List ℕ → ℕ
-fileGroups input = (readAnswer input storeWords) .g
+fileGroups input = (readAnswer input 0 storeWords) .g
 
 pub record Reported (input : List ℕ) : Type 0 where
   -- so that no refusal but read's is ever printed

@@ -34,6 +34,9 @@ use table::STORE_WORDS;
 
 const INPUT: usize = MAX_FILE + 1;
 
+// The site of the files that the program reads.
+const SITE: usize = 0;
+
 // A read that failed prints no verdict: it must not pass for an empty file, which is a draft, nor for a part of a file.
 fn main() {
     let mut input = input_room();
@@ -100,7 +103,7 @@ fn check(input: &[u8], out: &mut [u8]) -> usize
     ensures { λ r. ⌜ Front (checkText (now (input .entry))) (now (out .entry)) r (now (out .exit)) ⌝ }
 {
     let mut store = [0u64; STORE_WORDS];
-    match read(input, &mut store) {
+    match read(input, SITE, &mut store) {
         TableRead::Table { n, g } => check_table(&store, n, g, out),
         TableRead::Refused(refusal) => write_refused(refusal, out),
     }

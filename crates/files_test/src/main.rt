@@ -54,24 +54,36 @@ fn print_written(w: Written, output: &[u8]) -> usize {
     }
 }
 
-fn call_write(store: &[u64], words: usize, n: usize, g: usize, output: &mut [u8], room: usize) {
+fn call_write(
+    store: &[u64],
+    words: usize,
+    n: usize,
+    g: usize,
+    site: usize,
+    output: &mut [u8],
+    room: usize,
+) {
     if words <= store.len() {
         if room <= output.len() {
-            let w = write(&store[0..words], n, g, &mut output[0..room]);
+            let w = write(&store[0..words], n, g, site, &mut output[0..room]);
             let written = print_written(w, output);
             print_unchanged(unchanged(output, written, 7));
         }
     }
 }
 
-// Write from the first `words` words of a store to `room` bytes.
-fn try_write(store: &[u64], words: usize, n: usize, g: usize, room: usize) {
+// Write for a site from the first `words` words of a store to `room` bytes.
+fn try_write_for(store: &[u64], words: usize, n: usize, g: usize, site: usize, room: usize) {
     let mut output = [7u8; MAX_FILE + 48];
     labelled(b" from ", words);
     labelled(b" n ", n);
     labelled(b" g ", g);
     labelled(b" into ", room);
-    call_write(store, words, n, g, &mut output, room);
+    call_write(store, words, n, g, site, &mut output, room);
+}
+
+fn try_write(store: &[u64], words: usize, n: usize, g: usize, room: usize) {
+    try_write_for(store, words, n, g, 0, room);
 }
 
 // ---- one call of read
@@ -92,22 +104,26 @@ fn print_read(r: TableRead, store: &[u64]) -> usize {
     }
 }
 
-fn call_read(input: &[u8], length: usize, store: &mut [u64], words: usize) {
+fn call_read(input: &[u8], length: usize, site: usize, store: &mut [u64], words: usize) {
     if length <= input.len() {
         if words <= store.len() {
-            let r = read(&input[0..length], &mut store[0..words]);
+            let r = read(&input[0..length], site, &mut store[0..words]);
             let filled = print_read(r, store);
             print_unchanged(unchanged_words(store, filled, 7));
         }
     }
 }
 
-// Read the first `length` bytes of an input to `words` words.
-fn try_read(input: &[u8], length: usize, words: usize) {
+// Read the first `length` bytes of an input at a site to `words` words.
+fn try_read_at(input: &[u8], length: usize, site: usize, words: usize) {
     let mut store = [7u64; STORE_WORDS + 12];
     labelled(b" from ", length);
     labelled(b" into ", words);
-    call_read(input, length, &mut store, words);
+    call_read(input, length, site, &mut store, words);
+}
+
+fn try_read(input: &[u8], length: usize, words: usize) {
+    try_read_at(input, length, 0, words);
 }
 
 // ---- damage
@@ -161,7 +177,7 @@ fn try_file(
     value2: u8,
 ) {
     let mut file = [0u8; MAX_FILE + 512];
-    write(table, n, g, &mut file);
+    write(table, n, g, 0, &mut file);
     replace(&mut file, at, value);
     replace(&mut file, at2, value2);
     try_read(&file, length, words);
@@ -171,7 +187,7 @@ fn try_file(
 
 fn print_e(e: &[u64]) {
     let mut output = [7u8; 512];
-    write(e, 3, 0, &mut output);
+    write(e, 3, 0, 0, &mut output);
     text(b"file of E:");
     bytes(&output, 512);
     line();
@@ -448,18 +464,81 @@ fn table_largest() {
     read_largest(&t);
 }
 
+// ---- sites
+
+fn write_site(store: &[u64], words: usize, n: usize, g: usize, site: usize, room: usize) {
+    labelled(b" site ", site);
+    try_write_for(store, words, n, g, site, room);
+}
+
+// 24 stands behind 10 and before all else.
+fn write_sites(e: &[u64]) {
+    text(b"write E for a site\n");
+    write_site(e, STORE_WORDS, 3, 0, 0, 512);
+    write_site(e, STORE_WORDS, 3, 0, 1, 512);
+    write_site(e, STORE_WORDS, 3, 0, 65424, 512);
+    write_site(e, STORE_WORDS, 3, 0, 65520, 512);
+    write_site(e, STORE_WORDS, 3, 0, 65521, 512);
+    write_site(e, STORE_WORDS, 3, 0, 4294967296, 512);
+    write_site(e, STORE_WORDS, 3, 0, 18446744073709551615, 512);
+    write_site(e, STORE_WORDS - 1, 3, 0, 65521, 512);
+    write_site(e, STORE_WORDS, 0, 1, 65521, 512);
+    write_site(e, STORE_WORDS, 0, 65, 65521, 0);
+    write_site(e, STORE_WORDS, 3, 0, 65521, 0);
+}
+
+// The first `length` bytes of the file of E for one site, read at another.
+fn read_site(e: &[u64], made: usize, length: usize, site: usize, words: usize) {
+    let mut file = [0u8; 1024];
+    write(e, 3, 0, made, &mut file);
+    labelled(b" made for ", made);
+    labelled(b" site ", site);
+    try_read_at(&file, length, site, words);
+}
+
+fn read_sites(e: &[u64], made: usize) {
+    read_site(e, made, 512, 0, STORE_WORDS);
+    read_site(e, made, 512, 1, STORE_WORDS);
+    read_site(e, made, 512, 65520, STORE_WORDS);
+    read_site(e, made, 512, 65521, STORE_WORDS);
+    read_site(e, made, 512, 4294967297, STORE_WORDS);
+    read_site(e, made, 512, 18446744073709551615, STORE_WORDS);
+}
+
+// A draft passes at every site; 24 stands before 11.
+fn read_draft_sites(e: &[u64]) {
+    read_site(e, 0, 0, 0, STORE_WORDS);
+    read_site(e, 0, 0, 65520, STORE_WORDS);
+    read_site(e, 0, 0, 65521, STORE_WORDS);
+    read_site(e, 0, 0, 65521, STORE_WORDS - 1);
+    read_site(e, 0, 511, 65520, STORE_WORDS);
+    read_site(e, 0, 511, 65521, STORE_WORDS);
+    read_site(e, 0, 511, 65521, STORE_WORDS - 1);
+}
+
+fn sites() {
+    let mut e = [0u64; STORE_WORDS];
+    put_table(&mut e, b"0", b"2", b"00 12");
+    write_sites(&e);
+    text(b"read E at a site\n");
+    read_sites(&e, 0);
+    read_sites(&e, 1);
+    read_sites(&e, 65520);
+    read_draft_sites(&e);
+}
+
 // ---- round trips
 
 const TABLES: usize = 300;
 
-// A generated table written and read back: the file, of one block unless it is refused, and the store are taken into a digest.
+// Generated table t written for site t and read back there: the file, of one block unless it is refused, and the store are taken into a digest.
 fn round_trip(d: usize, t: usize) -> usize {
     let mut store = [0u64; STORE_WORDS];
     let mut file = [7u8; 512];
     let mut back = [7u64; STORE_WORDS];
     generate(&mut store, t);
-    write(&store, states_of(t), groups_of(t), &mut file);
-    read(&file, &mut back);
+    write(&store, states_of(t), groups_of(t), t, &mut file);
+    read(&file, t, &mut back);
     digest_words(digest_bytes(d, &file, 512), &back, STORE_WORDS)
 }
 
@@ -476,6 +555,7 @@ fn main() {
     table_with_more();
     table_h();
     table_largest();
+    sites();
     labelled(b"round trips ", TABLES);
     labelled(b", digest ", round_trips());
     line();

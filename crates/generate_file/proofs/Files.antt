@@ -53,19 +53,19 @@ module _ (seed n f : ℕ) (lent store : List ℕ) (r : Generated) (called : Call
     unfolding generateAnswer
     held = accepted-load n f storeWords refl (eqb-true (refused n f) 0 none)
 
-    pub made-file : (out : List ℕ) (w : Written) (out′ : List ℕ) → maxFile ≤ length out → writtenOf w ≡ writeAnswer store n 0 (length out)
-        → out′ ≡ writeBuffer store n 0 out → (w ≡ fileMade n f) × (out′ ≡ fileBuffer seed n f out)
+    pub made-file : (out : List ℕ) (w : Written) (out′ : List ℕ) → maxFile ≤ length out → writtenOf w ≡ writeAnswer store n 0 0 (length out)
+        → out′ ≡ writeBuffer store n 0 0 out → (w ≡ fileMade n f) × (out′ ≡ fileBuffer seed n f out)
     unfolding fileMade fileBuffer fileOf blockFile tableOf load tableFrom
     made-file out w out′ room answer buffer =
         let kept = ap isRefused filled in
         let fits : fileLength n 0 ≤ length out = omega (arith, fileLength-most n 0 (held .small) (omega arith)) in
-        let accepted = loads .accepted seed n f lent r store called kept .write (length out) fits in
-        let ok = writable store n 0 (length out) (sym (write-refusal store n 0 (length out)) ∙ accepted) in
-        let same : fileOf (tableOf store n 0) ≡ fileOf (load seed n f) =
-        ap (λ bytes. cond (eqb n 0) [] (concat (blocksFor (length bytes)) (blockOf bytes)))
+        let accepted = loads .accepted seed n f lent r store called kept .write 0 (length out) (omega arith) fits in
+        let ok = writable store n 0 0 (length out) (sym (write-refusal store n 0 0 (length out)) ∙ accepted) in
+        let same : fileOf 0 (tableOf store n 0) ≡ fileOf 0 (load seed n f) =
+        ap (λ bytes. cond (eqb n 0) [] (concat (blocksFor (length bytes)) (blockOf 0 bytes)))
         (contents-cong (tableOf store n 0) (load seed n f) refl (length-tabulate _ 0) (loads .table seed n f lent r store called kept)) in (
-          written-file w (fileLength n 0) (omega (arith, length-blocks n 0 (λ z. not-none z (held .some)))) (answer ∙ write-answer store n 0 (length out) ok) ∙ sym (rw none),
-          buffer ∙ write-buffer store n 0 out ok ∙ ap (λ xs. overwrite xs out) same ∙ sym (rw none),
+          written-file w (fileLength n 0) (omega (arith, length-blocks n 0 (λ z. not-none z (held .some)))) (answer ∙ write-answer store n 0 0 (length out) ok) ∙ sym (rw none),
+          buffer ∙ write-buffer store n 0 0 out ok ∙ ap (λ xs. overwrite xs out) same ∙ sym (rw none),
         )
 
   pub made-refused : (k : ℕ) (out : List ℕ) → r ≡ GenerateRefused k → (Refused k ≡ fileMade n f) × (out ≡ fileBuffer seed n f out)

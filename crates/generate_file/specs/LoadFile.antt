@@ -1,7 +1,7 @@
 -- What the program writes for a seed, n and f.
 --
 --   fileMade n f           the length of the file, or the ground on which generate declines
---   fileBuffer seed n f    the file of the table that the seed gives, at the front of a buffer
+--   fileBuffer seed n f    the file of the table that the seed gives, for site 0, at the front of a buffer
 use Prim.Native.Nat.{ℕ}
 use mathlib.Core.Bool.{cond}
 use mathlib.Core.List.{List}
@@ -21,4 +21,4 @@ unfoldable pub fileMade : ℕ → ℕ → Written
 fileMade n f = cond (eqb (refused n f) 0) (File (fileLength n 0)) (Refused (refused n f))
 
 unfoldable pub fileBuffer : ℕ → ℕ → ℕ → List ℕ → List ℕ
-fileBuffer seed n f out = let filled = overwrite (fileOf (load seed n f)) out in cond (eqb (refused n f) 0) filled out
+fileBuffer seed n f out = let filled = overwrite (fileOf 0 (load seed n f)) out in cond (eqb (refused n f) 0) filled out

@@ -26,6 +26,9 @@ use report::ROOM;
 use report::write_refused;
 use table::STORE_WORDS;
 
+// The site of the file that the program writes.
+const SITE: usize = 0;
+
 // Seeds are below 2^32.
 const LIMIT: usize = 4294967296;
 
@@ -129,7 +132,7 @@ fn put_file(seed: u32, n: usize, f: usize, out: &mut [u8]) -> Written
 {
     let mut store = [0u64; STORE_WORDS];
     match generate(seed, n, f, &mut store) {
-        Generated::Filled => write(&store, n, 0, out),
+        Generated::Filled => write(&store, n, 0, SITE, out),
         Generated::Refused(refusal) => Written::Refused(refusal),
     }
 }

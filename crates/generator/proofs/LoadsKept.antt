@@ -15,13 +15,13 @@ use Rattle.model.specs.Paths.{shortest, hasPath}
 use Rattle.model.specs.Stores.{storeWords, tableOf, layout, refuse, beyond}
 use Rattle.model.specs.Contents.{sets}
 use Rattle.model.specs.Files.{fileLength}
-use Rattle.model.specs.Calls.{overwrite, maxAllowance, decideGrounds, decisionOf, declined, decideAnswer, Shortest, shortestGrounds, shortestAnswer, writeGrounds}
+use Rattle.model.specs.Calls.{overwrite, maxAllowance, decideGrounds, decisionOf, declined, decideAnswer, Shortest, shortestGrounds, shortestAnswer}
 use Rattle.model.proofs.Bounds.{by-cond, any-find}
 use Rattle.model.proofs.SetLaws.{setOf-in, single-in}
 use Rattle.model.proofs.ListLaws.{length-overwrite}
 use Rattle.model.proofs.ContentLaws.{sets-each}
 use Rattle.model.proofs.StoreLaws.{Holds, length-layout, overwrite-holds, below-beyond, Clean, clean-malformed, holds-sets, holds-clean}
-use Rattle.model.proofs.CallLaws.{write-refusal}
+use Rattle.model.proofs.CallLaws.{write-refusal, write-behind}
 use Rattle.model.proofs.Acceptance.{Store, store-accepted}
 use Rattle.model.proofs.Kept.{not-refused}
 use Rattle.generator.specs.Load.{numbers, successors, tableFrom, load, generateGrounds, generateAnswer, generateBuffer}
@@ -81,12 +81,13 @@ module _ (xs : List ℕ) (n f : ℕ) (old : List ℕ) (a : Accepted n f (length 
 
 module _ (store : List ℕ) (n g : ℕ) (s : Store store n g) where
   accepts : Accepts store n g
-  unfolding decideAnswer decideGrounds shortestAnswer shortestGrounds writeGrounds refuse
+  unfolding decideAnswer decideGrounds shortestAnswer shortestGrounds refuse
   accepts =
       let t = tableOf store n g in
       record {
-        write = λ room h.
-            write-refusal store n g room
+        write = λ site room k h.
+            write-refusal store n g site room
+            ∙ write-behind store n g site room (s .long) k
             ∙ store-accepted store n g ((ltb room (fileLength n g), 19) ∷ []) s
             ∙ rw (le-ltb room (fileLength n g) h);
         decide = λ allowance room h l.

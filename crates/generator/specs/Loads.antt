@@ -10,6 +10,7 @@ use mathlib.Core.List.{List}
 use lib.ListN.{drop}
 use Rattle.model.specs.Sets.{maxStates}
 use Rattle.model.specs.Stores.{storeWords, tableOf}
+use Rattle.model.specs.Blocks.{maxSite}
 use Rattle.model.specs.Contents.{sets}
 use Rattle.model.specs.Files.{fileLength}
 use Rattle.model.specs.Calls.{maxAllowance, decideAnswer, shortestAnswer, writeAnswer}
@@ -18,7 +19,7 @@ use Rattle.generator.specs.declared.Generated.{Generated}
 use Rattle.generator.specs.Answers.{isRefused, CalledGenerate}
 
 pub record Accepts (store : List ℕ) (n g : ℕ) : Type 0 where
-  pub write : (room : ℕ) → fileLength n g ≤ room → (writeAnswer store n g room) .refusal ≡ 0
+  pub write : (site room : ℕ) → site ≤ maxSite → fileLength n g ≤ room → (writeAnswer store n g site room) .refusal ≡ 0
   pub decide : (allowance room : ℕ) → allowance ≤ maxAllowance → maxStates ≤ room → (decideAnswer store n g allowance room) .refusal ≡ 0
   pub shortest : (room : ℕ) → maxStates ≤ room → (shortestAnswer store n g room) .refusal ≡ 0
 

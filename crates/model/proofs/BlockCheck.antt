@@ -6,12 +6,12 @@
 --   weights-lt, weights-some, weights-differ     all below the modulus, not 0, and different
 --   sumOf w f n                 the sum of w i times f i, for i below n
 --   sum-raise                   where f i becomes f i + d at one place, the sum grows by the weight of that place times d
---   intact-multiple             the sum over all the places of an intact block, with `start`, is a multiple of the modulus
+--   intact-multiple             the sum over all the places of an intact block, with `site`, is a multiple of the modulus
 --   no-two, raised, exchanged   so two intact blocks do not differ in one byte, nor by an exchange: the smaller byte first
 --   intact-read, damaged-read   intact is what ground 13 tests
 --   detects                     all of specs/Intact
 use Prim.Native.Nat.{ℕ, zero, suc, _+_, _*_, _-_, _%_, _/_, _≤_, _<_}
-use native.Mathlib.Nat.{le-refl, zero-add, mul-add, add-mul, mul-pos, mul-lt-mul-of-pos-right, mul-le-mul-left, mul-mod-left, not-suc-le-zero, div-add-mod, eq-or-lt-of-le}
+use native.Mathlib.Nat.{le-refl, mul-add, add-mul, mul-pos, mul-lt-mul-of-pos-right, mul-le-mul-left, mul-mod-left, not-suc-le-zero, div-add-mod, eq-or-lt-of-le}
 use native.Mathlib.Omega.{arith}
 use mathlib.Core.Path.{_≡_, refl, sym, ap, _∙_}
 use mathlib.Core.Logic.{_⊎_, inl, inr, ⊎-elim, _↔_}
@@ -23,7 +23,7 @@ use lib.ListN.{getD}
 use Rattle.model.specs.Sets.{all}
 use Rattle.model.specs.Stores.{refuse}
 use Rattle.model.specs.Blocks.{blockBytes, checkAt, modulus, le16At, weighted, checkOf, blockGrounds}
-use Rattle.model.specs.Intact.{checkFrom, Intact, Block, DifferInOne, Exchanged, Detects}
+use Rattle.model.specs.Intact.{Intact, Block, DifferInOne, Exchanged, Detects}
 use Rattle.model.proofs.Bounds.{or-true, not-true, is-false, decided, by-cond, lt-or-ge, below-suc, all-at}
 use Rattle.model.proofs.ListLaws.{getD-past}
 
@@ -174,9 +174,10 @@ module _ (block : List ℕ) where
         sum-suc weightOf (byte block) (checkAt + 1),
       )
 
-  intact-multiple : (start : ℕ) → Intact start block → (q : ℕ) × (start + total block ≡ modulus * q)
-  intact-multiple start h =
-      let sum = start + weighted block checkAt in
+  intact-multiple : (site : ℕ) → Intact site block → (q : ℕ) × (site + total block ≡ modulus * q)
+  unfolding checkOf
+  intact-multiple site h =
+      let sum = site + weighted block checkAt in
       (sum / modulus + byte block checkAt + byte block (checkAt + 1), omega (arith, h .stored, total-is, div-add-mod sum modulus))
 
 -- ---- the two cases
@@ -188,13 +189,13 @@ in-block a b A B k f =
     (λ l. absurd (f (getD-past a k 0 (omega (arith, A .long))) (getD-past b k 0 (omega (arith, B .long)))))
     (lt-or-ge k blockBytes)
 
-module _ (start : ℕ) (a b : List ℕ) (a-ok : Intact start a) (b-ok : Intact start b) where
+module _ (site : ℕ) (a b : List ℕ) (a-ok : Intact site a) (b-ok : Intact site b) where
   -- weights and byte differences that two intact blocks cannot have
   no-two : (u v d : ℕ) → (u ≡ v → ⊥) → u < modulus → v < modulus → 0 < d → d < 256 → total a + u * d ≡ total b + v * d → ⊥
   no-two u v d differ u-small v-small some small e =
-      let s = intact-multiple a start a-ok in
-      let t = intact-multiple b start b-ok in
-      apart u v d (start + total a) (start + total b) (s .0) (t .0) differ u-small v-small some small (s .1) (t .1) (omega arith)
+      let s = intact-multiple a site a-ok in
+      let t = intact-multiple b site b-ok in
+      apart u v d (site + total a) (site + total b) (s .0) (t .0) differ u-small v-small some small (s .1) (t .1) (omega arith)
 
   raised : (k : ℕ) → k < blockBytes → byte a k < byte b k → byte b k < 256 → ((i : ℕ) → (i ≡ k → ⊥) → byte a i ≡ byte b i) → ⊥
   raised k h less small elsewhere =
@@ -231,41 +232,37 @@ module _ (start : ℕ) (a b : List ℕ) (a-ok : Intact start a) (b-ok : Intact s
           (λ e. sym (elsewhere i (eqb-false i j e) f) ∙ sym (both-other i (eqb-false i j e)))
           (decided (eqb i j))
 
-one-byte : (start : ℕ) (a b : List ℕ) → Block a → Block b → DifferInOne a b → Intact start a → Intact start b → ⊥
-one-byte start a b A B c a-ok b-ok =
+one-byte : (site : ℕ) (a b : List ℕ) → Block a → Block b → DifferInOne a b → Intact site a → Intact site b → ⊥
+one-byte site a b A B c a-ok b-ok =
     let k = c .place in
     let h = in-block a b A B k (λ p q. c .there (p ∙ sym q)) in
     ⊎-elim
-    (λ l. raised start a b a-ok b-ok k h l (B .bytes k) (c .elsewhere))
+    (λ l. raised site a b a-ok b-ok k h l (B .bytes k) (c .elsewhere))
     (λ l.
-    ⊎-elim (λ e. c .there (sym e)) (λ r. raised start b a b-ok a-ok k h r (A .bytes k) (λ i f. sym (c .elsewhere i f))) (eq-or-lt-of-le l))
+    ⊎-elim (λ e. c .there (sym e)) (λ r. raised site b a b-ok a-ok k h r (A .bytes k) (λ i f. sym (c .elsewhere i f))) (eq-or-lt-of-le l))
     (lt-or-ge (byte a k) (byte b k))
 
-exchange : (start : ℕ) (a b : List ℕ) → Block a → Block b → Exchanged a b → Intact start a → Intact start b → ⊥
-exchange start a b A B c a-ok b-ok =
+exchange : (site : ℕ) (a b : List ℕ) → Block a → Block b → Exchanged a b → Intact site a → Intact site b → ⊥
+exchange site a b A B c a-ok b-ok =
     let j = c .place in
     let k = c .other in
     let h = in-block a b A B j (λ p q. c .unequal (p ∙ sym q ∙ c .to-place)) in
     let l = in-block a b A B k (λ p q. c .unequal (sym (c .to-other) ∙ q ∙ sym p)) in
     ⊎-elim
-    (λ r. exchanged start a b a-ok b-ok j k h l r (A .bytes k) (c .to-place) (c .to-other) (c .elsewhere))
+    (λ r. exchanged site a b a-ok b-ok j k h l r (A .bytes k) (c .to-place) (c .to-other) (c .elsewhere))
     (λ r.
     ⊎-elim (λ e. c .unequal (sym e))
-    (λ less. exchanged start a b a-ok b-ok k j l h less (A .bytes j) (c .to-other) (c .to-place) (λ i f g. c .elsewhere i g f))
+    (λ less. exchanged site a b a-ok b-ok k j l h less (A .bytes j) (c .to-other) (c .to-place) (λ i f g. c .elsewhere i g f))
     (eq-or-lt-of-le r))
     (lt-or-ge (byte a j) (byte a k))
 
 -- ---- ground 13
 
-module _ (block : List ℕ) where
-  check-is : checkOf block ≡ checkFrom 0 block
-  unfolding checkOf
-  check-is = ap (λ (x : ℕ). x % modulus) (sym (zero-add (weighted block checkAt)))
-
+module _ (site : ℕ) (block : List ℕ) where
   abbrev test : Bool
-  test = eqb (le16At block checkAt) (checkOf block)
+  test = eqb (le16At block checkAt) (checkOf site block)
 
-  fault-is : refuse (blockGrounds block (le16At block 0)) ≡ cond test 0 13
+  fault-is : refuse (blockGrounds site block (le16At block 0)) ≡ cond test 0 13
   unfolding blockGrounds refuse
   fault-is = rw (eq-eqb (le16At block 0) (le16At block 0) refl) (go test)
     where
@@ -273,20 +270,20 @@ module _ (block : List ℕ) where
       go true = refl
       go false = refl
 
-  intact-test : Intact 0 block → test ≡ true
-  intact-test h = eq-eqb (le16At block checkAt) (checkOf block) (h .stored ∙ sym check-is)
+  intact-test : Intact site block → test ≡ true
+  intact-test h = eq-eqb (le16At block checkAt) (checkOf site block) (h .stored)
 
-  test-intact : test ≡ true → Intact 0 block
-  test-intact e = record { stored = eqb-true (le16At block checkAt) (checkOf block) e ∙ check-is }
+  test-intact : test ≡ true → Intact site block
+  test-intact e = record { stored = eqb-true (le16At block checkAt) (checkOf site block) e }
 
   fault-true : (b : Bool) → _≡_ {A = ℕ} (cond b 0 13) 0 → b ≡ true
   fault-true true e = refl
   fault-true false e = absurd (omega arith)
 
-  intact-read : Intact 0 block ↔ (refuse (blockGrounds block (le16At block 0)) ≡ 0)
+  intact-read : Intact site block ↔ (refuse (blockGrounds site block (le16At block 0)) ≡ 0)
   intact-read = (λ h. fault-is ∙ ap (λ (b : Bool). cond b 0 13) (intact-test h), λ e. test-intact (fault-true test (sym fault-is ∙ e)))
 
-  damaged-read : (Intact 0 block → ⊥) ↔ (refuse (blockGrounds block (le16At block 0)) ≡ 13)
+  damaged-read : (Intact site block → ⊥) ↔ (refuse (blockGrounds site block (le16At block 0)) ≡ 13)
   damaged-read = (
     λ f. fault-is ∙ ap (λ (b : Bool). cond b 0 13) (is-false test (λ e. f (test-intact e))),
     λ e h. let z = intact-read .0 h in omega arith,

@@ -54,25 +54,25 @@ le16-le16At bytes at u (suc (suc i)) h = absurd (omega arith)
 
 -- ---- a block
 
-pub checkOf-lt : (bytes : List ℕ) → checkOf bytes < modulus
+pub checkOf-lt : (site : ℕ) (bytes : List ℕ) → checkOf site bytes < modulus
 unfolding checkOf
-checkOf-lt bytes = omega arith
+checkOf-lt site bytes = omega arith
 
 weighted-cong : (a b : List ℕ) (m : ℕ) → ((i : ℕ) → i < m → getD a i 0 ≡ getD b i 0) → weighted a m ≡ weighted b m
 unfolding weighted
 weighted-cong a b zero e = refl
 weighted-cong a b (suc m) e = ap₂ (λ (x y : ℕ). x + (m + 1) * y) (weighted-cong a b m (λ i h. e i (omega arith))) (e m (omega arith))
 
-pub checkOf-cong : (a b : List ℕ) → ((i : ℕ) → i < checkAt → getD a i 0 ≡ getD b i 0) → checkOf a ≡ checkOf b
+pub checkOf-cong : (site : ℕ) (a b : List ℕ) → ((i : ℕ) → i < checkAt → getD a i 0 ≡ getD b i 0) → checkOf site a ≡ checkOf site b
 unfolding checkOf
-checkOf-cong a b e = ap (λ (x : ℕ). x % modulus) (weighted-cong a b checkAt e)
+checkOf-cong site a b e = ap (λ (x : ℕ). (site + x) % modulus) (weighted-cong a b checkAt e)
 
--- block k of a file with these contents
-pub record IsBlock (bytes : List ℕ) (k : ℕ) (block : List ℕ) : Type 0 where
+-- block k of a file with these contents, for a site
+pub record IsBlock (site : ℕ) (bytes : List ℕ) (k : ℕ) (block : List ℕ) : Type 0 where
   pub long : length block ≡ blockBytes
   pub holds-number : (i : ℕ) → i < 2 → getD block i 0 ≡ getD (le16 k) i 0
   pub holds-content : (i : ℕ) → i < contentBytes → getD block (contentAt + i) 0 ≡ getD bytes (contentBytes * k + i) 0
-  pub holds-check : (i : ℕ) → i < 2 → getD block (checkAt + i) 0 ≡ getD (le16 (checkOf block)) i 0
+  pub holds-check : (i : ℕ) → i < 2 → getD block (checkAt + i) 0 ≡ getD (le16 (checkOf site block)) i 0
 
 -- a place in a block is in its number, its content or its check
 pub by-block : (P : ℕ → Type 0) → ((i : ℕ) → i < 2 → P i) → ((i : ℕ) → i < contentBytes → P (contentAt + i)) → ((i : ℕ) → i < 2 → P (checkAt + i)) → (i : ℕ) → i < blockBytes → P i
@@ -84,8 +84,8 @@ by-block P number content check i h =
     (lt-or-ge i checkAt))
     (lt-or-ge i 2)
 
-module _ {bytes : List ℕ} {k : ℕ} where
-  pub block-unique : {a b : List ℕ} → IsBlock bytes k a → IsBlock bytes k b → a ≡ b
+module _ {site : ℕ} {bytes : List ℕ} {k : ℕ} where
+  pub block-unique : {a b : List ℕ} → IsBlock site bytes k a → IsBlock site bytes k b → a ≡ b
   block-unique {a} {b} x y =
       let number : (i : ℕ) → i < 2 → getD a i 0 ≡ getD b i 0 = λ i h. x .holds-number i h ∙ sym (y .holds-number i h) in
       let content : (i : ℕ) → i < contentBytes → getD a (contentAt + i) 0 ≡ getD b (contentAt + i) 0 = λ i h. x .holds-content i h ∙ sym (y .holds-content i h) in
@@ -94,24 +94,24 @@ module _ {bytes : List ℕ} {k : ℕ} where
       ext-getD 0 a b (x .long ∙ sym (y .long))
       (λ i h.
       by-block (λ j. getD a j 0 ≡ getD b j 0) number content
-      (λ j l. x .holds-check j l ∙ ap (λ (c : ℕ). getD (le16 c) j 0) (checkOf-cong a b front) ∙ sym (y .holds-check j l))
+      (λ j l. x .holds-check j l ∙ ap (λ (c : ℕ). getD (le16 c) j 0) (checkOf-cong site a b front) ∙ sym (y .holds-check j l))
       i (subst (λ (m : ℕ). i < m) (x .long) h))
 
-  pub block-number : {block : List ℕ} → IsBlock bytes k block → k < 65536 → le16At block 0 ≡ k
+  pub block-number : {block : List ℕ} → IsBlock site bytes k block → k < 65536 → le16At block 0 ≡ k
   block-number {block} x h = le16At-le16 block 0 k h (x .holds-number 0 (omega arith)) (x .holds-number 1 (omega arith))
 
-  pub block-check : {block : List ℕ} → IsBlock bytes k block → le16At block checkAt ≡ checkOf block
+  pub block-check : {block : List ℕ} → IsBlock site bytes k block → le16At block checkAt ≡ checkOf site block
   block-check {block} x =
-      le16At-le16 block checkAt (checkOf block) (omega (arith, checkOf-lt block)) (x .holds-check 0 (omega arith)) (x .holds-check 1 (omega arith))
+      le16At-le16 block checkAt (checkOf site block) (omega (arith, checkOf-lt site block)) (x .holds-check 0 (omega arith)) (x .holds-check 1 (omega arith))
 
-pub is-block : (bytes : List ℕ) (k : ℕ) (block : List ℕ)
+pub is-block : (site : ℕ) (bytes : List ℕ) (k : ℕ) (block : List ℕ)
     → length block ≡ blockBytes
     → Bounded 256 block
     → le16At block 0 ≡ k
-    → le16At block checkAt ≡ checkOf block
+    → le16At block checkAt ≡ checkOf site block
     → ((i : ℕ) → i < contentBytes → getD block (contentAt + i) 0 ≡ getD bytes (contentBytes * k + i) 0)
-    → IsBlock bytes k block
-is-block bytes k block long u number check content =
+    → IsBlock site bytes k block
+is-block site bytes k block long u number check content =
     record {
       long = long;
       holds-number = λ i h.
@@ -132,12 +132,12 @@ length-filled : (xs : List ℕ) (m : ℕ) → length (take m (xs ++ replicate m 
 length-filled xs m = length-take-le m (xs ++ replicate m 0) (omega (arith, length-append xs (replicate m 0), length-replicate {A = ℕ} m 0))
 
 -- any contentBytes bytes between their number and their check (over a variable, since the zeros of `blockOf` would be written out)
-abbrev pub framed : ℕ → List ℕ → List ℕ
-framed k c = let front = le16 k ++ c in front ++ le16 (checkOf front)
+abbrev pub framed : ℕ → ℕ → List ℕ → List ℕ
+framed site k c = let front = le16 k ++ c in front ++ le16 (checkOf site front)
 
-pub framed-is : (bytes : List ℕ) (k : ℕ) (c : List ℕ) → length c ≡ contentBytes → ((i : ℕ) → i < contentBytes → getD c i 0 ≡ getD bytes (contentBytes * k + i) 0) → IsBlock bytes k (framed k c)
-framed-is bytes k c long e =
-    let check = le16 (checkOf (le16 k ++ c)) in
+pub framed-is : (site : ℕ) (bytes : List ℕ) (k : ℕ) (c : List ℕ) → length c ≡ contentBytes → ((i : ℕ) → i < contentBytes → getD c i 0 ≡ getD bytes (contentBytes * k + i) 0) → IsBlock site bytes k (framed site k c)
+framed-is site bytes k c long e =
+    let check = le16 (checkOf site (le16 k ++ c)) in
     record {
       long = omega (arith, length-append c check);
       holds-number = λ i h. List·getD-append (le16 k) (c ++ check) 0 i h;
@@ -145,14 +145,14 @@ framed-is bytes k c long e =
           getD-behind (le16 k) (c ++ check) 2 i 0 refl ∙ List·getD-append c check 0 i (subst (λ (m : ℕ). i < m) (sym long) h) ∙ e i h;
       holds-check = λ i h.
           getD-behind (le16 k ++ c) check checkAt i 0 (omega arith)
-          ∙ ap (λ (x : ℕ). getD (le16 x) i 0) (checkOf-cong (le16 k ++ c) (framed k c) (λ j l. sym (List·getD-append (le16 k ++ c) check 0 j (omega arith))));
+          ∙ ap (λ (x : ℕ). getD (le16 x) i 0) (checkOf-cong site (le16 k ++ c) (framed site k c) (λ j l. sym (List·getD-append (le16 k ++ c) check 0 j (omega arith))));
     }
 
-pub blockOf-is : (bytes : List ℕ) (k : ℕ) → IsBlock bytes k (blockOf bytes k)
+pub blockOf-is : (site : ℕ) (bytes : List ℕ) (k : ℕ) → IsBlock site bytes k (blockOf site bytes k)
 unfolding blockOf
-blockOf-is bytes k =
+blockOf-is site bytes k =
     let rest = drop (contentBytes * k) bytes in
-    framed-is bytes k (take contentBytes (rest ++ replicate contentBytes 0)) (length-filled rest contentBytes)
+    framed-is site bytes k (take contentBytes (rest ++ replicate contentBytes 0)) (length-filled rest contentBytes)
     (λ i h. getD-take contentBytes (rest ++ replicate contentBytes 0) i 0 h ∙ getD-filled rest contentBytes i ∙ getD-drop (contentBytes * k) bytes i 0)
 
 -- ---- the blocks and the contents of an input

@@ -8,7 +8,7 @@ use native.Mathlib.Nat.{not-suc-le-zero}
 use native.Mathlib.Omega.{arith}
 use mathlib.Core.Path.{_≡_, refl, sym, ap, ap₂, _∙_}
 use mathlib.Core.Bool.{Bool, true, false, cond}
-use mathlib.Core.List.{List, [], append-nil}
+use mathlib.Core.List.{List, [], _++_, append-nil}
 use borrow.Author.Tests.{le-ltb, eqb-false, eq-eqb, ne-eqb}
 use lib.Dec.{eqb}
 use lib.ListN.{length}
@@ -17,7 +17,7 @@ use Rattle.model.specs.Sets.{WORDS, maxStates, Set, filter, member, empt
 use Rattle.model.specs.Tables.{post}
 use Rattle.model.specs.Rounds.{iterate, forward, isSafe, roundOf, firstRound, safe, settle, rounds, run}
 use Rattle.model.specs.Paths.{shortest, hasPath, smallestPath}
-use Rattle.model.specs.Stores.{headSets, forbiddenAt, groupAt, rowAt, storeWords, setAt, tableOf, layout, refuse, badStates}
+use Rattle.model.specs.Stores.{forbiddenAt, groupAt, rowAt, storeWords, setAt, tableOf, layout, Ground, refuse, badStates, sharedGrounds}
 use Rattle.model.specs.Blocks.{contentsOf}
 use Rattle.model.specs.Contents.{setIn, setNumber, tableIn}
 use Rattle.model.specs.Calls.{overwrite, Decision, decisionOf, decideBuffer, Shortest, shortestGrounds, shortestAnswer, shortestBuffer, TableRead, statesIn, blocksGrounds, contentGrounds, readBuffer, Written, writeAnswer}
@@ -31,7 +31,7 @@ use Rattle.model.proofs.StoreLaws.{setAt-empty, Holds, holds-layout}
 use Rattle.model.proofs.FileLaws.{file-draft, length-draft}
 use Rattle.model.proofs.RoundLaws.{isSafe-intro}
 use Rattle.model.proofs.Acceptance.{Store, accepted-store, store-accepted, well-formed, check-of}
-use Rattle.model.proofs.CallLaws.{Writable, write-refusal, writable, write-answer, write-buffer, blocks-clear, read-refusal, behind-length, draft-refusal, read-answer, read-buffer, draft-says}
+use Rattle.model.proofs.CallLaws.{Writable, write-refusal, write-behind, writable, write-answer, write-buffer, blocks-clear, read-refusal, behind-length, draft-refusal, read-answer, read-buffer, draft-says}
 use Rattle.model.proofs.RoundTrips.{round-trips}
 
 -- ---- words that are 0
@@ -97,25 +97,29 @@ no-path store = le-ltb (shortest (tableOf store 0 0)) 0 zero-le
 
 -- ---- the calls
 
+groups-alone : (store : List ℕ) (g : ℕ) (later : List Ground) → storeWords ≤ length store → (g ≡ 0 → ⊥) → refuse (sharedGrounds store 0 g ++ later) ≡ 14
+unfolding badStates
+groups-alone store g later h f = refuse-skip _ 10 _ (le-ltb (length store) storeWords h) ∙ refuse-take _ 14 _ (rw (ne-eqb g 0 f))
+
 pub draft : Draft
-unfolding decisionOf decideBuffer shortestAnswer shortestBuffer overwrite tableOf badStates contentGrounds
+unfolding decisionOf decideBuffer shortestAnswer shortestBuffer overwrite tableOf contentGrounds
 draft =
     record {
-      read = λ store h.
-          let none = draft-refusal [] (length store) h refl in
+      read = λ site store k h.
+          let none = draft-refusal [] site (length store) h k refl in
           let says = draft-says [] refl in (
-            read-answer [] (length store) none ∙ ap₂ (λ (a b : ℕ). record { refusal = 0; n = a; g = b }) (says .0) (says .1),
-            read-buffer [] store none
+            read-answer [] site (length store) none ∙ ap₂ (λ (a b : ℕ). record { refusal = 0; n = a; g = b }) (says .0) (says .1),
+            read-buffer [] site store none
                 ∙ ap₂ (λ (a b : ℕ). overwrite (layout (tableIn (contentsOf []) a b)) store) (says .0) (says .1)
                 ∙ ap (λ xs. overwrite xs store) (draft-layout (contentsOf [])),
           );
-      read-accepted = λ store h.
-          let none = draft-refusal [] (length store) h refl in
-          let back = round-trips .read-write [] store [] (λ i. omega arith) (omega arith) (read-refusal [] (length store) ∙ none) in
-          let numbers = read-answer [] (length store) none ∙ ap₂ (λ (a b : ℕ). record { refusal = 0; n = a; g = b }) (draft-says [] refl .0) (draft-says [] refl .1) in
-          let answer = ap (λ (a : TableRead). (writeAnswer (readBuffer [] store) (a .n) (a .g) 0) .refusal) (sym numbers) ∙ ap (λ (a : Written). a .refusal) (back .answer) in
-          store-accepted (readBuffer [] store) 0 0 []
-          (writable (readBuffer [] store) 0 0 0 (sym (write-refusal (readBuffer [] store) 0 0 0) ∙ answer) .held)
+      read-accepted = λ site store k h.
+          let none = draft-refusal [] site (length store) h k refl in
+          let back = round-trips .read-write [] site store [] (λ i. omega arith) (omega arith) (read-refusal [] site (length store) ∙ none) in
+          let numbers = read-answer [] site (length store) none ∙ ap₂ (λ (a b : ℕ). record { refusal = 0; n = a; g = b }) (draft-says [] refl .0) (draft-says [] refl .1) in
+          let answer = ap (λ (a : TableRead). (writeAnswer (readBuffer [] site store) (a .n) (a .g) site 0) .refusal) (sym numbers) ∙ ap (λ (a : Written). a .refusal) (back .answer) in
+          store-accepted (readBuffer [] site store) 0 0 []
+          (writable (readBuffer [] site store) 0 0 site 0 (sym (write-refusal (readBuffer [] site store) 0 0 site 0) ∙ answer) .held)
           ∙ refuse-none;
       decide = λ store allowance path e.
           let t = tableOf store 0 0 in
@@ -132,17 +136,18 @@ draft =
           by-cond (λ (a : Shortest). a .refusal ≡ 0 → a ≡ record { refusal = 0; found = 0; steps = 0 }) (eqb k 0) _ _
           (λ q r. rw (no-path store)) (λ q r. absurd (eqb-false k 0 q r)) e in
           (answer, ap (λ (a : Shortest). cond (eqb (a .found) 1) (overwrite (smallestPath (tableOf store 0 0)) path) path) answer);
-      write = λ store output e.
-          let w : Writable store 0 0 (length output) =
-          record { held = accepted-store store 0 0 [] e .0; fits = omega (arith, length-draft 0 0 refl) } in (
-            write-answer store 0 0 (length output) w ∙ ap (λ (l : ℕ). record { refusal = 0; length = l }) (length-draft 0 0 refl),
-            write-buffer store 0 0 output w ∙ ap (λ xs. overwrite xs output) (file-draft (tableOf store 0 0) refl),
+      write = λ store site output k e.
+          let w : Writable store 0 0 site (length output) =
+          record { held = accepted-store store 0 0 [] e .0; known = k; fits = omega (arith, length-draft 0 0 refl) } in (
+            write-answer store 0 0 site (length output) w ∙ ap (λ (l : ℕ). record { refusal = 0; length = l }) (length-draft 0 0 refl),
+            write-buffer store 0 0 site output w ∙ ap (λ xs. overwrite xs output) (file-draft site (tableOf store 0 0) refl),
           );
-      groups-alone = λ store g later h f.
-          refuse-skip _ 10 _ (le-ltb (length store) storeWords h) ∙ refuse-take _ 14 _ (rw (ne-eqb g 0 f));
-      block-without-states = λ input room h some whole blocks none.
-          read-refusal input room
-          ∙ behind-length input room h some whole
-          ∙ refuse-behind (blocksGrounds input) _ (blocks-clear input [] (ap refuse (append-nil (blocksGrounds input)) ∙ blocks) .0)
+      groups-alone = groups-alone;
+      groups-written = λ store g site room h k f.
+          write-refusal store 0 g site room ∙ write-behind store 0 g site room h k ∙ groups-alone store g _ h f;
+      block-without-states = λ input site room h k some whole blocks none.
+          read-refusal input site room
+          ∙ behind-length input site room h k some whole
+          ∙ refuse-behind (blocksGrounds input site) _ (blocks-clear input site [] (ap refuse (append-nil (blocksGrounds input site)) ∙ blocks) .0)
           ∙ refuse-take _ 14 _ (rw (eq-eqb (statesIn input) 0 none));
     }

@@ -27,50 +27,50 @@ use Rattle.model.proofs.ContentLaws.{length-contents}
 
 -- ---- the file of a table with g groups
 
-module _ (t : Table) {g : ℕ} (many : length (t .groups) ≡ g) where
+module _ (site : ℕ) (t : Table) {g : ℕ} (many : length (t .groups) ≡ g) where
   blocks-are : blocksFor (length (contents t)) ≡ blocksFor (contentLength (t .n) g)
   blocks-are = ap (λ (l : ℕ). blocksFor l) (length-contents t many)
 
-  blocks-wide : Wide (blocksFor (length (contents t))) blockBytes (blockOf (contents t))
-  blocks-wide k h = (blockOf-is (contents t) k) .long
+  blocks-wide : Wide (blocksFor (length (contents t))) blockBytes (blockOf site (contents t))
+  blocks-wide k h = (blockOf-is site (contents t) k) .long
 
-  pub length-blockFile : length (blockFile t) ≡ blockFileLength (t .n) g
+  pub length-blockFile : length (blockFile site t) ≡ blockFileLength (t .n) g
   unfolding blockFile
   length-blockFile = length-concat _ blockBytes (blocksFor (length (contents t))) blocks-wide ∙ ap (λ (m : ℕ). blockBytes * m) blocks-are
 
-  pub part-blockFile : (k : ℕ) → k < blocksFor (contentLength (t .n) g) → part (blockFile t) k ≡ blockOf (contents t) k
+  pub part-blockFile : (k : ℕ) → k < blocksFor (contentLength (t .n) g) → part (blockFile site t) k ≡ blockOf site (contents t) k
   unfolding blockFile part
   part-blockFile k h =
-      part-concat (blockOf (contents t)) blockBytes (blocksFor (length (contents t))) k blocks-wide (subst (λ (m : ℕ). k < m) (sym blocks-are) h)
+      part-concat (blockOf site (contents t)) blockBytes (blocksFor (length (contents t))) k blocks-wide (subst (λ (m : ℕ). k < m) (sym blocks-are) h)
 
--- the contents of a table's file are those of the table, with zeros behind
-module _ (t : Table) where
+-- the contents of a table's file are those of the table, with zeros behind, whatever the site
+module _ (site : ℕ) (t : Table) where
   in-blocks : (k r : ℕ) → k < blocksFor (contentLength (t .n) (length (t .groups))) → r < contentBytes
-      → getD (contentsOf (blockFile t)) (contentBytes * k + r) 0 ≡ getD (contents t) (contentBytes * k + r) 0
+      → getD (contentsOf (blockFile site t)) (contentBytes * k + r) 0 ≡ getD (contents t) (contentBytes * k + r) 0
   in-blocks k r h l =
-      getD-contentsOf (blockFile t) k r (omega (arith, length-blockFile t refl)) l
-      ∙ ap (λ xs. getD xs (contentAt + r) 0) (part-blockFile t refl k h)
-      ∙ (blockOf-is (contents t) k) .holds-content r l
+      getD-contentsOf (blockFile site t) k r (omega (arith, length-blockFile site t refl)) l
+      ∙ ap (λ xs. getD xs (contentAt + r) 0) (part-blockFile site t refl k h)
+      ∙ (blockOf-is site (contents t) k) .holds-content r l
 
-  pub contentsOf-blockFile : (i : ℕ) → getD (contentsOf (blockFile t)) i 0 ≡ getD (contents t) i 0
+  pub contentsOf-blockFile : (i : ℕ) → getD (contentsOf (blockFile site t)) i 0 ≡ getD (contents t) i 0
   contentsOf-blockFile i =
       ⊎-elim
       (λ h.
-      subst (λ (j : ℕ). getD (contentsOf (blockFile t)) j 0 ≡ getD (contents t) j 0) (div-add-mod i contentBytes)
+      subst (λ (j : ℕ). getD (contentsOf (blockFile site t)) j 0 ≡ getD (contents t) j 0) (div-add-mod i contentBytes)
       (in-blocks (i / contentBytes) (i % contentBytes) (omega arith) (omega arith)))
       (λ h.
-      getD-past (contentsOf (blockFile t)) i 0 (omega (arith, length-contentsOf (blockFile t), length-blockFile t refl))
+      getD-past (contentsOf (blockFile site t)) i 0 (omega (arith, length-contentsOf (blockFile site t), length-blockFile site t refl))
       ∙ sym (getD-past (contents t) i 0 (omega (arith, length-contents t refl))))
       (lt-or-ge i (contentBytes * blocksFor (contentLength (t .n) (length (t .groups)))))
 
 -- ---- the file of a table: the draft, or blocks
 
-module _ (t : Table) where
-  pub file-draft : t .n ≡ 0 → fileOf t ≡ []
+module _ (site : ℕ) (t : Table) where
+  pub file-draft : t .n ≡ 0 → fileOf site t ≡ []
   unfolding fileOf
   file-draft e = rw (eq-eqb (t .n) 0 e)
 
-  pub file-blocks : (t .n ≡ 0 → ⊥) → fileOf t ≡ blockFile t
+  pub file-blocks : (t .n ≡ 0 → ⊥) → fileOf site t ≡ blockFile site t
   unfolding fileOf
   file-blocks f = rw (ne-eqb (t .n) 0 f)
 
@@ -83,9 +83,9 @@ module _ (n g : ℕ) where
   unfolding fileLength
   length-blocks f = rw (ne-eqb n 0 f)
 
-pub length-fileOf : (t : Table) {g : ℕ} → length (t .groups) ≡ g → length (fileOf t) ≡ fileLength (t .n) g
+pub length-fileOf : (site : ℕ) (t : Table) {g : ℕ} → length (t .groups) ≡ g → length (fileOf site t) ≡ fileLength (t .n) g
 unfolding fileOf fileLength
-length-fileOf t many = ⊎-elim (λ q. rw q) (λ q. rw q (length-blockFile t many)) (decided (eqb (t .n) 0))
+length-fileOf site t many = ⊎-elim (λ q. rw q) (λ q. rw q (length-blockFile site t many)) (decided (eqb (t .n) 0))
 
 -- the largest file is that of the most states and groups
 pub fileLength-most : (n g : ℕ) → n ≤ maxStates → g ≤ maxGroups → fileLength n g ≤ maxFile

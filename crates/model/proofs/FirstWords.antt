@@ -3,6 +3,7 @@
 --   same-word, same-set-at, table-words     words, sets and the table of two stores that are alike in their first words
 --   malformed-same, grounds-same            ground 17, and the shared grounds, of both
 --   same-call                               what is made of the grounds and, where none holds, of the table, is the same
+--   same-write                              the same of write
 --   first-words                             specs/Promises
 use Prim.Native.Nat.{ℕ, _+_, _≤_, _<_}
 use native.Mathlib.Omega.{arith}
@@ -19,12 +20,14 @@ use Rattle.model.specs.Tables.{Table}
 use Rattle.model.specs.Rounds.{run}
 use Rattle.model.specs.Paths.{shortest, hasPath, smallestPath}
 use Rattle.model.specs.Stores.{maxGroups, storeWords, forbiddenAt, groupAt, rowAt, setAt, tableOf, Ground, refuse, beyond, nonZero, malformed, badStates, sharedGrounds}
+use Rattle.model.specs.Blocks.{maxSite}
 use Rattle.model.specs.Files.{fileOf, fileLength}
 use Rattle.model.specs.Calls.{overwrite, Decision, decideGrounds, decisionOf, declined, decideAnswer, decideBuffer, Shortest, shortestGrounds, shortestAnswer, shortestBuffer, Written, writeGrounds, writeAnswer, writeBuffer}
 use Rattle.model.specs.Promises.{FirstWords}
-use Rattle.model.proofs.Bounds.{or-false, decided, any-cong, tabulate-cong}
+use Rattle.model.proofs.Bounds.{or-false, decided, lt-or-ge, any-cong, tabulate-cong}
 use Rattle.model.proofs.ListLaws.{part-front}
 use Rattle.model.proofs.Acceptance.{accepted-store}
+use Rattle.model.proofs.CallLaws.{write-over, write-behind}
 
 nonZero-cong : (xs ys : List ℕ) (from to : ℕ) → ((i : ℕ) → i < to → getD xs i 0 ≡ getD ys i 0) → nonZero xs from to ≡ nonZero ys from to
 unfolding nonZero
@@ -102,8 +105,23 @@ module _ (store other : List ℕ) (long : storeWords ≤ length store) (long′ 
       (decided (eqb k 0))
       ∙ ap (λ (m : ℕ). f m (tableOf other n g)) (grounds-same n g later)
 
+  -- the same of write, which looks at the site behind the store's length
+  same-write : {A : Type 0} (f : ℕ → Table → A) (n g site room : ℕ) → ((k : ℕ) (t u : Table) → eqb k 0 ≡ false → f k t ≡ f k u)
+      → f (refuse (writeGrounds store n g site room)) (tableOf store n g) ≡ f (refuse (writeGrounds other n g site room)) (tableOf other n g)
+  same-write f n g site room only =
+      ⊎-elim
+      (λ (h : maxSite < site).
+      ap (λ (k : ℕ). f k (tableOf store n g)) (write-over store n g site room long h)
+      ∙ only 24 _ _ refl
+      ∙ sym (ap (λ (k : ℕ). f k (tableOf other n g)) (write-over other n g site room long′ h)))
+      (λ (h : site ≤ maxSite).
+      ap (λ (k : ℕ). f k (tableOf store n g)) (write-behind store n g site room long h)
+      ∙ same-call f n g _ only
+      ∙ sym (ap (λ (k : ℕ). f k (tableOf other n g)) (write-behind other n g site room long′ h)))
+      (lt-or-ge maxSite site)
+
   pub first-words : FirstWords store other
-  unfolding decideAnswer decideBuffer decideGrounds declined shortestAnswer shortestBuffer shortestGrounds writeAnswer writeBuffer writeGrounds
+  unfolding decideAnswer decideBuffer decideGrounds declined shortestAnswer shortestBuffer shortestGrounds writeAnswer writeBuffer
   first-words =
       record {
         decide = λ n g allowance path. (
@@ -114,9 +132,9 @@ module _ (store other : List ℕ) (long : storeWords ≤ length store) (long′ 
           same-call found-by n g _ (λ k t u q. rw q),
           same-call (λ k t. cond (eqb ((found-by k t) .found) 1) (overwrite (smallestPath t) path) path) n g _ (λ k t u q. rw q),
         );
-        write = λ n g output. (
-          same-call (λ k t. written-by n g k) n g _ (λ k t u q. refl),
-          same-call (λ k t. cond (eqb ((written-by n g k) .refusal) 0) (overwrite (fileOf t) output) output) n g _ (λ k t u q. rw (q, q)),
+        write = λ n g site output. (
+          same-write (λ k t. written-by n g k) n g site (length output) (λ k t u q. refl),
+          same-write (λ k t. cond (eqb ((written-by n g k) .refusal) 0) (overwrite (fileOf site t) output) output) n g site (length output) (λ k t u q. rw (q, q)),
         );
       }
     where

@@ -299,8 +299,8 @@ untouched =
           (by-cond (λ (a : Shortest). eqb (refuse (shortestGrounds store n g (length path))) 0 ≡ true → (a .refusal ≡ 0 → ⊥) → cond (eqb (a .found) 1) (overwrite (smallestPath (tableOf store n g)) path) path ≡ path)
           (hasPath (tableOf store n g)) _ _ (λ h q f. absurd (f refl)) (λ h q f. refl))
           (λ q f. refl);
-      read = λ input store f. rw (ne-eqb (refuse (readGrounds input (length store))) 0 (λ e. f (read-refusal input (length store) ∙ e)));
-      write = λ store n g output f. rw (ne-eqb ((writeAnswer store n g (length output)) .refusal) 0 f);
+      read = λ input site store f. rw (ne-eqb (refuse (readGrounds input site (length store))) 0 (λ e. f (read-refusal input site (length store) ∙ e)));
+      write = λ store n g site output f. rw (ne-eqb ((writeAnswer store n g site (length output)) .refusal) 0 f);
     }
 
 -- what is chosen where k is not 0, given that an answer with refusal 0 is chosen where it is
@@ -322,11 +322,11 @@ declines =
           let k = refuse (shortestGrounds store n g room) in
           declining (λ (a : Shortest). a .refusal) k (pathFound t (hasPath t)) (record { refusal = k; found = 0; steps = 0 })
           (path-not-refused t (hasPath t));
-      read = λ input room.
-          let k = refuse (readGrounds input room) in
+      read = λ input site room.
+          let k = refuse (readGrounds input site room) in
           declining (λ (a : TableRead). a .refusal) k (record { refusal = 0; n = statesIn input; g = groupsIn input }) (record { refusal = k; n = 0; g = 0 }) refl;
-      write = λ store n g room.
-          let k = refuse (writeGrounds store n g room) in
+      write = λ store n g site room.
+          let k = refuse (writeGrounds store n g site room) in
           declining (λ (a : Written). a .refusal) k (record { refusal = 0; length = fileLength n g }) (record { refusal = k; length = 0 }) refl;
     }
 

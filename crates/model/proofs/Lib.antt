@@ -21,3 +21,4 @@ pub mod Drafts
 pub mod Kept
 pub mod Ranges
 pub mod BlockCheck
+pub mod SiteLaws

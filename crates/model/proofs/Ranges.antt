@@ -69,22 +69,22 @@ pub record ReadRange (a : TableRead) : Type 0 where
   pub n : a .n ≤ maxStates
   pub g : a .g ≤ maxGroups
 
-pub read-range : (input : List ℕ) (room : ℕ) → ReadRange (readAnswer input room)
+pub read-range : (input : List ℕ) (site room : ℕ) → ReadRange (readAnswer input site room)
 unfolding readAnswer
-read-range input room =
-    by-cond ReadRange (eqb (refuse (readGrounds input room)) 0) _ _
+read-range input site room =
+    by-cond ReadRange (eqb (refuse (readGrounds input site room)) 0) _ _
     (λ q.
     ⊎-elim
     (λ none. let says = draft-says input none in record { n = omega (arith, says .0); g = omega (arith, says .1) })
     (λ r. record { n = r .small; g = r .few })
-    (readable input room (eqb-true (refuse (readGrounds input room)) 0 q) .1))
+    (readable input site room (eqb-true (refuse (readGrounds input site room)) 0 q) .2))
     (λ q. record { n = omega arith; g = omega arith })
 
-pub write-range : (store : List ℕ) (n g room : ℕ) → (writeAnswer store n g room) .length ≤ maxFile
+pub write-range : (store : List ℕ) (n g site room : ℕ) → (writeAnswer store n g site room) .length ≤ maxFile
 unfolding writeAnswer
-write-range store n g room =
-    by-cond (λ (a : Written). a .length ≤ maxFile) (eqb (refuse (writeGrounds store n g room)) 0) _ _
+write-range store n g site room =
+    by-cond (λ (a : Written). a .length ≤ maxFile) (eqb (refuse (writeGrounds store n g site room)) 0) _ _
     (λ q.
-    let w = writable store n g room (eqb-true (refuse (writeGrounds store n g room)) 0 q) in
+    let w = writable store n g site room (eqb-true (refuse (writeGrounds store n g site room)) 0 q) in
     fileLength-most n g (w .held .small) (w .held .few))
     (λ q. omega arith)

@@ -2,16 +2,17 @@
 --
 --   blockBytes, contentBytes     the bytes of a block, and those of its content, which begin at contentAt; its check stands at checkAt
 --   modulus                      the prime of the check
+--   maxSite                      the greatest site number; siteGround site: ground 24
 --   le16 x                       x as two bytes, low byte first; le16At bytes i: the number whose two bytes stand at i
---   checkOf bytes                the check of a block (a weighted checksum)
+--   checkOf site bytes           the check of a block for a site (a weighted checksum)
 --   blocksFor l                  how many blocks hold l bytes of content
---   blockOf bytes k              block k of a file with these contents
+--   blockOf site bytes k         block k of a file with these contents
 --   part input k                 the bytes of block k; contentsOf input: the contents of a file's blocks, joined
---   blockGrounds block k         the grounds 12 and 13 of a block that should be block k
+--   blockGrounds site block k    the grounds 12 and 13 of a block that should be block k
 use Prim.Native.Nat.{ℕ, zero, suc, _+_, _*_, _-_, _/_, _%_}
 use mathlib.Core.Bool.{not}
 use mathlib.Core.List.{List, [], _∷_, _++_}
-use lib.Dec.{eqb}
+use lib.Dec.{eqb, ltb}
 use lib.ListN.{length, getD, take, drop, replicate}
 use Rattle.model.specs.Stores.{concat, Ground}
 
@@ -30,6 +31,13 @@ checkAt = contentAt + contentBytes
 abbrev pub modulus : ℕ
 modulus = 65521
 
+-- Each site starts the sum from a number of its own modulo the prime.
+abbrev pub maxSite : ℕ
+maxSite = modulus - 1
+
+abbrev pub siteGround : ℕ → Ground
+siteGround site = (ltb maxSite site, 24)
+
 abbrev pub le16 : ℕ → List ℕ
 le16 x = x % 256 ∷ x / 256 % 256 ∷ []
 
@@ -42,9 +50,9 @@ unfoldable pub weighted : List ℕ → ℕ → ℕ
 weighted bytes zero = 0
 weighted bytes (suc i) = weighted bytes i + (i + 1) * getD bytes i 0
 
--- The sum of (i + 1) times byte i, for each byte before the check, modulo the prime.
-unfoldable pub checkOf : List ℕ → ℕ
-checkOf bytes = weighted bytes checkAt % modulus
+-- The site, and the sum of (i + 1) times byte i for each byte before the check, modulo the prime.
+unfoldable pub checkOf : ℕ → List ℕ → ℕ
+checkOf site bytes = (site + weighted bytes checkAt) % modulus
 
 -- ---- writing
 
@@ -52,10 +60,10 @@ abbrev pub blocksFor : ℕ → ℕ
 blocksFor l = (l + (contentBytes - 1)) / contentBytes
 
 -- The number k, so many bytes of content with 0 for filler (padding), and the check.
-unfoldable pub blockOf : List ℕ → ℕ → List ℕ
-blockOf bytes k =
+unfoldable pub blockOf : ℕ → List ℕ → ℕ → List ℕ
+blockOf site bytes k =
     let front = le16 k ++ take contentBytes (drop (contentBytes * k) bytes ++ replicate contentBytes 0) in
-    front ++ le16 (checkOf front)
+    front ++ le16 (checkOf site front)
 
 -- ---- reading
 
@@ -65,6 +73,6 @@ part input k = take blockBytes (drop (blockBytes * k) input)
 unfoldable pub contentsOf : List ℕ → List ℕ
 contentsOf input = concat (length input / blockBytes) (λ k. take contentBytes (drop contentAt (part input k)))
 
--- It does not hold the number k, or not its own check.
-unfoldable pub blockGrounds : List ℕ → ℕ → List Ground
-blockGrounds block k = (not (eqb (le16At block 0) k), 12) ∷ (not (eqb (le16At block checkAt) (checkOf block)), 13) ∷ []
+-- It does not hold the number k, or not its own check for the site.
+unfoldable pub blockGrounds : ℕ → List ℕ → ℕ → List Ground
+blockGrounds site block k = (not (eqb (le16At block 0) k), 12) ∷ (not (eqb (le16At block checkAt) (checkOf site block)), 13) ∷ []

@@ -10,7 +10,8 @@
 --   TableRead, readAnswer, readBuffer      read: the grounds in order, the answer; the buffer is the store
 --   Written, writeAnswer, writeBuffer      write: the buffer is the output
 --
--- A buffer's length is the length of the list that it holds. Decide, shortest path and write are lent the store to read only.
+-- A buffer's length is the length of the list that it holds. Decide, shortest path and write are lent the store to read only. Read and write are
+-- given the site of the file, any number.
 use Prim.Native.Nat.{ℕ, _+_, _*_, _/_, _%_}
 use mathlib.Core.Bool.{Bool, cond, not, _||_}
 use mathlib.Core.List.{List, [], _∷_, _++_}
@@ -20,8 +21,8 @@ use Rattle.model.specs.Sets.{maxStates, Set, empty, size, any}
 use Rattle.model.specs.Tables.{Table}
 use Rattle.model.specs.Rounds.{Outcome, safe, unsafe, undecided, run}
 use Rattle.model.specs.Paths.{shortest, hasPath, smallestPath}
-use Rattle.model.specs.Stores.{headSets, maxGroups, tableOf, concat, layout, Ground, refuse, beyond, nonZero, storeGround, sharedGrounds}
-use Rattle.model.specs.Blocks.{blockBytes, contentBytes, le16At, blocksFor, part, contentsOf, blockGrounds}
+use Rattle.model.specs.Stores.{headSets, maxGroups, tableOf, concat, layout, Ground, refuse, beyond, nonZero, storeGround, tableGrounds, sharedGrounds}
+use Rattle.model.specs.Blocks.{blockBytes, contentBytes, siteGround, le16At, blocksFor, part, contentsOf, blockGrounds}
 use Rattle.model.specs.Contents.{contentLength, setNumber, tableIn}
 use Rattle.model.specs.Files.{fileOf, fileLength, maxFile}
 
@@ -114,8 +115,8 @@ abbrev pub groupsIn : List ℕ → ℕ
 groupsIn input = le16At (contentsOf input) 2
 
 -- The blocks in order, and the grounds in order in each.
-unfoldable pub blocksGrounds : List ℕ → List Ground
-blocksGrounds input = concat (length input / blockBytes) (λ k. blockGrounds (part input k) k)
+unfoldable pub blocksGrounds : List ℕ → ℕ → List Ground
+blocksGrounds input site = concat (length input / blockBytes) (λ k. blockGrounds site (part input k) k)
 
 -- Those behind them, of contents that say n and g: here n is not 0.
 unfoldable pub contentGrounds : List ℕ → ℕ → ℕ → List Ground
@@ -132,25 +133,25 @@ contentGrounds input n g =
 unfoldable pub badLength : List ℕ → Bool
 badLength input = not (eqb (length input % blockBytes) 0) || ltb maxFile (length input)
 
-unfoldable pub fileGrounds : List ℕ → List Ground
-fileGrounds input =
+unfoldable pub fileGrounds : List ℕ → ℕ → List Ground
+fileGrounds input site =
     (badLength input, 11)
-    ∷ (blocksGrounds input ++ contentGrounds input (statesIn input) (groupsIn input))
+    ∷ (blocksGrounds input site ++ contentGrounds input (statesIn input) (groupsIn input))
 
 -- An input of no bytes is the file of a draft, and earns none of them.
-unfoldable pub readGrounds : List ℕ → ℕ → List Ground
-readGrounds input room = storeGround room ∷ cond (eqb (length input) 0) [] (fileGrounds input)
+unfoldable pub readGrounds : List ℕ → ℕ → ℕ → List Ground
+readGrounds input site room = storeGround room ∷ siteGround site ∷ cond (eqb (length input) 0) [] (fileGrounds input site)
 
-unfoldable pub readAnswer : List ℕ → ℕ → TableRead
-readAnswer input room =
-    let k = refuse (readGrounds input room) in
+unfoldable pub readAnswer : List ℕ → ℕ → ℕ → TableRead
+readAnswer input site room =
+    let k = refuse (readGrounds input site room) in
     let table : TableRead = record { refusal = 0; n = statesIn input; g = groupsIn input } in
     cond (eqb k 0) table (record { refusal = k; n = 0; g = 0 })
 
-unfoldable pub readBuffer : List ℕ → List ℕ → List ℕ
-readBuffer input store =
+unfoldable pub readBuffer : List ℕ → ℕ → List ℕ → List ℕ
+readBuffer input site store =
     let filled = overwrite (layout (tableIn (contentsOf input) (statesIn input) (groupsIn input))) store in
-    cond (eqb (refuse (readGrounds input (length store))) 0) filled store
+    cond (eqb (refuse (readGrounds input site (length store))) 0) filled store
 
 -- ---- write
 
@@ -162,15 +163,15 @@ pub record Written : Type 0 where
 abbrev pub outputGround : ℕ → ℕ → ℕ → Ground
 outputGround n g room = (ltb room (fileLength n g), 19)
 
-unfoldable pub writeGrounds : List ℕ → ℕ → ℕ → ℕ → List Ground
-writeGrounds store n g room = sharedGrounds store n g ++ (outputGround n g room ∷ [])
+unfoldable pub writeGrounds : List ℕ → ℕ → ℕ → ℕ → ℕ → List Ground
+writeGrounds store n g site room = storeGround (length store) ∷ siteGround site ∷ (tableGrounds store n g ++ (outputGround n g room ∷ []))
 
-unfoldable pub writeAnswer : List ℕ → ℕ → ℕ → ℕ → Written
-writeAnswer store n g room =
-    let k = refuse (writeGrounds store n g room) in
+unfoldable pub writeAnswer : List ℕ → ℕ → ℕ → ℕ → ℕ → Written
+writeAnswer store n g site room =
+    let k = refuse (writeGrounds store n g site room) in
     cond (eqb k 0) (record { refusal = 0; length = fileLength n g }) (record { refusal = k; length = 0 })
 
-unfoldable pub writeBuffer : List ℕ → ℕ → ℕ → List ℕ → List ℕ
-writeBuffer store n g output =
-    let written = overwrite (fileOf (tableOf store n g)) output in
-    cond (eqb ((writeAnswer store n g (length output)) .refusal) 0) written output
+unfoldable pub writeBuffer : List ℕ → ℕ → ℕ → ℕ → List ℕ → List ℕ
+writeBuffer store n g site output =
+    let written = overwrite (fileOf site (tableOf store n g)) output in
+    cond (eqb ((writeAnswer store n g site (length output)) .refusal) 0) written output

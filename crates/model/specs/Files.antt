@@ -1,7 +1,7 @@
 -- The file of a table (the specification, "Files").
 --
---   blockFile t               the contents of a table in blocks; blockFileLength n g: its bytes
---   fileOf t                  the file of a table; fileLength n g: its bytes
+--   blockFile site t          the contents of a table in blocks; blockFileLength n g: its bytes
+--   fileOf site t             the file of a table for a site; fileLength n g: its bytes
 --   maxFile                   the length of the largest file
 use Prim.Native.Nat.{ℕ, _*_}
 use mathlib.Core.Bool.{cond}
@@ -14,15 +14,15 @@ use Rattle.model.specs.Stores.{maxGroups, concat}
 use Rattle.model.specs.Blocks.{blockBytes, blocksFor, blockOf}
 use Rattle.model.specs.Contents.{contents, contentLength}
 
-unfoldable pub blockFile : Table → List ℕ
-blockFile t = let bytes = contents t in concat (blocksFor (length bytes)) (blockOf bytes)
+unfoldable pub blockFile : ℕ → Table → List ℕ
+blockFile site t = let bytes = contents t in concat (blocksFor (length bytes)) (blockOf site bytes)
 
 abbrev pub blockFileLength : ℕ → ℕ → ℕ
 blockFileLength n g = blockBytes * blocksFor (contentLength n g)
 
--- A table without states, an untouched draft, is a file of no bytes.
-unfoldable pub fileOf : Table → List ℕ
-fileOf t = cond (eqb (t .n) 0) [] (blockFile t)
+-- A table without states, an untouched draft, is a file of no bytes, whatever the site.
+unfoldable pub fileOf : ℕ → Table → List ℕ
+fileOf site t = cond (eqb (t .n) 0) [] (blockFile site t)
 
 unfoldable pub fileLength : ℕ → ℕ → ℕ
 fileLength n g = cond (eqb n 0) 0 (blockFileLength n g)

@@ -1,26 +1,22 @@
 -- What a block's check is good for: the error detection of a weighted checksum (the specification, "Files").
 --
---   checkFrom start block            the check of a block, its sum started from `start`; from 0 it is the block's check
---   Intact start block               the stored check of a block is its check
+--   Intact site block                the stored check of a block is its check for the site
 --   Block block                      512 bytes
 --   DifferInOne a b                  a and b differ in exactly one byte
 --   Exchanged a b                    a and b differ only by the exchange of two unequal bytes
 --   Detects                          no two blocks that differ so are both intact; and intact is what ground 13 tests
 --
 -- Byte i of a block is `getD block i 0`; the check's own two bytes are bytes like the others.
-use Prim.Native.Nat.{ℕ, _+_, _%_, _<_}
+use Prim.Native.Nat.{ℕ, _<_}
 use mathlib.Core.Path.{_≡_}
 use mathlib.Core.Logic.{_↔_}
 use mathlib.Core.List.{List}
 use lib.ListN.{length, getD}
 use Rattle.model.specs.Stores.{refuse}
-use Rattle.model.specs.Blocks.{blockBytes, checkAt, modulus, le16At, weighted, blockGrounds}
+use Rattle.model.specs.Blocks.{blockBytes, checkAt, le16At, checkOf, blockGrounds}
 
-abbrev pub checkFrom : ℕ → List ℕ → ℕ
-checkFrom start block = (start + weighted block checkAt) % modulus
-
-pub record Intact (start : ℕ) (block : List ℕ) : Type 0 where
-  pub stored : le16At block checkAt ≡ checkFrom start block
+pub record Intact (site : ℕ) (block : List ℕ) : Type 0 where
+  pub stored : le16At block checkAt ≡ checkOf site block
 
 pub record Block (block : List ℕ) : Type 0 where
   pub long : length block ≡ blockBytes
@@ -39,10 +35,10 @@ pub record Exchanged (a b : List ℕ) : Type 0 where
   pub to-other : getD b other 0 ≡ getD a place 0
   pub elsewhere : (i : ℕ) → (i ≡ place → ⊥) → (i ≡ other → ⊥) → getD a i 0 ≡ getD b i 0
 
--- Whatever the sum starts from: the first two are about the check itself, at all 512 places together.
+-- At every site, the number left general. The first two are about the check itself, at all 512 places together.
 pub record Detects : Type 0 where
-  pub one-byte : (start : ℕ) (a b : List ℕ) → Block a → Block b → DifferInOne a b → Intact start a → Intact start b → ⊥
-  pub exchange : (start : ℕ) (a b : List ℕ) → Block a → Block b → Exchanged a b → Intact start a → Intact start b → ⊥
+  pub one-byte : (site : ℕ) (a b : List ℕ) → Block a → Block b → DifferInOne a b → Intact site a → Intact site b → ⊥
+  pub exchange : (site : ℕ) (a b : List ℕ) → Block a → Block b → Exchanged a b → Intact site a → Intact site b → ⊥
   -- a block that should have the number that it holds: read finds nothing wrong with it, or gives 13
-  pub intact-read : (block : List ℕ) → Intact 0 block ↔ (refuse (blockGrounds block (le16At block 0)) ≡ 0)
-  pub damaged-read : (block : List ℕ) → (Intact 0 block → ⊥) ↔ (refuse (blockGrounds block (le16At block 0)) ≡ 13)
+  pub intact-read : (site : ℕ) (block : List ℕ) → Intact site block ↔ (refuse (blockGrounds site block (le16At block 0)) ≡ 0)
+  pub damaged-read : (site : ℕ) (block : List ℕ) → (Intact site block → ⊥) ↔ (refuse (blockGrounds site block (le16At block 0)) ≡ 13)

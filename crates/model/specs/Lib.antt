@@ -11,4 +11,5 @@ pub mod Sizes
 pub mod Intact
 pub mod Promises
 pub mod RoundTrip
+pub mod Sites
 pub mod Draft

@@ -189,9 +189,9 @@ pub record FirstWords (store other : List ℕ) : Type 0 where
   pub shortest-path : (n g : ℕ) (path : List ℕ)
       → (shortestAnswer store n g (length path) ≡ shortestAnswer other n g (length path))
       × (shortestBuffer store n g path ≡ shortestBuffer other n g path)
-  pub write : (n g : ℕ) (output : List ℕ)
-      → (writeAnswer store n g (length output) ≡ writeAnswer other n g (length output))
-      × (writeBuffer store n g output ≡ writeBuffer other n g output)
+  pub write : (n g site : ℕ) (output : List ℕ)
+      → (writeAnswer store n g site (length output) ≡ writeAnswer other n g site (length output))
+      × (writeBuffer store n g site output ≡ writeBuffer other n g site output)
 
 pub record Promises : Type 0 where
   -- of every table
@@ -243,9 +243,10 @@ pub record Untouched : Type 0 where
       → ((decideAnswer store n g allowance (length path)) .refusal ≡ 0 → ⊥) → decideBuffer store n g allowance path ≡ path
   pub shortest-path : (store : List ℕ) (n g : ℕ) (path : List ℕ)
       → ((shortestAnswer store n g (length path)) .refusal ≡ 0 → ⊥) → shortestBuffer store n g path ≡ path
-  pub read : (input store : List ℕ) → ((readAnswer input (length store)) .refusal ≡ 0 → ⊥) → readBuffer input store ≡ store
-  pub write : (store : List ℕ) (n g : ℕ) (output : List ℕ)
-      → ((writeAnswer store n g (length output)) .refusal ≡ 0 → ⊥) → writeBuffer store n g output ≡ output
+  pub read : (input : List ℕ) (site : ℕ) (store : List ℕ)
+      → ((readAnswer input site (length store)) .refusal ≡ 0 → ⊥) → readBuffer input site store ≡ store
+  pub write : (store : List ℕ) (n g site : ℕ) (output : List ℕ)
+      → ((writeAnswer store n g site (length output)) .refusal ≡ 0 → ⊥) → writeBuffer store n g site output ≡ output
 
 -- What every call that declines answers: the number of the first ground that holds, and 0 in every other field, the invariant empty.
 pub record Declined : Type 0 where
@@ -256,9 +257,9 @@ pub record Declined : Type 0 where
   pub shortest-path : (store : List ℕ) (n g room : ℕ)
       → ((shortestAnswer store n g room) .refusal ≡ 0 → ⊥)
       → shortestAnswer store n g room ≡ record { refusal = refuse (shortestGrounds store n g room); found = 0; steps = 0 }
-  pub read : (input : List ℕ) (room : ℕ)
-      → ((readAnswer input room) .refusal ≡ 0 → ⊥)
-      → readAnswer input room ≡ record { refusal = refuse (readGrounds input room); n = 0; g = 0 }
-  pub write : (store : List ℕ) (n g room : ℕ)
-      → ((writeAnswer store n g room) .refusal ≡ 0 → ⊥)
-      → writeAnswer store n g room ≡ record { refusal = refuse (writeGrounds store n g room); length = 0 }
+  pub read : (input : List ℕ) (site room : ℕ)
+      → ((readAnswer input site room) .refusal ≡ 0 → ⊥)
+      → readAnswer input site room ≡ record { refusal = refuse (readGrounds input site room); n = 0; g = 0 }
+  pub write : (store : List ℕ) (n g site room : ℕ)
+      → ((writeAnswer store n g site room) .refusal ≡ 0 → ⊥)
+      → writeAnswer store n g site room ≡ record { refusal = refuse (writeGrounds store n g site room); length = 0 }

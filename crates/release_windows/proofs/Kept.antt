@@ -104,5 +104,16 @@ fits time windows days =
     (λ l. omega arith))
     (λ e. omega arith)
 
+declined : (time : ℕ) (windows days : List ℕ) → ((nextOpenAnswer time windows days) .refusal ≡ 0 → ⊥)
+    → nextOpenAnswer time windows days ≡ record { refusal = refuse (grounds time windows days); never = 0; minute = 0 }
+unfolding nextOpenAnswer
+declined time windows days f =
+    let k = refuse (grounds time windows days) in
+    let wait = waiting time windows days in
+    ⊎-elim
+    (λ (e : eqb k 0 ≡ true). absurd (f (rw e (by-cond (λ (r : Answer). r .refusal ≡ 0) (ltb wait span) _ _ (λ l. refl) (λ l. refl)))))
+    (λ (e : eqb k 0 ≡ false). rw e refl)
+    (decided (eqb k 0))
+
 pub promises : Promises
-promises = record { open-minutes = open-minutes; with-window = with-window; without = without; fits = fits }
+promises = record { open-minutes = open-minutes; with-window = with-window; without = without; fits = fits; declined = declined }

@@ -10,7 +10,7 @@ use mathlib.Core.Logic.{_↔_}
 use mathlib.Core.Bool.{true, false}
 use mathlib.Core.List.{List, [], List·Memᴰ}
 use Rattle.release_windows.specs.Windows.{day, week, startOf, lengthOf, outside, some, isOpen}
-use Rattle.release_windows.specs.Answers.{span, nextOpenAnswer}
+use Rattle.release_windows.specs.Answers.{span, refuse, grounds, nextOpenAnswer}
 
 -- Week k begins at minute week·k − week, so that a week is added on either side.
 pub record Held (w k m : ℕ) : Type 0 where
@@ -39,3 +39,7 @@ pub record Promises : Type 0 where
       → ((nextOpenAnswer time [] days) .never ≡ 1) × ((m : ℕ) → isOpen [] days m ≡ false)
   -- of every call: the minute fits 32 bits
   pub fits : (time : ℕ) (windows days : List ℕ) → (nextOpenAnswer time windows days) .minute < 2 ^ 32
+  -- of every call that is declined: the number of the first ground that holds, and 0 in every other field
+  pub declined : (time : ℕ) (windows days : List ℕ)
+      → ((nextOpenAnswer time windows days) .refusal ≡ 0 → ⊥)
+      → nextOpenAnswer time windows days ≡ record { refusal = refuse (grounds time windows days); never = 0; minute = 0 }

@@ -1,15 +1,17 @@
 -- The structs of the calls for C, as the model's answers: field by field, under the same names.
 --
 --   decisionFields, shortestFields, withinFields, tableFields, fileFields     what decide, shortest path, within, read and write return
---   minuteFields                                                              what next open minute returns
+--   replayFields, minuteFields                                                what replay and next open minute return
 use Rattle.model.specs.Calls.{Decision, Shortest, TableRead, Written}
 use Rattle.paths.specs.Within.{Answer}
+use Rattle.replay.specs.Logs.{Replay}
 use Rattle.release_windows.specs.Answers.{Answer as MinuteAnswer}
 use Rattle.shuntberry.specs.declared.DecisionFields.{DecisionFields}
 use Rattle.shuntberry.specs.declared.ShortestFields.{ShortestFields}
 use Rattle.shuntberry.specs.declared.WithinFields.{WithinFields}
 use Rattle.shuntberry.specs.declared.TableFields.{TableFields}
 use Rattle.shuntberry.specs.declared.FileFields.{FileFields}
+use Rattle.shuntberry.specs.declared.ReplayFields.{ReplayFields}
 use Rattle.shuntberry.specs.declared.MinuteFields.{MinuteFields}
 
 -- all but `reserved`
@@ -28,6 +30,9 @@ tableFields r = record { refusal = r .refusal; n = r .n; g = r .g }
 
 abbrev pub fileFields : FileFields → Written
 fileFields r = record { refusal = r .refusal; length = r .length }
+
+abbrev pub replayFields : ReplayFields → Replay
+replayFields r = record { refusal = r .refusal; followed = r .followed; seen = r .seen; percent = r .percent; remainder = r .remainder }
 
 abbrev pub minuteFields : MinuteFields → MinuteAnswer
 minuteFields r = record { refusal = r .refusal; never = r .never; minute = r .minute }

@@ -16,8 +16,11 @@ ghost use Rattle.block_file.specs.ReadAnswers.{readOf};
 ghost use Rattle.block_file.specs.WriteAnswers.{writtenOf};
 ghost use Rattle.generator.specs.Load.{generateAnswer, generateBuffer};
 ghost use Rattle.generator.specs.Answers.{generatedOf};
+ghost use Rattle.replay.specs.Logs.{replayAnswer};
+ghost use Rattle.replay.specs.Answers.{replayedOf};
+ghost use Rattle.replay.proofs.Ranges.{ReplayRange};
 ghost use Rattle.release_windows.specs.Answers.{nextOpenAnswer, numbersOf};
-ghost use Rattle.shuntberry.specs.Fields.{decisionFields, shortestFields, withinFields, tableFields, fileFields, minuteFields};
+ghost use Rattle.shuntberry.specs.Fields.{decisionFields, shortestFields, withinFields, tableFields, fileFields, replayFields, minuteFields};
 use block_file::TableRead;
 use block_file::Written;
 use block_file::read;
@@ -32,6 +35,8 @@ use paths::shortest_path;
 use paths::within;
 use release_windows::NextOpen;
 use release_windows::next_open;
+use replay::Replayed;
+use replay::replay;
 use rounds::Decision;
 use rounds::Verdict;
 use rounds::decide;
@@ -237,11 +242,11 @@ fn lay_out_table(answer: TableRead) -> TableFields
 }
 
 #[no_mangle]
-pub extern "C" fn shuntberry_read(input: &[u8], store: &mut [u64]) -> TableFields
-    ensures { λ r. ⌜ (tableFields r ≡ readAnswer (now (input .entry)) (length (now (store .entry))))
-        × (now (store .exit) ≡ readBuffer (now (input .entry)) (now (store .entry))) ⌝ }
+pub extern "C" fn shuntberry_read(input: &[u8], site: usize, store: &mut [u64]) -> TableFields
+    ensures { λ r. ⌜ (tableFields r ≡ readAnswer (now (input .entry)) site (length (now (store .entry))))
+        × (now (store .exit) ≡ readBuffer (now (input .entry)) site (now (store .entry))) ⌝ }
 {
-    lay_out_table(read(input, store))
+    lay_out_table(read(input, site, store))
 }
 
 // ---- write
@@ -273,12 +278,13 @@ pub extern "C" fn shuntberry_write(
     store: &[u64],
     n: usize,
     g: usize,
+    site: usize,
     output: &mut [u8],
 ) -> FileFields
-    ensures { λ r. ⌜ (fileFields r ≡ writeAnswer (now (store .entry)) n g (length (now (output .entry))))
-        × (now (output .exit) ≡ writeBuffer (now (store .entry)) n g (now (output .entry))) ⌝ }
+    ensures { λ r. ⌜ (fileFields r ≡ writeAnswer (now (store .entry)) n g site (length (now (output .entry))))
+        × (now (output .exit) ≡ writeBuffer (now (store .entry)) n g site (now (output .entry))) ⌝ }
 {
-    lay_out_file(write(store, n, g, output))
+    lay_out_file(write(store, n, g, site, output))
 }
 
 // ---- generate
@@ -298,6 +304,51 @@ pub extern "C" fn shuntberry_generate(seed: u32, n: usize, fan_out: usize, store
         × (now (store .exit) ≡ generateBuffer seed n «fan_out» (now (store .entry))) ⌝ }
 {
     lay_out_generated(generate(seed, n, fan_out, store))
+}
+
+// ---- replay
+
+#[repr(C)]
+pub struct ReplayFields {
+    pub refusal: u32,
+    pub followed: u32,
+    pub seen: u32,
+    pub percent: u32,
+    pub remainder: u32,
+}
+
+fn lay_out_replay(answer: Replayed) -> ReplayFields
+    requires { ⌜ ReplayRange (replayedOf answer) ⌝ }
+    ensures { λ r. ⌜ replayFields r ≡ replayedOf answer ⌝ }
+{
+    match answer {
+        Replayed::Walk {
+            followed,
+            seen,
+            percent,
+            remainder,
+        } => ReplayFields {
+            refusal: 0,
+            followed: followed as u32,
+            seen: seen as u32,
+            percent: percent as u32,
+            remainder: remainder as u32,
+        },
+        Replayed::Refused(refusal) => ReplayFields {
+            refusal: refusal as u32,
+            followed: 0,
+            seen: 0,
+            percent: 0,
+            remainder: 0,
+        },
+    }
+}
+
+#[no_mangle]
+pub extern "C" fn shuntberry_replay(store: &[u64], n: usize, g: usize, log: &[u8]) -> ReplayFields
+    ensures { λ r. ⌜ replayFields r ≡ replayAnswer (now (store .entry)) n g (now (log .entry)) ⌝ }
+{
+    lay_out_replay(replay(store, n, g, log))
 }
 
 // ---- next open minute

@@ -63,7 +63,7 @@ abbrev pub LineE : Type 0
 LineE =
     Safe E release 1 (0 ∷ [])
     × (contents (stored E) ≡ 0x03 ∷ 0x00 ∷ 0x00 ∷ 0x00 ∷ 0x01 ∷ 0x04 ∷ 0x01 ∷ 0x04 ∷ 0x00 ∷ [])
-    × (checkOf (blockOf (contents (stored E)) 0) ≡ 97)
+    × (checkOf 0 (blockOf 0 (contents (stored E)) 0) ≡ 97)
 
 abbrev pub LineF : Type 0
 LineF = Unsafe F release 0 (0 ∷ [])

@@ -1,10 +1,11 @@
-//! The refusals of the calls on a store, in their order, and of read's store.
+//! The refusals of the calls on a store, in their order, and of read's store and site.
 
-use crate::blocks::file_length;
+use crate::blocks::{MAX_SITE, file_length};
 use crate::table::{FORBIDDEN_AT, MAX_GROUPS, MAX_STATES, STORE_WORDS, WORDS, group_at, row_at};
 
 pub const PATH_PLACES: usize = MAX_STATES;
 pub const MAX_ALLOWANCE: usize = MAX_STATES;
+pub const MAX_LOG: usize = 32_768;
 
 pub fn decide(
     store: &[u64],
@@ -32,14 +33,22 @@ pub fn within(store: &[u64], n: usize, g: usize) -> Result<(), u32> {
     table(store, n, g)
 }
 
-pub fn write(store: &[u64], n: usize, g: usize, output_len: usize) -> Result<(), u32> {
+pub fn write(store: &[u64], n: usize, g: usize, site: usize, output_len: usize) -> Result<(), u32> {
+    read(store.len(), site)?;
     table(store, n, g)?;
     refuse_if(output_len < file_length(n, g), 19)
 }
 
-/// The store that read is to fill.
-pub fn read_store(store_len: usize) -> Result<(), u32> {
-    refuse_if(store_len < STORE_WORDS, 10)
+pub fn replay(store: &[u64], n: usize, g: usize, log_len: usize) -> Result<(), u32> {
+    table(store, n, g)?;
+    refuse_if(log_len % 2 == 1, 25)?;
+    refuse_if(log_len > MAX_LOG, 26)
+}
+
+/// What read asks before it looks at the input: a store to fill, and a site.
+pub fn read(store_len: usize, site: usize) -> Result<(), u32> {
+    refuse_if(store_len < STORE_WORDS, 10)?;
+    refuse_if(site > MAX_SITE, 24)
 }
 
 /// What all but read ask of a store with n and g.

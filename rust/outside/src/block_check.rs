@@ -1,8 +1,8 @@
 //! What a block's check is good for, through read: a block with one byte changed, or with two unequal
-//! bytes exchanged, is never read. The blocks of a file are taken in order, so a damaged block behind
+//! bytes exchanged, is never read, at every site. The blocks of a file are taken in order, so a damaged block behind
 //! intact ones earns 12 where its number has changed, and 13 everywhere else.
 
-use crate::blocks::{self, BLOCK, CONTENT};
+use crate::blocks::{self, BLOCK, CONTENT, MAX_SITE};
 use crate::calls::Calls;
 use crate::examine::Outcome;
 use crate::generate::Random;
@@ -13,55 +13,54 @@ const APART: (usize, usize) = (255, 511);
 
 /// Every change of one byte and every exchange of two, in blocks with random contents.
 pub fn block_checks(libraries: &[&dyn Calls], random: &mut Random) -> Outcome {
-    for number in [0, 1, 3] {
-        let file = random_file(number, random);
+    for (number, site) in [(0, 0), (1, random.within(1, MAX_SITE - 1)), (3, MAX_SITE)] {
+        let file = random_file(number, site, random);
         for library in libraries {
-            intact(*library, &file)?;
-            every_change(*library, &file, number)?;
-            every_exchange(*library, &file, number)?;
+            let read = Read {
+                library: *library,
+                site,
+            };
+            read.intact(&file)?;
+            every_change(&read, &file, number)?;
+            every_exchange(&read, &file, number)?;
         }
     }
     let file = apart_by_128(random);
     for library in libraries {
-        exchange(*library, &mut file.clone(), &file, 0, APART)?;
+        let read = Read {
+            library: *library,
+            site: 0,
+        };
+        exchange(&read, &mut file.clone(), &file, 0, APART)?;
     }
     Ok(())
 }
 
 /// Intact blocks up to and with this number. No table need stand in them: that is looked at later.
-fn random_file(number: usize, random: &mut Random) -> Vec<u8> {
+fn random_file(number: usize, site: usize, random: &mut Random) -> Vec<u8> {
     (0..=number)
-        .flat_map(|k| blocks::block(k, &random.bytes(CONTENT)))
+        .flat_map(|k| blocks::block(k, &random.bytes(CONTENT), site))
         .collect()
 }
 
 /// An intact block whose bytes at the two places are 128 apart.
 fn apart_by_128(random: &mut Random) -> Vec<u8> {
     loop {
-        let block = random_file(0, random);
+        let block = random_file(0, 0, random);
         if block[APART.0].abs_diff(block[APART.1]) == 128 {
             return block;
         }
     }
 }
 
-/// The file that is to be damaged is refused for no block.
-fn intact(library: &dyn Calls, file: &[u8]) -> Outcome {
-    let refusal = library.read(file, &mut [0; STORE_WORDS]).refusal;
-    if refusal == 12 || refusal == 13 {
-        return Err(format!("{}'s read refused intact blocks", library.name()));
-    }
-    Ok(())
-}
-
-fn every_change(library: &dyn Calls, file: &[u8], number: usize) -> Outcome {
+fn every_change(read: &Read, file: &[u8], number: usize) -> Outcome {
     let mut damaged = file.to_vec();
     for place in 0..BLOCK {
         let at = number * BLOCK + place;
         for byte in 0..=255 {
             if byte != file[at] {
                 damaged[at] = byte;
-                refused(library, &damaged, file, number).map_err(|fault| {
+                read.refused(&damaged, file, number).map_err(|fault| {
                     format!("{fault} with byte {place} of block {number} changed to {byte}")
                 })?;
             }
@@ -71,11 +70,11 @@ fn every_change(library: &dyn Calls, file: &[u8], number: usize) -> Outcome {
     Ok(())
 }
 
-fn every_exchange(library: &dyn Calls, file: &[u8], number: usize) -> Outcome {
+fn every_exchange(read: &Read, file: &[u8], number: usize) -> Outcome {
     let mut damaged = file.to_vec();
     for place in 0..BLOCK {
         for other in place + 1..BLOCK {
-            exchange(library, &mut damaged, file, number, (place, other))?;
+            exchange(read, &mut damaged, file, number, (place, other))?;
         }
     }
     Ok(())
@@ -83,7 +82,7 @@ fn every_exchange(library: &dyn Calls, file: &[u8], number: usize) -> Outcome {
 
 /// The bytes at two places exchanged, if they are unequal, and put back.
 fn exchange(
-    library: &dyn Calls,
+    read: &Read,
     damaged: &mut [u8],
     file: &[u8],
     number: usize,
@@ -94,31 +93,54 @@ fn exchange(
         return Ok(());
     }
     damaged.swap(at, to);
-    let outcome = refused(library, damaged, file, number);
+    let outcome = read.refused(damaged, file, number);
     damaged.swap(at, to);
     outcome.map_err(|fault| {
         format!("{fault} with bytes {place} and {other} of block {number} exchanged")
     })
 }
 
-/// The file is refused for its last block, by number or by check, and the store is as it was.
-fn refused(library: &dyn Calls, damaged: &[u8], file: &[u8], number: usize) -> Outcome {
-    let held = number * BLOCK..number * BLOCK + 2;
-    let expected = if damaged[held.clone()] == file[held] {
-        13
-    } else {
-        12
-    };
-    let mut store = [u64::MAX; STORE_WORDS];
-    let answer = library.read(damaged, &mut store);
-    if (answer.refusal, answer.n, answer.g) != (expected, 0, 0) {
-        return Err(format!(
-            "{}'s read answered {answer:?}, expected {expected}",
-            library.name()
-        ));
+/// Read of one library at one site.
+struct Read<'l> {
+    library: &'l dyn Calls,
+    site: usize,
+}
+
+impl Read<'_> {
+    /// The file that is to be damaged is refused for no block.
+    fn intact(&self, file: &[u8]) -> Outcome {
+        let refusal = self
+            .library
+            .read(file, self.site, &mut [0; STORE_WORDS])
+            .refusal;
+        if refusal == 12 || refusal == 13 {
+            return Err(format!(
+                "{}'s read refused intact blocks",
+                self.library.name()
+            ));
+        }
+        Ok(())
     }
-    if store != [u64::MAX; STORE_WORDS] {
-        return Err(format!("{}'s read touched the store", library.name()));
+
+    /// The file is refused for its last block, by number or by check, and the store is as it was.
+    fn refused(&self, damaged: &[u8], file: &[u8], number: usize) -> Outcome {
+        let held = number * BLOCK..number * BLOCK + 2;
+        let expected = if damaged[held.clone()] == file[held] {
+            13
+        } else {
+            12
+        };
+        let mut store = [u64::MAX; STORE_WORDS];
+        let answer = self.library.read(damaged, self.site, &mut store);
+        if (answer.refusal, answer.n, answer.g) != (expected, 0, 0) {
+            return Err(format!(
+                "{}'s read answered {answer:?}, expected {expected}",
+                self.library.name()
+            ));
+        }
+        if store != [u64::MAX; STORE_WORDS] {
+            return Err(format!("{}'s read touched the store", self.library.name()));
+        }
+        Ok(())
     }
-    Ok(())
 }

@@ -7,13 +7,15 @@ pub const BLOCK: usize = 512;
 /// Content bytes of a block.
 pub const CONTENT: usize = 508;
 pub const LARGEST: usize = 37_376;
+/// The greatest site number.
+pub const MAX_SITE: usize = 65_520;
 
-/// The file of a table: no bytes for the draft, which has no states.
-pub fn encode(table: &Table) -> Vec<u8> {
+/// The file of a table for a site: no bytes for the draft, which has no states.
+pub fn encode(table: &Table, site: usize) -> Vec<u8> {
     if table.n == 0 {
         return Vec::new();
     }
-    file_of(&contents(table))
+    file_of(&contents(table), site)
 }
 
 /// The length of the file for n states and g groups.
@@ -25,28 +27,28 @@ pub fn file_length(n: usize, g: usize) -> usize {
 }
 
 /// The blocks of contents that may be damaged, numbered and with their checks.
-pub fn file_of(contents: &[u8]) -> Vec<u8> {
+pub fn file_of(contents: &[u8], site: usize) -> Vec<u8> {
     let mut file = Vec::new();
     for (k, content) in contents.chunks(CONTENT).enumerate() {
-        file.extend(block(k, content));
+        file.extend(block(k, content, site));
     }
     file
 }
 
 /// Block k with this content, filled up with 0.
-pub fn block(k: usize, content: &[u8]) -> Vec<u8> {
+pub fn block(k: usize, content: &[u8], site: usize) -> Vec<u8> {
     let mut block = two_bytes(k).to_vec();
     block.extend(content);
     block.resize(BLOCK - 2, 0);
-    let check = check(&block);
+    let check = check(&block, site);
     block.extend(two_bytes(check));
     block
 }
 
-/// The check of a block: the sum of (i + 1) times byte i, for i from 0 to 509, modulo 65,521.
-pub fn check(block: &[u8]) -> usize {
+/// The check of a block: the sum of the site and of (i + 1) times byte i, for i from 0 to 509, modulo 65,521.
+pub fn check(block: &[u8], site: usize) -> usize {
     let sum: usize = (0..=509).map(|i| (i + 1) * block[i] as usize).sum();
-    sum % 65_521
+    (site + sum) % 65_521
 }
 
 /// The joined contents of a table's file, without filler.
@@ -70,8 +72,8 @@ pub fn contents_length(n: usize, g: usize) -> usize {
     4 + n.div_ceil(8) * (HEAD_SETS + g + n)
 }
 
-/// The table in a file, or the number of the first ground to refuse it.
-pub fn decode(input: &[u8]) -> Result<Table, u32> {
+/// The table in a file of a site, or the number of the first ground to refuse it.
+pub fn decode(input: &[u8], site: usize) -> Result<Table, u32> {
     if input.is_empty() {
         return Ok(Table::of(0, &[], &[], &[], &[]));
     }
@@ -83,7 +85,7 @@ pub fn decode(input: &[u8]) -> Result<Table, u32> {
         if number(&block[0..2]) != k {
             return Err(12);
         }
-        if number(&block[510..512]) != check(block) {
+        if number(&block[510..512]) != check(block, site) {
             return Err(13);
         }
         joined.extend(&block[2..510]);

@@ -45,6 +45,16 @@ pub struct Written {
     pub length: u32,
 }
 
+/// What replay answers.
+#[derive(Clone, Copy, Debug, Default, PartialEq, Eq)]
+pub struct Replay {
+    pub refusal: u32,
+    pub followed: u32,
+    pub seen: u32,
+    pub percent: u32,
+    pub remainder: u32,
+}
+
 pub const SAFE: u32 = 0;
 pub const UNSAFE: u32 = 1;
 pub const UNDECIDED: u32 = 2;
@@ -63,8 +73,9 @@ pub trait Calls: Sync {
     /// The refusal, or 0.
     fn distances(&self, store: &[u64], n: usize, g: usize, distances: &mut [u16]) -> u32;
     fn within(&self, store: &[u64], n: usize, g: usize, k: usize) -> Within;
-    fn read(&self, input: &[u8], store: &mut [u64]) -> TableRead;
-    fn write(&self, store: &[u64], n: usize, g: usize, output: &mut [u8]) -> Written;
+    fn read(&self, input: &[u8], site: usize, store: &mut [u64]) -> TableRead;
+    fn write(&self, store: &[u64], n: usize, g: usize, site: usize, output: &mut [u8]) -> Written;
+    fn replay(&self, store: &[u64], n: usize, g: usize, log: &[u8]) -> Replay;
 }
 
 #[cfg(feature = "library")]
@@ -72,7 +83,9 @@ pub use linked::{Linked, Wrapped};
 
 #[cfg(feature = "library")]
 mod linked {
-    use super::{Calls, Decision, SAFE, Shortest, TableRead, UNDECIDED, UNSAFE, Within, Written};
+    use super::{
+        Calls, Decision, Replay, SAFE, Shortest, TableRead, UNDECIDED, UNSAFE, Within, Written,
+    };
     use shuntberry::{Refused, Verdict, raw};
 
     /// The library, by its exports for C.
@@ -133,10 +146,10 @@ mod linked {
             }
         }
 
-        fn read(&self, input: &[u8], store: &mut [u64]) -> TableRead {
+        fn read(&self, input: &[u8], site: usize, store: &mut [u64]) -> TableRead {
             let (bytes, length) = (input.as_ptr(), input.len());
             let (words, room) = (store.as_mut_ptr(), store.len());
-            let answer = unsafe { raw::shuntberry_read(bytes, length, words, room) };
+            let answer = unsafe { raw::shuntberry_read(bytes, length, site, words, room) };
             TableRead {
                 refusal: answer.refusal,
                 n: answer.n,
@@ -144,13 +157,33 @@ mod linked {
             }
         }
 
-        fn write(&self, store: &[u64], n: usize, g: usize, output: &mut [u8]) -> Written {
+        fn write(
+            &self,
+            store: &[u64],
+            n: usize,
+            g: usize,
+            site: usize,
+            output: &mut [u8],
+        ) -> Written {
             let (words, length) = (store.as_ptr(), store.len());
             let (bytes, room) = (output.as_mut_ptr(), output.len());
-            let answer = unsafe { raw::shuntberry_write(words, length, n, g, bytes, room) };
+            let answer = unsafe { raw::shuntberry_write(words, length, n, g, site, bytes, room) };
             Written {
                 refusal: answer.refusal,
                 length: answer.length,
+            }
+        }
+
+        fn replay(&self, store: &[u64], n: usize, g: usize, log: &[u8]) -> Replay {
+            let (words, length) = (store.as_ptr(), store.len());
+            let answer =
+                unsafe { raw::shuntberry_replay(words, length, n, g, log.as_ptr(), log.len()) };
+            Replay {
+                refusal: answer.refusal,
+                followed: answer.followed,
+                seen: answer.seen,
+                percent: answer.percent,
+                remainder: answer.remainder,
             }
         }
     }
@@ -244,8 +277,8 @@ mod linked {
             }
         }
 
-        fn read(&self, input: &[u8], store: &mut [u64]) -> TableRead {
-            match shuntberry::read(input, store) {
+        fn read(&self, input: &[u8], site: usize, store: &mut [u64]) -> TableRead {
+            match shuntberry::read(input, site, store) {
                 Err(Refused(refusal)) => TableRead {
                     refusal,
                     ..TableRead::default()
@@ -258,8 +291,15 @@ mod linked {
             }
         }
 
-        fn write(&self, store: &[u64], n: usize, g: usize, output: &mut [u8]) -> Written {
-            match shuntberry::write(store, n, g, output) {
+        fn write(
+            &self,
+            store: &[u64],
+            n: usize,
+            g: usize,
+            site: usize,
+            output: &mut [u8],
+        ) -> Written {
+            match shuntberry::write(store, n, g, site, output) {
                 Err(Refused(refusal)) => Written { refusal, length: 0 },
                 Ok(file) => {
                     let file = file.to_vec();
@@ -268,6 +308,22 @@ mod linked {
                         length: length_of_front(output, &file),
                     }
                 }
+            }
+        }
+
+        fn replay(&self, store: &[u64], n: usize, g: usize, log: &[u8]) -> Replay {
+            match shuntberry::replay(store, n, g, log) {
+                Err(Refused(refusal)) => Replay {
+                    refusal,
+                    ..Replay::default()
+                },
+                Ok(walk) => Replay {
+                    refusal: 0,
+                    followed: walk.followed as u32,
+                    seen: walk.seen as u32,
+                    percent: walk.percent as u32,
+                    remainder: walk.remainder as u32,
+                },
             }
         }
     }

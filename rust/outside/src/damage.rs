@@ -69,8 +69,8 @@ impl Damage {
     }
 }
 
-/// The file of a table with some damages, each of which applies to it and is done once.
-pub fn damaged(table: &Table, damages: &[Damage], random: &mut Random) -> Vec<u8> {
+/// The file of a table for a site with some damages, each of which applies to it and is done once.
+pub fn damaged(table: &Table, site: usize, damages: &[Damage], random: &mut Random) -> Vec<u8> {
     let mut damages = damages.to_vec();
     damages.sort();
     damages.dedup();
@@ -80,9 +80,9 @@ pub fn damaged(table: &Table, damages: &[Damage], random: &mut Random) -> Vec<u8
     for &damage in &damages {
         damage_contents(damage, table, used, &mut contents, random);
     }
-    let mut file = blocks::file_of(&contents);
+    let mut file = blocks::file_of(&contents, site);
     for &damage in &damages {
-        damage_file(damage, &mut file, random);
+        damage_file(damage, &mut file, site, random);
     }
     file
 }
@@ -143,7 +143,7 @@ fn damage_contents(
     }
 }
 
-fn damage_file(damage: Damage, file: &mut Vec<u8>, random: &mut Random) {
+fn damage_file(damage: Damage, file: &mut Vec<u8>, site: usize, random: &mut Random) {
     let count = file.len() / BLOCK;
     let at = BLOCK * random.below(count);
     match damage {
@@ -155,7 +155,7 @@ fn damage_file(damage: Damage, file: &mut Vec<u8>, random: &mut Random) {
                 }
             };
             if random.once_in(2) {
-                let block = blocks::block(number, &file[at + 2..at + 510]);
+                let block = blocks::block(number, &file[at + 2..at + 510], site);
                 file[at..at + BLOCK].copy_from_slice(&block);
             } else {
                 file[at..at + 2].copy_from_slice(&blocks::two_bytes(number));

@@ -7,7 +7,7 @@ use std::collections::BTreeMap;
 use std::fmt::Debug;
 
 use crate::accept::{MAX_ALLOWANCE, PATH_PLACES};
-use crate::blocks::{self, BLOCK};
+use crate::blocks::{self, BLOCK, MAX_SITE};
 use crate::buffer::Lent;
 use crate::calls::{
     Calls, Decision, SAFE, Shortest, TableRead, UNDECIDED, UNSAFE, Within, Written,
@@ -15,6 +15,7 @@ use crate::calls::{
 use crate::damage::{self, DAMAGES, Damage};
 use crate::expected::{self, Expected, Judged};
 use crate::generate::{Kind, Random};
+use crate::logs;
 use crate::named;
 use crate::rounds::{self, Rounds};
 use crate::search;
@@ -118,13 +119,13 @@ fn within(
 
 fn read(
     library: &dyn Calls,
-    input: &[u8],
+    (input, site): (&[u8], usize),
     store: &[u64],
     expected: &Expected<TableRead, u64>,
 ) -> Outcome {
-    let what = format!("{}'s read", library.name());
+    let what = format!("{}'s read at site {site}", library.name());
     let (input, mut store) = (Lent::new(input), Lent::new(store));
-    let answer = library.read(input.shared(), store.mutable());
+    let answer = library.read(input.shared(), site, store.mutable());
     same(&what, answer, expected.answer)?;
     store.holds(&format!("store after {what}"), &expected.front)?;
     input.holds(&format!("input after {what}"), &[])
@@ -133,13 +134,13 @@ fn read(
 fn write(
     library: &dyn Calls,
     store: &[u64],
-    (n, g): (usize, usize),
+    (n, g, site): (usize, usize, usize),
     output: &[u8],
     expected: &Expected<Written, u8>,
 ) -> Outcome {
-    let what = format!("{}'s write({n}, {g})", library.name());
+    let what = format!("{}'s write({n}, {g}, {site})", library.name());
     let (store, mut output) = (Lent::new(store), Lent::new(output));
-    let answer = library.write(store.shared(), n, g, output.mutable());
+    let answer = library.write(store.shared(), n, g, site, output.mutable());
     same(&what, answer, expected.answer)?;
     output.holds(&format!("output after {what}"), &expected.front)?;
     store.holds(&format!("store after {what}"), &[])
@@ -160,6 +161,7 @@ pub fn random_table(libraries: &[&dyn Calls], random: &mut Random, tally: &mut T
     tally.count("kind of groups", format!("{:?}", kind.groups));
     accepted_table(libraries, &table, random, tally)
         .and_then(|()| spoiled_arguments(libraries, &table, random, tally))
+        .and_then(|()| logs::random_logs(libraries, &table, random, tally))
         .map_err(|fault| format!("{kind:?}: {fault}"))
 }
 
@@ -241,7 +243,8 @@ pub fn accepted_table(
         }
         let steps = (0..=n + 1).chain(FAR).map(|k| (k, judged.within(k)));
         within(*library, &store, (n, g), steps)?;
-        round_trips(*library, &store, (n, g), &judged.write(), random)?;
+        let site = random_site(random);
+        round_trips(*library, &store, (n, g, site), &judged.write(site), random)?;
     }
     Ok(())
 }
@@ -341,14 +344,14 @@ fn try_everything(table: &Table, judged: &Judged) -> Outcome {
 fn round_trips(
     library: &dyn Calls,
     store: &[u64],
-    (n, g): (usize, usize),
+    (n, g, site): (usize, usize, usize),
     expected: &Expected<Written, u8>,
     random: &mut Random,
 ) -> Outcome {
     let file = &expected.front;
     let room = file.len() + random.pick(&[0, 0, 1, 512]);
     let output = random.bytes(room);
-    write(library, store, (n, g), &output, expected)?;
+    write(library, store, (n, g, site), &output, expected)?;
     // A draft has no bytes, and no output is too short for it.
     if let Some(too_few) = file.len().checked_sub(1) {
         let short = Expected {
@@ -358,15 +361,20 @@ fn round_trips(
             },
             front: Vec::new(),
         };
-        write(library, store, (n, g), &output[..too_few], &short)?;
+        write(library, store, (n, g, site), &output[..too_few], &short)?;
     }
 
     let mut written = random.bytes(file.len());
-    library.write(store, n, g, &mut written);
+    library.write(store, n, g, site, &mut written);
     let room = STORE_WORDS + random.pick(&[0, 0, 1, 9]);
     let mut filled = random.words(room);
-    read(library, &written, &filled, &expected::read(file, room))?;
-    let answer = library.read(&written, &mut filled);
+    read(
+        library,
+        (&written, site),
+        &filled,
+        &expected::read(file, site, room),
+    )?;
+    let answer = library.read(&written, site, &mut filled);
     same(
         "read of what was written",
         (answer.n, answer.g),
@@ -376,7 +384,7 @@ fn round_trips(
         "what was written reads back as another table".to_string()
     })?;
     let output = random.bytes(file.len());
-    write(library, &filled, (n, g), &output, expected)
+    write(library, &filled, (n, g, site), &output, expected)
 }
 
 // ---- Refusals of arguments
@@ -394,11 +402,12 @@ enum Fault {
     PathShort,
     OutputShort,
     PlacesShort,
+    Site,
     /// One state or group more or fewer than the store was made for.
     OtherSize,
 }
 
-const FAULTS: [Fault; 11] = [
+const FAULTS: [Fault; 12] = [
     Fault::StoreShort,
     Fault::States,
     Fault::Groups,
@@ -409,8 +418,18 @@ const FAULTS: [Fault; 11] = [
     Fault::PathShort,
     Fault::OutputShort,
     Fault::PlacesShort,
+    Fault::Site,
     Fault::OtherSize,
 ];
+
+/// A site, often one at an end of their range.
+fn random_site(random: &mut Random) -> usize {
+    let any = random.within(0, MAX_SITE);
+    random.pick(&[0, 1, MAX_SITE, any, any])
+}
+
+/// Sites over the greatest, some of which are a site in their low 16 or 32 bits.
+const FAR_SITES: [usize; 6] = [MAX_SITE + 1, 65_535, 1 << 16, 1 << 32, WIDE, usize::MAX];
 
 /// A number past 32 bits, which must not be taken for its low half.
 const WIDE: usize = (1 << 32) + 1;
@@ -423,6 +442,7 @@ struct Arguments {
     path_len: usize,
     output_len: usize,
     places: usize,
+    site: usize,
 }
 
 impl Arguments {
@@ -436,6 +456,7 @@ impl Arguments {
             path_len: PATH_PLACES,
             output_len: blocks::file_length(n, g),
             places: n,
+            site: random_site(random),
         }
     }
 
@@ -479,6 +500,7 @@ impl Arguments {
             Fault::PlacesShort => {
                 self.places = random.pick(&[0, self.places.saturating_sub(1)]);
             }
+            Fault::Site => self.site = random.pick(&FAR_SITES),
             Fault::OtherSize => match random.below(4) {
                 0 => self.n = self.n.wrapping_add(1),
                 1 => self.n = self.n.wrapping_sub(1),
@@ -518,6 +540,7 @@ fn spoiled_arguments(
         path_len,
         output_len,
         places,
+        site,
     } = arguments;
     let path = random.places(path_len);
     let output = random.bytes(output_len);
@@ -525,7 +548,7 @@ fn spoiled_arguments(
     let k = random.pick(&[0, 1, 65_535, usize::MAX]);
     let decision = expected::decide(&store, n, g, allowance, path_len);
     let shortest = expected::shortest_path(&store, n, g, path_len);
-    let written = expected::write(&store, n, g, output_len);
+    let written = expected::write(&store, n, g, site, output_len);
     let far = expected::distances(&store, n, g, places);
     let near = expected::within(&store, n, g, k);
     tally.count("refusal by decide", decision.answer.refusal);
@@ -536,12 +559,13 @@ fn spoiled_arguments(
     for library in libraries {
         decide(*library, &store, (n, g, allowance), &path, &decision)
             .and_then(|()| shortest_path(*library, &store, (n, g), &path, &shortest))
-            .and_then(|()| write(*library, &store, (n, g), &output, &written))
+            .and_then(|()| write(*library, &store, (n, g, site), &output, &written))
             .and_then(|()| distances(*library, &store, (n, g), &out, &far))
             .and_then(|()| within(*library, &store, (n, g), [(k, near)]))
             .map_err(|fault| format!("{faults:?}: {fault}"))?;
     }
-    Ok(())
+    logs::spoiled(libraries, &store, (n, g), random, tally)
+        .map_err(|fault| format!("{faults:?}: {fault}"))
 }
 
 // ---- A file
@@ -557,7 +581,13 @@ pub fn random_file(libraries: &[&dyn Calls], random: &mut Random, tally: &mut Ta
     let damages: Vec<Damage> = (0..random.pick(&[0, 1, 1, 1, 2, 3]))
         .map(|_| random.pick(&applicable))
         .collect();
-    let mut file = damage::damaged(&table, &damages, random);
+    let made = random_site(random);
+    let mut file = damage::damaged(&table, made, &damages, random);
+    let site = match random.below(12) {
+        0 => random.pick(&FAR_SITES),
+        1 => random_site(random),
+        _ => made,
+    };
     let random_bytes = random.once_in(40);
     if random_bytes {
         let length = random.pick(&[512, 1024, 10_752]);
@@ -568,7 +598,7 @@ pub fn random_file(libraries: &[&dyn Calls], random: &mut Random, tally: &mut Ta
         1 => STORE_WORDS + 5,
         _ => STORE_WORDS,
     };
-    let expected = expected::read(&file, room);
+    let expected = expected::read(&file, site, room);
     let fault = |fault: String| format!("{kind:?} with {damages:?}: {fault}");
 
     // Of a whole file and of most single damages the answer is known beforehand.
@@ -577,13 +607,13 @@ pub fn random_file(libraries: &[&dyn Calls], random: &mut Random, tally: &mut Ta
         [damage] => damage.refusal(),
         _ => None,
     };
-    if let Some(known) = known.filter(|_| room >= STORE_WORDS && !random_bytes) {
+    if let Some(known) = known.filter(|_| room >= STORE_WORDS && site == made && !random_bytes) {
         same("the plain decoder", expected.answer.refusal, known).map_err(fault)?;
     }
     tally.count("refusal by read", expected.answer.refusal);
     let store = random.words(room);
     for library in libraries {
-        read(*library, &file, &store, &expected).map_err(fault)?;
+        read(*library, (&file, site), &store, &expected).map_err(fault)?;
     }
     Ok(())
 }
@@ -615,6 +645,8 @@ pub fn named_tables(libraries: &[&dyn Calls], random: &mut Random, tally: &mut T
     }
     named_files(libraries, random, tally)?;
     drafts(libraries, random, tally)?;
+    sites(libraries, random)?;
+    logs::edges(libraries, random)?;
     edges(libraries, random, tally)
 }
 
@@ -626,7 +658,7 @@ fn drafts(libraries: &[&dyn Calls], random: &mut Random, tally: &mut Tally) -> O
         |store: &[u64], g, allowance, room, output, refusals: [u32; 3], random: &mut Random| {
             let decision = expected::decide(store, 0, g, allowance, room);
             let shortest = expected::shortest_path(store, 0, g, room);
-            let written = expected::write(store, 0, g, output);
+            let written = expected::write(store, 0, g, 0, output);
             let earned = [
                 decision.answer.refusal,
                 shortest.answer.refusal,
@@ -637,7 +669,7 @@ fn drafts(libraries: &[&dyn Calls], random: &mut Random, tally: &mut Tally) -> O
             libraries.iter().try_for_each(|library| {
                 decide(*library, store, (0, g, allowance), &path, &decision)?;
                 shortest_path(*library, store, (0, g), &path, &shortest)?;
-                write(*library, store, (0, g), &output, &written)
+                write(*library, store, (0, g, 0), &output, &written)
             })
         };
     let (most, over) = (MAX_ALLOWANCE, MAX_ALLOWANCE + 1);
@@ -676,7 +708,7 @@ fn drafts(libraries: &[&dyn Calls], random: &mut Random, tally: &mut Tally) -> O
         (STORE_WORDS - 1, 10),
         (0, 10),
     ] {
-        let expected = expected::read(&[], room);
+        let expected = expected::read(&[], 0, room);
         same(
             "the plain read of no bytes",
             expected.answer.refusal,
@@ -684,13 +716,92 @@ fn drafts(libraries: &[&dyn Calls], random: &mut Random, tally: &mut Tally) -> O
         )?;
         let store = random.words(room);
         for library in libraries {
-            read(*library, &[], &store, &expected)?;
+            read(*library, (&[], 0), &store, &expected)?;
         }
     }
     for header in [[0, 0, 0, 0], [0, 0, 1, 0], [0, 0, 65, 0]] {
-        refused_file(libraries, &blocks::file_of(&header), 14, random)?;
+        refused_file(libraries, (&blocks::file_of(&header, 0), 0), 14, random)?;
     }
     accepted_table(libraries, &named::draft(), random, tally)
+}
+
+/// Files of two sites, whole and with a block of one put into the other; sites at the ends of their range
+/// and past it; the order of 24 among the other grounds; drafts.
+fn sites(libraries: &[&dyn Calls], random: &mut Random) -> Outcome {
+    let table = loop {
+        let table = Kind::random(random).table(random);
+        if blocks::file_length(table.n, table.g()) >= 3 * BLOCK {
+            break table;
+        }
+    };
+    let any = random.within(2, MAX_SITE - 1);
+    for (a, b) in [
+        (0, 1),
+        (1, 0),
+        (0, MAX_SITE),
+        (MAX_SITE, 0),
+        (any, 0),
+        (0, any),
+        (any, any - 1),
+    ] {
+        let [of_a, of_b] = [a, b].map(|site| blocks::encode(&table, site));
+        refused_file(libraries, (&of_a, b), 13, random)?;
+        for far in FAR_SITES {
+            refused_file(libraries, (&of_a, far), 24, random)?;
+            refused_file(libraries, (&of_a[1..], far), 24, random)?;
+        }
+        for k in 0..of_b.len() / BLOCK {
+            // At its own number, and at another.
+            let own = BLOCK * k..BLOCK * (k + 1);
+            let mut spliced = of_b.clone();
+            spliced[own.clone()].copy_from_slice(&of_a[own.clone()]);
+            refused_file(libraries, (&spliced, b), 13, random)?;
+            let other = (k + 1) % (of_b.len() / BLOCK);
+            let mut moved = of_b.clone();
+            moved[BLOCK * other..BLOCK * (other + 1)].copy_from_slice(&of_a[own]);
+            refused_file(libraries, (&moved, b), 12, random)?;
+        }
+    }
+    // A draft passes at every site, in and out; a short store comes before the site, the site before all else.
+    let (draft, words) = (named::draft().to_store(), random.words(STORE_WORDS));
+    for site in [0, 1, any, MAX_SITE] {
+        let (read_back, written) = (
+            expected::read(&[], site, STORE_WORDS),
+            expected::write(&draft, 0, 0, site, 0),
+        );
+        same("the plain read of a draft", read_back.answer.refusal, 0)?;
+        same("the plain write of a draft", written.answer.refusal, 0)?;
+        for library in libraries {
+            read(*library, (&[], site), &words, &read_back)?;
+            write(*library, &draft, (0, 0, site), &[], &written)?;
+        }
+    }
+    for far in FAR_SITES {
+        for (store, n, g, number) in [
+            (&draft[..], 0, 0, 24),
+            (&draft, 0, 1, 24),
+            (&draft, MAX_STATES + 1, MAX_GROUPS + 1, 24),
+            (&draft[1..], 0, 1, 10),
+        ] {
+            let written = expected::write(store, n, g, far, 0);
+            same(
+                "the plain write at a far site",
+                written.answer.refusal,
+                number,
+            )?;
+            let read_back = expected::read(&[], far, store.len());
+            same(
+                "the plain read at a far site",
+                read_back.answer.refusal,
+                number,
+            )?;
+            for library in libraries {
+                write(*library, store, (n, g, far), &[], &written)?;
+                read(*library, (&[], far), store, &read_back)?;
+            }
+        }
+    }
+    Ok(())
 }
 
 /// The specification's figures about files: E's bytes and check, H's lengths.
@@ -707,34 +818,34 @@ fn named_files(libraries: &[&dyn Calls], random: &mut Random, tally: &mut Tally)
     };
     for library in libraries {
         let output = random.bytes(600);
-        write(*library, &named::e().to_store(), (3, 0), &output, &typed)?;
+        write(*library, &named::e().to_store(), (3, 0, 0), &output, &typed)?;
     }
     for (groups, contents, length) in [(&[][..], 508, 512), (&[&[0, 60][..]][..], 516, 1024)] {
         let table = named::h(groups);
         same("L of H", blocks::contents(&table).len(), contents)?;
-        same("the length of H", blocks::encode(&table).len(), length)?;
+        same("the length of H", blocks::encode(&table, 0).len(), length)?;
         accepted_table(libraries, &table, random, tally)?;
     }
     // G's check is 3. Stored as 3 + 65,521 it is the same modulo the prime, and still another number.
-    let mut unreduced = blocks::encode(&named::g());
-    same("the check of G", blocks::check(&unreduced), 3)?;
+    let mut unreduced = blocks::encode(&named::g(), 0);
+    same("the check of G", blocks::check(&unreduced, 0), 3)?;
     unreduced[510..].copy_from_slice(&blocks::two_bytes(3 + 65_521));
-    refused_file(libraries, &unreduced, 13, random)
+    refused_file(libraries, (&unreduced, 0), 13, random)
 }
 
 /// That a file is refused with a number.
 fn refused_file(
     libraries: &[&dyn Calls],
-    file: &[u8],
+    (file, site): (&[u8], usize),
     number: u32,
     random: &mut Random,
 ) -> Outcome {
-    let expected = expected::read(file, STORE_WORDS);
+    let expected = expected::read(file, site, STORE_WORDS);
     same("the plain decoder", expected.answer.refusal, number)?;
     let store = random.words(STORE_WORDS);
     libraries
         .iter()
-        .try_for_each(|library| read(*library, file, &store, &expected))
+        .try_for_each(|library| read(*library, (file, site), &store, &expected))
 }
 
 /// n, g and the allowance at their greatest and one more, n one fewer, the store and the path buffer just long enough and one short.

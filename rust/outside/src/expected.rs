@@ -86,9 +86,9 @@ impl<'t> Judged<'t> {
         }
     }
 
-    /// Write on an accepted store, with output enough.
-    pub fn write(&self) -> Expected<Written, u8> {
-        let front = blocks::encode(self.table);
+    /// Write on an accepted store for a site, with output enough.
+    pub fn write(&self, site: usize) -> Expected<Written, u8> {
+        let front = blocks::encode(self.table, site);
         let answer = Written {
             refusal: 0,
             length: front.len() as u32,
@@ -156,9 +156,15 @@ pub fn within(store: &[u64], n: usize, g: usize, k: usize) -> Within {
 }
 
 /// Write on any arguments.
-pub fn write(store: &[u64], n: usize, g: usize, output_len: usize) -> Expected<Written, u8> {
-    match accept::write(store, n, g, output_len) {
-        Ok(()) => Judged::new(&Table::from_store(store, n, g)).write(),
+pub fn write(
+    store: &[u64],
+    n: usize,
+    g: usize,
+    site: usize,
+    output_len: usize,
+) -> Expected<Written, u8> {
+    match accept::write(store, n, g, site, output_len) {
+        Ok(()) => Judged::new(&Table::from_store(store, n, g)).write(site),
         Err(refusal) => Expected {
             answer: Written { refusal, length: 0 },
             front: Vec::new(),
@@ -167,8 +173,8 @@ pub fn write(store: &[u64], n: usize, g: usize, output_len: usize) -> Expected<W
 }
 
 /// Read on any arguments.
-pub fn read(input: &[u8], store_len: usize) -> Expected<TableRead, u64> {
-    let read = accept::read_store(store_len).and_then(|()| blocks::decode(input));
+pub fn read(input: &[u8], site: usize, store_len: usize) -> Expected<TableRead, u64> {
+    let read = accept::read(store_len, site).and_then(|()| blocks::decode(input, site));
     match read {
         Ok(table) => Expected {
             answer: TableRead {

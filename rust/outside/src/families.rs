@@ -80,6 +80,19 @@ pub fn more_for_files(random: &mut Random) -> Vec<Family> {
         .collect()
 }
 
+/// For replay: logs of 16,384 entries that are walked to their end, and one that breaks at the corridor's.
+pub fn for_logs(random: &mut Random) -> Vec<Family> {
+    let around = |n: usize| with_rows((0..n).map(|s| set_where(n, |t| t == (s + 1) % n)).collect());
+    vec![
+        family("16,384 entries, cycle", vec![around(MAX_STATES)]),
+        family(
+            "16,384 entries, dense rows",
+            some(|| dense(MAX_STATES, random)),
+        ),
+        family("16,384 entries, corridor", vec![corridor(MAX_STATES)]),
+    ]
+}
+
 fn some(mut table: impl FnMut() -> Table) -> Vec<Table> {
     (0..TABLES).map(|_| table()).collect()
 }

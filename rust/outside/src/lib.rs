@@ -8,7 +8,8 @@
 //! - `search`: a depth-first search for the verdict, a breadth-first one for the smallest path,
 //!   relaxation for the distances, and all sequences of states in order, for small tables;
 //! - `blocks`: block files, to and from bytes;
-//! - `accept`: refusals of a store and of the other arguments, in order.
+//! - `accept`: refusals of a store and of the other arguments, in order;
+//! - `logs`: pump logs, walked as the text says, drawn at random, and the tests of the call replay.
 //!
 //! `peer` is an optimised implementation of the calls on four-word sets: what the library is
 //! measured against, and a library that the tests themselves can be tested with.
@@ -30,6 +31,7 @@ pub mod examine;
 pub mod expected;
 pub mod families;
 pub mod generate;
+pub mod logs;
 pub mod named;
 pub mod peer;
 pub mod regroup;

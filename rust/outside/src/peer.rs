@@ -6,7 +6,7 @@
 //! - `Looks::New` looks again only at what can have changed.
 
 use crate::calls::{
-    Calls, Decision, SAFE, Shortest, TableRead, UNDECIDED, UNSAFE, Within, Written,
+    Calls, Decision, Replay, SAFE, Shortest, TableRead, UNDECIDED, UNSAFE, Within, Written,
 };
 
 #[derive(Clone, Copy, Debug, PartialEq, Eq)]
@@ -29,6 +29,7 @@ const PATH_PLACES: usize = MAX_STATES;
 const BLOCK: usize = 512;
 const CONTENT: usize = 508;
 const MAX_BLOCKS: usize = 73;
+const MAX_SITE: usize = 65_520;
 
 /// Room for the contents of the largest file, and for a whole set past them.
 const CONTENTS_ROOM: usize = MAX_BLOCKS * CONTENT + 8 * WORDS;
@@ -354,13 +355,13 @@ fn blocks_needed(n: usize, g: usize) -> (usize, usize) {
     (length, length.div_ceil(CONTENT))
 }
 
-fn check_of(block: &[u8]) -> u16 {
+fn check_of(block: &[u8], site: usize) -> u16 {
     let sum: u32 = block[..510]
         .iter()
         .zip(1..)
         .map(|(&byte, place)| place * byte as u32)
         .sum();
-    (sum % 65_521) as u16
+    ((site as u32 + sum) % 65_521) as u16
 }
 
 fn u16_at(bytes: &[u8], at: usize) -> usize {
@@ -368,7 +369,11 @@ fn u16_at(bytes: &[u8], at: usize) -> usize {
 }
 
 /// n and g of a file, with its contents joined in `joined`, or the refusal 11 to 18.
-fn open(input: &[u8], joined: &mut [u8; CONTENTS_ROOM]) -> Result<(usize, usize), u32> {
+fn open(
+    input: &[u8],
+    site: usize,
+    joined: &mut [u8; CONTENTS_ROOM],
+) -> Result<(usize, usize), u32> {
     let (blocks, rest) = input.as_chunks::<BLOCK>();
     if input.is_empty() {
         return Ok((0, 0));
@@ -380,7 +385,7 @@ fn open(input: &[u8], joined: &mut [u8; CONTENTS_ROOM]) -> Result<(usize, usize)
         if u16_at(block, 0) != k {
             return Err(12);
         }
-        if u16_at(block, 510) != check_of(block) as usize {
+        if u16_at(block, 510) != check_of(block, site) as usize {
             return Err(13);
         }
         joined[CONTENT * k..][..CONTENT].copy_from_slice(&block[2..510]);
@@ -419,6 +424,37 @@ fn load(joined: &[u8], at: usize, all: Set) -> Words {
     let (words, _) = joined[at..at + 8 * WORDS].as_chunks::<8>();
     let set = Set(std::array::from_fn(|w| u64::from_le_bytes(words[w])));
     set.meet(all).0
+}
+
+// ---- Logs
+
+const MAX_LOG: usize = 32_768;
+
+/// How many entries are followed, and the states that they hold.
+fn follow(table: &Table, log: &[u8]) -> (u32, Set) {
+    let mut next = &table.initial.0;
+    let mut seen = Set::EMPTY;
+    let (entries, _) = log.as_chunks::<2>();
+    for (followed, &entry) in entries.iter().enumerate() {
+        let state = u16::from_le_bytes(entry) as usize;
+        if state >= MAX_STATES || next[state / 64] >> (state % 64) & 1 == 0 {
+            return (followed as u32, seen);
+        }
+        seen.insert(state);
+        next = &table.rows[state];
+    }
+    (entries.len() as u32, seen)
+}
+
+/// The states that can be reached from the initial ones.
+fn reached(table: &Table) -> Set {
+    let mut reached = table.initial;
+    let mut new = reached;
+    while !new.is_empty() {
+        new = table.post(new).minus(reached);
+        reached = reached.union(new);
+    }
+    reached
 }
 
 // ---- The calls
@@ -493,7 +529,7 @@ impl Calls for Peer {
         }
     }
 
-    fn read(&self, input: &[u8], store: &mut [u64]) -> TableRead {
+    fn read(&self, input: &[u8], site: usize, store: &mut [u64]) -> TableRead {
         let none = TableRead::default();
         let Some(store) = store.first_chunk_mut::<STORE_WORDS>() else {
             return TableRead {
@@ -501,8 +537,14 @@ impl Calls for Peer {
                 ..none
             };
         };
+        if site > MAX_SITE {
+            return TableRead {
+                refusal: 24,
+                ..none
+            };
+        }
         let mut joined = [0; CONTENTS_ROOM];
-        let (n, g) = match open(input, &mut joined) {
+        let (n, g) = match open(input, site, &mut joined) {
             Err(refusal) => return TableRead { refusal, ..none },
             Ok(sizes) => sizes,
         };
@@ -545,7 +587,13 @@ impl Calls for Peer {
         }
     }
 
-    fn write(&self, store: &[u64], n: usize, g: usize, output: &mut [u8]) -> Written {
+    fn write(&self, store: &[u64], n: usize, g: usize, site: usize, output: &mut [u8]) -> Written {
+        if store.len() >= STORE_WORDS && site > MAX_SITE {
+            return Written {
+                refusal: 24,
+                length: 0,
+            };
+        }
         let table = match Table::accept(store, n, g) {
             Err(refusal) => return Written { refusal, length: 0 },
             Ok(table) => table,
@@ -576,12 +624,34 @@ impl Calls for Peer {
         for (k, block) in output.chunks_exact_mut(BLOCK).enumerate() {
             block[0..2].copy_from_slice(&(k as u16).to_le_bytes());
             block[2..510].copy_from_slice(&joined[CONTENT * k..][..CONTENT]);
-            let check = check_of(block);
+            let check = check_of(block, site);
             block[510..512].copy_from_slice(&check.to_le_bytes());
         }
         Written {
             refusal: 0,
             length: output.len() as u32,
+        }
+    }
+
+    fn replay(&self, store: &[u64], n: usize, g: usize, log: &[u8]) -> Replay {
+        let refused = |refusal| Replay {
+            refusal,
+            ..Replay::default()
+        };
+        let table = match Table::accept(store, n, g) {
+            Err(refusal) => return refused(refusal),
+            Ok(_) if !log.len().is_multiple_of(2) => return refused(25),
+            Ok(_) if log.len() > MAX_LOG => return refused(26),
+            Ok(table) => table,
+        };
+        let (followed, seen) = follow(&table, log);
+        let (seen, reached) = (seen.size(), reached(&table).size());
+        Replay {
+            refusal: 0,
+            followed,
+            seen,
+            percent: (100 * seen).checked_div(reached).unwrap_or(0),
+            remainder: (100 * seen).checked_rem(reached).unwrap_or(0),
         }
     }
 }

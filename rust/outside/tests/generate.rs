@@ -104,9 +104,12 @@ fn examine(seed: u32, n: usize, fan_out: usize, room: usize, random: &mut Random
 fn accepted_by_all(seed: u32, n: usize, fan_out: usize) {
     let mut store = [u64::MAX; STORE_WORDS];
     shuntberry::generate(seed, n, fan_out, &mut store).unwrap();
-    let file = blocks::encode(&load(seed, n, fan_out));
+    let file = blocks::encode(&load(seed, n, fan_out), 0);
     let mut output = vec![0; file.len()];
-    assert_eq!(shuntberry::write(&store, n, 0, &mut output), Ok(&file[..]));
+    assert_eq!(
+        shuntberry::write(&store, n, 0, 0, &mut output),
+        Ok(&file[..])
+    );
     let mut path = [0; shuntberry::PATH_PLACES];
     for allowance in [0, 1, shuntberry::MAX_ALLOWANCE] {
         shuntberry::decide(&store, n, 0, allowance, &mut path).unwrap();

@@ -11,8 +11,8 @@
 --   set-beyond, filler-non-zero,            what it returns then
 --   content-right
 --   header                                  n and g, read from the first block
---   small-store, no-input, part-block,      what `refusal` returns for ground 10, for no bytes, and for ground 11
---   long-input
+--   small-store, far-site, no-input,        what `refusal` returns for grounds 10 and 24, for no bytes, and for ground 11
+--   part-block, long-input
 --   Whole                                   neither of these holds
 --   block-wrong, blocks-right               what it returns then
 --   declined, draft-read, table-read        the contract of `read` in each case; room-enough, some-block, table-inside: what it may do
@@ -28,13 +28,13 @@ use lib.Dec.{eqb, ltb}
 use lib.ListN.{length, getD, take, drop}
 use Rattle.model.specs.Sets.{maxStates, any}
 use Rattle.model.specs.Stores.{headSets, maxGroups, storeWords, concat, layout, refuse, beyond, nonZero}
-use Rattle.model.specs.Blocks.{blockBytes, contentBytes, checkAt, le16At, checkOf, blocksFor, part, contentsOf, blockGrounds}
+use Rattle.model.specs.Blocks.{blockBytes, contentBytes, checkAt, maxSite, le16At, checkOf, blocksFor, part, contentsOf, blockGrounds}
 use Rattle.model.specs.Contents.{contentLength, setNumber, tableIn}
 use Rattle.model.specs.Files.{maxFile}
 use Rattle.model.specs.Calls.{overwrite, statesIn, groupsIn, badLength, blocksGrounds, contentGrounds, fileGrounds, readGrounds, readAnswer, readBuffer}
 use Rattle.model.proofs.GroundLaws.{Clear, refuse-none, refuse-skip, refuse-take, refuse-append, refuse-behind, clear-refuse, refuse-clear, clear-next, refuse-stop}
 use Rattle.model.proofs.BlockLaws.{getD-contentsOf-at}
-use Rattle.model.proofs.CallLaws.{right-block, blocks-clear, Readable, behind-store, behind-length, readable, draft-refusal, read-answer, read-buffer, draft-says}
+use Rattle.model.proofs.CallLaws.{right-block, blocks-clear, Readable, read-over, behind-site, behind-length, readable, draft-refusal, read-answer, read-buffer, draft-says}
 use Rattle.model.proofs.Drafts.{draft-layout}
 use Rattle.block_file.specs.declared.reading.TableRead.the-variants.{Table, Refused}
 use Rattle.block_file.specs.ReadAnswers.{CalledRead}
@@ -42,10 +42,10 @@ use Rattle.block_file.specs.Reading.{TableInside, cleared}
 
 -- ---- the blocks
 
-module _ (input : List ℕ) where
+module _ (input : List ℕ) (site : ℕ) where
   -- no ground of the first k blocks holds
   abbrev pub Passed : ℕ → Type 0
-  Passed k = Clear (concat k (λ j. blockGrounds (part input j) j))
+  Passed k = Clear (concat k (λ j. blockGrounds site (part input j) j))
 
   -- the bytes that are handed on for block k, as the code takes them
   abbrev pub handed : ℕ → List ℕ
@@ -61,36 +61,36 @@ module _ (input : List ℕ) where
   unfolding concat
   passed-none = tt
 
-  module _ (k fault : ℕ) (e : fault ≡ refuse (blockGrounds (handed k) k)) (so : Passed k) where
-    own : fault ≡ refuse (blockGrounds (part input k) k)
-    own = e ∙ ap (λ block. refuse (blockGrounds block k)) (handed-part k)
+  module _ (k fault : ℕ) (e : fault ≡ refuse (blockGrounds site (handed k) k)) (so : Passed k) where
+    own : fault ≡ refuse (blockGrounds site (part input k) k)
+    own = e ∙ ap (λ block. refuse (blockGrounds site block k)) (handed-part k)
 
     pub passed-next : fault ≡ 0 → Passed (k + 1)
     unfolding blockGrounds
-    passed-next z = clear-next _ k so (refuse-clear (blockGrounds (part input k) k) [] refl (sym own ∙ z) .0)
+    passed-next z = clear-next _ k so (refuse-clear (blockGrounds site (part input k) k) [] refl (sym own ∙ z) .0)
 
-    pub passed-stop : k < length input / blockBytes → (fault ≡ 0 → ⊥) → fault ≡ refuse (blocksGrounds input)
+    pub passed-stop : k < length input / blockBytes → (fault ≡ 0 → ⊥) → fault ≡ refuse (blocksGrounds input site)
     unfolding blocksGrounds
     passed-stop h x = refuse-stop _ (length input / blockBytes) k h so own x
 
-  pub passed-all : (k : ℕ) → k ≤ length input / blockBytes → length input / blockBytes ≤ k → Passed k → 0 ≡ refuse (blocksGrounds input)
+  pub passed-all : (k : ℕ) → k ≤ length input / blockBytes → length input / blockBytes ≤ k → Passed k → 0 ≡ refuse (blocksGrounds input site)
   unfolding blocksGrounds
   passed-all k l h so = sym (clear-refuse _ (subst Passed (le-antisymm l h) so))
 
-module _ (block : List ℕ) {k number check sum : ℕ} (n-is : number ≡ le16At block 0) (c-is : check ≡ le16At block checkAt) (s-is : sum ≡ checkOf block) where
-  pub number-wrong : (number ≡ k → ⊥) → 12 ≡ refuse (blockGrounds block k)
+module _ (site : ℕ) (block : List ℕ) {k number check sum : ℕ} (n-is : number ≡ le16At block 0) (c-is : check ≡ le16At block checkAt) (s-is : sum ≡ checkOf site block) where
+  pub number-wrong : (number ≡ k → ⊥) → 12 ≡ refuse (blockGrounds site block k)
   unfolding blockGrounds
   number-wrong x = sym (refuse-take _ 12 _ (ap not (ne-eqb (le16At block 0) k (λ e. x (n-is ∙ e)))))
 
-  pub check-wrong : number ≡ k → (check ≡ sum → ⊥) → 13 ≡ refuse (blockGrounds block k)
+  pub check-wrong : number ≡ k → (check ≡ sum → ⊥) → 13 ≡ refuse (blockGrounds site block k)
   unfolding blockGrounds
   check-wrong p x =
       sym
       (refuse-skip _ 12 _ (ap not (eq-eqb (le16At block 0) k (sym n-is ∙ p)))
-      ∙ refuse-take _ 13 _ (ap not (ne-eqb (le16At block checkAt) (checkOf block) (λ e. x (c-is ∙ e ∙ sym s-is)))))
+      ∙ refuse-take _ 13 _ (ap not (ne-eqb (le16At block checkAt) (checkOf site block) (λ e. x (c-is ∙ e ∙ sym s-is)))))
 
-  pub block-right : number ≡ k → check ≡ sum → 0 ≡ refuse (blockGrounds block k)
-  block-right p q = sym (clear-refuse (blockGrounds block k) (right-block block k (sym n-is ∙ p) (sym c-is ∙ q ∙ s-is)))
+  pub block-right : number ≡ k → check ≡ sum → 0 ≡ refuse (blockGrounds site block k)
+  block-right p q = sym (clear-refuse (blockGrounds site block k) (right-block site block k (sym n-is ∙ p) (sym c-is ∙ q ∙ s-is)))
 
 -- ---- the contents
 
@@ -158,62 +158,66 @@ header input i h l =
     getD-contentsOf-at input j (omega arith) ∙ ap (λ (k : ℕ). getD input k 0) place in
     ap₂ (λ (a b : ℕ). a + 256 * b) (sym (byte i (omega arith))) (ap (λ (k : ℕ). getD input k 0) (add-assoc 2 i 1) ∙ sym (byte (i + 1) l))
 
-pub record Whole (input : List ℕ) (room : ℕ) : Type 0 where
+pub record Whole (input : List ℕ) (site room : ℕ) : Type 0 where
   pub fits : storeWords ≤ room
+  pub known : site ≤ maxSite
   pub some : length input ≡ 0 → ⊥
   pub whole : length input % blockBytes ≡ 0
   pub short : length input ≤ maxFile
 
-module _ (input : List ℕ) (room : ℕ) where
-  pub small-store : room < storeWords → 10 ≡ refuse (readGrounds input room)
+module _ (input : List ℕ) (site room : ℕ) where
+  pub small-store : room < storeWords → 10 ≡ refuse (readGrounds input site room)
   unfolding readGrounds
   small-store h = sym (refuse-take _ 10 _ (lt-ltb room storeWords h))
 
-  module _ (fits : storeWords ≤ room) where
-    pub no-input : length input ≡ 0 → 0 ≡ refuse (readGrounds input room)
-    no-input e = sym (draft-refusal input room fits e)
+  pub far-site : storeWords ≤ room → maxSite < site → 24 ≡ refuse (readGrounds input site room)
+  far-site fits h = sym (read-over input site room fits h)
+
+  module _ (fits : storeWords ≤ room) (known : site ≤ maxSite) where
+    pub no-input : length input ≡ 0 → 0 ≡ refuse (readGrounds input site room)
+    no-input e = sym (draft-refusal input site room fits known e)
 
     module _ (some : length input ≡ 0 → ⊥) where
       -- ground 11 decides
-      length-wrong : badLength input ≡ true → 11 ≡ refuse (readGrounds input room)
+      length-wrong : badLength input ≡ true → 11 ≡ refuse (readGrounds input site room)
       unfolding fileGrounds
-      length-wrong b = sym (behind-store input room fits some ∙ refuse-take _ 11 _ b)
+      length-wrong b = sym (behind-site input site room fits known some ∙ refuse-take _ 11 _ b)
 
-      pub part-block : (length input % blockBytes ≡ 0 → ⊥) → 11 ≡ refuse (readGrounds input room)
+      pub part-block : (length input % blockBytes ≡ 0 → ⊥) → 11 ≡ refuse (readGrounds input site room)
       unfolding badLength
       part-block x = length-wrong (rw (ne-eqb (length input % blockBytes) 0 x))
 
-      pub long-input : length input % blockBytes ≡ 0 → maxFile < length input → 11 ≡ refuse (readGrounds input room)
+      pub long-input : length input % blockBytes ≡ 0 → maxFile < length input → 11 ≡ refuse (readGrounds input site room)
       unfolding badLength
       long-input e h = length-wrong (rw (eq-eqb (length input % blockBytes) 0 e) (lt-ltb maxFile (length input) h))
 
-module _ {input : List ℕ} {room : ℕ} (w : Whole input room) {fault : ℕ} (e : fault ≡ refuse (blocksGrounds input)) where
-  behind-whole : refuse (readGrounds input room) ≡ refuse (blocksGrounds input ++ contentGrounds input (statesIn input) (groupsIn input))
+module _ {input : List ℕ} {site room : ℕ} (w : Whole input site room) {fault : ℕ} (e : fault ≡ refuse (blocksGrounds input site)) where
+  behind-whole : refuse (readGrounds input site room) ≡ refuse (blocksGrounds input site ++ contentGrounds input (statesIn input) (groupsIn input))
   unfolding badLength
   behind-whole =
-      behind-length input room (w .fits) (w .some) (rw (eq-eqb (length input % blockBytes) 0 (w .whole)) (le-ltb maxFile (length input) (w .short)))
+      behind-length input site room (w .fits) (w .known) (w .some) (rw (eq-eqb (length input % blockBytes) 0 (w .whole)) (le-ltb maxFile (length input) (w .short)))
 
-  pub block-wrong : (fault ≡ 0 → ⊥) → fault ≡ refuse (readGrounds input room)
-  block-wrong x = refuse-append (blocksGrounds input) _ e x ∙ sym behind-whole
+  pub block-wrong : (fault ≡ 0 → ⊥) → fault ≡ refuse (readGrounds input site room)
+  block-wrong x = refuse-append (blocksGrounds input site) _ e x ∙ sym behind-whole
 
-  pub blocks-right : fault ≡ 0 → {n g k : ℕ} → n ≡ le16At input 2 → g ≡ le16At input 4 → k ≡ contentRefusal input n g → k ≡ refuse (readGrounds input room)
+  pub blocks-right : fault ≡ 0 → {n g k : ℕ} → n ≡ le16At input 2 → g ≡ le16At input 4 → k ≡ contentRefusal input n g → k ≡ refuse (readGrounds input site room)
   blocks-right z p q f =
       let long : blockBytes ≤ length input = omega (arith, w .some, w .whole) in
-      let clear = blocks-clear input [] (ap refuse (append-nil (blocksGrounds input)) ∙ sym e ∙ z) .0 in
+      let clear = blocks-clear input site [] (ap refuse (append-nil (blocksGrounds input site)) ∙ sym e ∙ z) .0 in
       f
       ∙ ap₂ (λ (a b : ℕ). contentRefusal input a b) (p ∙ header input 0 long (omega arith)) (q ∙ header input 2 long (omega arith))
-      ∙ sym (behind-whole ∙ refuse-behind (blocksGrounds input) _ clear)
+      ∙ sym (behind-whole ∙ refuse-behind (blocksGrounds input site) _ clear)
 
 -- ---- the call
 
 -- no ground holds
-module _ (input : List ℕ) (room : ℕ) {k : ℕ} (e : k ≡ refuse (readGrounds input room)) (z : k ≡ 0) where
+module _ (input : List ℕ) (site room : ℕ) {k : ℕ} (e : k ≡ refuse (readGrounds input site room)) (z : k ≡ 0) where
   pub room-enough : storeWords ≤ room
-  room-enough = readable input room (sym e ∙ z) .0
+  room-enough = readable input site room (sym e ∙ z) .0
 
   module _ (some : length input ≡ 0 → ⊥) where
-    file : Readable input room (statesIn input) (groupsIn input)
-    file = ⊎-elim (λ q. absurd (some q)) (λ r. r) (readable input room (sym e ∙ z) .1)
+    file : Readable input site room (statesIn input) (groupsIn input)
+    file = ⊎-elim (λ q. absurd (some q)) (λ r. r) (readable input site room (sym e ∙ z) .2)
 
     pub some-block : blockBytes ≤ length input
     some-block = omega (arith, some, file .whole)
@@ -229,8 +233,8 @@ module _ (input : List ℕ) (room : ℕ) {k : ℕ} (e : k ≡ refuse (readGround
           record { small = omega (arith, says .0, file .small); few = omega (arith, says .1, file .few); inside = omega arith }
 
 -- k is the first ground that holds, or 0
-module _ (input store : List ℕ) {k : ℕ} (e : k ≡ refuse (readGrounds input (length store))) where
-  pub declined : (k ≡ 0 → ⊥) → CalledRead input store (Refused k) store
+module _ (input : List ℕ) (site : ℕ) (store : List ℕ) {k : ℕ} (e : k ≡ refuse (readGrounds input site (length store))) where
+  pub declined : (k ≡ 0 → ⊥) → CalledRead input site store (Refused k) store
   unfolding readAnswer readBuffer
   declined x = let no = ne-eqb k 0 x in (rw (← e, no), rw (← e, no), rw (← e, no, no))
 
@@ -238,21 +242,21 @@ module _ (input store : List ℕ) {k : ℕ} (e : k ≡ refuse (readGrounds input
     -- n and g are what the input says
     accepted : {n g : ℕ} {after : List ℕ} → statesIn input ≡ n → groupsIn input ≡ g
         → after ≡ overwrite (layout (tableIn (contentsOf input) n g)) store
-        → CalledRead input store (Table n g) after
+        → CalledRead input site store (Table n g) after
     accepted {n} {g} p q f =
         let none = sym e ∙ z in
-        let answer = read-answer input (length store) none ∙ ap₂ (λ (a b : ℕ). record { refusal = 0; n = a; g = b }) p q in (
+        let answer = read-answer input site (length store) none ∙ ap₂ (λ (a b : ℕ). record { refusal = 0; n = a; g = b }) p q in (
           sym answer,
-          f ∙ sym (read-buffer input store none ∙ ap₂ (λ (a b : ℕ). overwrite (layout (tableIn (contentsOf input) a b)) store) p q),
+          f ∙ sym (read-buffer input site store none ∙ ap₂ (λ (a b : ℕ). overwrite (layout (tableIn (contentsOf input) a b)) store) p q),
           rw answer,
         )
 
-    pub draft-read : length input ≡ 0 → {after : List ℕ} → after ≡ cleared store → CalledRead input store (Table 0 0) after
+    pub draft-read : length input ≡ 0 → {after : List ℕ} → after ≡ cleared store → CalledRead input site store (Table 0 0) after
     unfolding cleared
     draft-read empty f =
         let none = draft-says input empty in
         accepted (none .0) (none .1) (f ∙ ap (λ (xs : List ℕ). overwrite xs store) (sym (draft-layout (contentsOf input))))
 
     pub table-read : (length input ≡ 0 → ⊥) → {n g : ℕ} → n ≡ le16At input 2 → g ≡ le16At input 4
-        → {after : List ℕ} → after ≡ overwrite (layout (tableIn (contentsOf input) n g)) store → CalledRead input store (Table n g) after
-    table-read some p q f = let header = says input (length store) e z some p q in accepted (sym (header .0)) (sym (header .1)) f
+        → {after : List ℕ} → after ≡ overwrite (layout (tableIn (contentsOf input) n g)) store → CalledRead input site store (Table n g) after
+    table-read some p q f = let header = says input site (length store) e z some p q in accepted (sym (header .0)) (sym (header .1)) f

@@ -1,4 +1,5 @@
 -- `numbers_of`: the specification's numbers for each of the cases.
+use mathlib.Core.Path.{refl}
 use borrow.Author.Needs.{needs}
 use Rattle.check_file.proofs.numbers_of.Statement.{statement}
 use Rattle.check_file.proofs.numbers_of.Tie as tie
@@ -13,7 +14,7 @@ numbers-of-spec =
     (λ c. search needs)
     (λ c. search needs)
     (λ c. search needs)
-    (λ c. rw (c .before .verdict .given .1))
-    (λ c. rw (c .before .verdict2 .given .1))
-    (λ c. rw (c .before .verdict3 .given .1))
-    (λ c. rw (c .before .verdict4 .given .1)))
+    (λ c. rw (c .before .verdict .given .1) refl)
+    (λ c. rw (c .before .verdict2 .given .1) refl)
+    (λ c. rw (c .before .verdict3 .given .1) refl)
+    (λ c. rw (c .before .verdict4 .given .1) refl))

@@ -1,7 +1,6 @@
 -- `lay_out_minute`: each case has its numbers.
-use mathlib.Core.Path.{sym, ap}
+use mathlib.Core.Path.{refl}
 use borrow.Author.Needs.{needs}
-use Rattle.release_windows.specs.Answers.{numbersOf}
 use Rattle.shuntberry.proofs.lay_out_minute.Statement.{statement}
 use Rattle.shuntberry.proofs.lay_out_minute.Tie as tie
 
@@ -13,6 +12,6 @@ lay-out-minute-spec =
     (λ c. search needs)
     (λ c. search needs)
     (λ c. search needs)
-    (λ c. sym (ap numbersOf (c .before .answer .given .1)))
-    (λ c. sym (ap numbersOf (c .enum-told .given .1)))
-    (λ c. sym (ap numbersOf (c .before .answer2 .given .1))))
+    (λ c. rw (c .before .answer .given .1) refl)
+    (λ c. rw (c .enum-told .given .1) refl)
+    (λ c. rw (c .before .answer2 .given .1) refl))

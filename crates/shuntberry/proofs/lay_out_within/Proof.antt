@@ -1,7 +1,6 @@
 -- `lay_out_within`: case by case.
-use mathlib.Core.Path.{sym, ap}
+use mathlib.Core.Path.{refl}
 use borrow.Author.Needs.{needs}
-use Rattle.paths.specs.Within.{answerOf}
 use Rattle.shuntberry.proofs.lay_out_within.Statement.{statement}
 use Rattle.shuntberry.proofs.lay_out_within.Tie as tie
 
@@ -13,6 +12,6 @@ lay-out-within-spec =
     (λ c. search needs)
     (λ c. search needs)
     (λ c. search needs)
-    (λ c. sym (ap answerOf (c .enum-told .given .1)))
-    (λ c. sym (ap answerOf (c .enum-told2 .given .1)))
-    (λ c. sym (ap answerOf (c .before .answer .given .1))))
+    (λ c. rw (c .enum-told .given .1) refl)
+    (λ c. rw (c .enum-told2 .given .1) refl)
+    (λ c. rw (c .before .answer .given .1) refl))

@@ -1,7 +1,6 @@
 -- `refusal_number`: case by case.
-use mathlib.Core.Path.{sym, ap}
+use mathlib.Core.Path.{refl}
 use borrow.Author.Needs.{needs}
-use Rattle.paths.specs.Distances.{refusalOf}
 use Rattle.shuntberry.proofs.refusal_number.Statement.{statement}
 use Rattle.shuntberry.proofs.refusal_number.Tie as tie
 
@@ -12,5 +11,5 @@ refusal-number-spec =
     (λ c. search needs)
     (λ c. search needs)
     (λ c. search needs)
-    (λ c. sym (ap refusalOf (c .enum-told .given .1)))
-    (λ c. sym (ap refusalOf (c .before .answer .given .1))))
+    (λ c. rw (c .enum-told .given .1) refl)
+    (λ c. rw (c .before .answer .given .1) refl))

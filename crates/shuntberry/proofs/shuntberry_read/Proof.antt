@@ -10,6 +10,6 @@ shuntberry-read-spec =
     tie.close
     (tie.spec
     (λ c κs. search needs)
-    (λ c κs. rw (c .before .before .read .ensures .0) (read-range _ _))
+    (λ c κs. rw (c .before .before .read .ensures .0) (read-range _ _ _))
     (λ c. search needs)
     (λ c. let given = c .before .before .before .read .ensures in (c .lay-out-table .ensures ∙ given .0, given .1)))

@@ -10,6 +10,6 @@ shuntberry-write-spec =
     tie.close
     (tie.spec
     (λ c κs. search needs)
-    (λ c κs. rw (c .before .before .write .ensures .0) (write-range _ _ _ _))
+    (λ c κs. rw (c .before .before .write .ensures .0) (write-range _ _ _ _ _))
     (λ c. search needs)
     (λ c. let written = c .before .before .before .write .ensures in (c .lay-out-file .ensures ∙ written .0, written .1)))

@@ -1,7 +1,9 @@
 -- `refusal`: the grounds in their order.
 use mathlib.Core.Path.{sym, _∙_}
+use lib.ListN.{length}
 use borrow.Author.Needs.{needs}
 use borrow.Author.Tests.{lt-ltb, le-ltb}
+use Rattle.model.specs.Stores.{storeWords, maxGroups}
 use Rattle.model.proofs.GroundLaws.{refuse-none, refuse-skip, refuse-take}
 use Rattle.table.proofs.States.{bad-many, bad-alone, not-bad}
 use Rattle.table.proofs.refusal.Statement.{statement}
@@ -11,7 +13,7 @@ pub refusal-spec : {M : Type 1} → statement M
 refusal-spec =
     tie.close
     (tie.spec
-    (λ c. sym (refuse-take _ 10 _ (lt-ltb _ _ (c .if1 .taken))))
+    (λ c. sym (refuse-take _ 10 _ (lt-ltb (length (c .before .before .args .store .now)) storeWords (search needs))))
     (λ c. sym (refuse-skip _ 10 _ (le-ltb _ _ (c .before .if1 .left)) ∙ refuse-take _ 14 _ (bad-many _ _ (c .if2 .taken))))
     (λ c κs. search needs)
     (λ c.
@@ -23,7 +25,7 @@ refusal-spec =
     sym
     (refuse-skip _ 10 _ (le-ltb _ _ (alone .before .before .if1 .left))
     ∙ refuse-skip _ 14 _ (not-bad _ _ (alone .is-groups-alone .ensures) (alone .before .if2 .left) (c .before .if3 .left))
-    ∙ refuse-take _ 15 _ (lt-ltb _ _ (c .if4 .taken))))
+    ∙ refuse-take _ 15 _ (lt-ltb maxGroups (alone .before .before .before .before .args .g) (search needs))))
     (λ c κs. search needs)
     (λ c.
     let groups = c .before .before in

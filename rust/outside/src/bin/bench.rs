@@ -14,16 +14,19 @@ use std::hint::black_box;
 use std::process::ExitCode;
 use std::time::Instant;
 
-use shuntberry_outside::accept::MAX_ALLOWANCE;
+use shuntberry_outside::accept::{MAX_ALLOWANCE, MAX_LOG};
 use shuntberry_outside::blocks;
 use shuntberry_outside::calls::Calls;
 use shuntberry_outside::families;
 use shuntberry_outside::generate::Random;
+use shuntberry_outside::logs;
 use shuntberry_outside::peer::{Looks, Peer};
 use shuntberry_outside::table::{MAX_STATES, STORE_WORDS, Table};
 use shuntberry_outside::windows::{self, NextOpen};
 
 const SEED: u64 = 1;
+/// The site of the files.
+const SITE: usize = 0;
 const REPETITIONS: usize = 41;
 /// The least time that a measurement takes, in nanoseconds.
 const LEAST: f64 = 1e6;
@@ -32,6 +35,7 @@ const LEAST: f64 = 1e6;
 struct Case {
     store: Vec<u64>,
     file: Vec<u8>,
+    log: Vec<u8>,
     n: usize,
     g: usize,
 }
@@ -40,9 +44,21 @@ impl Case {
     fn of(table: &Table) -> Case {
         Case {
             store: table.to_store(),
-            file: blocks::encode(table),
+            file: blocks::encode(table, SITE),
+            log: Vec::new(),
             n: table.n,
             g: table.g(),
+        }
+    }
+
+    /// With a log as long as can be, which is walked as far as the table leads on.
+    fn with_log(table: &Table, random: &mut Random) -> Case {
+        let walk = logs::random_walk(table, MAX_LOG / 2, random);
+        let mut log = logs::bytes(&walk);
+        log.resize(MAX_LOG, 0);
+        Case {
+            log,
+            ..Case::of(table)
         }
     }
 }
@@ -57,6 +73,7 @@ enum Call {
     Acceptance,
     Read,
     Write,
+    Replay,
 }
 
 impl Call {
@@ -69,13 +86,20 @@ impl Call {
             Call::Acceptance => "acceptance",
             Call::Read => "read",
             Call::Write => "write",
+            Call::Replay => "replay",
         }
     }
 
     /// Makes the call on each case.
     fn run(self, library: &dyn Calls, cases: &[Case], buffers: &mut Buffers) {
         for case in cases {
-            let Case { store, file, n, g } = black_box(case);
+            let Case {
+                store,
+                file,
+                log,
+                n,
+                g,
+            } = black_box(case);
             match self {
                 Call::Decide => {
                     black_box(library.decide(store, *n, *g, MAX_ALLOWANCE, &mut buffers.path));
@@ -93,10 +117,13 @@ impl Call {
                     black_box(library.shortest_path(store, *n, *g, &mut []));
                 }
                 Call::Read => {
-                    black_box(library.read(file, &mut buffers.store));
+                    black_box(library.read(file, SITE, &mut buffers.store));
                 }
                 Call::Write => {
-                    black_box(library.write(store, *n, *g, &mut buffers.file));
+                    black_box(library.write(store, *n, *g, SITE, &mut buffers.file));
+                }
+                Call::Replay => {
+                    black_box(library.replay(store, *n, *g, log));
                 }
             }
         }
@@ -177,6 +204,17 @@ fn rows(only: &str) -> Vec<Row> {
                 let cases = family.tables.iter().map(Case::of).collect();
                 rows.push(Row { call, name, cases });
             }
+        }
+    }
+    for family in families::for_logs(&mut random) {
+        let call = Call::Replay;
+        let name = format!("{} | {}", call.name(), family.name);
+        if name.contains(only) {
+            let tables = family.tables.iter();
+            let cases = tables
+                .map(|table| Case::with_log(table, &mut random))
+                .collect();
+            rows.push(Row { call, name, cases });
         }
     }
     rows
@@ -459,12 +497,16 @@ fn agree(libraries: &[&dyn Calls], call: Call, cases: &[Case]) -> Result<(), Str
                         (format!("{answer:?}"), Vec::new(), Vec::new())
                     }
                     Call::Read => {
-                        let answer = library.read(&case.file, &mut buffers.store);
+                        let answer = library.read(&case.file, SITE, &mut buffers.store);
                         (format!("{answer:?}"), Vec::new(), buffers.store.to_vec())
                     }
                     Call::Write => {
-                        let answer = library.write(store, n, g, &mut buffers.file);
+                        let answer = library.write(store, n, g, SITE, &mut buffers.file);
                         (format!("{answer:?}"), buffers.file.to_vec(), Vec::new())
+                    }
+                    Call::Replay => {
+                        let answer = library.replay(store, n, g, &case.log);
+                        (format!("{answer:?}"), Vec::new(), Vec::new())
                     }
                 }
             })

@@ -7,10 +7,10 @@ use Rattle.block_file.proofs.blocks.check_of.Statement.{statement}
 use Rattle.block_file.proofs.blocks.check_of.Tie as tie
 
 abbrev Inv-loop : tie.InvT-loop
-Inv-loop block sum₀ i₀ sum i = Summing block sum i
+Inv-loop block site sum₀ i₀ sum i = Summing site block sum i
 
 abbrev μ-loop : tie.MeasureT-loop
-μ-loop block sum₀ i₀ sum i = checkAt - i
+μ-loop block site sum₀ i₀ sum i = checkAt - i
 
 pub check-of-spec : {M : Type 1} → statement M
 check-of-spec =
@@ -18,7 +18,7 @@ check-of-spec =
     (tie.spec
     Inv-loop
     μ-loop
-    (λ c. sum-none _)
+    (λ c. sum-none _ _ (search needs))
     (λ c. search needs)
     (λ c. search needs)
     (λ c κs. search needs)

@@ -13,10 +13,10 @@ block-fault-spec =
     (λ c κs. search needs)
     (λ c.
     let sum = c .before in
-    number-wrong _ (sum .before .before .le16-at .ensures) (sum .before .le16-at2 .ensures) (sum .check-of .ensures) (c .if1 .taken))
+    number-wrong _ _ (sum .before .before .le16-at .ensures) (sum .before .le16-at2 .ensures) (sum .check-of .ensures) (c .if1 .taken))
     (λ c.
     let sum = c .before .before in
-    check-wrong _ (sum .before .before .le16-at .ensures) (sum .before .le16-at2 .ensures) (sum .check-of .ensures) (c .before .if1 .left) (c .if2 .taken))
+    check-wrong _ _ (sum .before .before .le16-at .ensures) (sum .before .le16-at2 .ensures) (sum .check-of .ensures) (c .before .if1 .left) (c .if2 .taken))
     (λ c.
     let sum = c .before .before in
-    block-right _ (sum .before .before .le16-at .ensures) (sum .before .le16-at2 .ensures) (sum .check-of .ensures) (c .before .if1 .left) (c .if2 .left)))
+    block-right _ _ (sum .before .before .le16-at .ensures) (sum .before .le16-at2 .ensures) (sum .check-of .ensures) (c .before .if1 .left) (c .if2 .left)))

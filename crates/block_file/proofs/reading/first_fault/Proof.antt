@@ -9,10 +9,10 @@ use Rattle.block_file.proofs.reading.first_fault.Statement.{statement}
 use Rattle.block_file.proofs.reading.first_fault.Tie as tie
 
 abbrev Inv-loop : tie.InvT-loop
-Inv-loop input k₀ k-end k = (k ≤ length input / blockBytes) × Passed input k
+Inv-loop input site k₀ k-end k = (k ≤ length input / blockBytes) × Passed input site k
 
 abbrev μ-loop : tie.MeasureT-loop
-μ-loop input k₀ k-end k = length input / blockBytes - k
+μ-loop input site k₀ k-end k = length input / blockBytes - k
 
 pub first-fault-spec : {M : Type 1} → statement M
 first-fault-spec =
@@ -20,7 +20,7 @@ first-fault-spec =
     (tie.spec
     Inv-loop
     μ-loop
-    (λ c. (search needs, passed-none _))
+    (λ c. (search needs, passed-none _ _))
     (λ c. search needs)
     (λ c. search needs)
     (λ c. search needs)
@@ -29,8 +29,8 @@ first-fault-spec =
     (λ c κs. simp (length-take, length-drop) (omega (arith, c .before .loop-test .taken)))
     (λ c.
     let turn = c .before .before .before in
-    passed-stop _ _ _ (c .before .block-fault .ensures) (turn .before .loop .inv .1) (turn .loop-test .taken) (c .if1 .taken))
+    passed-stop _ _ _ _ (c .before .block-fault .ensures) (turn .before .loop .inv .1) (turn .loop-test .taken) (c .if1 .taken))
     (λ c. search needs)
     (λ c. search needs)
-    (λ c. (search needs, passed-next _ _ _ (c .before .block-fault .ensures) (c .before .before .before .before .loop .inv .1) (c .if1 .left)))
-    (λ c. passed-all _ _ (c .before .loop .inv .0) (c .loop-test .left) (c .before .loop .inv .1)))
+    (λ c. (search needs, passed-next _ _ _ _ (c .before .block-fault .ensures) (c .before .before .before .before .loop .inv .1) (c .if1 .left)))
+    (λ c. passed-all _ _ _ (c .before .loop .inv .0) (c .loop-test .left) (c .before .loop .inv .1)))

@@ -1,6 +1,6 @@
 -- `write`: the grounds in their order, then the blocks.
 use borrow.Author.Needs.{needs}
-use Rattle.block_file.proofs.WriteLaws.{held, declined-shared, draft-written, declined-room, written}
+use Rattle.block_file.proofs.WriteLaws.{held, declined-short, declined-site, declined-shared, draft-written, declined-room, written}
 use Rattle.block_file.proofs.writing.write.Statement.{statement}
 use Rattle.block_file.proofs.writing.write.Tie as tie
 
@@ -8,25 +8,34 @@ pub write-spec : {M : Type 1} → statement M
 write-spec =
     tie.close
     (tie.spec
+    (λ c. declined-short _ _ _ _ _ (c .if1 .taken))
+    (λ c. declined-site _ _ _ _ _ (c .before .if1 .left) (c .if2 .taken))
     (λ c κs. search needs)
-    (λ c. declined-shared _ _ _ _ _ (c .before .refusal .ensures) (c .if1 .taken))
-    (λ c. draft-written _ _ _ _ _ (c .before .before .refusal .ensures) (c .before .if1 .left) (c .if2 .taken))
+    (λ c.
+    let known = c .before .before in
+    declined-shared _ _ _ _ _ (known .before .if1 .left) (known .if2 .left) _ (c .before .refusal .ensures) (c .if3 .taken))
+    (λ c.
+    let accepted = c .before in
+    let known = accepted .before .before in
+    draft-written _ _ _ _ _ (known .before .if1 .left) (known .if2 .left) _ (accepted .before .refusal .ensures) (accepted .if3 .left) (c .if4 .taken))
     (λ c κs.
     let accepted = c .before in
-    let h = held (accepted .before .before .before .before .args .store .now) _ _ _ (accepted .before .refusal .ensures) (accepted .if1 .left) in
+    let h = held (accepted .before .before .before .before .before .before .args .store .now) _ _ _ (accepted .before .refusal .ensures) (accepted .if3 .left) in
     (h .small, h .few))
     (λ c κs. search needs)
     (λ c. search needs)
     (λ c.
     let some = c .before .before .before in
     let accepted = some .before in
-    declined-room _ _ _ _ _ (accepted .before .refusal .ensures) (accepted .if1 .left) (some .if2 .left) _ (cc) (c .if3 .taken))
+    let known = accepted .before .before in
+    declined-room _ _ _ _ _ (known .before .if1 .left) (known .if2 .left) _ (accepted .before .refusal .ensures) (accepted .if3 .left) (some .if4 .left) (c .before .blocks-for .result) (cc) (search needs))
     (λ c κs.
     let accepted = c .before .before .before .before .before in
-    (held _ _ _ _ (accepted .before .refusal .ensures) (accepted .if1 .left), search needs, search needs))
+    (held _ _ _ _ (accepted .before .refusal .ensures) (accepted .if3 .left), accepted .before .before .if2 .left, search needs, search needs))
     (λ c. search needs)
     (λ c.
     let call = c .before .before in
     let some = call .before .before .before .before .before in
     let accepted = some .before in
-    written _ _ _ _ _ (accepted .before .refusal .ensures) (accepted .if1 .left) (some .if2 .left) _ (cc) _ (search needs) (call .write-blocks .ensures)))
+    let known = accepted .before .before in
+    written _ _ _ _ _ (known .before .if1 .left) (known .if2 .left) _ (accepted .before .refusal .ensures) (accepted .if3 .left) (some .if4 .left) _ (cc) _ (search needs) (call .write-blocks .ensures)))

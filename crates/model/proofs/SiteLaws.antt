@@ -1,0 +1,97 @@
+-- The proof of specs/Sites.
+--
+--   checks-apart      the checks of one block for two sites are different
+--   foreign-fault     so a block that passes at one site gets 13 at the other, and foreign-block: read gives it
+--   own-block         what write wrote for a site passes there
+--   sites             specs/Sites
+use Prim.Native.Nat.{ℕ, _+_, _/_, _%_, _≤_, _<_}
+use native.Mathlib.Nat.{zero-add}
+use native.Mathlib.Omega.{arith}
+use mathlib.Core.Path.{_≡_, refl, sym, ap, _∙_, subst}
+use mathlib.Core.Bool.{false, not}
+use mathlib.Core.List.{List, [], append-nil}
+use borrow.Author.Tests.{eq-eqb, ne-eqb}
+use lib.ListN.{length, take}
+use Rattle.model.specs.Stores.{storeWords, tableOf, concat, Ground, refuse}
+use Rattle.model.specs.Blocks.{blockBytes, checkAt, modulus, maxSite, le16At, weighted, checkOf, part, blockGrounds}
+use Rattle.model.specs.Contents.{contents}
+use Rattle.model.specs.Files.{fileLength}
+use Rattle.model.specs.Calls.{badLength, blocksGrounds, readGrounds, readAnswer, Written, writeGrounds, writeAnswer, writeBuffer}
+use Rattle.model.specs.Sites.{Sites}
+use Rattle.model.proofs.Bounds.{length-tabulate}
+use Rattle.model.proofs.GroundLaws.{refuse-skip, refuse-take, refuse-append, clear-refuse, refuse-clear, numbered-concat, refuse-stop}
+use Rattle.model.proofs.BlockLaws.{block-number, block-check, blockOf-is}
+use Rattle.model.proofs.FileLaws.{part-blockFile, file-blocks, length-draft, length-blocks, fileLength-most}
+use Rattle.model.proofs.CallLaws.{Writable, write-over, write-refusal, writable, write-answer, clear-block, right-block, read-refusal, read-over, behind-length}
+use Rattle.model.proofs.RoundTrips.{file-is}
+
+-- ---- a block of another site
+
+residues-apart : (a b w : ℕ) → a ≤ maxSite → b ≤ maxSite → (a + w) % modulus ≡ (b + w) % modulus → a ≡ b
+residues-apart a b w h l e = omega arith
+
+checks-apart : (a b : ℕ) (block : List ℕ) → a ≤ maxSite → b ≤ maxSite → checkOf a block ≡ checkOf b block → a ≡ b
+unfolding checkOf
+checks-apart a b block = residues-apart a b (weighted block checkAt)
+
+module _ (a b : ℕ) (h : a ≤ maxSite) (l : b ≤ maxSite) (apart : a ≡ b → ⊥) where
+  foreign-fault : (block : List ℕ) (k : ℕ) → refuse (blockGrounds a block k) ≡ 0 → refuse (blockGrounds b block k) ≡ 13
+  unfolding blockGrounds
+  foreign-fault block k e =
+      let right = clear-block a block k (refuse-clear (blockGrounds a block k) [] refl e .0) in
+      refuse-skip _ 12 _ (ap not (eq-eqb (le16At block 0) k (right .0)))
+      ∙ refuse-take _ 13 _
+      (ap not (ne-eqb (le16At block checkAt) (checkOf b block) (λ q. apart (checks-apart a b block h l (sym (right .1) ∙ q)))))
+
+  foreign-block : (input : List ℕ) (room k : ℕ) → storeWords ≤ room → badLength input ≡ false → k < length input / blockBytes
+      → refuse (concat k (λ j. blockGrounds b (part input j) j)) ≡ 0 → refuse (blockGrounds a (part input k) k) ≡ 0
+      → (readAnswer input b room) .refusal ≡ 13
+  unfolding blocksGrounds blockGrounds
+  foreign-block input room k fits whole inside before own =
+      let grounds : ℕ → List Ground = λ j. blockGrounds b (part input j) j in
+      let passed = refuse-clear (concat k grounds) [] (numbered-concat grounds (λ j. refl) k) (ap refuse (append-nil (concat k grounds)) ∙ before) .0 in
+      let first : 13 ≡ refuse (blocksGrounds input b) =
+      refuse-stop grounds (length input / blockBytes) k inside passed (sym (foreign-fault (part input k) k own)) (λ z. omega arith) in
+      read-refusal input b room
+      ∙ behind-length input b room fits l (λ z. omega arith) whole
+      ∙ sym (refuse-append (blocksGrounds input b) _ first (λ z. omega arith))
+
+-- ---- a block of the same site
+
+module _ (store : List ℕ) (n g site : ℕ) (out : List ℕ) (k : ℕ) (w : Writable store n g site (length out)) where
+  written-block : k < fileLength n g / blockBytes → refuse (blockGrounds site (part (take (fileLength n g) (writeBuffer store n g site out)) k) k) ≡ 0
+  unfolding tableOf
+  written-block h =
+      let t = tableOf store n g in
+      let some : n ≡ 0 → ⊥ = λ z. omega (arith, length-draft n g z) in
+      let block = blockOf-is site (contents t) k in
+      let most = fileLength-most n g (w .held .small) (w .held .few) in
+      ap (λ (file : List ℕ). refuse (blockGrounds site (part file k) k)) (file-is store n g site out w ∙ file-blocks site t some)
+      ∙ ap (λ (b : List ℕ). refuse (blockGrounds site b k)) (part-blockFile site t (length-tabulate _ g) k (omega (arith, length-blocks n g some)))
+      ∙ clear-refuse _ (right-block site _ k (block-number block (omega arith)) (block-check block))
+
+own-block : (store : List ℕ) (n g site : ℕ) (out : List ℕ) (k : ℕ)
+    → (writeAnswer store n g site (length out)) .refusal ≡ 0
+    → k < (writeAnswer store n g site (length out)) .length / blockBytes
+    → refuse (blockGrounds site (part (take ((writeAnswer store n g site (length out)) .length) (writeBuffer store n g site out)) k) k) ≡ 0
+own-block store n g site out k e =
+    let w = writable store n g site (length out) (sym (write-refusal store n g site (length out)) ∙ e) in
+    subst
+    (λ (a : Written). k < a .length / blockBytes → refuse (blockGrounds site (part (take (a .length) (writeBuffer store n g site out)) k) k) ≡ 0)
+    (sym (write-answer store n g site (length out) w)) (written-block store n g site out k w)
+
+-- ---- all of them
+
+pub sites : Sites
+unfolding checkOf readGrounds writeGrounds refuse
+sites =
+    record {
+      greatest = refl;
+      check-zero = λ block. ap (λ (x : ℕ). x % modulus) (zero-add (weighted block checkAt));
+      read-zero = λ input room. refl;
+      write-zero = λ store n g room. refl;
+      own-block = own-block;
+      foreign-block = foreign-block;
+      read-over = λ input site room h l. read-refusal input site room ∙ read-over input site room h l;
+      write-over = λ store n g site room h l. write-refusal store n g site room ∙ write-over store n g site room h l;
+    }

@@ -1,0 +1,38 @@
+-- Files that know their site (the specification, "Files"). The proof stands in proofs/.
+--
+--   Sites      what the site number of a file is good for, and that site 0 changes nothing
+use Prim.Native.Nat.{ℕ, _%_, _/_, _≤_, _<_}
+use mathlib.Core.Path.{_≡_}
+use mathlib.Core.Bool.{cond, false}
+use mathlib.Core.List.{List, [], _∷_, _++_}
+use lib.Dec.{eqb}
+use lib.ListN.{length, take}
+use Rattle.model.specs.Stores.{storeWords, concat, refuse, storeGround, sharedGrounds}
+use Rattle.model.specs.Blocks.{blockBytes, checkAt, modulus, maxSite, weighted, checkOf, part, blockGrounds}
+use Rattle.model.specs.Calls.{badLength, fileGrounds, readGrounds, readAnswer, outputGround, writeGrounds, writeAnswer, writeBuffer}
+
+pub record Sites : Type 0 where
+  pub greatest : maxSite ≡ 65520
+  -- The site stands in the check and in ground 24 alone. At site 0 the check is the plain weighted sum, and the grounds are those of a call
+  -- that is given no site.
+  pub check-zero : (block : List ℕ) → checkOf 0 block ≡ weighted block checkAt % modulus
+  pub read-zero : (input : List ℕ) (room : ℕ)
+      → refuse (readGrounds input 0 room) ≡ refuse (storeGround room ∷ cond (eqb (length input) 0) [] (fileGrounds input 0))
+  pub write-zero : (store : List ℕ) (n g room : ℕ)
+      → refuse (writeGrounds store n g 0 room) ≡ refuse (sharedGrounds store n g ++ (outputGround n g room ∷ []))
+  -- each block of a file that write made passes at the site that it was made for
+  pub own-block : (store : List ℕ) (n g site : ℕ) (out : List ℕ) (k : ℕ)
+      → (writeAnswer store n g site (length out)) .refusal ≡ 0
+      → k < (writeAnswer store n g site (length out)) .length / blockBytes
+      → refuse (blockGrounds site (part (take ((writeAnswer store n g site (length out)) .length) (writeBuffer store n g site out)) k) k) ≡ 0
+  -- a block that passes at one site as block k gets 13 at every other, once what is looked at before it passes there
+  pub foreign-block : (a b : ℕ) → a ≤ maxSite → b ≤ maxSite → (a ≡ b → ⊥) → (input : List ℕ) (room k : ℕ)
+      → storeWords ≤ room
+      → badLength input ≡ false
+      → k < length input / blockBytes
+      → refuse (concat k (λ j. blockGrounds b (part input j) j)) ≡ 0
+      → refuse (blockGrounds a (part input k) k) ≡ 0
+      → (readAnswer input b room) .refusal ≡ 13
+  -- over the greatest: 24, straight after 10
+  pub read-over : (input : List ℕ) (site room : ℕ) → storeWords ≤ room → maxSite < site → (readAnswer input site room) .refusal ≡ 24
+  pub write-over : (store : List ℕ) (n g site room : ℕ) → storeWords ≤ length store → maxSite < site → (writeAnswer store n g site room) .refusal ≡ 24

@@ -1,0 +1,51 @@
+-- How large the numbers of an answer can be: what lays them out in 32 bits asks for.
+--
+--   ReplayRange, replay-range
+use Prim.Native.Nat.{ℕ, _*_, _%_, _≤_, _<_}
+use native.Mathlib.Nat.{mod-lt}
+use native.Mathlib.Omega.{arith}
+use mathlib.Core.Path.{refl}
+use mathlib.Core.List.{List}
+use borrow.Author.Tests.{eqb-false}
+use lib.Dec.{eqb}
+use lib.ListN.{length}
+use Rattle.model.specs.Sets.{maxStates}
+use Rattle.model.specs.Stores.{tableOf}
+use Rattle.model.proofs.Bounds.{by-cond}
+use Rattle.model.proofs.Counting.{size-most}
+use Rattle.model.proofs.Acceptance.{well-formed}
+use Rattle.reach.specs.Reached.{reachable}
+use Rattle.replay.specs.Logs.{maxLog, followed, seen, remainderOf, reachableCount, Replay, walkThrough, declined, replayAnswer}
+use Rattle.replay.proofs.Fronts.{entries-long}
+use Rattle.replay.proofs.Answering.{accepted, of-answer}
+use Rattle.replay.proofs.Walks.{within, walk-is}
+
+pub record ReplayRange (a : Replay) : Type 0 where
+  pub followed : a .followed ≤ maxLog
+  pub seen : a .seen ≤ maxStates
+  pub percent : a .percent ≤ 100
+  pub remainder : a .remainder ≤ maxStates
+
+remainder-small : (s r : ℕ) → r ≤ maxStates → remainderOf s r ≤ maxStates
+unfolding remainderOf
+remainder-small s r h =
+    by-cond (λ (m : ℕ). m ≤ maxStates) (eqb r 0) 0 (100 * s % r) (λ q. omega arith)
+    (λ q.
+    let some : 0 < r = omega (arith, eqb-false r 0 q) in
+    omega (arith, mod-lt (100 * s) {m = r} some))
+
+pub replay-range : (store : List ℕ) (n g : ℕ) (log : List ℕ) → ReplayRange (replayAnswer store n g log)
+unfolding walkThrough declined
+replay-range store n g log =
+    of-answer store n g log ReplayRange
+    (λ z.
+    let t = tableOf store n g in
+    let held = accepted store n g (length log) refl z in
+    let ok = well-formed store n g (held .0) in
+    record {
+      followed = omega (arith, within t ok log, entries-long log, held .1);
+      seen = size-most (seen log (followed t log));
+      percent = walk-is t ok log .coverage .most;
+      remainder = remainder-small _ (reachableCount t) (size-most (reachable t (t .initial)));
+    })
+    (λ f. record { followed = omega arith; seen = omega arith; percent = omega arith; remainder = omega arith })
