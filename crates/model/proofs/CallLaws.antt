@@ -21,7 +21,7 @@ use borrow.Author.Tests.{ltb-false, lt-ltb, le-ltb, eqb-true, eqb-false, eq-eqb,
 use lib.Dec.{eqb, ltb}
 use lib.ListN.{length, getD}
 use Rattle.model.specs.Sets.{maxStates, number}
-use Rattle.model.specs.Stores.{maxGroups, storeWords, tableOf, concat, layout, Ground, refuse, beyond, storeGround, sharedGrounds}
+use Rattle.model.specs.Stores.{headSets, maxGroups, storeWords, tableOf, concat, layout, Ground, refuse, beyond, storeGround, sharedGrounds}
 use Rattle.model.specs.Blocks.{blockBytes, contentBytes, checkAt, maxSite, siteGround, le16At, checkOf, blocksFor, part, contentsOf, blockGrounds}
 use Rattle.model.specs.Contents.{contentLength, setNumber, tableIn}
 use Rattle.model.specs.Files.{fileOf, fileLength, maxFile}

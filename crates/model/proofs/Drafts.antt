@@ -17,7 +17,7 @@ use Rattle.model.specs.Sets.{WORDS, maxStates, Set, filter, member, empt
 use Rattle.model.specs.Tables.{post}
 use Rattle.model.specs.Rounds.{iterate, forward, isSafe, roundOf, firstRound, safe, settle, rounds, run}
 use Rattle.model.specs.Paths.{shortest, hasPath, smallestPath}
-use Rattle.model.specs.Stores.{forbiddenAt, groupAt, rowAt, storeWords, setAt, tableOf, layout, Ground, refuse, badStates, sharedGrounds}
+use Rattle.model.specs.Stores.{headSets, forbiddenAt, groupAt, rowAt, storeWords, setAt, tableOf, layout, Ground, refuse, badStates, sharedGrounds}
 use Rattle.model.specs.Blocks.{contentsOf}
 use Rattle.model.specs.Contents.{setIn, setNumber, tableIn}
 use Rattle.model.specs.Calls.{overwrite, Decision, decisionOf, decideBuffer, Shortest, shortestGrounds, shortestAnswer, shortestBuffer, TableRead, statesIn, blocksGrounds, contentGrounds, readBuffer, Written, writeAnswer}

@@ -21,7 +21,7 @@ use lib.Dec.{ltb}
 use lib.ListN.{length, getD, take}
 use Rattle.model.specs.Sets.{WORDS, maxStates, Set, tabulate, member, number, empty}
 use Rattle.model.specs.Tables.{Table}
-use Rattle.model.specs.Stores.{maxGroups, forbiddenAt, groupAt, rowAt, storeWords, setAt, tableOf, concat, layout, refuse, beyond}
+use Rattle.model.specs.Stores.{headSets, maxGroups, forbiddenAt, groupAt, rowAt, storeWords, setAt, tableOf, concat, layout, refuse, beyond}
 use Rattle.model.specs.Blocks.{blockBytes, contentBytes, checkAt, maxSite, le16, le16At, checkOf, blocksFor, blockOf, part, contentsOf}
 use Rattle.model.specs.Contents.{setWidth, sets, headerBytes, contents, contentLength, setNumber, tableIn}
 use Rattle.model.specs.Files.{blockFile, blockFileLength, fileOf, fileLength, maxFile}
