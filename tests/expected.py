@@ -91,7 +91,7 @@ def order_test():
             ("branches", Table(10, {5}, {9}, branches, alone(10))),
             ("branches from two", Table(10, {1, 5}, {9}, branches, alone(10))),
             ("branches, 3 with 8", Table(10, {1, 5}, {9}, branches, groups)),
-            ("G", G), ("nothing initial", Table(3, set(), {2}, steps("01 12"))),
+            ("draft", DRAFT), ("G", G), ("nothing initial", Table(3, set(), {2}, steps("01 12"))),
             ("only a forbidden state initial", Table(3, {2}, {2}, steps("01 12"))),
             ("corridor", corridor),
         ]
@@ -99,7 +99,8 @@ def order_test():
     small = Table(3, {0}, {2}, steps("01 12"))
     for name, table, words, n, g in [
         ("corridor, its last digit's groups not counted", corridor, STORE_WORDS, MAX_STATES, MAX_GROUPS - 2),
-        ("n 0", small, STORE_WORDS, 0, 0), ("a state too many", small, STORE_WORDS, MAX_STATES + 1, 0),
+        ("draft with a group", DRAFT, STORE_WORDS, 0, 1), ("draft with a group too many", DRAFT, STORE_WORDS, 0, MAX_GROUPS + 1),
+        ("n 0", small, STORE_WORDS, 0, 0), ("n 0 with a group", small, STORE_WORDS, 0, 1), ("a state too many", small, STORE_WORDS, MAX_STATES + 1, 0),
         ("a group too many", small, STORE_WORDS, 3, MAX_GROUPS + 1), ("state 2 of 2", small, STORE_WORDS, 2, 0),
         ("a group too many and state 2 of 2", small, STORE_WORDS, 2, MAX_GROUPS + 1),
         ("store one word short, n 0", DRAFT, STORE_WORDS - 1, 0, 0),

@@ -35,7 +35,7 @@
 //!
 //! // A table of 513 states is refused.
 //! let refused = decide(&store, 513, 0, MAX_ALLOWANCE, &mut path).unwrap_err();
-//! assert_eq!(refused.to_string(), "refused 14: n is over 512, or 0 with groups or in a block");
+//! assert_eq!(refused.to_string(), "refused 14: n is over 512, or 0 with groups, in a block or in a load");
 //! # Ok::<(), shuntberry::Refused>(())
 //! ```
 //!
@@ -188,7 +188,7 @@ impl Refused {
             11 => "the input's length is no multiple of 512, or over 37,376",
             12 => "a block does not hold its own number",
             13 => "a block's stored check is not its check for the site",
-            14 => "n is over 512, or 0 with groups or in a block",
+            14 => "n is over 512, or 0 with groups, in a block or in a load",
             15 => "g is over 64",
             16 => "the number of blocks is not that of a file with this n and g",
             17 => "a set holds a state from n up, or a word of an unused group or row is not 0",
@@ -352,7 +352,8 @@ pub fn within(store: &[u64], n: usize, g: usize, k: usize) -> Result<bool, Refus
 }
 
 /// Reads a block file of a site, 0 to [`MAX_SITE`], into the first [`STORE_WORDS`] words of `store`; no other word is touched. An
-/// input of no bytes is an untouched draft: `n` and `g` are 0, and so is each of those words.
+/// input of no bytes is an untouched draft, at every site: `n` and `g` are 0, and so is each of those words. So a read that failed must
+/// not be passed on as one of no bytes.
 ///
 /// Refused with 10, 24, 11, 12, 13, 14, 15, 16, 17 or 18. A block that was made for another site is refused
 /// with 13.

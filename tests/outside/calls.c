@@ -209,6 +209,16 @@ static void replays(void)
             "a log that is too long");
 }
 
+static int is_minute(struct shuntberry_minute answer, uint32_t minute)
+{
+    return answer.refusal == SHUNTBERRY_ACCEPTED && answer.never == 0 && answer.minute == minute;
+}
+
+static int is_never(struct shuntberry_minute answer)
+{
+    return answer.refusal == SHUNTBERRY_ACCEPTED && answer.never == 1 && answer.minute == 0;
+}
+
 /* An empty buffer as C and C++ have it: null and 0, for each buffer of each call; and an untouched draft. */
 static void nothing(void)
 {
@@ -220,6 +230,11 @@ static void nothing(void)
     require(shuntberry_decide(NULL, 0, 0, 0, 0, NULL, 0).refusal == SHUNTBERRY_STORE_SHORT, "decide, nothing");
     require(shuntberry_shortest_path(NULL, 0, STATES, 0, path, room).refusal == SHUNTBERRY_STORE_SHORT, "path, no store");
     require(shuntberry_shortest_path(store, words, STATES, 0, NULL, 0).refusal == SHUNTBERRY_PATH_SHORT, "path, no path");
+    require(shuntberry_distances(NULL, 0, STATES, 0, distances, STATES) == SHUNTBERRY_STORE_SHORT, "distances, no store");
+    require(shuntberry_distances(store, words, STATES, 0, NULL, 0) == SHUNTBERRY_DISTANCES_SHORT, "distances, no places");
+    require(shuntberry_distances(NULL, 0, 0, 0, NULL, 0) == SHUNTBERRY_STORE_SHORT, "distances, nothing");
+    require(shuntberry_within(NULL, 0, STATES, 0, SIZE_MAX).refusal == SHUNTBERRY_STORE_SHORT, "within, no store");
+    require(shuntberry_generate(0, STATES, 0, NULL, 0) == SHUNTBERRY_STORE_SHORT, "generate, no store");
     require(shuntberry_read(file, sizeof file, 0, NULL, 0).refusal == SHUNTBERRY_STORE_SHORT, "read, no store");
     require(shuntberry_read(NULL, 0, 0, NULL, 0).refusal == SHUNTBERRY_STORE_SHORT, "read, nothing");
     require(shuntberry_write(NULL, 0, STATES, 0, 0, file, sizeof file).refusal == SHUNTBERRY_STORE_SHORT, "write, no store");
@@ -239,11 +254,15 @@ static void nothing(void)
                 decision.size == 0 && decision.steps == 0,
             "decide on a draft");
     require(shuntberry_decide(draft, words, 0, 1, 0, path, room).refusal == SHUNTBERRY_STATES, "groups without states");
-}
+    require(shuntberry_distances(draft, words, 0, 0, NULL, 0) == SHUNTBERRY_ACCEPTED, "distances of a draft");
+    struct shuntberry_within near = shuntberry_within(draft, words, 0, 0, SIZE_MAX);
+    require(near.refusal == SHUNTBERRY_ACCEPTED && near.within == 0, "within, on a draft");
 
-static int is_minute(struct shuntberry_minute answer, uint32_t minute)
-{
-    return answer.refusal == SHUNTBERRY_ACCEPTED && answer.never == 0 && answer.minute == minute;
+    const uint64_t window = shuntberry_window(540, 120);
+    const uint32_t closed = 0;
+    require(is_never(shuntberry_next_open(0, NULL, 0, NULL, 0)), "next open, nothing");
+    require(is_never(shuntberry_next_open(0, NULL, 0, &closed, 1)), "next open, no windows");
+    require(is_minute(shuntberry_next_open(0, &window, 1, NULL, 0), 540), "next open, no closed days");
 }
 
 static int is_declined(struct shuntberry_minute answer, uint32_t refusal)
@@ -264,8 +283,7 @@ static void release_windows(void)
     require(is_minute(shuntberry_next_open(0, windows, 2, closed, 1), 10000), "day 0 closed");
     require(is_minute(shuntberry_next_open(SHUNTBERRY_MAX_TIME, windows, 1, closed, 0), 2147484060), "past the greatest time");
 
-    struct shuntberry_minute never = shuntberry_next_open(0, windows, 0, closed, 0);
-    require(never.refusal == SHUNTBERRY_ACCEPTED && never.never == 1 && never.minute == 0, "no window");
+    require(is_never(shuntberry_next_open(0, windows, 0, closed, 0)), "no window");
 
     const uint64_t out_of_range[] = {
         shuntberry_window(10080, 1),      shuntberry_window(0, 0),        shuntberry_window(0, 10081),

@@ -1,5 +1,6 @@
-// The order in which the first round expands the states that it reaches: tables with circles, with groups, with nothing initial, a corridor
-// whose states the groups tell apart, and refusals. tests/expected.py works out what this must print, from the specification's text.
+// The order in which the first round expands the states that it reaches: tables with circles, with groups, with nothing initial, without
+// states, a corridor whose states the groups tell apart, and refusals. tests/expected.py works out what this must print, from the
+// specification's text.
 ghost use Prim.Native.Nat.{_/_, _<_};
 ghost use Rattle.model.specs.Sets.{maxStates};
 ghost use Rattle.model.specs.Stores.{maxGroups};
@@ -90,6 +91,7 @@ fn for_each_alone(store: &mut [u64], n: usize) {
 
 fn nothing_initial() {
     let mut t = [0u64; STORE_WORDS];
+    try_one(b"draft", &t, 0, 0);
     try_one(b"G", &t, 1, 0);
     put_table(&mut t, b"", b"2", b"01 12");
     try_one(b"nothing initial", &t, 3, 0);
@@ -147,8 +149,11 @@ fn corridor() {
 
 fn refusals() {
     let mut t = [0u64; STORE_WORDS];
+    try_one(b"draft with a group", &t, 0, 1);
+    try_one(b"draft with a group too many", &t, 0, MAX_GROUPS + 1);
     put_table(&mut t, b"0", b"2", b"01 12");
     try_one(b"n 0", &t, 0, 0);
+    try_one(b"n 0 with a group", &t, 0, 1);
     try_one(b"a state too many", &t, MAX_STATES + 1, 0);
     try_one(b"a group too many", &t, 3, MAX_GROUPS + 1);
     try_one(b"state 2 of 2", &t, 2, 0);

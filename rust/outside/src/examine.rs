@@ -650,8 +650,8 @@ pub fn named_tables(libraries: &[&dyn Calls], random: &mut Random, tally: &mut T
     edges(libraries, random, tally)
 }
 
-/// n = 0: with g 0, 1 and 65, with a stray word at each place of the store, with short buffers, and a
-/// file that says it in a block.
+/// n = 0 in every call that is lent a table: with g 0, 1 and 65, with a stray word at each place of the
+/// store, with short buffers, and a file that says it in a block.
 fn drafts(libraries: &[&dyn Calls], random: &mut Random, tally: &mut Tally) -> Outcome {
     let clean = named::draft().to_store();
     let case =
@@ -666,10 +666,28 @@ fn drafts(libraries: &[&dyn Calls], random: &mut Random, tally: &mut Tally) -> O
             ];
             same("the plain acceptance of n = 0", earned, refusals)?;
             let (path, output) = (random.places(room), random.bytes(output));
+            // No buffer is too short for these, and no log is odd or long: they have the ground that write has.
+            let places = random.pick(&[0, 1, MAX_STATES]);
+            let out = random.places(places);
+            let far = expected::distances(store, 0, g, places);
+            let near = [0, 1]
+                .into_iter()
+                .chain(FAR)
+                .map(|k| (k, expected::within(store, 0, g, k)));
+            let log = random.pick(&[&[][..], &[0, 0], &[1, 0, 0, 0]]);
+            let walk = logs::expected(store, 0, g, log);
+            let shared = [far.answer, walk.refusal];
+            same("the plain acceptance of n = 0", shared, [refusals[2]; 2])?;
+            for (_, answer) in near.clone() {
+                same("the plain within of n = 0", answer.refusal, refusals[2])?;
+            }
             libraries.iter().try_for_each(|library| {
                 decide(*library, store, (0, g, allowance), &path, &decision)?;
                 shortest_path(*library, store, (0, g), &path, &shortest)?;
-                write(*library, store, (0, g, 0), &output, &written)
+                write(*library, store, (0, g, 0), &output, &written)?;
+                distances(*library, store, (0, g), &out, &far)?;
+                within(*library, store, (0, g), near.clone())?;
+                logs::replay(*library, store, (0, g), log, walk)
             })
         };
     let (most, over) = (MAX_ALLOWANCE, MAX_ALLOWANCE + 1);

@@ -155,7 +155,8 @@ pub fn random_log(table: &Table, random: &mut Random) -> Vec<u8> {
 
 // ---- The tests
 
-fn replay(
+/// One call, with both buffers compared.
+pub fn replay(
     library: &dyn Calls,
     store: &[u64],
     (n, g): (usize, usize),
