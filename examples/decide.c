@@ -22,7 +22,7 @@ static void print_safe(const struct shuntberry_decision *decision)
     puts(decision->size == 0 ? " none" : "");
 }
 
-static void print_unsafe(const struct shuntberry_decision *decision, const uint8_t *path)
+static void print_unsafe(const struct shuntberry_decision *decision, const uint16_t *path)
 {
     printf("unsafe refinements %u\npath", (unsigned)decision->count);
     for (unsigned step = 0; step <= decision->steps; step++)
@@ -39,7 +39,7 @@ int main(int argc, char **argv)
 {
     static uint8_t input[SHUNTBERRY_FILE_BYTES + 1]; /* one more, so that a longer file is seen to be too long */
     static uint64_t store[SHUNTBERRY_STORE_WORDS];
-    static uint8_t path[SHUNTBERRY_PATH_BYTES];
+    static uint16_t path[SHUNTBERRY_PATH_PLACES];
 
     if (argc != 2) {
         fprintf(stderr, "usage: %s FILE\n", argv[0]);
@@ -64,7 +64,7 @@ int main(int argc, char **argv)
         return 0;
     }
     struct shuntberry_decision decision = shuntberry_decide(
-        store, SHUNTBERRY_STORE_WORDS, table.n, table.g, SHUNTBERRY_MAX_ALLOWANCE, path, sizeof path);
+        store, SHUNTBERRY_STORE_WORDS, table.n, table.g, SHUNTBERRY_MAX_ALLOWANCE, path, SHUNTBERRY_PATH_PLACES);
     if (decision.refusal != SHUNTBERRY_ACCEPTED) {
         print_refused(decision.refusal);
         return 0;

@@ -8,12 +8,14 @@
  * threads at once, as long as no buffer that one of them writes is lent to another. A call takes less than
  * 256 KiB of stack (tests/outside measures it on the longest path).
  *
- * A TABLE has n states, numbered 0 to n - 1, with n from 0 to 256, and g groups, with g from 0 to 64;
+ * A TABLE has n states, numbered 0 to n - 1, with n from 0 to SHUNTBERRY_MAX_STATES, and g
+ * groups, with g from 0 to SHUNTBERRY_MAX_GROUPS;
  * a table without states, an untouched draft, has no groups either, and its file has no bytes.
- * A SET of states is four words: state s is the bit of value 2^(s % 64) in word s / 64.
- * A STORE is at least SHUNTBERRY_STORE_WORDS words: the initial set, the forbidden set, 64 groups,
- * and for each of 256 states the set of its successors (the offsets are below). The words of groups
- * from g up and of rows from n up are 0. Words past the first 1,288 are neither read nor written.
+ * A SET of states is SHUNTBERRY_SET_WORDS words: state s is the bit of value 2^(s % 64) in word s / 64.
+ * A STORE is at least SHUNTBERRY_STORE_WORDS words: the initial set, the forbidden set, as many groups as
+ * there can be, and for each state that there can be the set of its successors (the offsets are below). The
+ * words of groups from g up and of rows from n up are 0. Words past the first SHUNTBERRY_STORE_WORDS are
+ * neither read nor written. A PATH is a list of 16-bit numbers, one for each state.
  *
  * Each buffer is a pointer and the number of its elements. As with any C buffer, the pointer must be
  * valid for that many elements and aligned for its type, and a buffer that a call writes must not
@@ -47,15 +49,17 @@ extern "C" {
 
 /* ---- Sizes ---- */
 
-#define SHUNTBERRY_MAX_STATES 256    /* the greatest n */
+#define SHUNTBERRY_VERSION 2         /* raised where a size, a type or an argument changes: compile with the header of the library */
+#define SHUNTBERRY_MAX_STATES 512    /* the greatest n */
 #define SHUNTBERRY_MAX_GROUPS 64     /* the greatest g */
-#define SHUNTBERRY_MAX_ALLOWANCE 256 /* the greatest allowance, and that of a release check */
-#define SHUNTBERRY_SET_WORDS 4       /* words of a set */
-#define SHUNTBERRY_STORE_WORDS 1288  /* the least length of a store, in words */
-#define SHUNTBERRY_PATH_BYTES 256    /* the least length of a path buffer, in bytes */
+#define SHUNTBERRY_MAX_ALLOWANCE SHUNTBERRY_MAX_STATES /* the greatest allowance, and that of a release check */
+#define SHUNTBERRY_SET_WORDS 8       /* words of a set */
+#define SHUNTBERRY_HEAD_SETS 2       /* sets that stand before the groups: initial and forbidden */
+#define SHUNTBERRY_STORE_WORDS 4624  /* the least length of a store, in words */
+#define SHUNTBERRY_PATH_PLACES SHUNTBERRY_MAX_STATES /* the least length of a path buffer, in 16-bit places */
 #define SHUNTBERRY_UNREACHABLE 65535 /* the distance of a state from which no forbidden state can be reached */
 #define SHUNTBERRY_BLOCK_BYTES 512   /* a file is whole blocks of this many bytes */
-#define SHUNTBERRY_FILE_BYTES 10752  /* the length of the largest file, 21 blocks */
+#define SHUNTBERRY_FILE_BYTES 37376  /* the length of the largest file, 73 blocks */
 #define SHUNTBERRY_MAX_SITE 65520    /* the greatest site number */
 #define SHUNTBERRY_MAX_FAN_OUT 16    /* the greatest fan-out of a generated table */
 #define SHUNTBERRY_MAX_LOG 32768     /* the greatest length of a pump's log, in bytes: 16,384 entries */
@@ -66,25 +70,25 @@ extern "C" {
 /* ---- Where the sets stand in a store, as the index of their first word ---- */
 
 #define SHUNTBERRY_INITIAL 0                /* the initial set */
-#define SHUNTBERRY_FORBIDDEN 4              /* the forbidden set */
-#define SHUNTBERRY_GROUP(j) (8 + 4 * (j))   /* group j */
-#define SHUNTBERRY_ROW(s) (264 + 4 * (s))   /* the successors of state s */
+#define SHUNTBERRY_FORBIDDEN SHUNTBERRY_SET_WORDS /* the forbidden set */
+#define SHUNTBERRY_GROUP(j) (SHUNTBERRY_SET_WORDS * (SHUNTBERRY_HEAD_SETS + (j))) /* group j */
+#define SHUNTBERRY_ROW(s) SHUNTBERRY_GROUP(SHUNTBERRY_MAX_GROUPS + (s))           /* the successors of state s */
 
 /* ---- Refusal numbers ---- */
 
 #define SHUNTBERRY_ACCEPTED 0           /* the call was not refused */
-#define SHUNTBERRY_STORE_SHORT 10       /* the store has under 1,288 words (all calls but next open) */
-#define SHUNTBERRY_INPUT_LENGTH 11      /* the input's length is no multiple of 512, or over 10,752 (read) */
+#define SHUNTBERRY_STORE_SHORT 10       /* the store has under SHUNTBERRY_STORE_WORDS words (all calls but next open) */
+#define SHUNTBERRY_INPUT_LENGTH 11      /* the input's length is no multiple of 512, or over SHUNTBERRY_FILE_BYTES (read) */
 #define SHUNTBERRY_BLOCK_NUMBER 12      /* block k does not hold the number k (read) */
 #define SHUNTBERRY_BLOCK_CHECK 13       /* a block's stored check is not its check for the site (read) */
-#define SHUNTBERRY_STATES 14            /* n is over 256, or 0 with g above 0, in a block or in generate (all calls but next open) */
-#define SHUNTBERRY_GROUPS 15            /* g is over 64 (all calls but generate and next open) */
+#define SHUNTBERRY_STATES 14            /* n is over SHUNTBERRY_MAX_STATES, or 0 with g above 0, in a block or in generate (all calls but next open) */
+#define SHUNTBERRY_GROUPS 15            /* g is over SHUNTBERRY_MAX_GROUPS (all calls but generate and next open) */
 #define SHUNTBERRY_BLOCK_COUNT 16       /* the file has too few or too many blocks for its n and g (read) */
 #define SHUNTBERRY_STRAY_BIT 17         /* a set holds a state from n up, or a word of an unused group or row is not 0 (all calls but generate and next open) */
 #define SHUNTBERRY_FILLER 18            /* a byte past the contents is not 0 (read) */
 #define SHUNTBERRY_OUTPUT_SHORT 19      /* the output is shorter than the file (write) */
-#define SHUNTBERRY_ALLOWANCE 20         /* the allowance is over 256 (decide) */
-#define SHUNTBERRY_PATH_SHORT 21        /* the path buffer has under 256 bytes (decide, shortest path) */
+#define SHUNTBERRY_ALLOWANCE 20         /* the allowance is over SHUNTBERRY_MAX_ALLOWANCE (decide) */
+#define SHUNTBERRY_PATH_SHORT 21        /* the path buffer has under SHUNTBERRY_PATH_PLACES places (decide, shortest path) */
 #define SHUNTBERRY_FAN_OUT 22           /* the fan-out is over 16 (generate) */
 #define SHUNTBERRY_DISTANCES_SHORT 23   /* the distance buffer has fewer than n places (distances) */
 #define SHUNTBERRY_SITE 24              /* the site is over 65,520 (read, write); given straight after 10 */
@@ -104,7 +108,7 @@ extern "C" {
 
 /* What shuntberry_decide answers. */
 struct shuntberry_decision {
-    uint64_t invariant[4]; /* if safe, a set with the initial states, the successors of each of its states, and no forbidden state; else empty */
+    uint64_t invariant[SHUNTBERRY_SET_WORDS]; /* if safe, a set with the initial states, the successors of each of its states, and no forbidden state; else empty */
     uint32_t refusal;      /* 0, or the number of the refusal */
     uint32_t verdict;      /* where refusal is 0: SHUNTBERRY_SAFE, SHUNTBERRY_UNSAFE or SHUNTBERRY_UNDECIDED; else 0, which is no verdict */
     uint32_t count;        /* the number of refinements made */
@@ -115,17 +119,17 @@ struct shuntberry_decision {
 
 /*
  * Decides by rounds of forward and backward fixpoints, with at most `allowance` refinements between
- * them. With 256 the answer is never undecided.
+ * them. With SHUNTBERRY_MAX_ALLOWANCE the answer is never undecided. `path_len` is the number of places.
  *
- * If unsafe, steps + 1 bytes at the front of `path` are the states of a shortest path from an initial
+ * If unsafe, steps + 1 places at the front of `path` are the states of a shortest path from an initial
  * to a forbidden state, of all such paths the one with the smallest first state, then the smallest
- * second, and so on; no other byte is touched. If safe or undecided, nothing is written.
+ * second, and so on; no other place is touched. If safe or undecided, nothing is written.
  * The store is never changed.
  *
  * Refuses with 10, 14, 15, 17, 20 or 21.
  */
 struct shuntberry_decision shuntberry_decide(const uint64_t *store, size_t store_len, size_t n, size_t g,
-                                             size_t allowance, uint8_t *path, size_t path_len);
+                                             size_t allowance, uint16_t *path, size_t path_len);
 
 /* What shuntberry_shortest_path answers. */
 struct shuntberry_shortest {
@@ -135,13 +139,13 @@ struct shuntberry_shortest {
 };
 
 /*
- * Finds the path that shuntberry_decide gives, without the rounds: steps + 1 bytes at the front of
- * `path`, no other byte touched. If there is no path, nothing is written. The store is never changed.
+ * Finds the path that shuntberry_decide gives, without the rounds: steps + 1 places at the front of
+ * `path`, no other place touched. If there is no path, nothing is written. The store is never changed.
  *
  * Refuses with 10, 14, 15, 17 or 21.
  */
 struct shuntberry_shortest shuntberry_shortest_path(const uint64_t *store, size_t store_len, size_t n, size_t g,
-                                                    uint8_t *path, size_t path_len);
+                                                    uint16_t *path, size_t path_len);
 
 /*
  * Writes the distance of each state, which is the number of steps from it to the nearest forbidden
@@ -177,7 +181,7 @@ struct shuntberry_table {
 };
 
 /*
- * Reads a block file of a site into the first 1,288 words of `store`; no other word is touched. The input
+ * Reads a block file of a site into the first SHUNTBERRY_STORE_WORDS words of `store`; no other word is touched. The input
  * is never changed. The check of each block starts from the site, so a block of another site that stands
  * at its own number is refused with 13. An input of no bytes is an untouched draft, at every site: n and g
  * are 0, and so is each of those words. So a read that failed must not be passed on as one of no bytes.
@@ -203,7 +207,7 @@ struct shuntberry_file shuntberry_write(const uint64_t *store, size_t store_len,
                                         uint8_t *output, size_t output_len);
 
 /*
- * Fills the first 1,288 words of `store` with the table that a seed gives, and touches no other word:
+ * Fills the first SHUNTBERRY_STORE_WORDS words of `store` with the table that a seed gives, and touches no other word:
  * n states, of which state 0 is initial and state n - 1 forbidden, no groups, and for each state in
  * turn the next `fan_out` of a sequence of numbers, each modulo n, as its successors. Every call
  * accepts the table, with g = 0. The numbers are 32 bits wide: the first is the seed, each of the next

@@ -2,7 +2,7 @@
 """Makes the files of this folder from the specification's text alone; shares no code with the library.
 
 NAME.table is a block file, NAME.expected what `check` prints for it. The answers are worked out by the
-rounds as the specification writes them, on Python's sets; for tables A to G they are held to the figures typed below.
+rounds as the specification writes them, on Python's numbers and sets; for tables A to G they are held to the figures typed below.
 
     python3 tables/make.py            writes the files anew
     python3 tables/make.py --check    writes nothing, and fails if a file differs
@@ -10,11 +10,15 @@ rounds as the specification writes them, on Python's sets; for tables A to G the
 
 import sys
 from dataclasses import dataclass, field
+from functools import reduce
 from itertools import count
+from operator import or_
 from pathlib import Path
 
-ALLOWANCE = 256
+MAX_STATES, MAX_GROUPS = 512, 64
+ALLOWANCE = MAX_STATES
 BLOCK, CONTENT = 512, 508
+MAX_FILE = 37_376
 PRIME = 65_521
 
 
@@ -33,7 +37,19 @@ class Table:
         return {b for a, b in self.steps if a == state}
 
 
-# ---- The rounds
+# ---- The rounds, with a set of states as one number: state s is the bit of value 2^s
+
+def bits(states):
+    return sum(1 << s for s in states)
+
+
+def members(x):
+    return [s for s in range(x.bit_length()) if x >> s & 1]
+
+
+def union(sets):
+    return reduce(or_, sets, 0)
+
 
 def fixpoint(step, start):
     """Where repeating a step from a set comes to rest."""
@@ -43,25 +59,31 @@ def fixpoint(step, start):
 
 
 def decide(table):
-    """Verdict, count and invariant of the rounds with allowance 256."""
-    rows = {s: table.row(s) for s in table.states()}
-    post = lambda x: {t for s in x for t in rows[s]}
-    hold = lambda x: {s for s in rows if rows[s] <= x}
-    z = table.states() - table.forbidden
-    listed = table.groups + [z]
+    """Verdict, count and invariant of the rounds with the allowance."""
+    rows = [bits(table.row(s)) for s in range(table.n)]
+    every, initial, z = bits(table.states()), bits(table.initial), bits(table.states() - table.forbidden)
+    post = lambda x: union(rows[s] for s in members(x))
+    hold = lambda x: bits(s for s in range(table.n) if not rows[s] & ~x)
+    spots = [every] * table.n
+    cover = lambda x: union(spots[s] for s in members(x))
+
+    def add(y):
+        for s in members(y):
+            spots[s] &= y
+
+    for group in table.groups:
+        add(bits(group))
     for i in count():
-        spots = {s: set.intersection(table.states(), *(y for y in listed if s in y)) for s in rows}
-        cover = lambda x: {t for s in x for t in spots[s]}
-        r = fixpoint(lambda x: cover(z & (table.initial | post(x))), set())
-        if table.initial | post(r) <= z:
-            return "safe", i, r
-        s = fixpoint(lambda x: cover(r & hold(x)), table.states())
-        if not table.initial <= s:
+        add(z)
+        r = fixpoint(lambda x: cover(z & (initial | post(x))), 0)
+        if not (initial | post(r)) & ~z:
+            return "safe", i, set(members(r))
+        s = fixpoint(lambda x: cover(r & hold(x)), every)
+        if initial & ~s:
             return "unsafe", i, set()
         if i == ALLOWANCE:
             return "undecided", i, set()
         z = s & hold(s)
-        listed.append(z)
 
 
 def shortest_path(table):
@@ -161,14 +183,25 @@ H_STEPS = {(s, s + 1) for s in range(60) if s != 40} | {(40, 20), (60, 60)}
 H = Table(61, {0}, {60}, H_STEPS)
 H1 = Table(61, {0}, {60}, H_STEPS, [set(range(41))])
 
-# The largest file: 256 states and 64 groups of four, a corridor with steps back.
-LARGEST = Table(
-    256, {0, 1}, {255},
-    {(s, s + 1) for s in range(255)} | {(s, s * 7 % 256) for s in range(256)},
-    [{s for s in range(256) if s // 4 == j} for j in range(64)],
+# As many states as there can be, each a step to the next: the longest path. One state fewer: the last byte of a set is not full.
+CORRIDOR = Table(MAX_STATES, {0}, {MAX_STATES - 1}, {(s, s + 1) for s in range(MAX_STATES - 1)})
+ONE_FEWER = Table(MAX_STATES - 1, {0}, {MAX_STATES - 2}, {(s, s + 1) for s in range(MAX_STATES - 2)})
+
+# The same, but its last state cannot be reached, and a group spares all refinements: an invariant of all other states.
+ALL_BUT_ONE = Table(
+    MAX_STATES, {0}, {MAX_STATES - 1},
+    {(s, (s + 1) % (MAX_STATES - 1)) for s in range(MAX_STATES)},
+    [set(range(MAX_STATES - 1))],
 )
 
-COMPUTED = {"h": H, "h1": H1, "largest": LARGEST}
+# The largest file: as many states and groups as there can be, a corridor with steps back. The groups are of neighbours.
+LARGEST = Table(
+    MAX_STATES, {0, 1}, {MAX_STATES - 1},
+    {(s, s + 1) for s in range(MAX_STATES - 1)} | {(s, s * 7 % MAX_STATES) for s in range(MAX_STATES)},
+    [{s for s in range(MAX_STATES) if s * MAX_GROUPS // MAX_STATES == j} for j in range(MAX_GROUPS)],
+)
+
+COMPUTED = {"h": H, "h1": H1, "corridor": CORRIDOR, "one-fewer": ONE_FEWER, "all-but-one": ALL_BUT_ONE, "largest": LARGEST}
 
 
 # ---- Files that earn a refusal
@@ -184,7 +217,7 @@ def refused():
     return {
         "short": (e[:-1], 11),
         "long": (encode(LARGEST) + bytes(1), 11),
-        "too-many-blocks": (encode(LARGEST) + sealed(21, b""), 11),
+        "too-many-blocks": (encode(LARGEST) + sealed(MAX_FILE // BLOCK, b""), 11),
         "bad-number": (with_byte(e, 0, 1), 12),
         "bad-number-high-byte": (sealed(256, content), 12),
         "bad-number-second-block": (h1[:BLOCK] + sealed(0, h1[BLOCK + 2:-2]), 12),
@@ -193,10 +226,10 @@ def refused():
         "bad-check-then-bad-number": (corrupt[:BLOCK] + with_byte(h1, BLOCK, 7)[BLOCK:], 13),
         "no-states": (sealed(0, two(0) + content[2:]), 14),
         "no-states-no-groups": (sealed(0, b""), 14),
-        "no-states-and-too-many-groups": (sealed(0, two(0) + two(65)), 14),
-        "too-many-states": (sealed(0, two(257) + content[2:]), 14),
-        "too-many-states-and-groups": (sealed(0, two(257) + two(65)), 14),
-        "too-many-groups": (sealed(0, two(3) + two(65) + content[4:]), 15),
+        "no-states-and-too-many-groups": (sealed(0, two(0) + two(MAX_GROUPS + 1)), 14),
+        "too-many-states": (sealed(0, two(MAX_STATES + 1) + content[2:]), 14),
+        "too-many-states-and-groups": (sealed(0, two(MAX_STATES + 1) + two(MAX_GROUPS + 1)), 14),
+        "too-many-groups": (sealed(0, two(3) + two(MAX_GROUPS + 1) + content[4:]), 15),
         "block-missing": (h1[:BLOCK], 16),
         "block-extra": (e + sealed(1, b""), 16),
         "state-past-n": (sealed(0, with_byte(content, 4, 0x09)), 17),
@@ -212,7 +245,7 @@ def checked_figures():
     assert check(encode(E)) == 97
     assert len(contents(H)) == 508 and len(encode(H)) == BLOCK
     assert len(contents(H1)) == 516 and len(encode(H1)) == 2 * BLOCK
-    assert len(encode(LARGEST)) == 21 * BLOCK == 10_752
+    assert len(encode(LARGEST)) == 73 * BLOCK == MAX_FILE
 
 
 def files():

@@ -9,15 +9,20 @@ from pathlib import Path
 TOP = Path(__file__).resolve().parent.parent
 sys.path.insert(0, str(TOP / "tables"))
 import make  # noqa: E402
-from make import A, B, D, E, F, G, Table  # noqa: E402
+from make import A, B, BLOCK, CONTENT, D, E, F, G, MAX_FILE, MAX_GROUPS, MAX_STATES, Table  # noqa: E402
 
 H_STEPS = {(0, 59), (59, 0), (58, 60)}
 H = Table(61, {0}, {60}, H_STEPS)
 H_GROUP = Table(61, {0}, {60}, H_STEPS, [{0, 59}])
 NINTH = Table(4, {0}, {2}, {(0, 0), (0, 1), (1, 3), (2, 3), (3, 0), (3, 2)}, [{0}])
 DRAFT = Table(0, set(), set(), set())
+# A store is a list of sets: those before the groups, the groups, the rows.
+HEAD_SETS, WORDS = 2, MAX_STATES // 64
+ROWS_FROM = HEAD_SETS + MAX_GROUPS
+STORE_SETS = ROWS_FROM + MAX_STATES
+STORE_WORDS = STORE_SETS * WORDS
+
 KEPT = ", the rest unchanged"
-MAX_STATES, MAX_GROUPS, STORE_WORDS = 256, 64, 1288
 
 
 def answer(table, allowance):
@@ -33,20 +38,26 @@ def answer(table, allowance):
 def decide_test():
     lines = []
     for name, table in [("A", A), ("B", B), ("D", D), ("E", E), ("F", F), ("G", G), ("draft", DRAFT), ("H", H), ("H with a group", H_GROUP), ("ninth", NINTH)]:
-        for allowance in (0, 1, 2, 3, 256):
+        for allowance in (0, 1, 2, 3, MAX_STATES):
             lines.append(f"{name} {allowance}: {answer(table, allowance)}{KEPT}")
+    over = MAX_STATES + 1
     for name, allowance, refusal in [
-        ("store of 1287", 0, 10), ("store of 1287 and all else", 257, 10),
-        ("n 0 g 1", 0, 14), ("n 0 g 65 and all else", 257, 14), ("state 5 of 0", 0, 17), ("n 257", 0, 14), ("n 257 and all else", 257, 14),
-        ("g 65", 0, 15), ("g 65 and all else", 257, 15),
-        ("state 5 of 5", 0, 17), ("state 5 of 5 and all else", 257, 17),
-        ("allowance 257", 257, 20), ("allowance 257 and path buffer of 255", 257, 20),
-        ("path buffer of 255", 0, 21),
+        ("store one word short", 0, 10), ("store one word short and all else", over, 10),
+        ("n 0 g 1", 0, 14), ("n 0 with groups and all else", over, 14), ("state 5 of 0", 0, 17),
+        ("n too great", 0, 14), ("n too great and all else", over, 14),
+        ("g too great", 0, 15), ("g too great and all else", over, 15),
+        ("state 5 of 5", 0, 17), ("state 5 of 5 and all else", over, 17),
+        ("allowance too great", over, 20), ("allowance too great and all else", over, 20),
+        ("path buffer one place short", 0, 21),
     ]:
         lines.append(f"{name} {allowance}: refused {refusal}{KEPT}")
-    lines.append(f"state 5 of 6 256: {answer(Table(6, {5}, set(), set()), 256)}{KEPT}")
-    nothing = Table(256, set(), set(), set(), [set() for _ in range(64)])
-    lines.append(f"n 256, g 64, store of 1300 256: {answer(nothing, 256)}{KEPT}")
+    nothing = Table(MAX_STATES, set(), set(), set(), [set() for _ in range(MAX_GROUPS)])
+    for name, table, allowance in [
+        ("state 5 of 6", Table(6, {5}, set(), set()), MAX_STATES),
+        ("n and g at their greatest, store of 12 words more", nothing, MAX_STATES),
+        ("corridor", make.CORRIDOR, MAX_STATES), ("corridor", make.CORRIDOR, MAX_STATES - 3),
+    ]:
+        lines.append(f"{name} {allowance}: {answer(table, allowance)}{KEPT}")
     return "".join(line + "\n" for line in lines)
 
 
@@ -68,7 +79,7 @@ def order_test():
     alone = lambda n: [{s} for s in range(n)]
     steps = lambda text: {(int(pair[0]), int(pair[1])) for pair in text.split()}
     digits = [
-        {s for s in range(MAX_STATES) if s >> b & 1 == digit} for b in range((MAX_STATES - 1).bit_length()) for digit in (0, 1)]
+        {s for s in range(MAX_STATES) if s >> b & 1 == digit} for b in range(MAX_GROUPS // 2) for digit in (0, 1)]
     corridor = Table(MAX_STATES, {MAX_STATES - 1}, set(), {(s + 1, s) for s in range(MAX_STATES - 1)}, digits)
     branches = steps("57 53 74 70 71 34 35 43 08 16 61 85")
     groups = alone(10)
@@ -87,7 +98,7 @@ def order_test():
     ]
     small = Table(3, {0}, {2}, steps("01 12"))
     for name, table, words, n, g in [
-        ("corridor, its last group not counted", corridor, STORE_WORDS, MAX_STATES, len(digits) - 1),
+        ("corridor, its last digit's groups not counted", corridor, STORE_WORDS, MAX_STATES, MAX_GROUPS - 2),
         ("draft with a group", DRAFT, STORE_WORDS, 0, 1), ("draft with a group too many", DRAFT, STORE_WORDS, 0, MAX_GROUPS + 1),
         ("n 0", small, STORE_WORDS, 0, 0), ("n 0 with a group", small, STORE_WORDS, 0, 1), ("a state too many", small, STORE_WORDS, MAX_STATES + 1, 0),
         ("a group too many", small, STORE_WORDS, 3, MAX_GROUPS + 1), ("state 2 of 2", small, STORE_WORDS, 2, 0),
@@ -101,6 +112,7 @@ def order_test():
 # ---- generated tables, by the comment at the head of crates/test_support/src/generated.rt
 
 WORD = 2 ** 32
+PLACES = 32 * MAX_STATES
 
 
 def noise(x):
@@ -109,12 +121,12 @@ def noise(x):
 
 
 def drawn(t, place):
-    return noise(noise(noise(t * 8192 + place)))
+    return noise(noise(noise(t * PLACES + place)))
 
 
 def generated(t):
     draw = lambda place: drawn(t, place)
-    n = 1 + draw(0) % (256 if t % 37 == 0 else 40)
+    n = 1 + draw(0) % (MAX_STATES if t % 37 == 0 else 40)
     few = lambda count, at: {draw(at + k) % n for k in range((5 + draw(count) % 13) // 6)}
     place = lambda s: 16 + 16 * s
     fan_out = lambda s: draw(8) % 4 if draw(place(s)) % 4 else 0
@@ -126,7 +138,7 @@ def generated(t):
     )
 
 
-# ---- digests of numbers; a set goes in as its four words, each as its lower and its upper half
+# ---- digests of numbers; a set goes in as its words, each as its lower and its upper half
 
 def digest(numbers, start=0):
     for x in numbers:
@@ -135,13 +147,13 @@ def digest(numbers, start=0):
 
 
 def halves(states):
-    return [sum(1 << s % 32 for s in states if s // 32 == half) for half in range(8)]
+    return [sum(1 << s % 32 for s in states if s // 32 == half) for half in range(2 * WORDS)]
 
 
 # ---- agreement_test
 
 def agreement_test():
-    make.ALLOWANCE = 256
+    make.ALLOWANCE = MAX_STATES
     tables, safe, unsafe, taken = 4000, 0, 0, 0
     for t in range(tables):
         table = generated(t)
@@ -161,23 +173,23 @@ def agreement_test():
     )
 
 
-# ---- files_test: read and write on Python's bytes, and on a store as the list of its 322 sets
+# ---- files_test: read and write on Python's bytes, and on a store as the list of its sets
 
 def store_of(table):
-    rows = [set() for _ in range(256)]
+    rows = [set() for _ in range(MAX_STATES)]
     for a, b in table.steps:
         rows[a].add(b)
-    return [table.initial, table.forbidden, *table.groups, *[set()] * (64 - len(table.groups)), *rows]
+    return [table.initial, table.forbidden, *table.groups, *[set()] * (MAX_GROUPS - len(table.groups)), *rows]
 
 
 def largest():
-    words = [WORD * drawn(0, 2 * i) + drawn(0, 2 * i + 1) for i in range(1288)]
-    return [{s for s in range(256) if words[4 * k + s // 64] >> s % 64 & 1} for k in range(322)]
+    words = [WORD * drawn(0, 2 * i) + drawn(0, 2 * i + 1) for i in range(STORE_WORDS)]
+    return [{s for s in range(MAX_STATES) if words[WORDS * k + s // 64] >> s % 64 & 1} for k in range(STORE_SETS)]
 
 
 def used(store, n, g):
     """The sets that are counted: initial, forbidden, g groups, n rows."""
-    return store[:2 + g] + store[2 + MAX_GROUPS:][:n]
+    return store[:HEAD_SETS + g] + store[ROWS_FROM:][:n]
 
 
 def refusal(store, words, n, g):
@@ -188,7 +200,7 @@ def refusal(store, words, n, g):
         return 14
     if g > MAX_GROUPS:
         return 15
-    unused = store[2 + g:2 + MAX_GROUPS] + store[2 + MAX_GROUPS + n:]
+    unused = store[HEAD_SETS + g:ROWS_FROM] + store[ROWS_FROM + n:]
     if any(s >= n for states in used(store, n, g) for s in states) or any(unused):
         return 17
     return 0
@@ -231,10 +243,10 @@ def read(data, words, site=0):
     if site > MAX_SITE:
         return 24
     if len(data) == 0:
-        return 0, 0, [set()] * 322
-    if len(data) % 512 or len(data) > 10_752:
+        return 0, 0, [set()] * STORE_SETS
+    if len(data) % BLOCK or len(data) > MAX_FILE:
         return 11
-    split = [data[at:at + 512] for at in range(0, len(data), 512)]
+    split = [data[at:at + BLOCK] for at in range(0, len(data), BLOCK)]
     for k, block in enumerate(split):
         if number(block[:2]) != k:
             return 12
@@ -242,21 +254,21 @@ def read(data, words, site=0):
             return 13
     content = b"".join(block[2:510] for block in split)
     n, g = number(content[:2]), number(content[2:4])
-    if not 1 <= n <= 256:
+    if not 1 <= n <= MAX_STATES:
         return 14
-    if g > 64:
+    if g > MAX_GROUPS:
         return 15
     w = (n + 7) // 8
-    length = 4 + w * (2 + g + n)
-    if len(split) != -(-length // 508):
+    length = 4 + w * (HEAD_SETS + g + n)
+    if len(split) != -(-length // CONTENT):
         return 16
     sets = [{s for s in range(8 * w) if content[at + s // 8] >> s % 8 & 1} for at in range(4, length, w)]
     if any(s >= n for states in sets for s in states):
         return 17
     if any(content[length:]):
         return 18
-    nothing = [set()] * 256
-    return n, g, sets[:2 + g] + nothing[:64 - g] + sets[2 + g:] + nothing[:256 - n]
+    nothing = [set()] * MAX_STATES
+    return n, g, sets[:HEAD_SETS + g] + nothing[:MAX_GROUPS - g] + sets[HEAD_SETS + g:] + nothing[:MAX_STATES - n]
 
 
 def digest_store(store, start=0):
@@ -294,7 +306,7 @@ def what_is_read(data, words, site=0):
 def reads(file, *cases):
     """A line for each case of a length, words and bytes replaced; zeros stand behind the file."""
     for length, words, damage in cases:
-        data = file.ljust(11264, b"\0")
+        data = file.ljust(MAX_FILE + BLOCK, b"\0")
         for at, value in damage.items():
             data = replace(data, at, value)
         yield "".join(f" {at}={value}" for at, value in damage.items()) + what_is_read(data[:length], words)
@@ -304,10 +316,10 @@ def round_trip(t):
     """The numbers of the file of one block for site t and of the store that is read back there, either as sevens where the call refuses."""
     table = generated(t)
     n, g, store = table.n, len(table.groups), store_of(table)
-    file = write(store, 1288, n, g, 512, t)
+    file = write(store, STORE_WORDS, n, g, 512, t)
     if file == 19:
-        return [7] * 512 + [7, 0] * 1288
-    assert write(store, 1288, n, g, 512) == make.encode(table) and read(file, 1288, t) == (n, g, store)
+        return [7] * 512 + [7, 0] * STORE_WORDS
+    assert write(store, STORE_WORDS, n, g, 512) == make.encode(table) and read(file, STORE_WORDS, t) == (n, g, store)
     return [*file, *(half for states in store for half in halves(states))]
 
 
@@ -331,43 +343,43 @@ def sites(e):
 def files_test():
     e, more, most = store_of(E), store_of(Table(4, {0}, {2}, E.steps | {(3, 0)}, [{0}])), largest()
     h = store_of(Table(61, {0, 8}, {60}, {(0, 60), (31, 32), (60, 60)}))
-    e_file, h_file, h1_file = (write(t, 1288, n, g, 1024) for t, n, g in ((e, 3, 0), (h, 61, 0), (h, 61, 1)))
-    most_file = write(most, 1288, 256, 64, 10752)
+    e_file, h_file, h1_file = (write(t, STORE_WORDS, n, g, 1024) for t, n, g in ((e, 3, 0), (h, 61, 0), (h, 61, 1)))
+    most_file = write(most, STORE_WORDS, MAX_STATES, MAX_GROUPS, MAX_FILE)
     # The figures of docs/SPECIFICATION.md, Files.
     assert e_file[2:11].hex(" ") == "03 00 00 00 01 04 01 04 00" and number(e_file[510:]) == 97
-    assert [len(file) for file in (e_file, h_file, h1_file, most_file)] == [512, 512, 1024, 10752]
+    assert [len(file) for file in (e_file, h_file, h1_file, most_file)] == [512, 512, 1024, MAX_FILE]
     trips = 300
     lines = [
         "file of E: " + " ".join(map(str, e_file)),
         *writes("write E", e,
-                (1288, 3, 0, 10800), (1288, 3, 0, 512), (1288, 3, 0, 511), (1288, 3, 0, 0), (1287, 3, 0, 512), (1287, 0, 65, 511),
-                (1288, 0, 0, 512), (1288, 257, 0, 10752), (1288, 0, 65, 511), (1288, 3, 64, 512), (1288, 3, 65, 512),
-                (1288, 2, 65, 511), (1288, 2, 0, 512), (1288, 2, 0, 511)),
+                (STORE_WORDS, 3, 0, MAX_FILE + 48), (STORE_WORDS, 3, 0, 512), (STORE_WORDS, 3, 0, 511), (STORE_WORDS, 3, 0, 0), (STORE_WORDS - 1, 3, 0, 512), (STORE_WORDS - 1, 0, MAX_GROUPS + 1, 511),
+                (STORE_WORDS, 0, 0, 512), (STORE_WORDS, MAX_STATES + 1, 0, MAX_FILE), (STORE_WORDS, 0, MAX_GROUPS + 1, 511), (STORE_WORDS, 3, MAX_GROUPS, 512), (STORE_WORDS, 3, MAX_GROUPS + 1, 512),
+                (STORE_WORDS, 2, MAX_GROUPS + 1, 511), (STORE_WORDS, 2, 0, 512), (STORE_WORDS, 2, 0, 511)),
         *writes("write a draft", store_of(DRAFT),
-                (1288, 0, 0, 0), (1300, 0, 0, 512), (1287, 0, 0, 0), (1288, 0, 1, 512), (1288, 0, 65, 0)),
+                (STORE_WORDS, 0, 0, 0), (STORE_WORDS + 12, 0, 0, 512), (STORE_WORDS - 1, 0, 0, 0), (STORE_WORDS, 0, 1, 512), (STORE_WORDS, 0, MAX_GROUPS + 1, 0)),
         "read E",
-        *reads(e_file, (512, 1288, {}), (512, 1300, {}), (512, 1287, {}), (0, 1287, {}),
-               (0, 1288, {}), (511, 1288, {}), (513, 1288, {}), (511, 1288, {0: 1})),
-        *reads(e_file, *((512, 1288, damage) for damage in (
+        *reads(e_file, (512, STORE_WORDS, {}), (512, STORE_WORDS + 12, {}), (512, STORE_WORDS - 1, {}), (0, STORE_WORDS - 1, {}),
+               (0, STORE_WORDS, {}), (511, STORE_WORDS, {}), (513, STORE_WORDS, {}), (511, STORE_WORDS, {0: 1})),
+        *reads(e_file, *((512, STORE_WORDS, damage) for damage in (
             {0: 1}, {1: 1}, {0: 1, 510: 97}, {510: 98}, {511: 1}, {2: 0, 510: 97},
-            {2: 0}, {2: 1, 3: 1}, {3: 1, 5: 1}, {4: 64}, {4: 65}, {5: 1}, {2: 61, 4: 65}, {2: 62}, {2: 62, 13: 128}))),
-        *reads(e_file, (1024, 1288, {}), (1024, 1288, {512: 1}), (1024, 1288, {512: 1, 6: 9})),
-        *reads(e_file, *((512, 1288, damage) for damage in (
+            {2: 0}, {2: 1, 3: 2}, {3: 2, 5: 1}, {4: 64}, {4: 65}, {5: 1}, {2: 61, 4: 65}, {2: 62}, {2: 62, 13: 128}))),
+        *reads(e_file, (1024, STORE_WORDS, {}), (1024, STORE_WORDS, {512: 1}), (1024, STORE_WORDS, {512: 1, 6: 9})),
+        *reads(e_file, *((512, STORE_WORDS, damage) for damage in (
             {6: 9}, {7: 12}, {10: 128}, {6: 9, 11: 1}, {11: 1}, {509: 128}))),
-        *writes("write E with a group and a step from 3", more, (1288, 4, 0, 512), (1288, 3, 1, 512), (1288, 4, 1, 512)),
-        *writes("write H", h, (1288, 61, 0, 512), (1288, 61, 1, 1024), (1288, 61, 1, 1023)),
+        *writes("write E with a group and a step from 3", more, (STORE_WORDS, 4, 0, 512), (STORE_WORDS, 3, 1, 512), (STORE_WORDS, 4, 1, 512)),
+        *writes("write H", h, (STORE_WORDS, 61, 0, 512), (STORE_WORDS, 61, 1, 1024), (STORE_WORDS, 61, 1, 1023)),
         "read H",
-        *reads(h_file, (512, 1288, {}), (512, 1288, {509: 48})),
+        *reads(h_file, (512, STORE_WORDS, {}), (512, STORE_WORDS, {509: 48})),
         "read H with a group",
-        *reads(h1_file, (1024, 1288, {}), (512, 1288, {}), *((1024, 1288, damage) for damage in (
+        *reads(h1_file, (1024, STORE_WORDS, {}), (512, STORE_WORDS, {}), *((1024, STORE_WORDS, damage) for damage in (
             {512: 0}, {1023: 255}, {512: 7, 1023: 255}, {0: 9, 1023: 255}, {511: 255, 512: 7},
             {29: 32}, {521: 48}, {522: 1}, {1021: 1}))),
         *writes("write the largest table", most,
-                (1300, 256, 64, 10752), (1288, 256, 64, 10751), (1288, 257, 64, 10752), (1288, 256, 65, 10752),
-                (1288, 256, 63, 10752), (1288, 255, 64, 10752)),
+                (STORE_WORDS + 12, MAX_STATES, MAX_GROUPS, MAX_FILE), (STORE_WORDS, MAX_STATES, MAX_GROUPS, MAX_FILE - 1), (STORE_WORDS, MAX_STATES + 1, MAX_GROUPS, MAX_FILE), (STORE_WORDS, MAX_STATES, MAX_GROUPS + 1, MAX_FILE),
+                (STORE_WORDS, MAX_STATES, MAX_GROUPS - 1, MAX_FILE), (STORE_WORDS, MAX_STATES - 1, MAX_GROUPS, MAX_FILE)),
         "read the largest table",
-        *reads(most_file, (10752, 1300, {}), (10753, 1288, {}), (11264, 1288, {}), (10240, 1288, {}),
-               (10752, 1288, {4: 65}), (10752, 1288, {2: 1, 4: 65})),
+        *reads(most_file, (MAX_FILE, STORE_WORDS + 12, {}), (MAX_FILE + 1, STORE_WORDS, {}), (MAX_FILE + BLOCK, STORE_WORDS, {}), (MAX_FILE - BLOCK, STORE_WORDS, {}),
+               (MAX_FILE, STORE_WORDS, {4: 65}), (MAX_FILE, STORE_WORDS, {2: 1, 4: 65})),
         *sites(e),
         f"round trips {trips}, digest {digest(x for t in range(trips) for x in round_trip(t))}",
     ]

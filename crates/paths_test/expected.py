@@ -8,7 +8,7 @@ words and then walks forward; this goes forward from the initial states over Pyt
 import sys
 from pathlib import Path
 
-GREATEST_N, GREATEST_G, STORE_WORDS, PATH_BYTES = 256, 64, 1288, 256
+GREATEST_N, GREATEST_G, STORE_WORDS, PATH_PLACES = 512, 64, 4624, 512
 LINES = []
 
 
@@ -41,12 +41,12 @@ def refusal(words, n, g, initial, forbidden, groups, steps, room):
     states = initial | forbidden | {s for group in groups for s in group} | {s for step in steps for s in step}
     if any(s >= n for s in states) or any(group for group in groups[g:]):
         return 17
-    if room < PATH_BYTES:
+    if room < PATH_PLACES:
         return 21
     return 0
 
 
-def report(name, n, g, table, room=256, words=STORE_WORDS):
+def report(name, n, g, table, room=PATH_PLACES, words=STORE_WORDS):
     initial, forbidden, groups, steps = table
     declined = refusal(words, n, g, initial, forbidden, groups, steps, room)
     path = None if declined else shortest(n, initial, forbidden, steps)
@@ -68,7 +68,7 @@ def distance(n, forbidden, steps, s):
 def measure(name, n, g, table, room=7, words=STORE_WORDS):
     """Distances, whose buffer of `room` places held 777 in each, and within for some numbers of steps."""
     initial, forbidden, groups, steps = table
-    declined = refusal(words, n, g, initial, forbidden, groups, steps, PATH_BYTES)
+    declined = refusal(words, n, g, initial, forbidden, groups, steps, PATH_PLACES)
     places, line = [777] * room, f"{name}: "
     if declined or room < n:
         line += f"refused {declined or 23}"
@@ -91,7 +91,7 @@ A = ({0}, {2}, [], {(0, 1), (1, 0), (2, 2)})
 B = ({0}, {3}, [], {(0, 1), (1, 2), (2, 3), (4, 4)})
 D = ({0}, {3}, [{0}, {1}, {2}], {(0, 1), (1, 2), (2, 3), (4, 4)})
 F = ({0}, {0}, [], set())
-CORRIDOR = ({0}, {255}, [], chain(*range(256)))
+CORRIDOR = ({0}, {GREATEST_N - 1}, [], chain(*range(GREATEST_N)))
 
 report("A", 3, 0, A)
 report("B", 5, 0, B)
@@ -103,22 +103,22 @@ report("two first states", 5, 0, ({0, 1, 2}, {4}, [], chain(0, 3, 4) | {(1, 4), 
 report("two middle states", 5, 0, ({0}, {4}, [], {(0, 1), (0, 2), (0, 3), (1, 0), (2, 4), (3, 4)}))
 report("two last states", 5, 0, ({0}, {3, 4}, [], {(0, 1), (1, 2), (1, 3), (1, 4)}))
 report("initial and forbidden", 3, 0, ({0, 2}, {2}, [], {(0, 2)}))
-report("corridor", 256, 0, CORRIDOR)
-report("corridor, 300 bytes", 256, 64, CORRIDOR, room=300)
-report("corridor, 255 bytes", 256, 0, CORRIDOR, room=255)
-report("B, 300 bytes", 5, 0, B, room=300)
-report("B, 255 bytes", 5, 0, B, room=255)
+report("corridor", GREATEST_N, 0, CORRIDOR)
+report("corridor, long buffer", GREATEST_N, GREATEST_G, CORRIDOR, room=PATH_PLACES + 44)
+report("corridor, short buffer", GREATEST_N, 0, CORRIDOR, room=PATH_PLACES - 1)
+report("B, long buffer", 5, 0, B, room=PATH_PLACES + 44)
+report("B, short buffer", 5, 0, B, room=PATH_PLACES - 1)
 report("B, n 0", 0, 0, B)
 report("B, n 0, g 1", 0, 1, B)
-report("B, n 257", 257, 0, B)
+report("B, n too great", GREATEST_N + 1, 0, B)
 report("B, n 4", 4, 0, B)
-report("B, g 64", 5, 64, B)
-report("B, g 65", 5, 65, B)
-report("B, n 257, g 65, 255 bytes", 257, 65, B, room=255)
-report("B, n 4, 255 bytes", 4, 0, B, room=255)
-report("1287 words, n 0", 0, 0, (set(), set(), [], set()), room=255, words=1287)
+report("B, g at its greatest", 5, GREATEST_G, B)
+report("B, g too great", 5, GREATEST_G + 1, B)
+report("B, n and g too great, short buffer", GREATEST_N + 1, GREATEST_G + 1, B, room=PATH_PLACES - 1)
+report("B, n 4, short buffer", 4, 0, B, room=PATH_PLACES - 1)
+report("store one word short, n 0", 0, 0, (set(), set(), [], set()), room=PATH_PLACES - 1, words=STORE_WORDS - 1)
 report("D, g 2", 5, 2, D)
-report("B, 255 initial", 5, 0, ({0, 255}, {3}, [], B[3]))
+report("B, the last state initial", 5, 0, ({0, GREATEST_N - 1}, {3}, [], B[3]))
 report("B, 2 to 5", 5, 0, ({0}, {3}, [], B[3] | {(2, 5)}))
 
 measure("A", 3, 0, A)
@@ -131,9 +131,9 @@ measure("B, 5 places", 5, 0, B, room=5)
 measure("B, n 6, 5 places", 6, 0, B, room=5)
 measure("B, n 4, 3 groups, 5 places", 4, 3, B, room=5)
 measure("B, n 0", 0, 0, B, room=5)
-measure("B, n 257, g 65", 257, 65, B, room=5)
-measure("B, n 6, g 65", 6, 65, B, room=5)
-measure("1287 words, n 0", 0, 0, (set(), set(), [], set()), room=5, words=1287)
+measure("B, n and g too great", GREATEST_N + 1, GREATEST_G + 1, B, room=5)
+measure("B, n 6, g too great", 6, GREATEST_G + 1, B, room=5)
+measure("store one word short, n 0", 0, 0, (set(), set(), [], set()), room=5, words=STORE_WORDS - 1)
 
 path, text = Path(__file__).resolve().parent / "stdout", "".join(LINES)
 if "--check" in sys.argv[1:]:

@@ -6,12 +6,13 @@
 //!
 //! A table has `n` states, numbered 0 to `n` − 1 ([`MAX_STATES`] at most), and `g` groups
 //! ([`MAX_GROUPS`] at most); one without states, an untouched draft, has no groups. It stands in a store of at least [`STORE_WORDS`] words of 64 bits, as
-//! sets of four words each: the initial set at [`INITIAL`], the forbidden set at [`FORBIDDEN`], group
+//! sets of [`SET_WORDS`] words each: the initial set at [`INITIAL`], the forbidden set at [`FORBIDDEN`], group
 //! j at [`group`]`(j)`, the successors of state s at [`row`]`(s)`. The words of groups from g up and
-//! of rows from n up are 0; words past the first 1,288 are neither read nor written.
+//! of rows from n up are 0; words past the first [`STORE_WORDS`] are neither read nor written. A path is a list of 16-bit numbers, one for
+//! each state.
 //!
 //! ```
-//! use shuntberry::{FORBIDDEN, INITIAL, MAX_ALLOWANCE, PATH_BYTES, STORE_WORDS, Verdict, decide, row};
+//! use shuntberry::{FORBIDDEN, INITIAL, MAX_ALLOWANCE, PATH_PLACES, STORE_WORDS, Verdict, decide, row};
 //!
 //! // Three states; 0 is initial, 2 is forbidden; steps 0 → 0 and 1 → 2.
 //! let mut store = [0; STORE_WORDS];
@@ -20,7 +21,7 @@
 //! store[row(0)] = 1 << 0;
 //! store[row(1)] = 1 << 2;
 //!
-//! let mut path = [0; PATH_BYTES];
+//! let mut path = [0; PATH_PLACES];
 //! let Verdict::Safe { count, invariant } = decide(&store, 3, 0, MAX_ALLOWANCE, &mut path)? else {
 //!     panic!("2 cannot be reached");
 //! };
@@ -32,9 +33,9 @@
 //! let verdict = decide(&store, 3, 0, MAX_ALLOWANCE, &mut path)?;
 //! assert!(matches!(verdict, Verdict::Unsafe { path: [0, 1, 2], .. }));
 //!
-//! // A table of 300 states is refused.
-//! let refused = decide(&store, 300, 0, MAX_ALLOWANCE, &mut path).unwrap_err();
-//! assert_eq!(refused.to_string(), "refused 14: n is over 256, or 0 with groups, in a block or in a load");
+//! // A table of 513 states is refused.
+//! let refused = decide(&store, 513, 0, MAX_ALLOWANCE, &mut path).unwrap_err();
+//! assert_eq!(refused.to_string(), "refused 14: n is over 512, or 0 with groups, in a block or in a load");
 //! # Ok::<(), shuntberry::Refused>(())
 //! ```
 //!
@@ -46,18 +47,22 @@ pub mod raw;
 use std::error::Error;
 use std::fmt;
 
+/// The words of a set.
+pub const SET_WORDS: usize = 8;
+/// The sets that stand before the groups: initial and forbidden.
+pub const HEAD_SETS: usize = 2;
 /// The greatest number of states.
-pub const MAX_STATES: usize = 256;
+pub const MAX_STATES: usize = 64 * SET_WORDS;
 /// The greatest number of groups.
 pub const MAX_GROUPS: usize = 64;
 /// The greatest allowance, and that of a release check: with it no verdict is undecided.
-pub const MAX_ALLOWANCE: usize = 256;
+pub const MAX_ALLOWANCE: usize = MAX_STATES;
 /// The least length of a store, in words.
-pub const STORE_WORDS: usize = 1288;
-/// The least length of a path buffer.
-pub const PATH_BYTES: usize = 256;
-/// The length of the largest file: 21 blocks of 512 bytes.
-pub const FILE_BYTES: usize = 10_752;
+pub const STORE_WORDS: usize = row(MAX_STATES);
+/// The least length of a path buffer, in 16-bit places.
+pub const PATH_PLACES: usize = MAX_STATES;
+/// The length of the largest file: 73 blocks of 512 bytes.
+pub const FILE_BYTES: usize = 37_376;
 /// The greatest site number.
 pub const MAX_SITE: usize = 65_520;
 /// The greatest fan-out of a generated table.
@@ -77,21 +82,21 @@ pub const UNREACHABLE: u16 = 65_535;
 /// Where the initial set begins in a store.
 pub const INITIAL: usize = 0;
 /// Where the forbidden set begins in a store.
-pub const FORBIDDEN: usize = 4;
+pub const FORBIDDEN: usize = SET_WORDS;
 
 /// Where group `j` begins in a store, for `j` below [`MAX_GROUPS`].
 pub const fn group(j: usize) -> usize {
-    j.saturating_mul(4).saturating_add(8)
+    j.saturating_add(HEAD_SETS).saturating_mul(SET_WORDS)
 }
 
 /// Where the successors of state `s` begin in a store, for `s` below [`MAX_STATES`].
 pub const fn row(s: usize) -> usize {
-    s.saturating_mul(4).saturating_add(264)
+    group(s.saturating_add(MAX_GROUPS))
 }
 
 /// A set of states: state s is the bit of value 2^(s mod 64) in word s / 64.
 #[derive(Clone, Copy, Debug, Default, PartialEq, Eq, Hash)]
-pub struct StateSet(pub [u64; 4]);
+pub struct StateSet(pub [u64; SET_WORDS]);
 
 impl StateSet {
     /// Whether the state is in the set.
@@ -124,7 +129,7 @@ pub enum Verdict<'p> {
         count: u32,
         /// The smallest of the shortest paths from an initial to a forbidden state: the front of the
         /// path buffer.
-        path: &'p [u8],
+        path: &'p [u16],
     },
     /// The allowance was used up before either was known.
     Undecided {
@@ -179,18 +184,18 @@ impl Refused {
     /// The ground on which the call was refused.
     pub fn message(self) -> &'static str {
         match self.0 {
-            10 => "the store has under 1,288 words",
-            11 => "the input's length is no multiple of 512, or over 10,752",
+            10 => "the store has under 4,624 words",
+            11 => "the input's length is no multiple of 512, or over 37,376",
             12 => "a block does not hold its own number",
             13 => "a block's stored check is not its check for the site",
-            14 => "n is over 256, or 0 with groups, in a block or in a load",
+            14 => "n is over 512, or 0 with groups, in a block or in a load",
             15 => "g is over 64",
             16 => "the number of blocks is not that of a file with this n and g",
             17 => "a set holds a state from n up, or a word of an unused group or row is not 0",
             18 => "a filler byte is not 0",
             19 => "the output is shorter than the file",
-            20 => "the allowance is over 256",
-            21 => "the path buffer has under 256 bytes",
+            20 => "the allowance is over 512",
+            21 => "the path buffer has under 512 places",
             22 => "the fan-out is over 16",
             23 => "the distance buffer has fewer than n places",
             24 => "the site is over 65,520",
@@ -216,14 +221,14 @@ impl Error for Refused {}
 
 /// Decides whether a forbidden state can be reached, with at most `allowance` refinements.
 ///
-/// If unsafe, the path stands at the front of `path`, and no other byte of it is touched; if safe or
+/// If unsafe, the path stands at the front of `path`, and no other place of it is touched; if safe or
 /// undecided, none is. Refused with 10, 14, 15, 17, 20 or 21.
 pub fn decide<'p>(
     store: &[u64],
     n: usize,
     g: usize,
     allowance: usize,
-    path: &'p mut [u8],
+    path: &'p mut [u16],
 ) -> Result<Verdict<'p>, Refused> {
     // SAFETY: each pointer and length are those of a slice, and the one that is written is borrowed
     // mutably, so it overlaps no other.
@@ -254,12 +259,12 @@ pub fn decide<'p>(
 }
 
 /// The smallest of the shortest paths from an initial to a forbidden state, at the front of `path`;
-/// no other byte of it is touched, and none if there is no path.
+/// no other place of it is touched, and none if there is no path.
 ///
 /// Refused with 10, 14, 15, 17 or 21.
 ///
 /// ```
-/// use shuntberry::{FORBIDDEN, INITIAL, PATH_BYTES, STORE_WORDS, row, shortest_path};
+/// use shuntberry::{FORBIDDEN, INITIAL, PATH_PLACES, STORE_WORDS, row, shortest_path};
 ///
 /// // Four states; 0 and 1 are initial, 3 is forbidden; steps 0 → 2, 1 → 2 and 2 → 3.
 /// let mut store = [0; STORE_WORDS];
@@ -269,7 +274,7 @@ pub fn decide<'p>(
 /// store[row(1)] = 0b0100;
 /// store[row(2)] = 0b1000;
 ///
-/// let mut path = [0; PATH_BYTES];
+/// let mut path = [0; PATH_PLACES];
 /// assert_eq!(shortest_path(&store, 4, 0, &mut path)?, Some(&[0, 2, 3][..]));
 ///
 /// // Without the last step there is none.
@@ -281,8 +286,8 @@ pub fn shortest_path<'p>(
     store: &[u64],
     n: usize,
     g: usize,
-    path: &'p mut [u8],
-) -> Result<Option<&'p [u8]>, Refused> {
+    path: &'p mut [u16],
+) -> Result<Option<&'p [u16]>, Refused> {
     // SAFETY: as in `decide`.
     let shortest = unsafe {
         raw::shuntberry_shortest_path(
@@ -536,11 +541,11 @@ fn accepted(refusal: u32) -> Result<(), Refused> {
 }
 
 /// The `steps` + 1 states of a path at the front of its buffer.
-fn states_of_path(path: &[u8], steps: u32) -> &[u8] {
+fn states_of_path(path: &[u16], steps: u32) -> &[u16] {
     front(path, (steps as usize).saturating_add(1))
 }
 
-/// The first `length` bytes; all of them if there are fewer, which the library's contract excludes.
-fn front(bytes: &[u8], length: usize) -> &[u8] {
-    bytes.get(..length).unwrap_or(bytes)
+/// The first `length` elements; all of them if there are fewer, which the library's contract excludes.
+fn front<T>(buffer: &[T], length: usize) -> &[T] {
+    buffer.get(..length).unwrap_or(buffer)
 }

@@ -4,10 +4,12 @@
 
 #![allow(missing_docs)]
 
+use crate::SET_WORDS;
+
 #[repr(C)]
 #[derive(Clone, Copy, Debug, PartialEq, Eq)]
 pub struct Decision {
-    pub invariant: [u64; 4],
+    pub invariant: [u64; SET_WORDS],
     pub refusal: u32,
     pub verdict: u32,
     pub count: u32,
@@ -71,7 +73,7 @@ unsafe extern "C" {
         n: usize,
         g: usize,
         allowance: usize,
-        path: *mut u8,
+        path: *mut u16,
         path_len: usize,
     ) -> Decision;
 
@@ -80,7 +82,7 @@ unsafe extern "C" {
         store_len: usize,
         n: usize,
         g: usize,
-        path: *mut u8,
+        path: *mut u16,
         path_len: usize,
     ) -> Shortest;
 

@@ -1,11 +1,12 @@
 /*
- * The calls from C by the header alone: a corridor of 256 states is laid out with the header's
+ * The calls from C by the header alone: a corridor of as many states as there can be is laid out with the header's
  * offsets, written, read back, and asked for its path, which is every state in turn; the largest load
  * is generated; then some of the refusals, logs of the corridor, and next open minute. The calls run on a
  * painted stack, to see how much of it they take.
  *
  * Without groups all states of Z have one cover, Z itself, so that each round loses the one state that
- * steps out: Z is 0 to 254 in round 0 and state 0 alone in round 254, where S is empty. The count is 254.
+ * steps out: Z is all but the last state in round 0 and state 0 alone in round STATES - 2, where S is empty. That
+ * is the count.
  */
 #include <pthread.h>
 #include <stdio.h>
@@ -14,9 +15,11 @@
 
 #include "shuntberry.h"
 
-_Static_assert(sizeof(struct shuntberry_decision) == 56, "decision");
-_Static_assert(offsetof(struct shuntberry_decision, refusal) == 32, "decision.refusal");
-_Static_assert(offsetof(struct shuntberry_decision, reserved) == 52, "decision.reserved");
+enum { SET_BYTES = 8 * SHUNTBERRY_SET_WORDS };
+
+_Static_assert(sizeof(struct shuntberry_decision) == SET_BYTES + 24, "decision");
+_Static_assert(offsetof(struct shuntberry_decision, refusal) == SET_BYTES, "decision.refusal");
+_Static_assert(offsetof(struct shuntberry_decision, reserved) == SET_BYTES + 20, "decision.reserved");
 _Static_assert(sizeof(struct shuntberry_shortest) == 12, "shortest");
 _Static_assert(sizeof(struct shuntberry_within) == 8, "within");
 _Static_assert(offsetof(struct shuntberry_within, refusal) == 0, "within.refusal");
@@ -28,11 +31,13 @@ _Static_assert(offsetof(struct shuntberry_replay, remainder) == 16, "replay.rema
 _Static_assert(sizeof(struct shuntberry_minute) == 12, "minute");
 _Static_assert(SHUNTBERRY_ROW(SHUNTBERRY_MAX_STATES) == SHUNTBERRY_STORE_WORDS, "rows");
 _Static_assert(SHUNTBERRY_GROUP(SHUNTBERRY_MAX_GROUPS) == SHUNTBERRY_ROW(0), "groups");
+_Static_assert(64 * SHUNTBERRY_SET_WORDS == SHUNTBERRY_MAX_STATES, "words of a set");
 
 enum { STATES = SHUNTBERRY_MAX_STATES, STACK = 1 << 20, PAINT = 0xa5, STACK_LIMIT = 256 * 1024 };
 
 static uint64_t store[SHUNTBERRY_STORE_WORDS], other[SHUNTBERRY_STORE_WORDS];
-static uint8_t file[SHUNTBERRY_FILE_BYTES], path[SHUNTBERRY_PATH_BYTES];
+static uint8_t file[SHUNTBERRY_FILE_BYTES];
+static uint16_t path[SHUNTBERRY_PATH_PLACES];
 static uint16_t distances[SHUNTBERRY_MAX_STATES + 1]; /* one place past the states */
 
 static void require(int holds, const char *what)
@@ -76,17 +81,17 @@ static void answers(void)
 {
     struct shuntberry_file written =
         shuntberry_write(store, SHUNTBERRY_STORE_WORDS, STATES, 0, 0, file, sizeof file);
-    require(written.refusal == SHUNTBERRY_ACCEPTED && written.length == 17 * SHUNTBERRY_BLOCK_BYTES, "write");
+    require(written.refusal == SHUNTBERRY_ACCEPTED && written.length == 65 * SHUNTBERRY_BLOCK_BYTES, "write");
     struct shuntberry_table table = shuntberry_read(file, written.length, 0, other, SHUNTBERRY_STORE_WORDS);
     require(table.refusal == SHUNTBERRY_ACCEPTED && table.n == STATES && table.g == 0, "read");
     require(memcmp(store, other, sizeof store) == 0, "read gives back what was written");
 
     struct shuntberry_shortest shortest =
-        shuntberry_shortest_path(store, SHUNTBERRY_STORE_WORDS, STATES, 0, path, sizeof path);
+        shuntberry_shortest_path(store, SHUNTBERRY_STORE_WORDS, STATES, 0, path, SHUNTBERRY_PATH_PLACES);
     require(shortest.refusal == SHUNTBERRY_ACCEPTED && shortest.found == 1 && is_corridor(shortest.steps), "shortest path");
     memset(path, 0, sizeof path);
     struct shuntberry_decision decision = shuntberry_decide(store, SHUNTBERRY_STORE_WORDS, STATES, 0,
-                                                            SHUNTBERRY_MAX_ALLOWANCE, path, sizeof path);
+                                                            SHUNTBERRY_MAX_ALLOWANCE, path, SHUNTBERRY_PATH_PLACES);
     require(decision.refusal == SHUNTBERRY_ACCEPTED && decision.verdict == SHUNTBERRY_UNSAFE &&
                 decision.count == STATES - 2 && decision.size == 0 && decision.reserved == 0 && is_corridor(decision.steps),
             "decide");
@@ -129,13 +134,13 @@ static uint32_t decide(size_t words, size_t n, size_t g, size_t allowance, size_
 
 static void refusals(void)
 {
-    const size_t words = SHUNTBERRY_STORE_WORDS, most = SHUNTBERRY_MAX_ALLOWANCE, room = SHUNTBERRY_PATH_BYTES;
+    const size_t words = SHUNTBERRY_STORE_WORDS, most = SHUNTBERRY_MAX_ALLOWANCE, room = SHUNTBERRY_PATH_PLACES;
 
     require(decide(words - 1, STATES, 0, most, room) == SHUNTBERRY_STORE_SHORT, "a short store");
     require(decide(words, STATES + 1, 0, most, room) == SHUNTBERRY_STATES, "too many states");
     require(decide(words, STATES, SHUNTBERRY_MAX_GROUPS + 1, most, room) == SHUNTBERRY_GROUPS, "too many groups");
     require(decide(words, STATES - 1, 0, most, room) == SHUNTBERRY_STRAY_BIT, "a state from n up");
-    require(decide(words, STATES, 0, most + 1, room) == SHUNTBERRY_ALLOWANCE, "an allowance over 256");
+    require(decide(words, STATES, 0, most + 1, room) == SHUNTBERRY_ALLOWANCE, "an allowance over the greatest");
     require(decide(words, STATES, 0, most, room - 1) == SHUNTBERRY_PATH_SHORT, "a short path buffer");
     require(shuntberry_distances(store, words, STATES, 0, distances, STATES - 1) == SHUNTBERRY_DISTANCES_SHORT,
             "a short distance buffer");
@@ -217,7 +222,7 @@ static int is_never(struct shuntberry_minute answer)
 /* An empty buffer as C and C++ have it: null and 0, for each buffer of each call; and an untouched draft. */
 static void nothing(void)
 {
-    const size_t words = SHUNTBERRY_STORE_WORDS, most = SHUNTBERRY_MAX_ALLOWANCE, room = SHUNTBERRY_PATH_BYTES;
+    const size_t words = SHUNTBERRY_STORE_WORDS, most = SHUNTBERRY_MAX_ALLOWANCE, room = SHUNTBERRY_PATH_PLACES;
     static uint64_t draft[SHUNTBERRY_STORE_WORDS];
 
     require(shuntberry_decide(NULL, 0, STATES, 0, most, path, room).refusal == SHUNTBERRY_STORE_SHORT, "decide, no store");

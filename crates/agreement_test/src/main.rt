@@ -2,15 +2,17 @@
 // Printed is how many generated tables of each verdict there were, and in how many the two agree in verdict and in the length of the path;
 // at last a digest of decide's answers, whole. tests/expected.py makes the same tables anew and works out what this must print.
 use rounds::Decision;
+use rounds::MAX_ALLOWANCE;
 use rounds::Verdict;
 use rounds::decide;
 use state_set::StateSet;
 use state_set::WORDS;
 use table::FORBIDDEN_AT;
+use table::MAX_STATES;
 use table::ROWS_AT;
 use table::STORE_WORDS;
 use test_support::digest;
-use test_support::digest_bytes;
+use test_support::digest_places;
 use test_support::digest_words;
 use test_support::generate;
 use test_support::groups_of;
@@ -24,11 +26,11 @@ const TABLES: usize = 4000;
 // ---- the search
 
 // More steps than any path has: no path.
-const NONE: usize = 999;
+const NONE: usize = 9999;
 
 fn holds(store: &[u64], at: usize, s: usize) -> bool {
-    if at < 4096 {
-        if s < 256 {
+    if at < store.len() {
+        if s < MAX_STATES {
             let i = at + s / 64;
             if i < store.len() {
                 return (store[i] >> (s % 64)) % 2 == 1;
@@ -100,7 +102,7 @@ fn search_by(store: &[u64], n: usize, queue: &mut [usize], steps: &mut [usize]) 
         end = visit_set(
             store,
             n,
-            ROWS_AT + 4 * (s % 256),
+            ROWS_AT + WORDS * (s % MAX_STATES),
             d % NONE + 1,
             queue,
             end,
@@ -112,8 +114,8 @@ fn search_by(store: &[u64], n: usize, queue: &mut [usize], steps: &mut [usize]) 
 
 // The fewest steps from an initial to a forbidden state, or NONE.
 fn search(store: &[u64], n: usize) -> usize {
-    let mut queue = [0usize; 256];
-    let mut steps = [NONE; 256];
+    let mut queue = [0usize; MAX_STATES];
+    let mut steps = [NONE; MAX_STATES];
     search_by(store, n, &mut queue, &mut steps)
 }
 
@@ -159,12 +161,12 @@ fn digest_numbers(d: usize, verdict: usize, count: usize, size: usize, steps: us
     digest(digest(digest(digest(d, verdict), count), size), steps)
 }
 
-fn digest_verdict(d: usize, verdict: Verdict, path: &[u8]) -> usize {
+fn digest_verdict(d: usize, verdict: Verdict, path: &[u16]) -> usize {
     match verdict {
         Verdict::Safe { count, size } => digest_numbers(d, 0, count, size, 0),
         Verdict::Unsafe { count, steps } => {
             let e = digest_numbers(d, 1, count, 0, steps);
-            digest_bytes(e, path, steps % 256 + 1)
+            digest_places(e, path, steps % MAX_STATES + 1)
         }
         Verdict::Undecided { count } => digest_numbers(d, 2, count, 0, 0),
         Verdict::Refused(refusal) => digest_numbers(d, 3, wide(refusal), 0, 0),
@@ -182,7 +184,7 @@ fn put_digest(tallies: &mut [usize], d: usize) {
     }
 }
 
-fn compare(tallies: &mut [usize], d: Decision, path: &[u8], found: usize) {
+fn compare(tallies: &mut [usize], d: Decision, path: &[u16], found: usize) {
     let verdict = d.verdict;
     let invariant = d.invariant;
     tally_verdict(tallies, verdict, found);
@@ -193,16 +195,16 @@ fn compare(tallies: &mut [usize], d: Decision, path: &[u8], found: usize) {
     );
 }
 
-fn try_one(tallies: &mut [usize], t: usize, store: &mut [u64], path: &mut [u8]) {
+fn try_one(tallies: &mut [usize], t: usize, store: &mut [u64], path: &mut [u16]) {
     let n = states_of(t);
     generate(store, t);
-    let d = decide(store, n, groups_of(t), 256, path);
+    let d = decide(store, n, groups_of(t), MAX_ALLOWANCE, path);
     compare(tallies, d, path, search(store, n));
 }
 
 fn try_table(tallies: &mut [usize], t: usize) {
     let mut store = [0u64; STORE_WORDS];
-    let mut path = [0u8; 256];
+    let mut path = [0u16; MAX_STATES];
     try_one(tallies, t, &mut store, &mut path);
 }
 

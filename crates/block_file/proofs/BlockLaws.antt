@@ -11,7 +11,7 @@ use mathlib.Core.Path.{_≡_, sym, ap, ap₂, _∙_}
 use mathlib.Core.List.{List}
 use lib.ListN.{getD}
 use Rattle.model.specs.Sets.{WORDS, maxStates}
-use Rattle.model.specs.Stores.{maxGroups}
+use Rattle.model.specs.Stores.{headSets, maxGroups}
 use Rattle.model.specs.Blocks.{checkAt, modulus, maxSite, weighted, checkOf}
 use Rattle.model.specs.Contents.{setWidth, headerBytes, contentLength}
 
@@ -64,17 +64,17 @@ sum-all {site} {block} {sum} {i} s h =
 
 -- the width w as code has it
 module _ {n g w : ℕ} (states : n ≤ maxStates) (groups : g ≤ maxGroups) (e : w ≡ setWidth n) where
-  sets-le : w * (2 + g + n) ≤ 8 * WORDS * (2 + maxGroups + maxStates)
+  sets-le : w * (headSets + g + n) ≤ 8 * WORDS * (headSets + maxGroups + maxStates)
   sets-le =
       let width : w ≤ 8 * WORDS = omega arith in
-      let many : 2 + g + n ≤ 2 + maxGroups + maxStates = omega arith in
+      let many : headSets + g + n ≤ headSets + maxGroups + maxStates = omega arith in
       mul-le-mul width many
 
-  pub sets-fit : w * (2 + g + n) < 2 ^ 64
+  pub sets-fit : w * (headSets + g + n) < 2 ^ 64
   sets-fit = omega (arith, sets-le)
 
-  pub contents-fit : headerBytes + w * (2 + g + n) < 2 ^ 64
+  pub contents-fit : headerBytes + w * (headSets + g + n) < 2 ^ 64
   contents-fit = omega (arith, sets-le)
 
-  pub contents-le : headerBytes + w * (2 + g + n) ≤ contentLength maxStates maxGroups
+  pub contents-le : headerBytes + w * (headSets + g + n) ≤ contentLength maxStates maxGroups
   contents-le = omega (arith, sets-le)

@@ -9,27 +9,27 @@ use mathlib.Core.Path.{_≡_, refl}
 use borrow.Author.Tests.{ltb-true, ltb-false}
 use lib.Dec.{ltb}
 use Rattle.model.specs.Sets.{WORDS, maxStates}
-use Rattle.model.specs.Stores.{maxGroups, rowAt, storeWords}
+use Rattle.model.specs.Stores.{headSets, maxGroups, rowAt, storeWords}
 use Rattle.model.proofs.Bounds.{by-cond}
 use Rattle.block_file.specs.Places.{placeOf}
 
 module _ (g k : ℕ) where
-  pub by-place : (P : ℕ → Type 0) → (k < 2 + g → P (WORDS * k)) → (2 + g ≤ k → P (rowAt (k - (2 + g)))) → P (placeOf g k)
+  pub by-place : (P : ℕ → Type 0) → (k < headSets + g → P (WORDS * k)) → (headSets + g ≤ k → P (rowAt (k - (headSets + g)))) → P (placeOf g k)
   unfolding placeOf
-  by-place P front behind = by-cond P (ltb k (2 + g)) _ _ (λ q. front (ltb-true k (2 + g) q)) (λ q. behind (ltb-false k (2 + g) q))
+  by-place P front behind = by-cond P (ltb k (headSets + g)) _ _ (λ q. front (ltb-true k (headSets + g) q)) (λ q. behind (ltb-false k (headSets + g) q))
 
-  pub front-place : k < 2 + g → WORDS * k ≡ placeOf g k
+  pub front-place : k < headSets + g → WORDS * k ≡ placeOf g k
   front-place h = by-place (λ p. WORDS * k ≡ p) (λ l. refl) (λ l. absurd (omega arith))
 
-  pub row-place : 2 + g ≤ k → rowAt (k - (2 + g)) ≡ placeOf g k
-  row-place h = by-place (λ p. rowAt (k - (2 + g)) ≡ p) (λ l. absurd (omega arith)) (λ l. refl)
+  pub row-place : headSets + g ≤ k → rowAt (k - (headSets + g)) ≡ placeOf g k
+  row-place h = by-place (λ p. rowAt (k - (headSets + g)) ≡ p) (λ l. absurd (omega arith)) (λ l. refl)
 
 module _ (g : ℕ) (few : g ≤ maxGroups) where
-  pub place-inside : (k : ℕ) → k < 2 + g + maxStates → placeOf g k + WORDS ≤ storeWords
+  pub place-inside : (k : ℕ) → k < headSets + g + maxStates → placeOf g k + WORDS ≤ storeWords
   place-inside k h = by-place g k (λ p. p + WORDS ≤ storeWords) (λ l. omega arith) (λ l. omega arith)
 
   pub place-rise : (j k : ℕ) → j < k → placeOf g j + WORDS ≤ placeOf g k
   place-rise j k h =
       by-place g k (λ q. placeOf g j + WORDS ≤ q)
       (λ l. by-place g j (λ p. p + WORDS ≤ WORDS * k) (λ m. omega arith) (λ m. omega arith))
-      (λ l. by-place g j (λ p. p + WORDS ≤ rowAt (k - (2 + g))) (λ m. omega arith) (λ m. omega arith))
+      (λ l. by-place g j (λ p. p + WORDS ≤ rowAt (k - (headSets + g))) (λ m. omega arith) (λ m. omega arith))

@@ -18,7 +18,7 @@ use mathlib.Core.List.{List, [], _∷_, _++_}
 use borrow.Author.Tests.{lt-ltb, ne-eqb}
 use lib.ListN.{set, length, getD, take, drop, List·getD-append}
 use Rattle.model.specs.Sets.{WORDS, maxStates, Set, member, number}
-use Rattle.model.specs.Stores.{forbiddenAt, groupAt, rowAt, storeWords, setAt, tableOf, concat, refuse, sharedGrounds}
+use Rattle.model.specs.Stores.{headSets, forbiddenAt, groupAt, rowAt, storeWords, setAt, tableOf, concat, refuse, sharedGrounds}
 use Rattle.model.specs.Blocks.{blockBytes, contentBytes, checkAt, maxSite, le16, blocksFor, checkOf, blockOf}
 use Rattle.model.specs.Contents.{setWidth, sets, headerBytes, contents, contentLength}
 use Rattle.model.specs.Files.{blockFile, fileOf, fileLength}
@@ -57,16 +57,16 @@ set-byte store at j h =
 
 -- ---- set k of the file, in the store
 
-set-place : (store : List ℕ) (n g k : ℕ) → k < 2 + g + n → getD (sets (tableOf store n g)) k [] ≡ setAt store (placeOf g k)
+set-place : (store : List ℕ) (n g k : ℕ) → k < headSets + g + n → getD (sets (tableOf store n g)) k [] ≡ setAt store (placeOf g k)
 unfolding tableOf
 set-place store n g =
-    let at : (k p : ℕ) → k < 2 + g → WORDS * k ≡ p → setAt store p ≡ setAt store (placeOf g k) =
+    let at : (k p : ℕ) → k < headSets + g → WORDS * k ≡ p → setAt store p ≡ setAt store (placeOf g k) =
     λ k p h e. ap (setAt store) (by-place g k (λ q. p ≡ q) (λ l. sym e) (λ l. absurd (omega arith))) in
     sets-each (tableOf store n g) (length-tabulate _ g) (λ k X. X ≡ setAt store (placeOf g k))
     (at 0 0 (omega arith) refl)
     (at 1 forbiddenAt (omega arith) refl)
-    (λ j h. getD-tabulate _ g j [] h ∙ at (2 + j) (groupAt j) (omega arith) (omega arith))
-    (λ s h. row-is store n g s h ∙ ap (setAt store) (by-place g (2 + g + s) (λ q. rowAt s ≡ q) (λ l. absurd (omega arith)) (λ l. omega arith)))
+    (λ j h. getD-tabulate _ g j [] h ∙ at (headSets + j) (groupAt j) (omega arith) (omega arith))
+    (λ s h. row-is store n g s h ∙ ap (setAt store) (by-place g (headSets + g + s) (λ q. rowAt s ≡ q) (λ l. absurd (omega arith)) (λ l. omega arith)))
 
 -- ---- a byte of the contents
 
@@ -89,21 +89,21 @@ module _ (store : List ℕ) (n g : ℕ) where
   content-past i h = sym (getD-past (contents (tableOf store n g)) i 0 (omega (arith, length-contents (tableOf store n g) (length-tabulate _ g))))
 
 -- byte i of the sets joined, with their width w as code has it
-module _ (n g i w : ℕ) (wide : w ≡ setWidth n) (h : i < setWidth n * (2 + g + n)) where
-  within : i < w * (2 + g + n)
-  within = subst (λ (v : ℕ). i < v * (2 + g + n)) (sym wide) h
+module _ (n g i w : ℕ) (wide : w ≡ setWidth n) (h : i < setWidth n * (headSets + g + n)) where
+  within : i < w * (headSets + g + n)
+  within = subst (λ (v : ℕ). i < v * (headSets + g + n)) (sym wide) h
 
-  set-in : i / w < 2 + g + n
-  set-in = div-below w (2 + g + n) i within
+  set-in : i / w < headSets + g + n
+  set-in = div-below w (headSets + g + n) i within
 
   byte-in : i % w < w
-  byte-in = mod-below w (2 + g + n) i within
+  byte-in = mod-below w (headSets + g + n) i within
 
   pub width-some : 0 < w
   width-some = omega (arith, byte-in)
 
   module _ (states : n ≤ maxStates) where
-    pub set-below : i / w < 2 + g + maxStates
+    pub set-below : i / w < headSets + g + maxStates
     set-below = omega (arith, set-in)
 
     pub byte-below : i % w < 8 * WORDS

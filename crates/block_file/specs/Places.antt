@@ -5,7 +5,7 @@ use Prim.Native.Nat.{ℕ, _+_, _*_, _-_}
 use mathlib.Core.Bool.{cond}
 use lib.Dec.{ltb}
 use Rattle.model.specs.Sets.{WORDS}
-use Rattle.model.specs.Stores.{rowAt}
+use Rattle.model.specs.Stores.{headSets, rowAt}
 
 unfoldable pub placeOf : ℕ → ℕ → ℕ
-placeOf g k = cond (ltb k (2 + g)) (WORDS * k) (rowAt (k - (2 + g)))
+placeOf g k = cond (ltb k (headSets + g)) (WORDS * k) (rowAt (k - (headSets + g)))

@@ -11,11 +11,12 @@ ghost use Prim.Native.Nat.{_+_, _≤_, _<_};
 ghost use mathlib.Core.Path.{_≡_};
 ghost use lib.ListN.{length};
 ghost use Rattle.model.specs.Sets.{WORDS, maxStates};
-ghost use Rattle.model.specs.Stores.{maxGroups, storeWords};
+ghost use Rattle.model.specs.Stores.{headSets, maxGroups, storeWords};
 ghost use Rattle.model.specs.Blocks.{checkAt, maxSite, le16At, blocksFor, checkOf};
 ghost use Rattle.model.specs.Contents.{setWidth, contentLength};
 ghost use Rattle.block_file.specs.Places.{placeOf};
 use state_set::WORDS;
+use table::HEAD_SETS;
 use table::ROWS_AT;
 
 pub const BLOCK: usize = 512;
@@ -66,7 +67,7 @@ pub fn content_length(n: usize, g: usize) -> usize
     requires { ⌜ (n ≤ maxStates) × (g ≤ maxGroups) ⌝ }
     ensures { λ r. ⌜ (r ≡ contentLength n g) × (r ≤ contentLength maxStates maxGroups) ⌝ }
 {
-    HEADER + set_width(n) * (2 + g + n)
+    HEADER + set_width(n) * (HEAD_SETS + g + n)
 }
 
 pub fn blocks_for(l: usize) -> usize
@@ -78,12 +79,12 @@ pub fn blocks_for(l: usize) -> usize
 
 // Where set k of the file begins in the store.
 pub fn place_of(g: usize, k: usize) -> usize
-    requires { ⌜ (g ≤ maxGroups) × (k < 2 + g + maxStates) ⌝ }
+    requires { ⌜ (g ≤ maxGroups) × (k < headSets + g + maxStates) ⌝ }
     ensures { λ r. ⌜ (r ≡ placeOf g k) × (r + WORDS ≤ storeWords) ⌝ }
 {
-    if k < 2 + g {
+    if k < HEAD_SETS + g {
         WORDS * k
     } else {
-        ROWS_AT + WORDS * (k - (2 + g))
+        ROWS_AT + WORDS * (k - (HEAD_SETS + g))
     }
 }

@@ -3,6 +3,7 @@ mod blocks;
 mod reading;
 mod writing;
 
+pub use reading::MAX_FILE;
 pub use reading::TableRead;
 pub use reading::read;
 pub use writing::Written;

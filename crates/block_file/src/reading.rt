@@ -13,7 +13,7 @@ ghost use mathlib.Core.Path.{_≡_};
 ghost use Prim.Native.Nat.{_+_, _*_, _/_, _≤_, _<_};
 ghost use lib.ListN.{length, getD};
 ghost use Rattle.model.specs.Sets.{WORDS, member, number, any};
-ghost use Rattle.model.specs.Stores.{storeWords, layout, refuse, beyond, nonZero};
+ghost use Rattle.model.specs.Stores.{headSets, storeWords, layout, refuse, beyond, nonZero};
 ghost use Rattle.model.specs.Blocks.{blockBytes, contentBytes, maxSite, contentsOf, blockGrounds};
 ghost use Rattle.model.specs.Contents.{setWidth, headerBytes, setIn, setNumber, tableIn};
 ghost use Rattle.model.specs.Calls.{overwrite, blocksGrounds, contentGrounds, readGrounds};
@@ -33,13 +33,15 @@ use crate::blocks::place_of;
 use crate::blocks::set_width;
 use crate::blocks::wide;
 use state_set::WORDS;
+use table::HEAD_SETS;
 use table::MAX_GROUPS;
 use table::MAX_STATES;
 use table::STORE_WORDS;
 
 // The length of the largest file.
-const MAX_FILE: usize = BLOCK
-    * ((HEADER + (MAX_STATES + 7) / 8 * (2 + MAX_GROUPS + MAX_STATES) + CONTENT - 1) / CONTENT);
+pub const MAX_FILE: usize = BLOCK
+    * ((HEADER + (MAX_STATES + 7) / 8 * (HEAD_SETS + MAX_GROUPS + MAX_STATES) + CONTENT - 1)
+        / CONTENT);
 
 pub enum TableRead {
     // n and g of the table.
@@ -158,10 +160,10 @@ fn content_refusal(input: &[u8], n: usize, g: usize) -> u8
 // A set of the table has a state from n up.
 fn any_beyond(input: &[u8], n: usize, g: usize) -> bool
     requires { ⌜ TableInside (now input) n g × (0 < n) ⌝ }
-    ensures { λ r. ⌜ r ≡ any (2 + g + n) (λ k. beyond n (setNumber (contentsOf (now (input .entry))) n k)) ⌝ }
+    ensures { λ r. ⌜ r ≡ any (headSets + g + n) (λ k. beyond n (setNumber (contentsOf (now (input .entry))) n k)) ⌝ }
 {
     let w = set_width(n);
-    for k in 0..2 + g + n {
+    for k in 0..HEAD_SETS + g + n {
         if is_set_beyond(input, n, w, k) {
             return true;
         }
@@ -251,10 +253,10 @@ fn clear(store: &mut [u64])
 // filled from the set's bytes.
 fn fill_sets(input: &[u8], n: usize, g: usize, store: &mut [u64])
     requires { ⌜ TableInside (now input) n g × (storeWords ≤ length (now store)) ⌝ }
-    ensures { λ r. ⌜ now (store .exit) ≡ fillSets (contentsOf (now (input .entry))) n g (2 + g + n) (now (store .entry)) ⌝ }
+    ensures { λ r. ⌜ now (store .exit) ≡ fillSets (contentsOf (now (input .entry))) n g (headSets + g + n) (now (store .entry)) ⌝ }
 {
     let w = set_width(n);
-    for k in 0..2 + g + n {
+    for k in 0..HEAD_SETS + g + n {
         let at = place_of(g, k);
         fill_set(&mut store[at..], input, w, k);
     }

@@ -12,7 +12,7 @@ ghost use Prim.Native.Nat.{_+_, _*_, _≤_, _<_};
 ghost use mathlib.Core.Path.{_≡_};
 ghost use lib.ListN.{length, getD};
 ghost use Rattle.model.specs.Sets.{WORDS, member, number};
-ghost use Rattle.model.specs.Stores.{setAt, tableOf, concat};
+ghost use Rattle.model.specs.Stores.{headSets, setAt, tableOf, concat};
 ghost use Rattle.model.specs.Blocks.{blockBytes, contentBytes, maxSite, le16, blockOf};
 ghost use Rattle.model.specs.Contents.{setWidth, headerBytes, contents};
 ghost use Rattle.model.specs.Calls.{overwrite};
@@ -122,7 +122,7 @@ fn content_byte(store: &[u64], n: usize, g: usize, i: usize) -> u8
 
 // Byte i of the sets joined, which stand behind the header.
 fn sets_byte(store: &[u64], n: usize, g: usize, i: usize) -> u8
-    requires { ⌜ LongEnough (now store) n g × (i < setWidth n * (2 + g + n)) ⌝ }
+    requires { ⌜ LongEnough (now store) n g × (i < setWidth n * (headSets + g + n)) ⌝ }
     ensures { λ r. ⌜ r ≡ getD (contents (tableOf (now (store .entry)) n g)) (headerBytes + i) 0 ⌝ }
 {
     let w = set_width(n);

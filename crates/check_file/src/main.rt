@@ -15,6 +15,7 @@ ghost use Rattle.io.specs.Counts.{Counts};
 ghost use Rattle.report.specs.Put.{room, Front};
 ghost use Rattle.check_file.specs.CheckText.{tableText, checkText};
 ghost use Rattle.check_file.specs.Numbers.{numbersOf};
+use block_file::MAX_FILE;
 use block_file::TableRead;
 use block_file::read;
 use libc::STDERR_FILENO;
@@ -31,7 +32,7 @@ use state_set::StateSet;
 use table::MAX_STATES;
 use table::STORE_WORDS;
 
-const INPUT: usize = 10753;
+const INPUT: usize = MAX_FILE + 1;
 
 // The site of the files that the program reads.
 const SITE: usize = 0;
@@ -112,7 +113,7 @@ fn check_table(store: &[u64], n: usize, g: usize, out: &mut [u8]) -> usize
     requires { ⌜ room ≤ length (now out) ⌝ }
     ensures { λ r. ⌜ Front (tableText (now (store .entry)) n g) (now (out .entry)) r (now (out .exit)) ⌝ }
 {
-    let mut path = [0u8; MAX_STATES];
+    let mut path = [0u16; MAX_STATES];
     let a = numbers_of(decide(store, n, g, MAX_ALLOWANCE, &mut path));
     if a.refusal != 0 {
         return write_refused(a.refusal, out);

@@ -1,24 +1,28 @@
 // Tables A to H of the specification and a ninth (which tells a list that is replaced from one that is added to) through the call decide, with allowances
-// 0, 1, 2, 3 and 256; then refusals, their order and their edges. tests/expected.py works out what this must print, from its text.
+// 0, 1, 2, 3 and the greatest; then refusals, their order and their edges. tests/expected.py works out what this must print, from its text.
 use rounds::Decision;
+use rounds::MAX_ALLOWANCE;
 use rounds::Verdict;
 use rounds::decide;
+use table::MAX_GROUPS;
+use table::MAX_STATES;
 use table::STORE_WORDS;
-use test_support::bytes;
 use test_support::forbidden;
 use test_support::group;
 use test_support::initial;
 use test_support::labelled;
+use test_support::places;
 use test_support::print_unchanged;
+use test_support::put_corridor;
 use test_support::put_table;
 use test_support::states;
 use test_support::step;
 use test_support::text;
-use test_support::unchanged;
+use test_support::unchanged_places;
 use test_support::wide;
 
-// The answer, and how many bytes at the front of the path buffer it accounts for.
-fn print_decision(d: Decision, path: &[u8]) -> usize {
+// The answer, and how many places at the front of the path buffer it accounts for.
+fn print_decision(d: Decision, path: &[u16]) -> usize {
     let verdict = d.verdict;
     let invariant = d.invariant;
     match verdict {
@@ -32,8 +36,8 @@ fn print_decision(d: Decision, path: &[u8]) -> usize {
         Verdict::Unsafe { count, steps } => {
             labelled(b"unsafe ", count);
             text(b" path");
-            if steps < 256 {
-                bytes(path, steps + 1);
+            if steps < MAX_STATES {
+                places(path, steps + 1);
                 steps + 1
             } else {
                 0
@@ -51,27 +55,27 @@ fn print_decision(d: Decision, path: &[u8]) -> usize {
 }
 
 // One call, with a path buffer of sevens.
-fn call(name: &[u8], store: &[u64], n: usize, g: usize, allowance: usize, path: &mut [u8]) {
+fn call(name: &[u8], store: &[u64], n: usize, g: usize, allowance: usize, path: &mut [u16]) {
     text(name);
     labelled(b" ", allowance);
     text(b": ");
     let d = decide(store, n, g, allowance, path);
     let written = print_decision(d, path);
-    print_unchanged(unchanged(path, written, 7));
+    print_unchanged(unchanged_places(path, written, 7));
 }
 
 fn try_one(name: &[u8], store: &[u64], n: usize, g: usize, allowance: usize) {
-    let mut path = [7u8; 256];
+    let mut path = [7u16; MAX_STATES];
     call(name, store, n, g, allowance, &mut path);
 }
 
 fn try_short(name: &[u8], store: &[u64], n: usize, g: usize, allowance: usize) {
-    let mut path = [7u8; 255];
+    let mut path = [7u16; MAX_STATES - 1];
     call(name, store, n, g, allowance, &mut path);
 }
 
 fn try_long(name: &[u8], store: &[u64], n: usize, g: usize, allowance: usize) {
-    let mut path = [7u8; 300];
+    let mut path = [7u16; MAX_STATES + 44];
     call(name, store, n, g, allowance, &mut path);
 }
 
@@ -80,7 +84,7 @@ fn try_allowances(name: &[u8], store: &[u64], n: usize, g: usize) {
     try_one(name, store, n, g, 1);
     try_one(name, store, n, g, 2);
     try_one(name, store, n, g, 3);
-    try_long(name, store, n, g, 256);
+    try_long(name, store, n, g, MAX_ALLOWANCE);
 }
 
 fn table_a() {
@@ -146,26 +150,41 @@ fn table_ninth() {
 
 // Each refusal alone, then with every later ground holding as well. `stray` has one state, 5, in the initial set.
 fn refusals(empty: &[u64], stray: &[u64]) {
+    let states = MAX_STATES + 1;
+    let groups = MAX_GROUPS + 1;
+    let allowance = MAX_ALLOWANCE + 1;
     try_one(b"n 0 g 1", empty, 0, 1, 0);
-    try_short(b"n 0 g 65 and all else", stray, 0, 65, 257);
+    try_short(b"n 0 with groups and all else", stray, 0, groups, allowance);
     try_one(b"state 5 of 0", stray, 0, 0, 0);
-    try_one(b"n 257", empty, 257, 0, 0);
-    try_short(b"n 257 and all else", stray, 257, 65, 257);
-    try_one(b"g 65", empty, 5, 65, 0);
-    try_short(b"g 65 and all else", stray, 5, 65, 257);
+    try_one(b"n too great", empty, states, 0, 0);
+    try_short(
+        b"n too great and all else",
+        stray,
+        states,
+        groups,
+        allowance,
+    );
+    try_one(b"g too great", empty, 5, groups, 0);
+    try_short(b"g too great and all else", stray, 5, groups, allowance);
     try_one(b"state 5 of 5", stray, 5, 0, 0);
-    try_short(b"state 5 of 5 and all else", stray, 5, 0, 257);
-    try_one(b"allowance 257", empty, 5, 0, 257);
-    try_short(b"allowance 257 and path buffer of 255", empty, 5, 0, 257);
-    try_short(b"path buffer of 255", empty, 5, 0, 0);
-    try_one(b"state 5 of 6", stray, 6, 0, 256);
+    try_short(b"state 5 of 5 and all else", stray, 5, 0, allowance);
+    try_one(b"allowance too great", empty, 5, 0, allowance);
+    try_short(b"allowance too great and all else", empty, 5, 0, allowance);
+    try_short(b"path buffer one place short", empty, 5, 0, 0);
+    try_one(b"state 5 of 6", stray, 6, 0, MAX_ALLOWANCE);
 }
 
 fn short_store() {
-    let mut short = [0u64; 1287];
+    let mut short = [0u64; STORE_WORDS - 1];
     initial(&mut short, 5);
-    try_one(b"store of 1287", &short, 6, 0, 0);
-    try_short(b"store of 1287 and all else", &short, 0, 65, 257);
+    try_one(b"store one word short", &short, 6, 0, 0);
+    try_short(
+        b"store one word short and all else",
+        &short,
+        0,
+        MAX_GROUPS + 1,
+        MAX_ALLOWANCE + 1,
+    );
 }
 
 fn whole_store() {
@@ -175,11 +194,25 @@ fn whole_store() {
     refusals(&empty, &stray);
 }
 
-// A word past the store's 1,288 is not read.
+// A word past those of a table is not read.
 fn long_store() {
-    let mut long = [0u64; 1300];
-    long[1288] = 1;
-    try_one(b"n 256, g 64, store of 1300", &long, 256, 64, 256);
+    let mut long = [0u64; STORE_WORDS + 12];
+    long[STORE_WORDS] = 1;
+    try_one(
+        b"n and g at their greatest, store of 12 words more",
+        &long,
+        MAX_STATES,
+        MAX_GROUPS,
+        MAX_ALLOWANCE,
+    );
+}
+
+// Entries and counts as great as they get: seen as one lump, the states are taken off one by one, from the last.
+fn corridor() {
+    let mut t = [0u64; STORE_WORDS];
+    put_corridor(&mut t);
+    try_one(b"corridor", &t, MAX_STATES, 0, MAX_ALLOWANCE);
+    try_one(b"corridor", &t, MAX_STATES, 0, MAX_STATES - 3);
 }
 
 fn main() {
@@ -194,4 +227,5 @@ fn main() {
     short_store();
     whole_store();
     long_store();
+    corridor();
 }

@@ -6,10 +6,13 @@
 // check 510 511. In that of H the last row ends at 509, and nothing is filler. With a group, which has 22 to 29, H has a second block:
 // last row 514 to 521, filler 522 to 1021.
 ghost use Prim.Native.Nat.{_*_, _^_, _<_};
+use block_file::MAX_FILE;
 use block_file::TableRead;
 use block_file::Written;
 use block_file::read;
 use block_file::write;
+use table::MAX_GROUPS;
+use table::MAX_STATES;
 use table::STORE_WORDS;
 use test_support::add;
 use test_support::byte_at;
@@ -71,7 +74,7 @@ fn call_write(
 
 // Write for a site from the first `words` words of a store to `room` bytes.
 fn try_write_for(store: &[u64], words: usize, n: usize, g: usize, site: usize, room: usize) {
-    let mut output = [7u8; 10800];
+    let mut output = [7u8; MAX_FILE + 48];
     labelled(b" from ", words);
     labelled(b" n ", n);
     labelled(b" g ", g);
@@ -113,7 +116,7 @@ fn call_read(input: &[u8], length: usize, site: usize, store: &mut [u64], words:
 
 // Read the first `length` bytes of an input at a site to `words` words.
 fn try_read_at(input: &[u8], length: usize, site: usize, words: usize) {
-    let mut store = [7u64; 1300];
+    let mut store = [7u64; STORE_WORDS + 12];
     labelled(b" from ", length);
     labelled(b" into ", words);
     call_read(input, length, site, &mut store, words);
@@ -136,7 +139,7 @@ fn times(k: usize, x: usize) -> usize
 fn mend(file: &mut [u8], at: usize, value: u8) {
     let i = at % 512;
     if i < 510 {
-        if at < 16384 {
+        if at < file.len() {
             let c = at - i + 510;
             let check = byte_at(file, c) + 256 * byte_at(file, c + 1);
             let more = times(i + 1, 65521 + wide(value) - byte_at(file, at)) % 65521;
@@ -173,7 +176,7 @@ fn try_file(
     at2: usize,
     value2: u8,
 ) {
-    let mut file = [0u8; 11264];
+    let mut file = [0u8; MAX_FILE + 512];
     write(table, n, g, 0, &mut file);
     replace(&mut file, at, value);
     replace(&mut file, at2, value2);
@@ -193,52 +196,52 @@ fn print_e(e: &[u64]) {
 // Room to spare, enough, a byte short, none; then 10, 14, 15 and 17, each alone and beside later ones.
 fn write_e(e: &[u64]) {
     text(b"write E\n");
-    try_write(e, 1288, 3, 0, 10800);
-    try_write(e, 1288, 3, 0, 512);
-    try_write(e, 1288, 3, 0, 511);
-    try_write(e, 1288, 3, 0, 0);
-    try_write(e, 1287, 3, 0, 512);
-    try_write(e, 1287, 0, 65, 511);
-    try_write(e, 1288, 0, 0, 512);
-    try_write(e, 1288, 257, 0, 10752);
-    try_write(e, 1288, 0, 65, 511);
-    try_write(e, 1288, 3, 64, 512);
-    try_write(e, 1288, 3, 65, 512);
-    try_write(e, 1288, 2, 65, 511);
-    try_write(e, 1288, 2, 0, 512);
-    try_write(e, 1288, 2, 0, 511);
+    try_write(e, STORE_WORDS, 3, 0, MAX_FILE + 48);
+    try_write(e, STORE_WORDS, 3, 0, 512);
+    try_write(e, STORE_WORDS, 3, 0, 511);
+    try_write(e, STORE_WORDS, 3, 0, 0);
+    try_write(e, STORE_WORDS - 1, 3, 0, 512);
+    try_write(e, STORE_WORDS - 1, 0, MAX_GROUPS + 1, 511);
+    try_write(e, STORE_WORDS, 0, 0, 512);
+    try_write(e, STORE_WORDS, MAX_STATES + 1, 0, MAX_FILE);
+    try_write(e, STORE_WORDS, 0, MAX_GROUPS + 1, 511);
+    try_write(e, STORE_WORDS, 3, MAX_GROUPS, 512);
+    try_write(e, STORE_WORDS, 3, MAX_GROUPS + 1, 512);
+    try_write(e, STORE_WORDS, 2, MAX_GROUPS + 1, 511);
+    try_write(e, STORE_WORDS, 2, 0, 512);
+    try_write(e, STORE_WORDS, 2, 0, 511);
 }
 
 // No output is too short for it; then 10, and 14 for groups without states.
 fn write_draft() {
-    let t = [0u64; 1300];
+    let t = [0u64; STORE_WORDS + 12];
     text(b"write a draft\n");
-    try_write(&t, 1288, 0, 0, 0);
-    try_write(&t, 1300, 0, 0, 512);
-    try_write(&t, 1287, 0, 0, 0);
-    try_write(&t, 1288, 0, 1, 512);
-    try_write(&t, 1288, 0, 65, 0);
+    try_write(&t, STORE_WORDS, 0, 0, 0);
+    try_write(&t, STORE_WORDS + 12, 0, 0, 512);
+    try_write(&t, STORE_WORDS - 1, 0, 0, 0);
+    try_write(&t, STORE_WORDS, 0, 1, 512);
+    try_write(&t, STORE_WORDS, 0, MAX_GROUPS + 1, 0);
 }
 
 // At last beside no input at all.
 fn read_stores(e: &[u64]) {
     text(b"read E\n");
-    try_file(e, 3, 0, 512, 1288, NOWHERE, 0, NOWHERE, 0);
-    try_file(e, 3, 0, 512, 1300, NOWHERE, 0, NOWHERE, 0);
-    try_file(e, 3, 0, 512, 1287, NOWHERE, 0, NOWHERE, 0);
-    try_file(e, 3, 0, 0, 1287, NOWHERE, 0, NOWHERE, 0);
+    try_file(e, 3, 0, 512, STORE_WORDS, NOWHERE, 0, NOWHERE, 0);
+    try_file(e, 3, 0, 512, STORE_WORDS + 12, NOWHERE, 0, NOWHERE, 0);
+    try_file(e, 3, 0, 512, STORE_WORDS - 1, NOWHERE, 0, NOWHERE, 0);
+    try_file(e, 3, 0, 0, STORE_WORDS - 1, NOWHERE, 0, NOWHERE, 0);
 }
 
 fn read_e(e: &[u64], at: usize, value: u8, at2: usize, value2: u8) {
-    try_file(e, 3, 0, 512, 1288, at, value, at2, value2);
+    try_file(e, 3, 0, 512, STORE_WORDS, at, value, at2, value2);
 }
 
 // No bytes, which are a draft; then too few and too many; at last beside a wrong number.
 fn read_lengths(e: &[u64]) {
-    try_file(e, 3, 0, 0, 1288, NOWHERE, 0, NOWHERE, 0);
-    try_file(e, 3, 0, 511, 1288, NOWHERE, 0, NOWHERE, 0);
-    try_file(e, 3, 0, 513, 1288, NOWHERE, 0, NOWHERE, 0);
-    try_file(e, 3, 0, 511, 1288, 0, 1, NOWHERE, 0);
+    try_file(e, 3, 0, 0, STORE_WORDS, NOWHERE, 0, NOWHERE, 0);
+    try_file(e, 3, 0, 511, STORE_WORDS, NOWHERE, 0, NOWHERE, 0);
+    try_file(e, 3, 0, 513, STORE_WORDS, NOWHERE, 0, NOWHERE, 0);
+    try_file(e, 3, 0, 511, STORE_WORDS, 0, 1, NOWHERE, 0);
 }
 
 // The number, alone and beside a wrong check; the check, alone and beside n 0.
@@ -251,11 +254,11 @@ fn read_blocks(e: &[u64]) {
     read_e(e, 2, 0, 510, 97);
 }
 
-// n 0; n 257; n 259 beside g 256; g 64; g 65; g 256; g 65 beside too few blocks for 61 states.
+// n 0; n 513; n 515 beside g 256; g 64; g 65; g 256; g 65 beside too few blocks for 61 states.
 fn read_numbers(e: &[u64]) {
     read_e(e, 2, 0, NOWHERE, 0);
-    read_e(e, 2, 1, 3, 1);
-    read_e(e, 3, 1, 5, 1);
+    read_e(e, 2, 1, 3, 2);
+    read_e(e, 3, 2, 5, 1);
     read_e(e, 4, 64, NOWHERE, 0);
     read_e(e, 4, 65, NOWHERE, 0);
     read_e(e, 5, 1, NOWHERE, 0);
@@ -267,9 +270,9 @@ fn read_numbers(e: &[u64]) {
 fn read_numbers_of_blocks(e: &[u64]) {
     read_e(e, 2, 62, NOWHERE, 0);
     read_e(e, 2, 62, 13, 128);
-    try_file(e, 3, 0, 1024, 1288, NOWHERE, 0, NOWHERE, 0);
-    try_file(e, 3, 0, 1024, 1288, 512, 1, NOWHERE, 0);
-    try_file(e, 3, 0, 1024, 1288, 512, 1, 6, 9);
+    try_file(e, 3, 0, 1024, STORE_WORDS, NOWHERE, 0, NOWHERE, 0);
+    try_file(e, 3, 0, 1024, STORE_WORDS, 512, 1, NOWHERE, 0);
+    try_file(e, 3, 0, 1024, STORE_WORDS, 512, 1, 6, 9);
 }
 
 // State 3 initial; 3 forbidden; 7 in the last row; 3 initial beside filler; the first and the last byte of filler.
@@ -308,9 +311,9 @@ fn table_with_more() {
     put_table(&mut t, b"0", b"2", b"00 12 30");
     group(&mut t, 0, 0);
     text(b"write E with a group and a step from 3\n");
-    try_write(&t, 1288, 4, 0, 512);
-    try_write(&t, 1288, 3, 1, 512);
-    try_write(&t, 1288, 4, 1, 512);
+    try_write(&t, STORE_WORDS, 4, 0, 512);
+    try_write(&t, STORE_WORDS, 3, 1, 512);
+    try_write(&t, STORE_WORDS, 4, 1, 512);
 }
 
 fn put_h(h: &mut [u64]) {
@@ -325,20 +328,20 @@ fn put_h(h: &mut [u64]) {
 // L either side of 508: without a group, then with one, which is empty.
 fn write_h(h: &[u64]) {
     text(b"write H\n");
-    try_write(h, 1288, 61, 0, 512);
-    try_write(h, 1288, 61, 1, 1024);
-    try_write(h, 1288, 61, 1, 1023);
+    try_write(h, STORE_WORDS, 61, 0, 512);
+    try_write(h, STORE_WORDS, 61, 1, 1024);
+    try_write(h, STORE_WORDS, 61, 1, 1023);
 }
 
 // At last with state 61 in the last row.
 fn read_h(h: &[u64]) {
     text(b"read H\n");
-    try_file(h, 61, 0, 512, 1288, NOWHERE, 0, NOWHERE, 0);
-    try_file(h, 61, 0, 512, 1288, 509, 48, NOWHERE, 0);
+    try_file(h, 61, 0, 512, STORE_WORDS, NOWHERE, 0, NOWHERE, 0);
+    try_file(h, 61, 0, 512, STORE_WORDS, 509, 48, NOWHERE, 0);
 }
 
 fn read_h1(h: &[u64], at: usize, value: u8, at2: usize, value2: u8) {
-    try_file(h, 61, 1, 1024, 1288, at, value, at2, value2);
+    try_file(h, 61, 1, 1024, STORE_WORDS, at, value, at2, value2);
 }
 
 // All of it; the first block alone; the second block's number; its check; both; the first one's number and its check; the first one's
@@ -346,7 +349,7 @@ fn read_h1(h: &[u64], at: usize, value: u8, at2: usize, value2: u8) {
 fn read_h_blocks(h: &[u64]) {
     text(b"read H with a group\n");
     read_h1(h, NOWHERE, 0, NOWHERE, 0);
-    try_file(h, 61, 1, 512, 1288, NOWHERE, 0, NOWHERE, 0);
+    try_file(h, 61, 1, 512, STORE_WORDS, NOWHERE, 0, NOWHERE, 0);
     read_h1(h, 512, 0, NOWHERE, 0);
     read_h1(h, 1023, 255, NOWHERE, 0);
     read_h1(h, 512, 7, 1023, 255);
@@ -373,28 +376,88 @@ fn table_h() {
 
 fn write_largest(t: &[u64]) {
     text(b"write the largest table\n");
-    try_write(t, 1300, 256, 64, 10752);
-    try_write(t, 1288, 256, 64, 10751);
-    try_write(t, 1288, 257, 64, 10752);
-    try_write(t, 1288, 256, 65, 10752);
-    try_write(t, 1288, 256, 63, 10752);
-    try_write(t, 1288, 255, 64, 10752);
+    try_write(t, STORE_WORDS + 12, MAX_STATES, MAX_GROUPS, MAX_FILE);
+    try_write(t, STORE_WORDS, MAX_STATES, MAX_GROUPS, MAX_FILE - 1);
+    try_write(t, STORE_WORDS, MAX_STATES + 1, MAX_GROUPS, MAX_FILE);
+    try_write(t, STORE_WORDS, MAX_STATES, MAX_GROUPS + 1, MAX_FILE);
+    try_write(t, STORE_WORDS, MAX_STATES, MAX_GROUPS - 1, MAX_FILE);
+    try_write(t, STORE_WORDS, MAX_STATES - 1, MAX_GROUPS, MAX_FILE);
 }
 
-// All of it; a byte more; a block more; a block less; g 65; n 257 and g 65.
+// All of it; a byte more; a block more; a block less; g 65; n 513 and g 65.
 fn read_largest(t: &[u64]) {
     text(b"read the largest table\n");
-    try_file(t, 256, 64, 10752, 1300, NOWHERE, 0, NOWHERE, 0);
-    try_file(t, 256, 64, 10753, 1288, NOWHERE, 0, NOWHERE, 0);
-    try_file(t, 256, 64, 11264, 1288, NOWHERE, 0, NOWHERE, 0);
-    try_file(t, 256, 64, 10240, 1288, NOWHERE, 0, NOWHERE, 0);
-    try_file(t, 256, 64, 10752, 1288, 4, 65, NOWHERE, 0);
-    try_file(t, 256, 64, 10752, 1288, 2, 1, 4, 65);
+    try_file(
+        t,
+        MAX_STATES,
+        MAX_GROUPS,
+        MAX_FILE,
+        STORE_WORDS + 12,
+        NOWHERE,
+        0,
+        NOWHERE,
+        0,
+    );
+    try_file(
+        t,
+        MAX_STATES,
+        MAX_GROUPS,
+        MAX_FILE + 1,
+        STORE_WORDS,
+        NOWHERE,
+        0,
+        NOWHERE,
+        0,
+    );
+    try_file(
+        t,
+        MAX_STATES,
+        MAX_GROUPS,
+        MAX_FILE + 512,
+        STORE_WORDS,
+        NOWHERE,
+        0,
+        NOWHERE,
+        0,
+    );
+    try_file(
+        t,
+        MAX_STATES,
+        MAX_GROUPS,
+        MAX_FILE - 512,
+        STORE_WORDS,
+        NOWHERE,
+        0,
+        NOWHERE,
+        0,
+    );
+    try_file(
+        t,
+        MAX_STATES,
+        MAX_GROUPS,
+        MAX_FILE,
+        STORE_WORDS,
+        4,
+        65,
+        NOWHERE,
+        0,
+    );
+    try_file(
+        t,
+        MAX_STATES,
+        MAX_GROUPS,
+        MAX_FILE,
+        STORE_WORDS,
+        2,
+        1,
+        4,
+        65,
+    );
 }
 
-// A word past 1,288 is not 0, and is not read.
+// A word past those of a table is not 0, and is not read.
 fn table_largest() {
-    let mut t = [0u64; 1300];
+    let mut t = [0u64; STORE_WORDS + 12];
     generate_largest(&mut t);
     add(&mut t, STORE_WORDS, 3);
     write_largest(&t);

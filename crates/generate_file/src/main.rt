@@ -15,6 +15,7 @@ ghost use lib.ListN.{length};
 ghost use Rattle.model.specs.Files.{maxFile};
 ghost use Rattle.generate_file.specs.Words.{wordOf};
 ghost use Rattle.generate_file.specs.LoadFile.{fileMade, fileBuffer};
+use block_file::MAX_FILE;
 use block_file::Written;
 use block_file::write;
 use generator::Generated;
@@ -23,8 +24,6 @@ use libc::STDERR_FILENO;
 use libc::STDOUT_FILENO;
 use report::ROOM;
 use report::write_refused;
-use table::MAX_GROUPS;
-use table::MAX_STATES;
 use table::STORE_WORDS;
 
 // The site of the file that the program writes.
@@ -32,9 +31,6 @@ const SITE: usize = 0;
 
 // Seeds are below 2^32.
 const LIMIT: usize = 4294967296;
-
-// The largest file.
-const FILE: usize = 512 * ((4 + (MAX_STATES + 7) / 8 * (2 + MAX_GROUPS + MAX_STATES) + 507) / 508);
 
 fn main() {
     if os::arg_count() != 4 {
@@ -123,10 +119,10 @@ fn least(a: usize, b: usize) -> usize
 
 // ---- the file
 
-fn file_room() -> [u8; FILE]
+fn file_room() -> [u8; MAX_FILE]
     ensures { λ r. ⌜ maxFile ≡ length r ⌝ }
 {
-    [0; FILE]
+    [0; MAX_FILE]
 }
 
 // What generate filled, write writes.

@@ -21,7 +21,7 @@ use borrow.Author.Tests.{ltb-false, lt-ltb, le-ltb, eqb-true, eqb-false, eq-eqb,
 use lib.Dec.{eqb, ltb}
 use lib.ListN.{length, getD}
 use Rattle.model.specs.Sets.{maxStates, number}
-use Rattle.model.specs.Stores.{maxGroups, storeWords, tableOf, concat, layout, Ground, refuse, beyond, storeGround, sharedGrounds}
+use Rattle.model.specs.Stores.{headSets, maxGroups, storeWords, tableOf, concat, layout, Ground, refuse, beyond, storeGround, sharedGrounds}
 use Rattle.model.specs.Blocks.{blockBytes, contentBytes, checkAt, maxSite, siteGround, le16At, checkOf, blocksFor, part, contentsOf, blockGrounds}
 use Rattle.model.specs.Contents.{contentLength, setNumber, tableIn}
 use Rattle.model.specs.Files.{fileOf, fileLength, maxFile}
@@ -100,7 +100,7 @@ pub record Readable (input : List ℕ) (site room n g : ℕ) : Type 0 where
   pub small : n ≤ maxStates
   pub few : g ≤ maxGroups
   pub blocks : length input / blockBytes ≡ blocksFor (contentLength n g)
-  pub within : (k : ℕ) → k < 2 + g + n → beyond n (setNumber (contentsOf input) n k) ≡ false
+  pub within : (k : ℕ) → k < headSets + g + n → beyond n (setNumber (contentsOf input) n k) ≡ false
   pub filler : (i : ℕ) → contentLength n g ≤ i → i < contentBytes * (length input / blockBytes) → getD (contentsOf input) i 0 ≡ 0
 
 module _ (site : ℕ) (block : List ℕ) (k : ℕ) where
@@ -166,7 +166,7 @@ module _ (input : List ℕ) (site room : ℕ) where
         small = ltb-false maxStates n (states .1);
         few = ltb-false maxGroups g (late .1 .0);
         blocks = eqb-true m _ (not-false _ (late .1 .1 .0));
-        within = any-none (λ k. beyond n (setNumber bytes n k)) (2 + g + n) (late .1 .1 .1 .0);
+        within = any-none (λ k. beyond n (setNumber bytes n k)) (headSets + g + n) (late .1 .1 .1 .0);
         filler = nonZero-zero bytes (contentLength n g) (contentBytes * m) (late .1 .1 .1 .1 .0);
       }
 
@@ -208,7 +208,7 @@ module _ (input : List ℕ) (site room : ℕ) where
                     (
                       ap not (eq-eqb m (blocksFor (contentLength n g)) (r .blocks)),
                       (
-                        no-any (λ k. beyond n (setNumber bytes n k)) (2 + g + n) (r .within),
+                        no-any (λ k. beyond n (setNumber bytes n k)) (headSets + g + n) (r .within),
                         (zero-nonZero bytes (contentLength n g) (contentBytes * m) (r .filler), tt),
                       ),
                     ),

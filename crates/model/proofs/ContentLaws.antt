@@ -28,7 +28,7 @@ use lib.ListN.{length, getD, length-append, List·getD-append}
 use lib.Seq.{getD-append-add}
 use Rattle.model.specs.Sets.{WORDS, maxStates, Set, tabulate, bit, member, number}
 use Rattle.model.specs.Tables.{Table}
-use Rattle.model.specs.Stores.{concat}
+use Rattle.model.specs.Stores.{headSets, concat}
 use Rattle.model.specs.Blocks.{le16, le16At}
 use Rattle.model.specs.Contents.{setWidth, setBytes, sets, headerBytes, contents, contentLength, setIn, setNumber, tableIn}
 use Rattle.model.specs.RoundTrip.{Bounded}
@@ -143,20 +143,20 @@ module _ (bytes : List ℕ) (w at : ℕ) where
 -- ---- the sets and the contents of a table with g groups
 
 module _ (t : Table) {g : ℕ} (many : length (t .groups) ≡ g) where
-  pub length-sets : length (sets t) ≡ 2 + g + t .n
+  pub length-sets : length (sets t) ≡ headSets + g + t .n
   unfolding sets
   length-sets = omega (arith, length-append (t .groups) (tabulate (t .n) (t .row)), length-tabulate (t .row) (t .n))
 
-  pub sets-group : (j : ℕ) → j < g → getD (sets t) (2 + j) [] ≡ getD (t .groups) j []
+  pub sets-group : (j : ℕ) → j < g → getD (sets t) (headSets + j) [] ≡ getD (t .groups) j []
   unfolding sets
   sets-group j h =
       getD-append-add (t .initial ∷ t .forbidden ∷ []) (t .groups ++ tabulate (t .n) (t .row)) j []
       ∙ List·getD-append (t .groups) (tabulate (t .n) (t .row)) [] j (subst (λ (m : ℕ). j < m) (sym many) h)
 
-  pub sets-row : (s : ℕ) → s < t .n → getD (sets t) (2 + g + s) [] ≡ t .row s
+  pub sets-row : (s : ℕ) → s < t .n → getD (sets t) (headSets + g + s) [] ≡ t .row s
   unfolding sets
   sets-row s h =
-      let place : 2 + g + s ≡ 2 + (length (t .groups) + s) = omega arith in
+      let place : headSets + g + s ≡ headSets + (length (t .groups) + s) = omega arith in
       ap (λ (i : ℕ). getD (sets t) i []) place
       ∙ getD-append-add (t .initial ∷ t .forbidden ∷ []) (t .groups ++ tabulate (t .n) (t .row)) (length (t .groups) + s) []
       ∙ getD-append-add (t .groups) (tabulate (t .n) (t .row)) s []
@@ -165,9 +165,9 @@ module _ (t : Table) {g : ℕ} (many : length (t .groups) ≡ g) where
   pub sets-each : (P : ℕ → Set → Type 0)
       → P 0 (t .initial)
       → P 1 (t .forbidden)
-      → ((j : ℕ) → j < g → P (2 + j) (getD (t .groups) j []))
-      → ((s : ℕ) → s < t .n → P (2 + g + s) (t .row s))
-      → (k : ℕ) → k < 2 + g + t .n → P k (getD (sets t) k [])
+      → ((j : ℕ) → j < g → P (headSets + j) (getD (t .groups) j []))
+      → ((s : ℕ) → s < t .n → P (headSets + g + s) (t .row s))
+      → (k : ℕ) → k < headSets + g + t .n → P k (getD (sets t) k [])
   unfolding sets
   sets-each P i f gs rs zero h = i
   sets-each P i f gs rs (suc zero) h = f
@@ -175,12 +175,12 @@ module _ (t : Table) {g : ℕ} (many : length (t .groups) ≡ g) where
       ⊎-elim
       (λ l.
       let place : 2 + j ≡ suc (suc j) = omega arith in
-      subst (λ (k : ℕ). P k (getD (sets t) k [])) place (subst (P (2 + j)) (sym (sets-group j l)) (gs j l)))
+      subst (λ (k : ℕ). P k (getD (sets t) k [])) place (subst (P (headSets + j)) (sym (sets-group j l)) (gs j l)))
       (λ l.
       let s = j - g in
-      let place : 2 + g + s ≡ suc (suc j) = omega arith in
+      let place : headSets + g + s ≡ suc (suc j) = omega arith in
       let few : s < t .n = omega arith in
-      subst (λ (k : ℕ). P k (getD (sets t) k [])) place (subst (P (2 + g + s)) (sym (sets-row s few)) (rs s few)))
+      subst (λ (k : ℕ). P k (getD (sets t) k [])) place (subst (P (headSets + g + s)) (sym (sets-row s few)) (rs s few)))
       (lt-or-ge j g)
 
   -- what stands behind the header
@@ -193,7 +193,7 @@ module _ (t : Table) {g : ℕ} (many : length (t .groups) ≡ g) where
   pub length-contents : length (contents t) ≡ contentLength (t .n) g
   unfolding contents setsJoined
   length-contents =
-      let behind : length setsJoined ≡ setWidth (t .n) * (2 + g + t .n) =
+      let behind : length setsJoined ≡ setWidth (t .n) * (headSets + g + t .n) =
       length-concat _ (setWidth (t .n)) (length (sets t)) sets-wide ∙ ap (λ (m : ℕ). setWidth (t .n) * m) length-sets in
       omega arith
 
@@ -203,7 +203,7 @@ module _ (t : Table) {g : ℕ} (many : length (t .groups) ≡ g) where
       List·getD-append (le16 (t .n) ++ le16 (length (t .groups))) setsJoined 0 i h
       ∙ ap (λ (m : ℕ). getD (le16 (t .n) ++ le16 m) i 0) many
 
-  pub contents-set : (k j : ℕ) → k < 2 + g + t .n → j < setWidth (t .n)
+  pub contents-set : (k j : ℕ) → k < headSets + g + t .n → j < setWidth (t .n)
       → getD (contents t) (headerBytes + setWidth (t .n) * k + j) 0 ≡ number (member (getD (sets t) k [])) (8 * j) 8
   unfolding contents setsJoined
   contents-set k j h l =
@@ -237,6 +237,6 @@ by-content P w m header set i h =
     (lt-or-ge i headerBytes)
 
 -- a state of the table has its row in the contents
-pub tableIn-row : (bytes : List ℕ) (n g s : ℕ) → s < n → (tableIn bytes n g) .row s ≡ setNumber bytes n (2 + g + s)
+pub tableIn-row : (bytes : List ℕ) (n g s : ℕ) → s < n → (tableIn bytes n g) .row s ≡ setNumber bytes n (headSets + g + s)
 unfolding tableIn
 tableIn-row bytes n g s h = rw (lt-ltb s n h)

@@ -17,7 +17,7 @@ use Rattle.model.specs.Sets.{WORDS, maxStates, Set, filter, member, empt
 use Rattle.model.specs.Tables.{post}
 use Rattle.model.specs.Rounds.{iterate, forward, isSafe, roundOf, firstRound, safe, settle, rounds, run}
 use Rattle.model.specs.Paths.{shortest, hasPath, smallestPath}
-use Rattle.model.specs.Stores.{forbiddenAt, groupAt, rowAt, storeWords, setAt, tableOf, layout, Ground, refuse, badStates, sharedGrounds}
+use Rattle.model.specs.Stores.{headSets, forbiddenAt, groupAt, rowAt, storeWords, setAt, tableOf, layout, Ground, refuse, badStates, sharedGrounds}
 use Rattle.model.specs.Blocks.{contentsOf}
 use Rattle.model.specs.Contents.{setIn, setNumber, tableIn}
 use Rattle.model.specs.Calls.{overwrite, Decision, decisionOf, decideBuffer, Shortest, shortestGrounds, shortestAnswer, shortestBuffer, TableRead, statesIn, blocksGrounds, contentGrounds, readBuffer, Written, writeAnswer}
@@ -56,7 +56,7 @@ zeros-hold bytes =
       initial = zeros-empty 0 (omega arith) ∙ sym (setNumber-none bytes 0);
       forbidden = zeros-empty forbiddenAt (omega arith) ∙ sym (setNumber-none bytes 1);
       group = λ j h.
-          let group : ℕ → Set = λ i. setNumber bytes 0 (2 + i) in
+          let group : ℕ → Set = λ i. setNumber bytes 0 (headSets + i) in
           zeros-empty (groupAt j) (omega arith) ∙ sym (getD-past (tabulate 0 group) j empty (omega (arith, length-tabulate group 0)));
       row = λ s h. zeros-empty (rowAt s) (omega arith) ∙ sym (rw (le-ltb s 0 (omega arith)));
     }

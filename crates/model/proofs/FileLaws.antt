@@ -16,7 +16,7 @@ use lib.Dec.{eqb}
 use lib.ListN.{length, getD}
 use Rattle.model.specs.Sets.{maxStates}
 use Rattle.model.specs.Tables.{Table}
-use Rattle.model.specs.Stores.{maxGroups}
+use Rattle.model.specs.Stores.{headSets, maxGroups}
 use Rattle.model.specs.Blocks.{blockBytes, contentBytes, contentAt, blocksFor, blockOf, part, contentsOf}
 use Rattle.model.specs.Contents.{setWidth, contents, contentLength}
 use Rattle.model.specs.Files.{blockFile, blockFileLength, fileOf, fileLength, maxFile}
@@ -92,5 +92,5 @@ pub fileLength-most : (n g : ℕ) → n ≤ maxStates → g ≤ maxGroups → fi
 unfolding fileLength
 fileLength-most n g h k =
     let width : setWidth n ≤ setWidth maxStates = omega arith in
-    let count : 2 + g + n ≤ 2 + maxGroups + maxStates = omega arith in
+    let count : headSets + g + n ≤ headSets + maxGroups + maxStates = omega arith in
     by-cond (λ (l : ℕ). l ≤ maxFile) (eqb n 0) 0 (blockFileLength n g) (λ q. omega arith) (λ q. omega (arith, mul-le-mul width count))

@@ -21,7 +21,7 @@ use lib.Dec.{ltb}
 use lib.ListN.{length, getD, take}
 use Rattle.model.specs.Sets.{WORDS, maxStates, Set, tabulate, member, number, empty}
 use Rattle.model.specs.Tables.{Table}
-use Rattle.model.specs.Stores.{maxGroups, forbiddenAt, groupAt, rowAt, storeWords, setAt, tableOf, concat, layout, refuse, beyond}
+use Rattle.model.specs.Stores.{headSets, maxGroups, forbiddenAt, groupAt, rowAt, storeWords, setAt, tableOf, concat, layout, refuse, beyond}
 use Rattle.model.specs.Blocks.{blockBytes, contentBytes, checkAt, maxSite, le16, le16At, checkOf, blocksFor, blockOf, part, contentsOf}
 use Rattle.model.specs.Contents.{setWidth, sets, headerBytes, contents, contentLength, setNumber, tableIn}
 use Rattle.model.specs.Files.{blockFile, blockFileLength, fileOf, fileLength, maxFile}
@@ -43,7 +43,7 @@ record Storable (t : Table) (g : ℕ) : Type 0 where
   many : length (t .groups) ≡ g
   small : t .n ≤ maxStates
   few : g ≤ maxGroups
-  within : (k : ℕ) → k < 2 + g + t .n → Within (t .n) (getD (sets t) k [])
+  within : (k : ℕ) → k < headSets + g + t .n → Within (t .n) (getD (sets t) k [])
 
 module _ (site : ℕ) (t : Table) (g : ℕ) (ok : Storable t g) (some : t .n ≡ 0 → ⊥) where
   read-n : le16At (contentsOf (blockFile site t)) 0 ≡ t .n
@@ -58,7 +58,7 @@ module _ (site : ℕ) (t : Table) (g : ℕ) (ok : Storable t g) (some : t .n ≡
       (contentsOf-blockFile site t 2 ∙ contents-header t (ok .many) 2 (omega arith))
       (contentsOf-blockFile site t 3 ∙ contents-header t (ok .many) 3 (omega arith))
 
-  read-set : (k : ℕ) → k < 2 + g + t .n → setNumber (contentsOf (blockFile site t)) (t .n) k ≡ getD (sets t) k []
+  read-set : (k : ℕ) → k < headSets + g + t .n → setNumber (contentsOf (blockFile site t)) (t .n) k ≡ getD (sets t) k []
   unfolding setNumber
   read-set k h =
       let w = setWidth (t .n) in
@@ -112,18 +112,18 @@ module _ (store : List ℕ) (n g : ℕ) (words : Bounded (2 ^ 64) store) (held :
       }
 
   -- contents that have the sets of the store are those of a table that the store holds
-  read-holds : (bytes : List ℕ) → ((k : ℕ) → k < 2 + g + n → setNumber bytes n k ≡ getD (sets (tableOf store n g)) k []) → Holds store (tableIn bytes n g)
+  read-holds : (bytes : List ℕ) → ((k : ℕ) → k < headSets + g + n → setNumber bytes n k ≡ getD (sets (tableOf store n g)) k []) → Holds store (tableIn bytes n g)
   unfolding tableOf tableIn sets
   read-holds bytes e =
       let clean = malformed-clean store n g (held .clean) in
       let small = held .small in
       let t = tableOf store n g in
-      let group : ℕ → Set = λ i. setNumber bytes n (2 + i) in
+      let group : ℕ → Set = λ i. setNumber bytes n (headSets + i) in
       record {
         initial = sym (e 0 (omega arith));
         forbidden = sym (e 1 (omega arith));
         group = λ j h. ⊎-elim
-            (λ l. sym (getD-tabulate group g j empty l ∙ e (2 + j) (omega arith) ∙ sets-group t (length-tabulate _ g) j l ∙ getD-tabulate _ g j [] l))
+            (λ l. sym (getD-tabulate group g j empty l ∙ e (headSets + j) (omega arith) ∙ sets-group t (length-tabulate _ g) j l ∙ getD-tabulate _ g j [] l))
             (λ l.
             setAt-empty store (groupAt j) (omega (arith, held .long)) (λ v x. clean .no-group (groupAt j + v) (omega arith) (omega arith))
             ∙ sym (getD-past (tabulate g group) j empty (omega (arith, length-tabulate group g))))
@@ -131,7 +131,7 @@ module _ (store : List ℕ) (n g : ℕ) (words : Bounded (2 ^ 64) store) (held :
         row = λ s h. by-cond (λ (X : Set). setAt store (rowAt s) ≡ X) (ltb s n) _ empty
             (λ q.
             let l = ltb-true s n q in
-            sym (tableIn-row bytes n g s l ∙ e (2 + g + s) (omega arith) ∙ sets-row t (length-tabulate _ g) s l ∙ row-is store n g s l))
+            sym (tableIn-row bytes n g s l ∙ e (headSets + g + s) (omega arith) ∙ sets-row t (length-tabulate _ g) s l ∙ row-is store n g s l))
             (λ q.
             let l = ltb-false s n q in
             setAt-empty store (rowAt s) (omega (arith, held .long)) (λ v x. clean .no-row (rowAt s + v) (omega arith) (omega arith)));
@@ -148,7 +148,7 @@ file-is store n g site out w =
 module _ (store : List ℕ) (n g site : ℕ) (out other : List ℕ) (words : Bounded (2 ^ 64) store) (w : Writable store n g site (length out)) where
   -- a file that read takes, and that has n, g and the sets of the store
   reads-back : (file : List ℕ) → refuse (readGrounds file site (length other)) ≡ 0 → statesIn file ≡ n → groupsIn file ≡ g
-      → ((k : ℕ) → k < 2 + g + n → setNumber (contentsOf file) n k ≡ getD (sets (tableOf store n g)) k []) → WriteRead store n g site file other
+      → ((k : ℕ) → k < headSets + g + n → setNumber (contentsOf file) n k ≡ getD (sets (tableOf store n g)) k []) → WriteRead store n g site file other
   reads-back file e p q sets-are =
       record {
         answer = read-answer file site (length other) e ∙ ap₂ (λ (a b : ℕ). record { refusal = 0; n = a; g = b }) p q;
@@ -187,11 +187,11 @@ module _ (input : List ℕ) (n g : ℕ) where
   unfolding tableIn
   many-groups = length-tabulate _ g
 
-  sets-table : (k : ℕ) → k < 2 + g + n → getD (sets table) k [] ≡ setNumber (contentsOf input) n k
+  sets-table : (k : ℕ) → k < headSets + g + n → getD (sets table) k [] ≡ setNumber (contentsOf input) n k
   unfolding tableIn
   sets-table =
       sets-each table many-groups (λ k X. X ≡ setNumber (contentsOf input) n k) refl refl
-      (λ j h. getD-tabulate (λ i. setNumber (contentsOf input) n (2 + i)) g j [] h) (λ s h. tableIn-row (contentsOf input) n g s h)
+      (λ j h. getD-tabulate (λ i. setNumber (contentsOf input) n (headSets + i)) g j [] h) (λ s h. tableIn-row (contentsOf input) n g s h)
 
   laid : Laid table
   unfolding tableIn setNumber
@@ -202,11 +202,11 @@ module _ (input : List ℕ) (n g : ℕ) where
         initial = (setIn-proper bytes w (headerBytes + w * 0)) .long;
         forbidden = (setIn-proper bytes w (headerBytes + w * 1)) .long;
         group = λ j. ⊎-elim
-            (λ h. ap length (getD-tabulate (λ i. setNumber bytes n (2 + i)) g j empty h) ∙ (setIn-proper bytes w (headerBytes + w * (2 + j))) .long)
+            (λ h. ap length (getD-tabulate (λ i. setNumber bytes n (headSets + i)) g j empty h) ∙ (setIn-proper bytes w (headerBytes + w * (headSets + j))) .long)
             (λ h. ap length (getD-past (table .groups) j empty (omega (arith, many-groups))) ∙ empty-proper .long)
             (lt-or-ge j g);
         row = λ s.
-            by-cond (λ (X : Set). length X ≡ WORDS) (ltb s n) _ empty (λ q. (setIn-proper bytes w (headerBytes + w * (2 + g + s))) .long) (λ q. empty-proper .long);
+            by-cond (λ (X : Set). length X ≡ WORDS) (ltb s n) _ empty (λ q. (setIn-proper bytes w (headerBytes + w * (headSets + g + s))) .long) (λ q. empty-proper .long);
       }
 
 module _ (input : List ℕ) (site room n g : ℕ) (u : Bounded 256 input) (r : Readable input site room n g) where
@@ -218,7 +218,7 @@ module _ (input : List ℕ) (site room n g : ℕ) (u : Bounded 256 input) (r : R
       let small = contentsOf-bounded input u in
       let fits : 8 * w ≤ maxStates = omega (arith, r .small) in
       ⊎-elim
-      (by-content (λ j. getD (contents (table input n g)) j 0 ≡ getD bytes j 0) w (2 + g + n)
+      (by-content (λ j. getD (contents (table input n g)) j 0 ≡ getD bytes j 0) w (headSets + g + n)
       (λ j h.
       contents-header (table input n g) (many-groups input n g) j h
       ∙ ap₂ (λ (a b : ℕ). getD (le16 a ++ le16 b) j 0) (sym (r .n-is)) (sym (r .g-is))
@@ -255,7 +255,7 @@ module _ (input store : List ℕ) (n g : ℕ) where
 
   module _ (small : n ≤ maxStates) (few : g ≤ maxGroups) where
     filled-held : storeWords ≤ length store → (n ≡ 0 → g ≡ 0)
-        → ((k : ℕ) → k < 2 + g + n → beyond n (setNumber (contentsOf input) n k) ≡ false) → Store filled n g
+        → ((k : ℕ) → k < headSets + g + n → beyond n (setNumber (contentsOf input) n k) ≡ false) → Store filled n g
     unfolding tableIn
     filled-held fits draft within =
         let t = tableIn (contentsOf input) n g in

@@ -25,7 +25,7 @@ use lib.ListN.{length, getD, take, drop, length-append, length-drop}
 use lib.Seq.{ext-getD, getD-take, getD-drop, length-take-le, take-add, drop-drop, take-at}
 use Rattle.model.specs.Sets.{WORDS, maxStates, Set, any, tabulate, member, setOf, empty}
 use Rattle.model.specs.Tables.{Table}
-use Rattle.model.specs.Stores.{maxGroups, forbiddenAt, groupAt, rowAt, storeWords, setAt, tableOf, concat, layout, beyond, nonZero, malformed}
+use Rattle.model.specs.Stores.{headSets, maxGroups, forbiddenAt, groupAt, rowAt, storeWords, setAt, tableOf, concat, layout, beyond, nonZero, malformed}
 use Rattle.model.specs.Contents.{sets}
 use Rattle.model.specs.Calls.{overwrite}
 use Rattle.model.specs.RoundTrip.{Bounded}
@@ -278,17 +278,17 @@ module _ (store : List ℕ) (t : Table) (h : Holds store t) {g : ℕ} (many : le
   unfolding sets tableOf
   holds-sets = λ i. h .initial i ∷ h .forbidden i ∷ (groups-at i ++ tabulate-cong _ _ (t .n) (λ s l. row-is store (t .n) g s l ∙ row-at s l) i)
 
-  pub holds-clean : ((k : ℕ) → k < 2 + g + t .n → beyond (t .n) (getD (sets t) k []) ≡ false) → Clean store (t .n) g
+  pub holds-clean : ((k : ℕ) → k < headSets + g + t .n → beyond (t .n) (getD (sets t) k []) ≡ false) → Clean store (t .n) g
   unfolding sets tableOf
   holds-clean within =
       let n = t .n in
       let u = tableOf store n g in
-      let held : (k : ℕ) → k < 2 + g + n → beyond n (getD (sets u) k []) ≡ false = λ k l. ap (λ xs. beyond n (getD xs k [])) holds-sets ∙ within k l in
+      let held : (k : ℕ) → k < headSets + g + n → beyond n (getD (sets u) k []) ≡ false = λ k l. ap (λ xs. beyond n (getD xs k [])) holds-sets ∙ within k l in
       record {
         initial = held 0 (omega arith);
         forbidden = held 1 (omega arith);
-        group = λ j l. ap (beyond n) (sym (sets-group u (length-tabulate _ g) j l ∙ getD-tabulate _ g j [] l)) ∙ held (2 + j) (omega arith);
-        row = λ s l. ap (beyond n) (sym (sets-row u (length-tabulate _ g) s l ∙ row-is store n g s l)) ∙ held (2 + g + s) (omega arith);
+        group = λ j l. ap (beyond n) (sym (sets-group u (length-tabulate _ g) j l ∙ getD-tabulate _ g j [] l)) ∙ held (headSets + j) (omega arith);
+        row = λ s l. ap (beyond n) (sym (sets-row u (length-tabulate _ g) s l ∙ row-is store n g s l)) ∙ held (headSets + g + s) (omega arith);
         no-group = λ i a b.
             let j = (i - groupAt 0) / WORDS in
             empty-setAt store (groupAt j) i (h .group j (omega arith) ∙ getD-past (t .groups) j empty (omega arith)) (omega arith) (omega arith);

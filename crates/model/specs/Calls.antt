@@ -21,7 +21,7 @@ use Rattle.model.specs.Sets.{maxStates, Set, empty, size, any}
 use Rattle.model.specs.Tables.{Table}
 use Rattle.model.specs.Rounds.{Outcome, safe, unsafe, undecided, run}
 use Rattle.model.specs.Paths.{shortest, hasPath, smallestPath}
-use Rattle.model.specs.Stores.{maxGroups, tableOf, concat, layout, Ground, refuse, beyond, nonZero, storeGround, tableGrounds, sharedGrounds}
+use Rattle.model.specs.Stores.{headSets, maxGroups, tableOf, concat, layout, Ground, refuse, beyond, nonZero, storeGround, tableGrounds, sharedGrounds}
 use Rattle.model.specs.Blocks.{blockBytes, contentBytes, siteGround, le16At, blocksFor, part, contentsOf, blockGrounds}
 use Rattle.model.specs.Contents.{contentLength, setNumber, tableIn}
 use Rattle.model.specs.Files.{fileOf, fileLength, maxFile}
@@ -126,7 +126,7 @@ contentGrounds input n g =
     (eqb n 0 || ltb maxStates n, 14)
     ∷ (ltb maxGroups g, 15)
     ∷ (not (eqb blocks (blocksFor (contentLength n g))), 16)
-    ∷ (any (2 + g + n) (λ k. beyond n (setNumber bytes n k)), 17)
+    ∷ (any (headSets + g + n) (λ k. beyond n (setNumber bytes n k)), 17)
     ∷ (nonZero bytes (contentLength n g) (contentBytes * blocks), 18)
     ∷ []
 

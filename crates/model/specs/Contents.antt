@@ -13,7 +13,7 @@ use lib.Dec.{ltb}
 use lib.ListN.{length, getD}
 use Rattle.model.specs.Sets.{Set, bit, member, number, setOf, empty, tabulate}
 use Rattle.model.specs.Tables.{Table}
-use Rattle.model.specs.Stores.{concat}
+use Rattle.model.specs.Stores.{headSets, concat}
 use Rattle.model.specs.Blocks.{le16}
 
 abbrev pub setWidth : ℕ → ℕ
@@ -35,7 +35,7 @@ abbrev pub headerBytes : ℕ
 headerBytes = 4
 
 abbrev pub contentLength : ℕ → ℕ → ℕ
-contentLength n g = headerBytes + setWidth n * (2 + g + n)
+contentLength n g = headerBytes + setWidth n * (headSets + g + n)
 
 -- ---- reading
 
@@ -53,6 +53,6 @@ tableIn bytes n g =
       n = n;
       initial = setNumber bytes n 0;
       forbidden = setNumber bytes n 1;
-      groups = tabulate g (λ j. setNumber bytes n (2 + j));
-      row = λ s. cond (ltb s n) (setNumber bytes n (2 + g + s)) empty;
+      groups = tabulate g (λ j. setNumber bytes n (headSets + j));
+      row = λ s. cond (ltb s n) (setNumber bytes n (headSets + g + s)) empty;
     }

@@ -48,4 +48,4 @@ pub record FileSizes : Type 0 where
   pub contents-long : (t : Table) → length (contents t) ≡ contentLength (t .n) (length (t .groups))
   pub file-long : (site : ℕ) (t : Table) → length (fileOf site t) ≡ fileLength (t .n) (length (t .groups))
   pub largest : (n g : ℕ) → n ≤ maxStates → g ≤ maxGroups → fileLength n g ≤ maxFile
-  pub largest-is : maxFile ≡ 21 * blockBytes
+  pub largest-is : maxFile ≡ 73 * blockBytes

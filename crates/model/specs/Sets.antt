@@ -22,7 +22,7 @@ use lib.ListN.{length, getD}
 
 -- The one place that says how wide a set is.
 abbrev pub WORDS : ℕ
-WORDS = 4
+WORDS = 8
 
 abbrev pub maxStates : ℕ
 maxStates = 64 * WORDS

@@ -10,15 +10,15 @@ use Rattle.model.specs.Files.{maxFile}
 use Rattle.model.specs.Calls.{maxAllowance, release}
 
 pub record Sizes : Type 0 where
-  pub words-of-a-set : WORDS ≡ 4
-  pub most-states : maxStates ≡ 256
+  pub words-of-a-set : WORDS ≡ 8
+  pub most-states : maxStates ≡ 512
   pub most-groups : maxGroups ≡ 64
-  pub words-of-a-store : storeWords ≡ 1288
-  pub forbidden-at : forbiddenAt ≡ 4
-  pub group-at : (j : ℕ) → groupAt j ≡ 8 + 4 * j
-  pub row-at : (s : ℕ) → rowAt s ≡ 264 + 4 * s
-  pub greatest-allowance : maxAllowance ≡ 256
-  pub release-allowance : release ≡ 256
+  pub words-of-a-store : storeWords ≡ 4624
+  pub forbidden-at : forbiddenAt ≡ 8
+  pub group-at : (j : ℕ) → groupAt j ≡ 16 + 8 * j
+  pub row-at : (s : ℕ) → rowAt s ≡ 528 + 8 * s
+  pub greatest-allowance : maxAllowance ≡ 512
+  pub release-allowance : release ≡ 512
   pub block : blockBytes ≡ 512
-  pub most-blocks : blocksFor (contentLength maxStates maxGroups) ≡ 21
-  pub largest-file : maxFile ≡ 10752
+  pub most-blocks : blocksFor (contentLength maxStates maxGroups) ≡ 73
+  pub largest-file : maxFile ≡ 37376

@@ -1,8 +1,9 @@
 -- The lent store, and what every call asks of it (the specification, "The store" and "Refusals").
 --
 --   maxGroups, storeWords      the greatest g, and the words that a table takes
---   groupAt j, rowAt s         where group j and the successors of state s begin (8 + 4j and 264 + 4s); the initial set begins at 0,
---                              the forbidden set at forbiddenAt
+--   headSets                   the sets that stand before the groups: initial and forbidden
+--   groupAt j, rowAt s         where group j and the successors of state s begin; the initial set begins at 0, the forbidden set at
+--                              forbiddenAt
 --   setAt store at             the set whose words begin at `at`
 --   tableOf store n g          the table that a store holds
 --   layout t                   the words of a table, those of unused groups and rows 0
@@ -26,17 +27,21 @@ use Rattle.model.specs.Tables.{Table}
 abbrev pub maxGroups : ℕ
 maxGroups = 64
 
+-- Initial and forbidden, in a store as in a file.
+abbrev pub headSets : ℕ
+headSets = 2
+
 abbrev pub forbiddenAt : ℕ
 forbiddenAt = WORDS
 
 abbrev pub groupAt : ℕ → ℕ
-groupAt j = 2 * WORDS + WORDS * j
+groupAt j = headSets * WORDS + WORDS * j
 
 abbrev pub rowAt : ℕ → ℕ
-rowAt s = (2 + maxGroups) * WORDS + WORDS * s
+rowAt s = (headSets + maxGroups) * WORDS + WORDS * s
 
 abbrev pub storeWords : ℕ
-storeWords = (2 + maxGroups + maxStates) * WORDS
+storeWords = (headSets + maxGroups + maxStates) * WORDS
 
 unfoldable pub setAt : List ℕ → ℕ → Set
 setAt store at = take WORDS (drop at store)

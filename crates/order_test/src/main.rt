@@ -1,8 +1,9 @@
 // The order in which the first round expands the states that it reaches: tables with circles, with groups, with nothing initial, without
 // states, a corridor whose states the groups tell apart, and refusals. tests/expected.py works out what this must print, from the
 // specification's text.
-ghost use Prim.Native.Nat.{_<_};
+ghost use Prim.Native.Nat.{_/_, _<_};
 ghost use Rattle.model.specs.Sets.{maxStates};
+ghost use Rattle.model.specs.Stores.{maxGroups};
 use rounds::Expansion;
 use rounds::Order;
 use rounds::first_order;
@@ -98,12 +99,12 @@ fn nothing_initial() {
     try_one(b"only a forbidden state initial", &t, 3, 0);
 }
 
-// The binary digits that tell MAX_STATES states apart.
-const DIGITS: usize = 8;
+// Two groups for each binary digit of a state, as many digits as there can be groups for: more than tell all states apart.
+const DIGITS: usize = MAX_GROUPS / 2;
 
 // State s in the group of its digit b, of the two groups that there are for it.
 fn put_digit(store: &mut [u64], s: usize, b: usize)
-    requires { ⌜ b < 64 ⌝ }
+    requires { ⌜ b < maxGroups / 2 ⌝ }
 {
     if s >> b & 1 == 1 {
         group(store, 2 * b + 1, s);
@@ -137,12 +138,12 @@ fn corridor() {
     let mut t = [0u64; STORE_WORDS];
     initial(&mut t, MAX_STATES - 1);
     put_corridor(&mut t);
-    try_one(b"corridor", &t, MAX_STATES, 2 * DIGITS);
+    try_one(b"corridor", &t, MAX_STATES, MAX_GROUPS);
     try_one(
-        b"corridor, its last group not counted",
+        b"corridor, its last digit's groups not counted",
         &t,
         MAX_STATES,
-        2 * DIGITS - 1,
+        MAX_GROUPS - 2,
     );
 }
 

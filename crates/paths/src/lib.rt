@@ -217,14 +217,14 @@ fn write_path(
     distances: &[u16; MAX_STATES],
     x: StateSet,
     d: u16,
-    path: &mut [u8],
+    path: &mut [u16],
     at: usize,
 )
     requires { ⌜ Writable (now store) (now distances) (x .words) d (length (now path)) at ⌝ }
     ensures { λ _. ⌜ now (path .exit) ≡ sets (now (path .entry)) at (walkBy (now (store .entry)) (now (distances .entry)) d (x .words)) ⌝ }
 {
     let s = smallest_within(distances, x, d);
-    path[at] = s as u8;
+    path[at] = s as u16;
     if 0 < d {
         write_path(store, distances, row_at(store, s), d - 1, path, at + 1);
     }
@@ -237,7 +237,7 @@ pub enum Found {
 }
 
 // The path that the specification names, at the front of the buffer.
-pub fn find_path(store: &[u64], n: usize, path: &mut [u8]) -> Found
+pub fn find_path(store: &[u64], n: usize, path: &mut [u16]) -> Found
     requires { ⌜ HoldsTable (now store) n × (maxStates ≤ length (now path)) ⌝ }
     ensures { λ r. ⌜ (r ≡ foundIn (tableOf (now (store .entry)) n 0))
         × (now (path .exit) ≡ pathWritten (tableOf (now (store .entry)) n 0) (now (path .entry))) ⌝ }
@@ -259,7 +259,7 @@ pub enum Shortest {
     Refused(u8),
 }
 
-pub fn shortest_path(store: &[u64], n: usize, g: usize, path: &mut [u8]) -> Shortest
+pub fn shortest_path(store: &[u64], n: usize, g: usize, path: &mut [u16]) -> Shortest
     ensures { λ r. ⌜ Called (now (store .entry)) n g (now (path .entry)) r (now (path .exit)) ⌝ }
 {
     let refused = refusal(store, n, g);

@@ -1,40 +1,41 @@
 // Runs the call shortest path on tables built here and prints what it answers, the states at the front of the path buffer, and whether the
-// rest of the buffer is as before; then the calls distances and within, with every place of the distance buffer. The stored output was written by expected.py, a breadth-first search from the initial states made from
-// the specification's text alone.
+// rest of the buffer is as before; then the calls distances and within, with every place of the distance buffer. The stored output was
+// written by expected.py, a breadth-first search from the initial states made from the specification's text alone.
 use paths::DistancesAnswer;
 use paths::Shortest;
 use paths::WithinAnswer;
 use paths::distances;
 use paths::shortest_path;
 use paths::within;
+use table::MAX_GROUPS;
+use table::MAX_STATES;
 use table::STORE_WORDS;
-use test_support::bytes;
-use test_support::forbidden;
 use test_support::group;
 use test_support::initial;
 use test_support::labelled;
 use test_support::line;
 use test_support::number;
+use test_support::places;
+use test_support::put_corridor;
 use test_support::put_table;
-use test_support::step;
 use test_support::text;
-use test_support::unchanged;
+use test_support::unchanged_places;
 use test_support::wide;
 
 // What the path buffers hold before a call.
-const BEFORE: u8 = 238;
+const BEFORE: u16 = 238;
 
 // ---- one call
 
-// The answer, and how many bytes at the front of the path buffer it accounts for.
-fn print_answer(answer: Shortest, path: &[u8]) -> usize {
+// The answer, and how many places at the front of the path buffer it accounts for.
+fn print_answer(answer: Shortest, path: &[u16]) -> usize {
     match answer {
         Shortest::Path { steps } => {
             text(b": steps ");
             number(steps);
             text(b", path");
-            if steps < 256 {
-                bytes(path, steps + 1);
+            if steps < MAX_STATES {
+                places(path, steps + 1);
                 return steps + 1;
             }
             0
@@ -59,26 +60,26 @@ fn print_rest(same: bool) {
     }
 }
 
-fn report(name: &[u8], store: &[u64], n: usize, g: usize, path: &mut [u8]) {
+fn report(name: &[u8], store: &[u64], n: usize, g: usize, path: &mut [u16]) {
     text(name);
     let answer = shortest_path(store, n, g, path);
     let written = print_answer(answer, path);
-    print_rest(unchanged(path, written, BEFORE));
+    print_rest(unchanged_places(path, written, BEFORE));
 }
 
-// With a path buffer of 256, 255 and 300 bytes.
-fn report_256(name: &[u8], store: &[u64], n: usize, g: usize) {
-    let mut path = [BEFORE; 256];
+// With a path buffer of as many places as are asked for, of one fewer, and of some more.
+fn report_just(name: &[u8], store: &[u64], n: usize, g: usize) {
+    let mut path = [BEFORE; MAX_STATES];
     report(name, store, n, g, &mut path);
 }
 
-fn report_255(name: &[u8], store: &[u64], n: usize, g: usize) {
-    let mut path = [BEFORE; 255];
+fn report_short(name: &[u8], store: &[u64], n: usize, g: usize) {
+    let mut path = [BEFORE; MAX_STATES - 1];
     report(name, store, n, g, &mut path);
 }
 
-fn report_300(name: &[u8], store: &[u64], n: usize, g: usize) {
-    let mut path = [BEFORE; 300];
+fn report_long(name: &[u8], store: &[u64], n: usize, g: usize) {
+    let mut path = [BEFORE; MAX_STATES + 44];
     report(name, store, n, g, &mut path);
 }
 
@@ -86,7 +87,7 @@ fn report_300(name: &[u8], store: &[u64], n: usize, g: usize) {
 fn report_table(name: &[u8], n: usize, first: &[u8], last: &[u8], steps: &[u8]) {
     let mut store = [0u64; STORE_WORDS];
     put_table(&mut store, first, last, steps);
-    report_256(name, &store, n, 0);
+    report_just(name, &store, n, 0);
 }
 
 // ---- the tests
@@ -105,7 +106,7 @@ fn put_d(store: &mut [u64]) {
 fn table_d() {
     let mut store = [0u64; STORE_WORDS];
     put_d(&mut store);
-    report_256(b"D", &store, 5, 3);
+    report_just(b"D", &store, 5, 3);
 }
 
 fn worked() {
@@ -129,34 +130,30 @@ fn ties() {
     report_table(b"initial and forbidden", 3, b"02", b"2", b"02");
 }
 
-// Each of 256 states steps to the next.
-fn put_corridor(store: &mut [u64]) {
-    initial(store, 0);
-    forbidden(store, 255);
-    for s in 0..255 {
-        step(store, s, s + 1);
-    }
-}
-
 fn longest() {
     let mut store = [0u64; STORE_WORDS];
     put_corridor(&mut store);
-    report_256(b"corridor", &store, 256, 0);
-    report_300(b"corridor, 300 bytes", &store, 256, 64);
-    report_255(b"corridor, 255 bytes", &store, 256, 0);
+    report_just(b"corridor", &store, MAX_STATES, 0);
+    report_long(b"corridor, long buffer", &store, MAX_STATES, MAX_GROUPS);
+    report_short(b"corridor, short buffer", &store, MAX_STATES, 0);
 }
 
 fn edges_of(b: &[u64]) {
-    report_300(b"B, 300 bytes", b, 5, 0);
-    report_255(b"B, 255 bytes", b, 5, 0);
-    report_256(b"B, n 0", b, 0, 0);
-    report_256(b"B, n 0, g 1", b, 0, 1);
-    report_256(b"B, n 257", b, 257, 0);
-    report_256(b"B, n 4", b, 4, 0);
-    report_256(b"B, g 64", b, 5, 64);
-    report_256(b"B, g 65", b, 5, 65);
-    report_255(b"B, n 257, g 65, 255 bytes", b, 257, 65);
-    report_255(b"B, n 4, 255 bytes", b, 4, 0);
+    report_long(b"B, long buffer", b, 5, 0);
+    report_short(b"B, short buffer", b, 5, 0);
+    report_just(b"B, n 0", b, 0, 0);
+    report_just(b"B, n 0, g 1", b, 0, 1);
+    report_just(b"B, n too great", b, MAX_STATES + 1, 0);
+    report_just(b"B, n 4", b, 4, 0);
+    report_just(b"B, g at its greatest", b, 5, MAX_GROUPS);
+    report_just(b"B, g too great", b, 5, MAX_GROUPS + 1);
+    report_short(
+        b"B, n and g too great, short buffer",
+        b,
+        MAX_STATES + 1,
+        MAX_GROUPS + 1,
+    );
+    report_short(b"B, n 4, short buffer", b, 4, 0);
 }
 
 fn edges() {
@@ -167,18 +164,18 @@ fn edges() {
 
 fn short_store() {
     let store = [0u64; STORE_WORDS - 1];
-    report_255(b"1287 words, n 0", &store, 0, 0);
+    report_short(b"store one word short, n 0", &store, 0, 0);
 }
 
 // A state from n up: in an unused group, in the initial set, in a row.
 fn malformed() {
     let mut d = [0u64; STORE_WORDS];
     put_d(&mut d);
-    report_256(b"D, g 2", &d, 5, 2);
+    report_just(b"D, g 2", &d, 5, 2);
     let mut b = [0u64; STORE_WORDS];
     put_b(&mut b);
-    initial(&mut b, 255);
-    report_256(b"B, 255 initial", &b, 5, 0);
+    initial(&mut b, MAX_STATES - 1);
+    report_just(b"B, the last state initial", &b, 5, 0);
     report_table(b"B, 2 to 5", 5, b"0", b"3", b"01 12 23 44 25");
 }
 
@@ -186,17 +183,6 @@ fn malformed() {
 
 // What the distance buffers hold before a call.
 const NO_DISTANCE: u16 = 777;
-
-fn wide_place(x: u16) -> usize {
-    x as usize
-}
-
-// All places of a buffer, each after a space.
-fn places(buffer: &[u16]) {
-    for i in 0..buffer.len() {
-        labelled(b" ", wide_place(buffer[i]));
-    }
-}
 
 fn print_refusal(label: &[u8], refusal: u8) {
     labelled(label, wide(refusal));
@@ -222,7 +208,7 @@ fn measure(name: &[u8], store: &[u64], n: usize, g: usize, out: &mut [u16]) {
     text(name);
     print_distances(distances(store, n, g, out));
     text(b", buffer");
-    places(out);
+    places(out, out.len());
     print_within(store, n, g, 0);
     print_within(store, n, g, 1);
     print_within(store, n, g, 3);
@@ -269,8 +255,8 @@ fn measured_edges_of(b: &[u64]) {
     measure_5(b"B, n 6, 5 places", b, 6, 0);
     measure_5(b"B, n 4, 3 groups, 5 places", b, 4, 3);
     measure_5(b"B, n 0", b, 0, 0);
-    measure_5(b"B, n 257, g 65", b, 257, 65);
-    measure_5(b"B, n 6, g 65", b, 6, 65);
+    measure_5(b"B, n and g too great", b, MAX_STATES + 1, MAX_GROUPS + 1);
+    measure_5(b"B, n 6, g too great", b, 6, MAX_GROUPS + 1);
 }
 
 fn measured_edges() {
@@ -278,7 +264,7 @@ fn measured_edges() {
     put_b(&mut store);
     measured_edges_of(&store);
     let short = [0u64; STORE_WORDS - 1];
-    measure_5(b"1287 words, n 0", &short, 0, 0);
+    measure_5(b"store one word short, n 0", &short, 0, 0);
 }
 
 fn main() {

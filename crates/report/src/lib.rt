@@ -3,8 +3,8 @@
 //   write_refused, write_report     the whole text at the front of the buffer; the answer is its length
 //   put_*                           a piece of it at the place `at`; the answer is the place after it
 //
-// Each piece asks for the room that its longest text takes, and says that its text takes no more. All numbers are below 1,000, so each takes
-// three bytes at most, and a state with the space before it four.
+// Each piece asks for the room that its longest text takes, and says that its text takes no more. All numbers are of 16 bits, as a path's
+// entries are, so each takes five bytes at most, and a state with the space before it six.
 ghost use Prim.Native.Nat.{_+_, _*_, _≤_, _<_};
 ghost use mathlib.Core.Bool.{cond};
 ghost use mathlib.Core.List.{[], _∷_, _++_};
@@ -14,12 +14,15 @@ ghost use Rattle.model.specs.Sets.{maxStates, member, members, size};
 ghost use Rattle.model.specs.Stores.{maxGroups};
 ghost use Rattle.model.specs.Calls.{release};
 ghost use Rattle.report.specs.Text.{ascii, decimal, spaced, byVerdict, statesLine, verdictLine, invariantLine, pathLine, reportText, refusedText};
-ghost use Rattle.report.specs.Put.{room, Front, Put};
+ghost use Rattle.report.specs.Put.{numberLimit, numberBytes, spacedBytes, room, Front, Put};
 use state_set::StateSet;
 use state_set::WORDS;
 
+// A number and the space before it.
+const SPACED: usize = 6;
+
 // The specs' room is the same number.
-pub const ROOM: usize = 1024 + 4 * 64 * WORDS;
+pub const ROOM: usize = 1024 + SPACED * 64 * WORDS;
 
 pub fn write_refused(refusal: u8, out: &mut [u8]) -> usize
     requires { ⌜ room ≤ length (now out) ⌝ }
@@ -37,7 +40,7 @@ pub fn write_report(
     count: usize,
     invariant: StateSet,
     steps: usize,
-    path: &[u8],
+    path: &[u16],
     out: &mut [u8],
 ) -> usize
     requires { ⌜ (n ≤ maxStates) × (g ≤ maxGroups) × (count ≤ release) × (steps < maxStates) × (steps < length (now path)) × (room ≤ length (now out)) ⌝ }
@@ -57,8 +60,8 @@ pub fn write_report(
 // ---- lines
 
 fn put_states_line(n: usize, g: usize, at: usize, out: &mut [u8]) -> usize
-    requires { ⌜ (n < 1000) × (g < 1000) × (at + 22 ≤ length (now out)) ⌝ }
-    ensures { λ r. ⌜ Put 22 (statesLine n g) at (now (out .entry)) r (now (out .exit)) ⌝ }
+    requires { ⌜ (n < numberLimit) × (g < numberLimit) × (at + (16 + 2 * numberBytes) ≤ length (now out)) ⌝ }
+    ensures { λ r. ⌜ Put (16 + 2 * numberBytes) (statesLine n g) at (now (out .entry)) r (now (out .exit)) ⌝ }
 {
     let a = put_number(b"states ", n, at, out);
     let b = put_number(b" groups ", g, a, out);
@@ -66,8 +69,8 @@ fn put_states_line(n: usize, g: usize, at: usize, out: &mut [u8]) -> usize
 }
 
 fn put_verdict_line(verdict: usize, count: usize, at: usize, out: &mut [u8]) -> usize
-    requires { ⌜ (count < 1000) × (at + 26 ≤ length (now out)) ⌝ }
-    ensures { λ r. ⌜ Put 26 (verdictLine verdict count) at (now (out .entry)) r (now (out .exit)) ⌝ }
+    requires { ⌜ (count < numberLimit) × (at + (23 + numberBytes) ≤ length (now out)) ⌝ }
+    ensures { λ r. ⌜ Put (23 + numberBytes) (verdictLine verdict count) at (now (out .entry)) r (now (out .exit)) ⌝ }
 {
     let a = put_verdict(verdict, at, out);
     let b = put_number(b" refinements ", count, a, out);
@@ -75,8 +78,8 @@ fn put_verdict_line(verdict: usize, count: usize, at: usize, out: &mut [u8]) -> 
 }
 
 fn put_invariant_line(x: StateSet, at: usize, out: &mut [u8]) -> usize
-    requires { ⌜ at + (15 + 4 * maxStates) ≤ length (now out) ⌝ }
-    ensures { λ r. ⌜ Put (15 + 4 * maxStates) (invariantLine (size (x .words)) (members (x .words))) at (now (out .entry)) r (now (out .exit)) ⌝ }
+    requires { ⌜ at + (12 + numberBytes + spacedBytes * maxStates) ≤ length (now out) ⌝ }
+    ensures { λ r. ⌜ Put (12 + numberBytes + spacedBytes * maxStates) (invariantLine (size (x .words)) (members (x .words))) at (now (out .entry)) r (now (out .exit)) ⌝ }
 {
     let states = x.count();
     let a = put_number(b"invariant ", states, at, out);
@@ -85,9 +88,9 @@ fn put_invariant_line(x: StateSet, at: usize, out: &mut [u8]) -> usize
     put(b"\n", c, out)
 }
 
-fn put_path_line(path: &[u8], count: usize, at: usize, out: &mut [u8]) -> usize
-    requires { ⌜ (count ≤ length (now path)) × (count ≤ maxStates) × (at + (5 + 4 * maxStates) ≤ length (now out)) ⌝ }
-    ensures { λ r. ⌜ Put (5 + 4 * maxStates) (pathLine (take count (now (path .entry)))) at (now (out .entry)) r (now (out .exit)) ⌝ }
+fn put_path_line(path: &[u16], count: usize, at: usize, out: &mut [u8]) -> usize
+    requires { ⌜ (count ≤ length (now path)) × (count ≤ maxStates) × (at + (5 + spacedBytes * maxStates) ≤ length (now out)) ⌝ }
+    ensures { λ r. ⌜ Put (5 + spacedBytes * maxStates) (pathLine (take count (now (path .entry)))) at (now (out .entry)) r (now (out .exit)) ⌝ }
 {
     let a = put(b"path", at, out);
     let b = put_path(path, count, a, out);
@@ -110,8 +113,8 @@ fn put_verdict(verdict: usize, at: usize, out: &mut [u8]) -> usize
 }
 
 fn put_states_or_none(x: StateSet, count: usize, at: usize, out: &mut [u8]) -> usize
-    requires { ⌜ at + 4 * maxStates ≤ length (now out) ⌝ }
-    ensures { λ r. ⌜ Put (4 * maxStates) (cond (eqb count 0) (ascii " none") (spaced (members (x .words)))) at (now (out .entry)) r (now (out .exit)) ⌝ }
+    requires { ⌜ at + spacedBytes * maxStates ≤ length (now out) ⌝ }
+    ensures { λ r. ⌜ Put (spacedBytes * maxStates) (cond (eqb count 0) (ascii " none") (spaced (members (x .words)))) at (now (out .entry)) r (now (out .exit)) ⌝ }
 {
     if count == 0 {
         return put(b" none", at, out);
@@ -121,8 +124,8 @@ fn put_states_or_none(x: StateSet, count: usize, at: usize, out: &mut [u8]) -> u
 
 // The states of x rising, each after a space.
 fn put_states(x: StateSet, at: usize, out: &mut [u8]) -> usize
-    requires { ⌜ at + 4 * maxStates ≤ length (now out) ⌝ }
-    ensures { λ r. ⌜ Put (4 * maxStates) (spaced (members (x .words))) at (now (out .entry)) r (now (out .exit)) ⌝ }
+    requires { ⌜ at + spacedBytes * maxStates ≤ length (now out) ⌝ }
+    ensures { λ r. ⌜ Put (spacedBytes * maxStates) (spaced (members (x .words))) at (now (out .entry)) r (now (out .exit)) ⌝ }
 {
     let mut end = at;
     for s in 0..64 * WORDS {
@@ -133,8 +136,8 @@ fn put_states(x: StateSet, at: usize, out: &mut [u8]) -> usize
 
 // State s, if it is in x.
 fn put_member(x: StateSet, s: usize, at: usize, out: &mut [u8]) -> usize
-    requires { ⌜ (s < 1000) × (at + 4 ≤ length (now out)) ⌝ }
-    ensures { λ r. ⌜ Put 4 (spaced (cond (member (x .words) s) (s ∷ []) [])) at (now (out .entry)) r (now (out .exit)) ⌝ }
+    requires { ⌜ (s < numberLimit) × (at + spacedBytes ≤ length (now out)) ⌝ }
+    ensures { λ r. ⌜ Put spacedBytes (spaced (cond (member (x .words) s) (s ∷ []) [])) at (now (out .entry)) r (now (out .exit)) ⌝ }
 {
     if x.contains(s) {
         return put_spaced(s, at, out);
@@ -143,9 +146,9 @@ fn put_member(x: StateSet, s: usize, at: usize, out: &mut [u8]) -> usize
 }
 
 // The first so many states of the path, each after a space.
-fn put_path(path: &[u8], count: usize, at: usize, out: &mut [u8]) -> usize
-    requires { ⌜ (count ≤ length (now path)) × (at + 4 * count ≤ length (now out)) ⌝ }
-    ensures { λ r. ⌜ Put (4 * count) (spaced (take count (now (path .entry)))) at (now (out .entry)) r (now (out .exit)) ⌝ }
+fn put_path(path: &[u16], count: usize, at: usize, out: &mut [u8]) -> usize
+    requires { ⌜ (count ≤ length (now path)) × (at + spacedBytes * count ≤ length (now out)) ⌝ }
+    ensures { λ r. ⌜ Put (spacedBytes * count) (spaced (take count (now (path .entry)))) at (now (out .entry)) r (now (out .exit)) ⌝ }
 {
     let mut end = at;
     for i in 0..count {
@@ -155,16 +158,16 @@ fn put_path(path: &[u8], count: usize, at: usize, out: &mut [u8]) -> usize
 }
 
 fn put_spaced(x: usize, at: usize, out: &mut [u8]) -> usize
-    requires { ⌜ (x < 1000) × (at + 4 ≤ length (now out)) ⌝ }
-    ensures { λ r. ⌜ Put 4 (spaced (x ∷ [])) at (now (out .entry)) r (now (out .exit)) ⌝ }
+    requires { ⌜ (x < numberLimit) × (at + spacedBytes ≤ length (now out)) ⌝ }
+    ensures { λ r. ⌜ Put spacedBytes (spaced (x ∷ [])) at (now (out .entry)) r (now (out .exit)) ⌝ }
 {
     put_number(b" ", x, at, out)
 }
 
 // A text and a number.
 fn put_number(label: &[u8], n: usize, at: usize, out: &mut [u8]) -> usize
-    requires { ⌜ (n < 1000) × (at + (length (now label) + 3) ≤ length (now out)) ⌝ }
-    ensures { λ r. ⌜ Put (length (now (label .entry)) + 3) (now (label .entry) ++ decimal n) at (now (out .entry)) r (now (out .exit)) ⌝ }
+    requires { ⌜ (n < numberLimit) × (at + (length (now label) + numberBytes) ≤ length (now out)) ⌝ }
+    ensures { λ r. ⌜ Put (length (now (label .entry)) + numberBytes) (now (label .entry) ++ decimal n) at (now (out .entry)) r (now (out .exit)) ⌝ }
 {
     let mut digits = [0u8; 20];
     let k = io::decimal(n as u64, &mut digits);

@@ -438,7 +438,7 @@ fn steps_of(found: Found) -> usize
     }
 }
 
-pub fn decide(store: &[u64], n: usize, g: usize, allowance: usize, path: &mut [u8]) -> Decision
+pub fn decide(store: &[u64], n: usize, g: usize, allowance: usize, path: &mut [u16]) -> Decision
     ensures { λ r. ⌜ Called (now (store .entry)) n g allowance (now (path .entry)) r (now (path .exit)) ⌝ }
 {
     let refused = decide_refusal(store, n, g, allowance, path.len());

@@ -107,7 +107,7 @@ pub extern "C" fn shuntberry_decide(
     n: usize,
     g: usize,
     allowance: usize,
-    path: &mut [u8],
+    path: &mut [u16],
 ) -> DecisionFields
     ensures { λ r. ⌜ (decisionFields r ≡ decideAnswer (now (store .entry)) n g allowance (length (now (path .entry))))
         × ((r .reserved ≡ 0) × (now (path .exit) ≡ decideBuffer (now (store .entry)) n g allowance (now (path .entry)))) ⌝ }
@@ -152,7 +152,7 @@ pub extern "C" fn shuntberry_shortest_path(
     store: &[u64],
     n: usize,
     g: usize,
-    path: &mut [u8],
+    path: &mut [u16],
 ) -> ShortestFields
     ensures { λ r. ⌜ (shortestFields r ≡ shortestAnswer (now (store .entry)) n g (length (now (path .entry))))
         × (now (path .exit) ≡ shortestBuffer (now (store .entry)) n g (now (path .entry))) ⌝ }

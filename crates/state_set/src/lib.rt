@@ -13,7 +13,7 @@ ghost use Prim.Native.Nat.{min, _-_, _^_};
 ghost use Rattle.model.specs.Sets.{member, empty, single, union, meet, difference, subset, same, meets, firstStates, size};
 
 // The model's WORDS is the same number.
-pub const WORDS: usize = 4;
+pub const WORDS: usize = 8;
 
 pub struct StateSet {
     pub words: [u64; WORDS],

@@ -24,13 +24,16 @@ pub const MAX_STATES: usize = 64 * WORDS;
 
 pub const MAX_GROUPS: usize = 64;
 
+// Initial and forbidden, which stand before the groups.
+pub const HEAD_SETS: usize = 2;
+
 pub const FORBIDDEN_AT: usize = WORDS;
 
-pub const GROUPS_AT: usize = 2 * WORDS;
+pub const GROUPS_AT: usize = HEAD_SETS * WORDS;
 
-pub const ROWS_AT: usize = (2 + MAX_GROUPS) * WORDS;
+pub const ROWS_AT: usize = (HEAD_SETS + MAX_GROUPS) * WORDS;
 
-pub const STORE_WORDS: usize = (2 + MAX_GROUPS + MAX_STATES) * WORDS;
+pub const STORE_WORDS: usize = (HEAD_SETS + MAX_GROUPS + MAX_STATES) * WORDS;
 
 // The set whose words begin at `at`.
 pub fn set_at(store: &[u64], at: usize) -> StateSet

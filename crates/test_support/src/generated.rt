@@ -1,9 +1,10 @@
 // Generated tables, numbered from 0 on. tests/expected.py makes them anew from this comment.
 //
-// noise(x) is y xor y / 65536, where y = (1664525 x + 1013904223) modulo 2^32, and draw(t, p) is noise of noise of noise of 8192 t + p.
-// A number is taken modulo 2^32 here only to be seen to fit: noise takes it so itself.
+// noise(x) is y xor y / 65536, where y = (1664525 x + 1013904223) modulo 2^32, and draw(t, p) is noise of noise of noise of P t + p, where
+// P is 32 for each state that a table can have, more than the places p of any table. A number is taken modulo 2^32 here only to be seen to
+// fit: noise takes it so itself.
 // Table t, where d(p) is `draw(t, p)`:
-//   states              n = 1 + d(0) % 40, or 1 + d(0) % 256 if 37 divides t
+//   states              n = 1 + d(0) % 40, or 1 + d(0) % m if 37 divides t, where m is the greatest n
 //   groups              d(1) % 5
 //   initial states      (5 + d(2) % 13) / 6 of the states d(3) % n, d(4) % n
 //   forbidden states    (5 + d(5) % 13) / 6 of the states d(6) % n, d(7) % n
@@ -20,7 +21,11 @@ use crate::group;
 use crate::left_out;
 use crate::step;
 use table::FORBIDDEN_AT;
+use table::MAX_STATES;
 use table::STORE_WORDS;
+
+// More than the places of any table.
+const PLACES: usize = 32 * MAX_STATES;
 
 // One number from another, below 2^32.
 pub fn noise(x: usize) -> usize {
@@ -30,7 +35,7 @@ pub fn noise(x: usize) -> usize {
 
 // The number at a place of table t.
 fn draw(t: usize, place: usize) -> usize {
-    noise(noise(noise(t % 4294967296 * 8192 + place % 4294967296)))
+    noise(noise(noise(t % 4294967296 * PLACES + place % 4294967296)))
 }
 
 fn draw_state(t: usize, place: usize, n: usize) -> usize {
@@ -42,7 +47,7 @@ fn draw_state(t: usize, place: usize, n: usize) -> usize {
 
 pub fn states_of(t: usize) -> usize {
     if t % 37 == 0 {
-        1 + draw(t, 0) % 256
+        1 + draw(t, 0) % MAX_STATES
     } else {
         1 + draw(t, 0) % 40
     }

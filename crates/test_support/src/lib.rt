@@ -2,14 +2,18 @@
 //
 //   add, step, initial, forbidden, group      a state put into a set of a store
 //   put_table                                 a small table put into a store, given by the digits of its states
+//   put_corridor                              the longest path that there can be
 //   generate, states_of, groups_of            a generated table, its n and its g (generated.rt)
 //   generate_largest                          one with as many states and groups as a store holds
 //   text, number, labelled, line              printed on standard output
-//   states, bytes                             a set's states, or the first bytes of a buffer, printed after spaces
+//   states, bytes, places                     a set's states, or the first bytes or 16-bit places of a buffer, printed after spaces
 //   wide, byte_at, put_byte                   a byte as a number; one byte of a buffer, read and written
-//   unchanged, unchanged_words                whether each element from a place on is still the one given
+//   place_at                                  one 16-bit place of a buffer, as a number
+//   unchanged, unchanged_places, unchanged_words
+//                                             whether each element from a place on is still the one given
 //   print_unchanged                           such an answer, which ends a line
-//   digest, digest_bytes, digest_words        a number that stands for what was taken into it, so that one number tells all of it
+//   digest, digest_bytes, digest_places, digest_words
+//                                             a number that stands for what was taken into it, so that one number tells all of it
 //
 // Each function asks for nothing, so that the programs need hardly any proofs of their own. What does not fit is left out, and said.
 mod generated;
@@ -113,6 +117,15 @@ pub fn put_table(store: &mut [u64], first: &[u8], last: &[u8], steps: &[u8]) {
     put_steps(store, steps);
 }
 
+// Each of as many states as a table can have steps to the next.
+pub fn put_corridor(store: &mut [u64]) {
+    initial(store, 0);
+    forbidden(store, MAX_STATES - 1);
+    for s in 0..MAX_STATES - 1 {
+        step(store, s, s + 1);
+    }
+}
+
 // ---- printing
 
 pub fn text(bytes: &[u8]) {
@@ -158,6 +171,13 @@ pub fn bytes(buffer: &[u8], count: usize) {
     }
 }
 
+// The first `count` places, each after a space.
+pub fn places(buffer: &[u16], count: usize) {
+    for i in 0..count {
+        spaced(place_at(buffer, i));
+    }
+}
+
 // ---- buffers
 
 pub fn wide(b: u8) -> usize
@@ -184,8 +204,32 @@ pub fn put_byte(buffer: &mut [u8], i: usize, value: u8) {
     }
 }
 
+fn wide_place(x: u16) -> usize {
+    x as usize
+}
+
+pub fn place_at(buffer: &[u16], i: usize) -> usize {
+    if i < buffer.len() {
+        return wide_place(buffer[i]);
+    }
+    left_out();
+    0
+}
+
 // Each byte from `from` on is `value`.
 pub fn unchanged(buffer: &[u8], from: usize, value: u8) -> bool {
+    let mut i = from;
+    while i < buffer.len() {
+        if buffer[i] != value {
+            return false;
+        }
+        i += 1;
+    }
+    true
+}
+
+// Each place from `from` on is `value`.
+pub fn unchanged_places(buffer: &[u16], from: usize, value: u16) -> bool {
     let mut i = from;
     while i < buffer.len() {
         if buffer[i] != value {
@@ -227,6 +271,14 @@ pub fn digest_bytes(d: usize, buffer: &[u8], count: usize) -> usize {
     let mut now = d;
     for i in 0..count {
         now = digest(now, byte_at(buffer, i));
+    }
+    now
+}
+
+pub fn digest_places(d: usize, buffer: &[u16], count: usize) -> usize {
+    let mut now = d;
+    for i in 0..count {
+        now = digest(now, place_at(buffer, i));
     }
     now
 }

@@ -1,8 +1,8 @@
 -- What the specification says of the worked tables A to H, as one fact about the definitions that the calls' contracts cite.
 --
 --   stored t                              the table that the store of t holds, which is what the calls speak of
---   Decides t allowance answer states     decide, lent the store of t and any path buffer of at least 256 bytes, answers so, leaves these
---                                         states at the front of the buffer and the rest of it untouched
+--   Decides t allowance answer states     decide, lent the store of t and any path buffer of at least maxStates places, answers so, leaves
+--                                         these states at the front of the buffer and the rest of it untouched
 --   Safe t allowance count invariant      safe, with the states of the invariant
 --   Unsafe t allowance count path         unsafe, with the path
 --   Undecided t allowance count           undecided

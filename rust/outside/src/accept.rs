@@ -1,10 +1,10 @@
 //! The refusals of the calls on a store, in their order, and of read's store and site.
 
 use crate::blocks::{MAX_SITE, file_length};
-use crate::table::{MAX_GROUPS, MAX_STATES, STORE_WORDS};
+use crate::table::{FORBIDDEN_AT, MAX_GROUPS, MAX_STATES, STORE_WORDS, WORDS, group_at, row_at};
 
-pub const PATH_BYTES: usize = 256;
-pub const MAX_ALLOWANCE: usize = 256;
+pub const PATH_PLACES: usize = MAX_STATES;
+pub const MAX_ALLOWANCE: usize = MAX_STATES;
 pub const MAX_LOG: usize = 32_768;
 
 pub fn decide(
@@ -16,12 +16,12 @@ pub fn decide(
 ) -> Result<(), u32> {
     table(store, n, g)?;
     refuse_if(allowance > MAX_ALLOWANCE, 20)?;
-    refuse_if(path_len < PATH_BYTES, 21)
+    refuse_if(path_len < PATH_PLACES, 21)
 }
 
 pub fn shortest_path(store: &[u64], n: usize, g: usize, path_len: usize) -> Result<(), u32> {
     table(store, n, g)?;
-    refuse_if(path_len < PATH_BYTES, 21)
+    refuse_if(path_len < PATH_PLACES, 21)
 }
 
 pub fn distances(store: &[u64], n: usize, g: usize, room: usize) -> Result<(), u32> {
@@ -57,11 +57,11 @@ fn table(store: &[u64], n: usize, g: usize) -> Result<(), u32> {
     refuse_if(n == 0 && g > 0 || n > MAX_STATES, 14)?;
     refuse_if(g > MAX_GROUPS, 15)?;
     let has = |at: usize, state: usize| store[at + state / 64] & (1 << (state % 64)) != 0;
-    let past_n = |at: usize| (n..256).any(|state| has(at, state));
-    let not_empty = |at: usize| store[at..at + 4].iter().any(|&word| word != 0);
-    let groups = (0..64).map(|j| (j < g, 8 + 4 * j));
-    let rows = (0..256).map(|s| (s < n, 264 + 4 * s));
-    let stray = [(true, 0), (true, 4)]
+    let past_n = |at: usize| (n..MAX_STATES).any(|state| has(at, state));
+    let not_empty = |at: usize| store[at..at + WORDS].iter().any(|&word| word != 0);
+    let groups = (0..MAX_GROUPS).map(|j| (j < g, group_at(j)));
+    let rows = (0..MAX_STATES).map(|s| (s < n, row_at(s)));
+    let stray = [(true, 0), (true, FORBIDDEN_AT)]
         .into_iter()
         .chain(groups)
         .chain(rows)

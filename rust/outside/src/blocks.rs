@@ -1,12 +1,12 @@
 //! Block files, written from the specification's section Files: a table to bytes, and bytes to a table or
 //! to the number of a refusal.
 
-use crate::table::{MAX_GROUPS, MAX_STATES, Set, Table, set_where};
+use crate::table::{HEAD_SETS, MAX_GROUPS, MAX_STATES, Set, Table, set_where};
 
 pub const BLOCK: usize = 512;
 /// Content bytes of a block.
 pub const CONTENT: usize = 508;
-pub const LARGEST: usize = 10_752;
+pub const LARGEST: usize = 37_376;
 /// The greatest site number.
 pub const MAX_SITE: usize = 65_520;
 
@@ -69,7 +69,7 @@ pub fn contents(table: &Table) -> Vec<u8> {
 
 /// The length of the contents for n states and g groups.
 pub fn contents_length(n: usize, g: usize) -> usize {
-    4 + n.div_ceil(8) * (2 + g + n)
+    4 + n.div_ceil(8) * (HEAD_SETS + g + n)
 }
 
 /// The table in a file of a site, or the number of the first ground to refuse it.

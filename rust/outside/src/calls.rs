@@ -1,10 +1,12 @@
 //! The four calls as a trait, so that one test serves the library as it is linked for C, the safe
 //! wrapper around it, and the peer.
 
+use crate::table::WORDS;
+
 /// What decide answers; the fields are those of `shuntberry_decision`.
 #[derive(Clone, Copy, Debug, Default, PartialEq, Eq)]
 pub struct Decision {
-    pub invariant: [u64; 4],
+    pub invariant: [u64; WORDS],
     pub refusal: u32,
     pub verdict: u32,
     pub count: u32,
@@ -65,9 +67,9 @@ pub trait Calls: Sync {
         n: usize,
         g: usize,
         allowance: usize,
-        path: &mut [u8],
+        path: &mut [u16],
     ) -> Decision;
-    fn shortest_path(&self, store: &[u64], n: usize, g: usize, path: &mut [u8]) -> Shortest;
+    fn shortest_path(&self, store: &[u64], n: usize, g: usize, path: &mut [u16]) -> Shortest;
     /// The refusal, or 0.
     fn distances(&self, store: &[u64], n: usize, g: usize, distances: &mut [u16]) -> u32;
     fn within(&self, store: &[u64], n: usize, g: usize, k: usize) -> Within;
@@ -101,12 +103,12 @@ mod linked {
             n: usize,
             g: usize,
             allowance: usize,
-            path: &mut [u8],
+            path: &mut [u16],
         ) -> Decision {
             let (words, length) = (store.as_ptr(), store.len());
-            let (bytes, room) = (path.as_mut_ptr(), path.len());
+            let (places, room) = (path.as_mut_ptr(), path.len());
             let answer =
-                unsafe { raw::shuntberry_decide(words, length, n, g, allowance, bytes, room) };
+                unsafe { raw::shuntberry_decide(words, length, n, g, allowance, places, room) };
             Decision {
                 invariant: answer.invariant,
                 refusal: answer.refusal,
@@ -118,10 +120,11 @@ mod linked {
             }
         }
 
-        fn shortest_path(&self, store: &[u64], n: usize, g: usize, path: &mut [u8]) -> Shortest {
+        fn shortest_path(&self, store: &[u64], n: usize, g: usize, path: &mut [u16]) -> Shortest {
             let (words, length) = (store.as_ptr(), store.len());
-            let (bytes, room) = (path.as_mut_ptr(), path.len());
-            let answer = unsafe { raw::shuntberry_shortest_path(words, length, n, g, bytes, room) };
+            let (places, room) = (path.as_mut_ptr(), path.len());
+            let answer =
+                unsafe { raw::shuntberry_shortest_path(words, length, n, g, places, room) };
             Shortest {
                 refusal: answer.refusal,
                 found: answer.found,
@@ -190,7 +193,7 @@ mod linked {
 
     /// The length of what a call returned. That is to be the front of the buffer it was lent; where it
     /// is not, the answer is one that no test expects.
-    fn length_of_front(lent: &[u8], returned: &[u8]) -> u32 {
+    fn length_of_front<T: PartialEq>(lent: &[T], returned: &[T]) -> u32 {
         if lent.starts_with(returned) {
             returned.len() as u32
         } else {
@@ -209,7 +212,7 @@ mod linked {
             n: usize,
             g: usize,
             allowance: usize,
-            path: &mut [u8],
+            path: &mut [u16],
         ) -> Decision {
             let none = Decision::default();
             match shuntberry::decide(store, n, g, allowance, path) {
@@ -241,7 +244,7 @@ mod linked {
             }
         }
 
-        fn shortest_path(&self, store: &[u64], n: usize, g: usize, path: &mut [u8]) -> Shortest {
+        fn shortest_path(&self, store: &[u64], n: usize, g: usize, path: &mut [u16]) -> Shortest {
             let none = Shortest::default();
             match shuntberry::shortest_path(store, n, g, path) {
                 Err(Refused(refusal)) => Shortest { refusal, ..none },

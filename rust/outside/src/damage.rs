@@ -3,7 +3,7 @@
 
 use crate::blocks::{self, BLOCK, CONTENT, LARGEST};
 use crate::generate::Random;
-use crate::table::Table;
+use crate::table::{HEAD_SETS, MAX_GROUPS, MAX_STATES, Table};
 
 /// A kind of damage. Those that come first here are done first; each leaves the blocks' numbers and
 /// checks right unless they are what it damages.
@@ -99,26 +99,33 @@ fn damage_contents(
         Damage::StateCount => {
             let n = match random.below(3) {
                 0 => 0,
-                1 => 257,
-                _ => random.within(257, 65_535),
+                1 => MAX_STATES + 1,
+                _ => random.within(MAX_STATES + 1, 65_535),
             };
             contents[0..2].copy_from_slice(&blocks::two_bytes(n));
         }
         Damage::GroupCount => {
             let g = match random.below(2) {
-                0 => 65,
-                _ => random.within(65, 65_535),
+                0 => MAX_GROUPS + 1,
+                _ => random.within(MAX_GROUPS + 1, 65_535),
             };
             contents[2..4].copy_from_slice(&blocks::two_bytes(g));
         }
         Damage::OtherCount => {
-            let n = random.pick(&[1, table.n / 2, table.n - 1, table.n + 1, 255, 256]);
-            let g = random.pick(&[0, table.g() / 2, table.g() + 1, 63, 64]);
-            let (at, number) = random.pick(&[(0, n.clamp(1, 256)), (2, g.min(64))]);
+            let n = random.pick(&[
+                1,
+                table.n / 2,
+                table.n - 1,
+                table.n + 1,
+                MAX_STATES - 1,
+                MAX_STATES,
+            ]);
+            let g = random.pick(&[0, table.g() / 2, table.g() + 1, MAX_GROUPS - 1, MAX_GROUPS]);
+            let (at, number) = random.pick(&[(0, n.clamp(1, MAX_STATES)), (2, g.min(MAX_GROUPS))]);
             contents[at..at + 2].copy_from_slice(&blocks::two_bytes(number));
         }
         Damage::StrayBit => {
-            let set = random.below(2 + table.g() + table.n);
+            let set = random.below(HEAD_SETS + table.g() + table.n);
             let state = random.within(table.n, 8 * width - 1);
             contents[4 + width * set + state / 8] |= 1 << (state % 8);
         }

@@ -6,6 +6,7 @@
 use std::collections::BTreeMap;
 use std::fmt::Debug;
 
+use crate::accept::{MAX_ALLOWANCE, PATH_PLACES};
 use crate::blocks::{self, BLOCK, MAX_SITE};
 use crate::buffer::Lent;
 use crate::calls::{
@@ -18,7 +19,9 @@ use crate::logs;
 use crate::named;
 use crate::rounds::{self, Rounds};
 use crate::search;
-use crate::table::{MAX_GROUPS, MAX_STATES, STORE_WORDS, Table, set_where};
+use crate::table::{
+    HEAD_SETS, MAX_GROUPS, MAX_STATES, STORE_WORDS, Table, WORDS, group_at, row_at, set_where,
+};
 
 pub type Outcome = Result<(), String>;
 
@@ -55,8 +58,8 @@ fn decide(
     library: &dyn Calls,
     store: &[u64],
     (n, g, allowance): (usize, usize, usize),
-    path: &[u8],
-    expected: &Expected<Decision, u8>,
+    path: &[u16],
+    expected: &Expected<Decision, u16>,
 ) -> Outcome {
     let what = format!("{}'s decide({n}, {g}, {allowance})", library.name());
     let (store, mut path) = (Lent::new(store), Lent::new(path));
@@ -70,8 +73,8 @@ fn shortest_path(
     library: &dyn Calls,
     store: &[u64],
     (n, g): (usize, usize),
-    path: &[u8],
-    expected: &Expected<Shortest, u8>,
+    path: &[u16],
+    expected: &Expected<Shortest, u16>,
 ) -> Outcome {
     let what = format!("{}'s shortest path({n}, {g})", library.name());
     let (store, mut path) = (Lent::new(store), Lent::new(path));
@@ -183,13 +186,13 @@ pub fn accepted_table(
         backward.saturating_sub(1),
         backward,
         backward + 1,
-        256,
+        MAX_ALLOWANCE,
     ];
     allowances.sort();
     allowances.dedup();
-    let expected: Vec<(usize, Expected<Decision, u8>)> = allowances
+    let expected: Vec<(usize, Expected<Decision, u16>)> = allowances
         .iter()
-        .filter(|&&allowance| allowance <= 256)
+        .filter(|&&allowance| allowance <= MAX_ALLOWANCE)
         .map(|&allowance| (allowance, judged.decide(allowance)))
         .collect();
     demand_2(table, &judged, &expected)?;
@@ -208,7 +211,7 @@ pub fn accepted_table(
     for (allowance, Expected { answer, .. }) in &expected {
         let verdict = ["safe", "unsafe", "undecided"][answer.verdict as usize];
         tally.count("verdict", verdict);
-        if *allowance == 256 {
+        if *allowance == MAX_ALLOWANCE {
             tally.count("refinements", answer.count);
         }
         if answer.verdict == UNSAFE {
@@ -218,11 +221,11 @@ pub fn accepted_table(
 
     for library in libraries {
         for (allowance, expected) in &expected {
-            let room = random.pick(&[256, 256, 257, 300]);
-            let path = random.bytes(room);
+            let room = random.pick(&[PATH_PLACES, PATH_PLACES, PATH_PLACES + 1, PATH_PLACES + 44]);
+            let path = random.places(room);
             decide(*library, &store, (n, g, *allowance), &path, expected)?;
         }
-        let path = random.bytes(256 + beyond);
+        let path = random.places(PATH_PLACES + beyond);
         let shortest = judged.shortest_path();
         shortest_path(*library, &store, (n, g), &path, &shortest)?;
         for room in [n, n + 1, n + beyond] {
@@ -271,7 +274,7 @@ fn agreement(table: &Table, judged: &Judged, far: &[u16]) -> Outcome {
 fn demand_2(
     table: &Table,
     judged: &Judged,
-    answers: &[(usize, Expected<Decision, u8>)],
+    answers: &[(usize, Expected<Decision, u16>)],
 ) -> Outcome {
     let reachable = search::reaches_forbidden(table);
     ensure(judged.path.is_some() == reachable, || {
@@ -297,7 +300,7 @@ fn demand_2(
 /// a verdict that was given.
 fn demand_3(
     judged: &Judged,
-    answers: &[(usize, Expected<Decision, u8>)],
+    answers: &[(usize, Expected<Decision, u16>)],
     backward: usize,
 ) -> Outcome {
     let fails = |sentence: &str| Err(format!("demand 3 fails: {sentence}"));
@@ -330,7 +333,7 @@ fn try_everything(table: &Table, judged: &Judged) -> Outcome {
         "the path is not the first of all".to_string()
     })?;
     let mut rounds = Rounds::new(table);
-    rounds.decide(256);
+    rounds.decide(MAX_ALLOWANCE);
     ensure(rounds::extremes_hold(&rounds), || {
         "R is not the least or S not the greatest".to_string()
     })
@@ -449,8 +452,8 @@ impl Arguments {
             store: table.to_store(),
             n,
             g,
-            allowance: random.pick(&[0, 1, 256]),
-            path_len: 256,
+            allowance: random.pick(&[0, 1, MAX_ALLOWANCE]),
+            path_len: PATH_PLACES,
             output_len: blocks::file_length(n, g),
             places: n,
             site: random_site(random),
@@ -467,28 +470,30 @@ impl Arguments {
                 };
                 self.store.truncate(length);
             }
-            Fault::States => self.n = random.pick(&[0, 257, WIDE, usize::MAX]),
-            Fault::Groups => self.g = random.pick(&[65, WIDE, usize::MAX]),
-            Fault::StrayBit if self.n < 256 && self.g <= 64 => {
-                let last = random.pick(&[self.n, 255]);
+            Fault::States => self.n = random.pick(&[0, MAX_STATES + 1, WIDE, usize::MAX]),
+            Fault::Groups => self.g = random.pick(&[MAX_GROUPS + 1, WIDE, usize::MAX]),
+            Fault::StrayBit if self.n < MAX_STATES && self.g <= MAX_GROUPS => {
+                let last = random.pick(&[self.n, MAX_STATES - 1]);
                 let state = random.within(self.n, last);
-                let at = match random.below(2 + self.g + self.n) {
-                    set if set < 2 + self.g => 4 * set,
-                    set => 264 + 4 * (set - 2 - self.g),
+                let at = match random.below(HEAD_SETS + self.g + self.n) {
+                    set if set < HEAD_SETS + self.g => WORDS * set,
+                    set => row_at(set - HEAD_SETS - self.g),
                 };
                 self.put(at + state / 64, state % 64);
             }
-            Fault::UnusedGroup if self.g < 64 => {
-                let at = random.within(8 + 4 * self.g, 263);
+            Fault::UnusedGroup if self.g < MAX_GROUPS => {
+                let at = random.within(group_at(self.g), row_at(0) - 1);
                 self.put(at, random.below(64));
             }
-            Fault::UnusedRow if self.n < 256 => {
-                let at = random.within(264 + 4 * self.n, STORE_WORDS - 1);
+            Fault::UnusedRow if self.n < MAX_STATES => {
+                let at = random.within(row_at(self.n), STORE_WORDS - 1);
                 self.put(at, random.below(64));
             }
             Fault::StrayBit | Fault::UnusedGroup | Fault::UnusedRow => {}
-            Fault::Allowance => self.allowance = random.pick(&[257, WIDE, usize::MAX]),
-            Fault::PathShort => self.path_len = random.pick(&[0, 255]),
+            Fault::Allowance => {
+                self.allowance = random.pick(&[MAX_ALLOWANCE + 1, WIDE, usize::MAX])
+            }
+            Fault::PathShort => self.path_len = random.pick(&[0, PATH_PLACES - 1]),
             Fault::OutputShort => {
                 self.output_len = random.pick(&[0, self.output_len.saturating_sub(1)]);
             }
@@ -537,7 +542,7 @@ fn spoiled_arguments(
         places,
         site,
     } = arguments;
-    let path = random.bytes(path_len);
+    let path = random.places(path_len);
     let output = random.bytes(output_len);
     let out = random.places(places);
     let k = random.pick(&[0, 1, 65_535, usize::MAX]);
@@ -633,7 +638,7 @@ pub fn named_tables(libraries: &[&dyn Calls], random: &mut Random, tally: &mut T
         };
         let store = named.table.to_store();
         for library in libraries {
-            let path = random.bytes(256);
+            let path = random.places(PATH_PLACES);
             decide(*library, &store, (n, g, named.allowance), &path, &typed).map_err(fault)?;
         }
         accepted_table(libraries, &named.table, random, tally).map_err(fault)?;
@@ -660,7 +665,7 @@ fn drafts(libraries: &[&dyn Calls], random: &mut Random, tally: &mut Tally) -> O
                 written.answer.refusal,
             ];
             same("the plain acceptance of n = 0", earned, refusals)?;
-            let (path, output) = (random.bytes(room), random.bytes(output));
+            let (path, output) = (random.places(room), random.bytes(output));
             // No buffer is too short for these, and no log is odd or long: they have the ground that write has.
             let places = random.pick(&[0, 1, MAX_STATES]);
             let out = random.places(places);
@@ -685,24 +690,34 @@ fn drafts(libraries: &[&dyn Calls], random: &mut Random, tally: &mut Tally) -> O
                 logs::replay(*library, store, (0, g), log, walk)
             })
         };
-    case(&clean, 0, 256, 256, 0, [0, 0, 0], random)?;
-    case(&clean, 0, 0, 300, 513, [0, 0, 0], random)?;
-    case(&clean[1..], 0, 256, 256, 512, [10, 10, 10], random)?;
-    case(&[], 0, 257, 0, 0, [10, 10, 10], random)?;
-    case(&clean, 1, 257, 255, 0, [14, 14, 14], random)?;
-    case(&clean, 65, 257, 255, 512, [14, 14, 14], random)?;
-    case(&clean, usize::MAX, 256, 256, 512, [14, 14, 14], random)?;
-    case(&clean, 0, 257, 255, 0, [20, 21, 0], random)?;
-    case(&clean, 0, 256, 0, 1, [21, 21, 0], random)?;
+    let (most, over) = (MAX_ALLOWANCE, MAX_ALLOWANCE + 1);
+    let (room, short) = (PATH_PLACES, PATH_PLACES - 1);
+    case(&clean, 0, most, room, 0, [0, 0, 0], random)?;
+    case(&clean, 0, 0, room + 44, 513, [0, 0, 0], random)?;
+    case(&clean[1..], 0, most, room, 512, [10, 10, 10], random)?;
+    case(&[], 0, over, 0, 0, [10, 10, 10], random)?;
+    case(&clean, 1, over, short, 0, [14, 14, 14], random)?;
+    case(
+        &clean,
+        MAX_GROUPS + 1,
+        over,
+        short,
+        512,
+        [14, 14, 14],
+        random,
+    )?;
+    case(&clean, usize::MAX, most, room, 512, [14, 14, 14], random)?;
+    case(&clean, 0, over, short, 0, [20, 21, 0], random)?;
+    case(&clean, 0, most, 0, 1, [21, 21, 0], random)?;
     for at in 0..STORE_WORDS {
         let mut stray = clean.clone();
         stray[at] = 1 << random.below(64);
-        case(&stray, 0, 257, 255, 0, [17, 17, 17], random)?;
+        case(&stray, 0, over, short, 0, [17, 17, 17], random)?;
     }
     // Words past the table's are none of it.
     let mut longer = clean.clone();
     longer.extend(random.words(3));
-    case(&longer, 0, 256, 256, 0, [0, 0, 0], random)?;
+    case(&longer, 0, most, room, 0, [0, 0, 0], random)?;
 
     // Read: every word of the table becomes 0, and 10 comes first.
     for (room, refusal) in [
@@ -851,36 +866,39 @@ fn refused_file(
         .try_for_each(|library| read(*library, (file, site), &store, &expected))
 }
 
-/// n 256 and 257, g 64 and 65, allowance 256 and 257, store 1,287 and 1,288, path buffer 255 and 256.
+/// n, g and the allowance at their greatest and one more, n one fewer, the store and the path buffer just long enough and one short.
 fn edges(libraries: &[&dyn Calls], random: &mut Random, tally: &mut Tally) -> Outcome {
-    let corridor: Vec<(usize, usize)> = (1..256).map(|s| (s - 1, s)).collect();
-    let singletons: Vec<[usize; 1]> = (0..64).map(|s| [4 * s]).collect();
+    let corridor: Vec<(usize, usize)> = (1..MAX_STATES).map(|s| (s - 1, s)).collect();
+    let singletons: Vec<[usize; 1]> = (0..MAX_GROUPS)
+        .map(|j| [j * MAX_STATES / MAX_GROUPS])
+        .collect();
     let singletons: Vec<&[usize]> = singletons.iter().map(|group| &group[..]).collect();
-    let largest = Table::of(256, &[0], &[255], &singletons, &corridor);
+    let last = MAX_STATES - 1;
+    let largest = Table::of(MAX_STATES, &[0], &[last], &singletons, &corridor);
     accepted_table(libraries, &largest, random, tally)?;
-    accepted_table(
-        libraries,
-        &Table::of(256, &[0], &[255], &[], &corridor),
-        random,
-        tally,
-    )?;
+    let plain = Table::of(MAX_STATES, &[0], &[last], &[], &corridor);
+    accepted_table(libraries, &plain, random, tally)?;
+    let fewer = Table::of(last, &[0], &[last - 1], &[], &corridor[..last - 1]);
+    accepted_table(libraries, &fewer, random, tally)?;
 
     let store = largest.to_store();
+    let (words, n, g) = (STORE_WORDS, MAX_STATES, MAX_GROUPS);
+    let (most, room) = (MAX_ALLOWANCE, PATH_PLACES);
     for (refusal, length, n, g, allowance, room) in [
-        (0, 1288, 256, 64, 256, 256),
-        (10, 1287, 257, 65, 257, 255),
-        (14, 1288, 257, 65, 257, 255),
-        (15, 1288, 256, 65, 257, 255),
-        (17, 1288, 255, 64, 257, 255),
-        (17, 1288, 256, 63, 257, 255),
-        (20, 1288, 256, 64, 257, 255),
-        (21, 1288, 256, 64, 256, 255),
+        (0, words, n, g, most, room),
+        (10, words - 1, n + 1, g + 1, most + 1, room - 1),
+        (14, words, n + 1, g + 1, most + 1, room - 1),
+        (15, words, n, g + 1, most + 1, room - 1),
+        (17, words, n - 1, g, most + 1, room - 1),
+        (17, words, n, g - 1, most + 1, room - 1),
+        (20, words, n, g, most + 1, room - 1),
+        (21, words, n, g, most, room - 1),
     ] {
         let store = &store[..length];
         let expected = expected::decide(store, n, g, allowance, room);
         same("the plain acceptance", expected.answer.refusal, refusal)?;
         for library in libraries {
-            let path = random.bytes(room);
+            let path = random.places(room);
             decide(*library, store, (n, g, allowance), &path, &expected)?;
         }
     }

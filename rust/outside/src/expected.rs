@@ -31,7 +31,7 @@ impl<'t> Judged<'t> {
     }
 
     /// Decide on an accepted store.
-    pub fn decide(&mut self, allowance: usize) -> Expected<Decision, u8> {
+    pub fn decide(&mut self, allowance: usize) -> Expected<Decision, u16> {
         let (outcome, count) = self.rounds.decide(allowance);
         let mut answer = Decision {
             count: count as u32,
@@ -46,7 +46,7 @@ impl<'t> Judged<'t> {
             }
             Outcome::Unsafe => {
                 answer.verdict = UNSAFE;
-                front = path_bytes(self.path.as_deref().expect("unsafe, so there is a path"));
+                front = path_places(self.path.as_deref().expect("unsafe, so there is a path"));
                 answer.steps = front.len() as u32 - 1;
             }
             Outcome::Undecided => answer.verdict = UNDECIDED,
@@ -55,8 +55,8 @@ impl<'t> Judged<'t> {
     }
 
     /// Shortest path on an accepted store.
-    pub fn shortest_path(&self) -> Expected<Shortest, u8> {
-        let front = self.path.as_deref().map(path_bytes).unwrap_or_default();
+    pub fn shortest_path(&self) -> Expected<Shortest, u16> {
+        let front = self.path.as_deref().map(path_places).unwrap_or_default();
         let answer = Shortest {
             refusal: 0,
             found: self.path.is_some() as u32,
@@ -104,7 +104,7 @@ pub fn decide(
     g: usize,
     allowance: usize,
     path_len: usize,
-) -> Expected<Decision, u8> {
+) -> Expected<Decision, u16> {
     match accept::decide(store, n, g, allowance, path_len) {
         Ok(()) => Judged::new(&Table::from_store(store, n, g)).decide(allowance),
         Err(refusal) => Expected {
@@ -118,7 +118,12 @@ pub fn decide(
 }
 
 /// Shortest path on any arguments.
-pub fn shortest_path(store: &[u64], n: usize, g: usize, path_len: usize) -> Expected<Shortest, u8> {
+pub fn shortest_path(
+    store: &[u64],
+    n: usize,
+    g: usize,
+    path_len: usize,
+) -> Expected<Shortest, u16> {
     match accept::shortest_path(store, n, g, path_len) {
         Ok(()) => Judged::new(&Table::from_store(store, n, g)).shortest_path(),
         Err(refusal) => Expected {
@@ -189,6 +194,6 @@ pub fn read(input: &[u8], site: usize, store_len: usize) -> Expected<TableRead, 
     }
 }
 
-fn path_bytes(path: &[usize]) -> Vec<u8> {
-    path.iter().map(|&state| state as u8).collect()
+fn path_places(path: &[usize]) -> Vec<u16> {
+    path.iter().map(|&state| state as u16).collect()
 }

@@ -1,7 +1,7 @@
 //! Tables to measure on: each family is a few tables of one kind, all of one size.
 
 use crate::generate::{Random, Steps, add_fan_out, rows};
-use crate::table::{MAX_STATES, Set, Table, set_where};
+use crate::table::{MAX_GROUPS, MAX_STATES, Set, Table, set_where};
 
 pub struct Family {
     pub name: String,
@@ -10,6 +10,9 @@ pub struct Family {
 
 /// Tables of a family that is drawn at random.
 const TABLES: usize = 16;
+
+/// The sizes at which the growth of the cost is measured.
+const GROWTH: [usize; 4] = [MAX_STATES / 8, MAX_STATES / 4, MAX_STATES / 2, MAX_STATES];
 
 fn family(name: impl Into<String>, tables: Vec<Table>) -> Family {
     Family {
@@ -22,20 +25,26 @@ fn family(name: impl Into<String>, tables: Vec<Table>) -> Family {
 /// decide makes many refinements, and many looks in each.
 pub fn named(random: &mut Random) -> Vec<Family> {
     let mut families = vec![
-        family("corridor of 256", vec![corridor(256)]),
-        family("fan-out 2", some(|| fan_out(256, 2, 0, random))),
-        family("fan-out 4", some(|| fan_out(256, 4, 0, random))),
-        family("fan-out 16", some(|| fan_out(256, 16, 0, random))),
-        family("64 random groups", some(|| fan_out(256, 4, 64, random))),
-        family("dense rows", some(|| dense(256, random))),
+        family(
+            format!("corridor of {MAX_STATES}"),
+            vec![corridor(MAX_STATES)],
+        ),
+        family("fan-out 2", some(|| fan_out(MAX_STATES, 2, 0, random))),
+        family("fan-out 4", some(|| fan_out(MAX_STATES, 4, 0, random))),
+        family("fan-out 16", some(|| fan_out(MAX_STATES, 16, 0, random))),
+        family(
+            format!("{MAX_GROUPS} random groups"),
+            some(|| fan_out(MAX_STATES, 4, MAX_GROUPS, random)),
+        ),
+        family("dense rows", some(|| dense(MAX_STATES, random))),
         family("many looks forward", vec![many_looks_forward()]),
         family("many looks backward", vec![many_looks_backward(15, 15)]),
     ];
-    for n in [32, 64, 128, 256] {
+    for n in GROWTH {
         let tables = some(|| fan_out(n, 4, 0, random));
         families.push(family(format!("growth, fan-out 4, {n}"), tables));
     }
-    for n in [32, 64, 128, 256] {
+    for n in GROWTH {
         families.push(family(format!("growth, corridor, {n}"), vec![corridor(n)]));
     }
     families
@@ -44,8 +53,8 @@ pub fn named(random: &mut Random) -> Vec<Family> {
 /// Beside those for shortest path: distances of many sizes, and no path.
 pub fn more_for_shortest_path(random: &mut Random) -> Vec<Family> {
     vec![
-        family("layers", some(|| layers(256, random))),
-        family("no path", some(|| no_path(256, random))),
+        family("layers", some(|| layers(MAX_STATES, random))),
+        family("no path", some(|| no_path(MAX_STATES, random))),
     ]
 }
 
@@ -53,13 +62,16 @@ pub fn more_for_shortest_path(random: &mut Random) -> Vec<Family> {
 /// to look at but the table it must accept.
 pub fn more_for_distances(random: &mut Random) -> Vec<Family> {
     let mut families = more_for_shortest_path(random);
-    families.push(family("leads nowhere", some(|| leads_nowhere(256, random))));
+    families.push(family(
+        "leads nowhere",
+        some(|| leads_nowhere(MAX_STATES, random)),
+    ));
     families
 }
 
 /// Beside those for read and write: one block, either side of its end, and the largest file.
 pub fn more_for_files(random: &mut Random) -> Vec<Family> {
-    [(3, 0), (61, 0), (61, 1), (256, 64)]
+    [(3, 0), (61, 0), (61, 1), (MAX_STATES, MAX_GROUPS)]
         .into_iter()
         .map(|(n, g)| {
             let tables = some(|| fan_out(n, 4, g, random));
@@ -137,7 +149,7 @@ fn leads_nowhere(n: usize, random: &mut Random) -> Table {
 
 /// Groups by the bits of a state's number: the cover of each of these states is the state alone.
 fn exact_groups(n: usize, exact: impl Fn(usize) -> bool) -> Vec<Set> {
-    (0..8)
+    (0..n.ilog2() + 1)
         .flat_map(|bit| [0, 1].map(|value| (bit, value)))
         .map(|(bit, value)| set_where(n, |s| exact(s) && s >> bit & 1 == value))
         .collect()
@@ -147,8 +159,8 @@ fn exact_groups(n: usize, exact: impl Fn(usize) -> bool) -> Vec<Set> {
 /// time, and whose second half has none, so that each round eliminates one state.
 fn many_looks_forward() -> Table {
     Table {
-        groups: exact_groups(256, |s| s < 128),
-        ..corridor(256)
+        groups: exact_groups(MAX_STATES, |s| s < MAX_STATES / 2),
+        ..corridor(MAX_STATES)
     }
 }
 

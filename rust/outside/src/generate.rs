@@ -1,7 +1,7 @@
 //! Tables at random: sizes, steps, initial and forbidden sets and groups are drawn independently, each
 //! from a list of kinds, so that all combinations come up.
 
-use crate::table::{MAX_GROUPS, MAX_STATES, Set, Table, set_where};
+use crate::table::{MAX_GROUPS, MAX_STATES, Set, Table, WORDS, set_where};
 
 /// A small generator of random numbers (SplitMix64), the same on every machine.
 #[derive(Clone)]
@@ -162,9 +162,9 @@ impl Kind {
     /// come up more often than others.
     pub fn random(random: &mut Random) -> Kind {
         let n = match random.below(10) {
-            0..3 => random.within(1, 6),
-            3..5 => random.within(1, 40),
-            5..7 => random.pick(&[63, 64, 65, 127, 128, 129, 191, 192, 193, 255, 256]),
+            0..4 => random.within(1, 6),
+            4..8 => random.within(1, 40),
+            8 => (64 * random.within(1, WORDS) + random.within(0, 2) - 1).min(MAX_STATES),
             _ => random.within(1, MAX_STATES),
         };
         let ends = match random.below(3) {

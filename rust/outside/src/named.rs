@@ -1,8 +1,9 @@
 //! The tables A to H and the ninth of docs/SPECIFICATION.md (Worked tables), with their figures typed from
 //! that text.
 
+use crate::accept::MAX_ALLOWANCE;
 use crate::calls::{Decision, SAFE, UNDECIDED, UNSAFE};
-use crate::table::Table;
+use crate::table::{Table, WORDS};
 
 /// A table, an allowance, and what decide must say.
 pub struct Named {
@@ -10,7 +11,7 @@ pub struct Named {
     pub table: Table,
     pub allowance: usize,
     pub decision: Decision,
-    pub path: &'static [u8],
+    pub path: &'static [u16],
     /// The backward number, where the text gives one.
     pub backward: Option<usize>,
 }
@@ -56,11 +57,18 @@ pub fn ninth() -> Table {
     Table::of(4, &[0], &[2], &[&[0]], &steps)
 }
 
+/// A set whose states are all below 64.
+fn first_word(word: u64) -> [u64; WORDS] {
+    let mut words = [0; WORDS];
+    words[0] = word;
+    words
+}
+
 pub fn decided() -> Vec<Named> {
     let safe = |count, invariant: u64, size| Decision {
         verdict: SAFE,
         count,
-        invariant: [invariant, 0, 0, 0],
+        invariant: first_word(invariant),
         size,
         ..Decision::default()
     };
@@ -84,17 +92,38 @@ pub fn decided() -> Vec<Named> {
         backward,
     };
     vec![
-        named("A", a(), 256, safe(0, 0b11, 2), &[], None),
-        named("B", b(), 256, unsafe_(3, 3), &[0, 1, 2, 3], Some(3)),
+        named("A", a(), MAX_ALLOWANCE, safe(0, 0b11, 2), &[], None),
+        named(
+            "B",
+            b(),
+            MAX_ALLOWANCE,
+            unsafe_(3, 3),
+            &[0, 1, 2, 3],
+            Some(3),
+        ),
         named("C with 2", b(), 2, undecided(2), &[], Some(3)),
         named("C with 3", b(), 3, unsafe_(3, 3), &[0, 1, 2, 3], Some(3)),
-        named("D", d(), 256, unsafe_(0, 3), &[0, 1, 2, 3], Some(3)),
-        named("E", e(), 256, safe(1, 0b1, 1), &[], None),
-        named("F", f(), 256, unsafe_(0, 0), &[0], None),
-        named("G", g(), 256, safe(0, 0, 0), &[], None),
-        named("draft", draft(), 256, safe(0, 0, 0), &[], Some(0)),
+        named(
+            "D",
+            d(),
+            MAX_ALLOWANCE,
+            unsafe_(0, 3),
+            &[0, 1, 2, 3],
+            Some(3),
+        ),
+        named("E", e(), MAX_ALLOWANCE, safe(1, 0b1, 1), &[], None),
+        named("F", f(), MAX_ALLOWANCE, unsafe_(0, 0), &[0], None),
+        named("G", g(), MAX_ALLOWANCE, safe(0, 0, 0), &[], None),
+        named("draft", draft(), MAX_ALLOWANCE, safe(0, 0, 0), &[], Some(0)),
         named("draft with 0", draft(), 0, safe(0, 0, 0), &[], Some(0)),
-        named("ninth", ninth(), 256, unsafe_(1, 3), &[0, 1, 3, 2], None),
+        named(
+            "ninth",
+            ninth(),
+            MAX_ALLOWANCE,
+            unsafe_(1, 3),
+            &[0, 1, 3, 2],
+            None,
+        ),
     ]
 }
 

@@ -1,4 +1,4 @@
-//! An optimised implementation of the calls, on sets of four words, with nothing allocated: what
+//! An optimised implementation of the calls, on sets of words, with nothing allocated: what
 //! the library is measured against. It uses nothing else of this package but the answers' types.
 //!
 //! The rounds are the specification's. Their fixpoints are worked out in one of two ways:
@@ -18,26 +18,31 @@ pub enum Looks {
 /// The peer as a library.
 pub struct Peer(pub Looks);
 
-const STORE_WORDS: usize = 1288;
-const MAX_STATES: usize = 256;
+const WORDS: usize = 8;
+const MAX_STATES: usize = 64 * WORDS;
 const MAX_GROUPS: usize = 64;
-const MAX_ALLOWANCE: usize = 256;
-const PATH_BYTES: usize = 256;
+/// The sets that stand before the groups.
+const HEAD_SETS: usize = 2;
+const STORE_WORDS: usize = (HEAD_SETS + MAX_GROUPS + MAX_STATES) * WORDS;
+const MAX_ALLOWANCE: usize = MAX_STATES;
+const PATH_PLACES: usize = MAX_STATES;
 const BLOCK: usize = 512;
 const CONTENT: usize = 508;
-const MAX_BLOCKS: usize = 21;
+const MAX_BLOCKS: usize = 73;
 const MAX_SITE: usize = 65_520;
 
 /// Room for the contents of the largest file, and for a whole set past them.
-const CONTENTS_ROOM: usize = MAX_BLOCKS * CONTENT + 32;
+const CONTENTS_ROOM: usize = MAX_BLOCKS * CONTENT + 8 * WORDS;
+
+type Words = [u64; WORDS];
 
 // ---- Sets
 
 #[derive(Clone, Copy, PartialEq, Eq)]
-struct Set([u64; 4]);
+struct Set(Words);
 
 impl Set {
-    const EMPTY: Set = Set([0; 4]);
+    const EMPTY: Set = Set([0; WORDS]);
 
     fn below(n: usize) -> Set {
         Set(std::array::from_fn(|w| match n.saturating_sub(64 * w) {
@@ -60,7 +65,7 @@ impl Set {
     }
 
     fn is_empty(self) -> bool {
-        self.0[0] | self.0[1] | self.0[2] | self.0[3] == 0
+        self.0.iter().fold(0, |all, word| all | word) == 0
     }
 
     fn inside(self, other: Set) -> bool {
@@ -75,17 +80,17 @@ impl Set {
         self.0[state / 64] |= 1 << (state % 64);
     }
 
-    /// The smallest state, or 256.
+    /// The smallest state, or MAX_STATES.
     fn first(self) -> usize {
-        (0..4)
+        (0..WORDS)
             .find(|&w| self.0[w] != 0)
-            .map_or(256, |w| 64 * w + self.0[w].trailing_zeros() as usize)
+            .map_or(MAX_STATES, |w| 64 * w + self.0[w].trailing_zeros() as usize)
     }
 
     /// Calls `f` on each state, rising.
     #[inline(always)]
     fn each(self, mut f: impl FnMut(usize)) {
-        for w in 0..4 {
+        for w in 0..WORDS {
             let mut left = self.0[w];
             while left != 0 {
                 f(64 * w + left.trailing_zeros() as usize);
@@ -108,7 +113,7 @@ impl Set {
 
     /// The union of the sets that stand at the set's states.
     #[inline(always)]
-    fn gather(self, sets: &[[u64; 4]; 256]) -> Set {
+    fn gather(self, sets: &[Words; MAX_STATES]) -> Set {
         let mut all = Set::EMPTY;
         self.each(|state| all = all.union(Set(sets[state])));
         all
@@ -122,8 +127,8 @@ struct Table<'s> {
     n: usize,
     initial: Set,
     forbidden: Set,
-    groups: &'s [[u64; 4]],
-    rows: &'s [[u64; 4]; 256],
+    groups: &'s [Words],
+    rows: &'s [Words; MAX_STATES],
 }
 
 impl<'s> Table<'s> {
@@ -138,12 +143,12 @@ impl<'s> Table<'s> {
         if g > MAX_GROUPS {
             return Err(15);
         }
-        let (sets, _) = store.as_chunks::<4>();
-        let (fixed, rest) = sets.split_at(2);
+        let (sets, _) = store.as_chunks::<WORDS>();
+        let (fixed, rest) = sets.split_at(HEAD_SETS);
         let (groups, rows) = rest.split_at(MAX_GROUPS);
         let (used, unused) = groups.split_at(g);
         let (used_rows, unused_rows) = rows.split_at(n);
-        let any = |sets: &[[u64; 4]]| {
+        let any = |sets: &[Words]| {
             sets.iter()
                 .fold(Set::EMPTY, |all, &set| all.union(Set(set)))
         };
@@ -157,7 +162,7 @@ impl<'s> Table<'s> {
             initial: Set(fixed[0]),
             forbidden: Set(fixed[1]),
             groups: used,
-            rows: rows.try_into().expect("256 rows"),
+            rows: rows.try_into().expect("MAX_STATES rows"),
         })
     }
 
@@ -173,7 +178,7 @@ impl<'s> Table<'s> {
 
 // ---- The rounds
 
-type Covers = [[u64; 4]; 256];
+type Covers = [Words; MAX_STATES];
 
 fn narrow(covers: &mut Covers, z: Set) {
     z.each(|state| covers[state] = Set(covers[state]).meet(z).0);
@@ -240,7 +245,7 @@ fn backward(table: &Table, covers: &Covers, r: Set, looks: Looks) -> (Set, Set) 
 
 /// Verdict, count and invariant.
 fn rounds(table: &Table, allowance: usize, looks: Looks) -> (u32, usize, Set) {
-    let mut covers = [Set::below(table.n).0; 256];
+    let mut covers = [Set::below(table.n).0; MAX_STATES];
     for &group in table.groups {
         narrow(&mut covers, Set(group));
     }
@@ -271,7 +276,7 @@ fn rounds(table: &Table, allowance: usize, looks: Looks) -> (u32, usize, Set) {
 /// The layers are the states at each distance from the initial ones; cut down to those that lead on to
 /// the next layer, back from the first that meets the forbidden set, they hold the shortest paths and
 /// nothing else.
-fn write_path(table: &Table, path: &mut [u8]) -> Option<usize> {
+fn write_path(table: &Table, path: &mut [u16]) -> Option<usize> {
     let mut layers = [Set::EMPTY; MAX_STATES];
     let mut layer = table.initial;
     let mut seen = layer;
@@ -297,7 +302,7 @@ fn write_path(table: &Table, path: &mut [u8]) -> Option<usize> {
     let mut choices = layers[0];
     for k in 0..=steps {
         let state = choices.first();
-        path[k] = state as u8;
+        path[k] = state as u16;
         if k < steps {
             choices = Set(table.rows[state]).meet(layers[k + 1]);
         }
@@ -309,7 +314,7 @@ fn write_path(table: &Table, path: &mut [u8]) -> Option<usize> {
 
 /// The distance of each state, backward from the forbidden states by layers over the rows transposed.
 fn put_distances(table: &Table, out: &mut [u16]) {
-    let mut before = [[0; 4]; 256];
+    let mut before = [[0; WORDS]; MAX_STATES];
     for state in 0..table.n {
         let mut alone = Set::EMPTY;
         alone.insert(state);
@@ -346,7 +351,7 @@ fn steps_to_forbidden(table: &Table) -> Option<usize> {
 // ---- Files
 
 fn blocks_needed(n: usize, g: usize) -> (usize, usize) {
-    let length = 4 + n.div_ceil(8) * (2 + g + n);
+    let length = 4 + n.div_ceil(8) * (HEAD_SETS + g + n);
     (length, length.div_ceil(CONTENT))
 }
 
@@ -415,8 +420,8 @@ fn open(
 }
 
 /// The set at `at` in the contents of a table of n states.
-fn load(joined: &[u8], at: usize, all: Set) -> [u64; 4] {
-    let (words, _) = joined[at..at + 32].as_chunks::<8>();
+fn load(joined: &[u8], at: usize, all: Set) -> Words {
+    let (words, _) = joined[at..at + 8 * WORDS].as_chunks::<8>();
     let set = Set(std::array::from_fn(|w| u64::from_le_bytes(words[w])));
     set.meet(all).0
 }
@@ -468,7 +473,7 @@ impl Calls for Peer {
         n: usize,
         g: usize,
         allowance: usize,
-        path: &mut [u8],
+        path: &mut [u16],
     ) -> Decision {
         let none = Decision::default();
         let table = match Table::accept(store, n, g) {
@@ -479,7 +484,7 @@ impl Calls for Peer {
                     ..none
                 };
             }
-            Ok(_) if path.len() < PATH_BYTES => {
+            Ok(_) if path.len() < PATH_PLACES => {
                 return Decision {
                     refusal: 21,
                     ..none
@@ -502,11 +507,11 @@ impl Calls for Peer {
         }
     }
 
-    fn shortest_path(&self, store: &[u64], n: usize, g: usize, path: &mut [u8]) -> Shortest {
+    fn shortest_path(&self, store: &[u64], n: usize, g: usize, path: &mut [u16]) -> Shortest {
         let none = Shortest::default();
         let table = match Table::accept(store, n, g) {
             Err(refusal) => return Shortest { refusal, ..none },
-            Ok(_) if path.len() < PATH_BYTES => {
+            Ok(_) if path.len() < PATH_PLACES => {
                 return Shortest {
                     refusal: 21,
                     ..none
@@ -544,15 +549,15 @@ impl Calls for Peer {
             Ok(sizes) => sizes,
         };
         let (all, width) = (Set::below(n), n.div_ceil(8));
-        let (sets, _) = store.as_chunks_mut::<4>();
-        let (groups, rows) = sets.split_at_mut(2 + MAX_GROUPS);
-        let (used, unused) = groups.split_at_mut(2 + g);
+        let (sets, _) = store.as_chunks_mut::<WORDS>();
+        let (groups, rows) = sets.split_at_mut(HEAD_SETS + MAX_GROUPS);
+        let (used, unused) = groups.split_at_mut(HEAD_SETS + g);
         let (used_rows, unused_rows) = rows.split_at_mut(n);
         for (i, set) in used.iter_mut().chain(used_rows).enumerate() {
             *set = load(&joined, 4 + width * i, all);
         }
-        unused.fill([0; 4]);
-        unused_rows.fill([0; 4]);
+        unused.fill([0; WORDS]);
+        unused_rows.fill([0; WORDS]);
         TableRead {
             n: n as u32,
             g: g as u32,
@@ -612,7 +617,7 @@ impl Calls for Peer {
             .chain(&table.rows[..table.n]);
         for (i, set) in sets.enumerate() {
             let at = 4 + n.div_ceil(8) * i;
-            for (bytes, word) in joined[at..at + 32].chunks_exact_mut(8).zip(set) {
+            for (bytes, word) in joined[at..at + 8 * WORDS].chunks_exact_mut(8).zip(set) {
                 bytes.copy_from_slice(&word.to_le_bytes());
             }
         }

@@ -1,7 +1,7 @@
 //! Groups put another way: a table whose groups are in another order, twice over, or with a union or an
 //! overlap of two of them added gets the same answer from decide, all of it, and the same path.
 
-use crate::accept::{MAX_ALLOWANCE, PATH_BYTES};
+use crate::accept::{MAX_ALLOWANCE, PATH_PLACES};
 use crate::calls::{Calls, Decision};
 use crate::examine::{Outcome, Tally};
 use crate::generate::{Kind, Random};
@@ -25,13 +25,13 @@ const NEEDED: &str = "groups that the answer needs";
 
 /// Allowances, each with the length of a path buffer: few refinements, a release check, and grounds 20 and 21.
 const CALLS: [(usize, usize); 7] = [
-    (0, PATH_BYTES),
-    (1, PATH_BYTES),
-    (2, PATH_BYTES),
-    (3, PATH_BYTES),
-    (MAX_ALLOWANCE, PATH_BYTES),
-    (MAX_ALLOWANCE + 1, PATH_BYTES),
-    (MAX_ALLOWANCE, PATH_BYTES - 1),
+    (0, PATH_PLACES),
+    (1, PATH_PLACES),
+    (2, PATH_PLACES),
+    (3, PATH_PLACES),
+    (MAX_ALLOWANCE, PATH_PLACES),
+    (MAX_ALLOWANCE + 1, PATH_PLACES),
+    (MAX_ALLOWANCE, PATH_PLACES - 1),
 ];
 
 /// Random tables, each with every rewriting of its groups by itself, and with some in turn.
@@ -43,7 +43,7 @@ pub fn regrouped_tables(
     for _ in 0..TABLES {
         let table = Kind::random(random).table(random);
         let others = put_another_way(&table, random, tally);
-        let path = random.bytes(PATH_BYTES);
+        let path = random.places(PATH_PLACES);
         let mut needed = false;
         for library in libraries {
             for (allowance, room) in CALLS {
@@ -86,8 +86,8 @@ fn decide(
     library: &dyn Calls,
     table: &Table,
     allowance: usize,
-    path: &[u8],
-) -> (Decision, Vec<u8>) {
+    path: &[u16],
+) -> (Decision, Vec<u16>) {
     let mut path = path.to_vec();
     let answer = library.decide(&table.to_store(), table.n, table.g(), allowance, &mut path);
     (answer, path)

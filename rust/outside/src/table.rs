@@ -3,9 +3,23 @@
 /// A set of the states of a table: one entry for each state.
 pub type Set = Vec<bool>;
 
-pub const STORE_WORDS: usize = 1288;
-pub const MAX_STATES: usize = 256;
+/// The words of a set, and the sets that stand before the groups.
+pub const WORDS: usize = 8;
+pub const HEAD_SETS: usize = 2;
+pub const MAX_STATES: usize = 64 * WORDS;
 pub const MAX_GROUPS: usize = 64;
+pub const STORE_WORDS: usize = row_at(MAX_STATES);
+
+/// Where the sets of a store begin.
+pub const FORBIDDEN_AT: usize = WORDS;
+
+pub const fn group_at(j: usize) -> usize {
+    WORDS * (HEAD_SETS + j)
+}
+
+pub const fn row_at(s: usize) -> usize {
+    group_at(MAX_GROUPS + s)
+}
 
 #[derive(Clone, Debug, PartialEq, Eq)]
 pub struct Table {
@@ -42,16 +56,16 @@ impl Table {
         self.groups.len()
     }
 
-    /// The 1,288 words of a store that holds the table.
+    /// The words of a store that holds the table.
     pub fn to_store(&self) -> Vec<u64> {
         let mut store = vec![0; STORE_WORDS];
         put_words(&mut store, 0, &self.initial);
-        put_words(&mut store, 4, &self.forbidden);
+        put_words(&mut store, FORBIDDEN_AT, &self.forbidden);
         for (j, group) in self.groups.iter().enumerate() {
-            put_words(&mut store, 8 + 4 * j, group);
+            put_words(&mut store, group_at(j), group);
         }
         for (s, row) in self.rows.iter().enumerate() {
-            put_words(&mut store, 264 + 4 * s, row);
+            put_words(&mut store, row_at(s), row);
         }
         store
     }
@@ -62,9 +76,9 @@ impl Table {
         Table {
             n,
             initial: set(0),
-            forbidden: set(4),
-            groups: (0..g).map(|j| set(8 + 4 * j)).collect(),
-            rows: (0..n).map(|s| set(264 + 4 * s)).collect(),
+            forbidden: set(FORBIDDEN_AT),
+            groups: (0..g).map(|j| set(group_at(j))).collect(),
+            rows: (0..n).map(|s| set(row_at(s))).collect(),
         }
     }
 }
@@ -74,9 +88,9 @@ pub fn set_where(n: usize, test: impl Fn(usize) -> bool) -> Set {
     (0..n).map(test).collect()
 }
 
-/// The four words of a set.
-pub fn words(set: &Set) -> [u64; 4] {
-    let mut words = [0; 4];
+/// The words of a set.
+pub fn words(set: &Set) -> [u64; WORDS] {
+    let mut words = [0; WORDS];
     put_words(&mut words, 0, set);
     words
 }

@@ -110,7 +110,7 @@ fn accepted_by_all(seed: u32, n: usize, fan_out: usize) {
         shuntberry::write(&store, n, 0, 0, &mut output),
         Ok(&file[..])
     );
-    let mut path = [0; shuntberry::PATH_BYTES];
+    let mut path = [0; shuntberry::PATH_PLACES];
     for allowance in [0, 1, shuntberry::MAX_ALLOWANCE] {
         shuntberry::decide(&store, n, 0, allowance, &mut path).unwrap();
     }
@@ -131,7 +131,7 @@ fn every_fan_out_at_the_edges_of_n() {
     let mut seeds = SEEDS.to_vec();
     seeds.extend((0..4).map(|_| random.word() as u32));
     for seed in seeds {
-        for n in [0, 1, 2, 255, 256, 257] {
+        for n in [0, 1, 2, MAX_STATES - 1, MAX_STATES, MAX_STATES + 1] {
             for fan_out in 0..=17 {
                 let room = STORE_WORDS + random.pick(&[0, 0, 1, 7]);
                 examine(seed, n, fan_out, room, &mut random);
@@ -144,7 +144,7 @@ fn every_fan_out_at_the_edges_of_n() {
 fn the_stores_length() {
     let mut random = Random::new(2);
     for room in [0, 1, STORE_WORDS - 1, STORE_WORDS, STORE_WORDS + 1] {
-        for n in [0, 1, 256, 257, usize::MAX] {
+        for n in [0, 1, MAX_STATES, MAX_STATES + 1, usize::MAX] {
             for fan_out in [0, 16, 17, usize::MAX] {
                 examine(7, n, fan_out, room, &mut random);
             }
@@ -167,7 +167,7 @@ fn random_loads() {
 fn every_call_accepts_a_load() {
     let mut random = Random::new(4);
     for seed in SEEDS {
-        for n in [1, 2, 61, 255, 256] {
+        for n in [1, 2, 61, MAX_STATES - 1, MAX_STATES] {
             for fan_out in [0, 1, 2, 16] {
                 accepted_by_all(seed, n, fan_out);
             }

@@ -16,7 +16,7 @@ use lib.Dec.{ltb}
 use lib.ListN.{length, getD, take, drop, length-drop, take-append-drop}
 use lib.Seq.{ext-getD, length-take-le, getD-drop}
 use Rattle.model.specs.Sets.{WORDS, maxStates, Set, empty, tabulate}
-use Rattle.model.specs.Stores.{maxGroups, forbiddenAt, groupAt, rowAt, storeWords, setAt, layout}
+use Rattle.model.specs.Stores.{headSets, maxGroups, forbiddenAt, groupAt, rowAt, storeWords, setAt, layout}
 use Rattle.model.specs.Contents.{setWidth, headerBytes, setIn, setNumber, tableIn}
 use Rattle.model.specs.Calls.{overwrite}
 use Rattle.model.proofs.Bounds.{by-cond, below-suc, lt-or-ge, length-tabulate, getD-tabulate}
@@ -76,7 +76,7 @@ module _ (bytes : List ℕ) (n g : ℕ) (few : g ≤ maxGroups) (old : List ℕ)
   abbrev after : ℕ → List ℕ
   after k = fillSets bytes n g k old
 
-  fill-long : (k : ℕ) → k ≤ 2 + g + maxStates → length (after k) ≡ length old
+  fill-long : (k : ℕ) → k ≤ headSets + g + maxStates → length (after k) ≡ length old
   unfolding fillSets
   fill-long zero h = refl
   fill-long (suc k) h =
@@ -84,10 +84,10 @@ module _ (bytes : List ℕ) (n g : ℕ) (few : g ≤ maxGroups) (old : List ℕ)
       put-long (placeOf g k) (setNumber bytes n k) (after k) (omega (arith, set-long bytes n k, rest, place-inside g few k (omega arith))) ∙ rest
 
   -- the next set fits
-  next-fits : (k : ℕ) → k < 2 + g + maxStates → placeOf g k + length (setNumber bytes n k) ≤ length (after k)
+  next-fits : (k : ℕ) → k < headSets + g + maxStates → placeOf g k + length (setNumber bytes n k) ≤ length (after k)
   next-fits k h = omega (arith, set-long bytes n k, fill-long k (omega arith), place-inside g few k h)
 
-  fill-other : (k : ℕ) → k ≤ 2 + g + maxStates → (i : ℕ) → ((j : ℕ) → j < k → (i < placeOf g j) ⊎ (placeOf g j + WORDS ≤ i)) → getD (after k) i 0 ≡ getD old i 0
+  fill-other : (k : ℕ) → k ≤ headSets + g + maxStates → (i : ℕ) → ((j : ℕ) → j < k → (i < placeOf g j) ⊎ (placeOf g j + WORDS ≤ i)) → getD (after k) i 0 ≡ getD old i 0
   unfolding fillSets
   fill-other zero h i apart = refl
   fill-other (suc k) h i apart =
@@ -95,7 +95,7 @@ module _ (bytes : List ℕ) (n g : ℕ) (few : g ≤ maxGroups) (old : List ℕ)
       (⊎-elim inl (λ l. inr (omega (arith, set-long bytes n k))) (apart k (omega arith)))
       ∙ fill-other k (omega arith) i (λ j l. apart j (omega arith))
 
-  fill-own : (k : ℕ) → k ≤ 2 + g + maxStates → (j : ℕ) → j < k → setAt (after k) (placeOf g j) ≡ setNumber bytes n j
+  fill-own : (k : ℕ) → k ≤ headSets + g + maxStates → (j : ℕ) → j < k → setAt (after k) (placeOf g j) ≡ setNumber bytes n j
   unfolding fillSets setAt
   fill-own zero h j l = absurd (not-suc-le-zero l)
   fill-own (suc k) h j l =
@@ -139,28 +139,28 @@ module _ (bytes : List ℕ) (n g : ℕ) (small : n ≤ maxStates) (few : g ≤ m
   enough = omega (arith, cleared-long)
 
   abbrev whole : List ℕ
-  whole = fillSets bytes n g (2 + g + n) (cleared old)
+  whole = fillSets bytes n g (headSets + g + n) (cleared old)
 
   whole-long : length whole ≡ length old
-  whole-long = fill-long bytes n g few (cleared old) enough (2 + g + n) (omega arith) ∙ cleared-long
+  whole-long = fill-long bytes n g few (cleared old) enough (headSets + g + n) (omega arith) ∙ cleared-long
 
-  own : (k at : ℕ) → k < 2 + g + n → placeOf g k ≡ at → setAt whole at ≡ setNumber bytes n k
-  own k at h e = ap (setAt whole) (sym e) ∙ fill-own bytes n g few (cleared old) enough (2 + g + n) (omega arith) k h
+  own : (k at : ℕ) → k < headSets + g + n → placeOf g k ≡ at → setAt whole at ≡ setNumber bytes n k
+  own k at h e = ap (setAt whole) (sym e) ∙ fill-own bytes n g few (cleared old) enough (headSets + g + n) (omega arith) k h
 
-  unused : (at : ℕ) → at + WORDS ≤ storeWords → ((v j : ℕ) → v < WORDS → j < 2 + g + n → (at + v < placeOf g j) ⊎ (placeOf g j + WORDS ≤ at + v)) → setAt whole at ≡ empty
+  unused : (at : ℕ) → at + WORDS ≤ storeWords → ((v j : ℕ) → v < WORDS → j < headSets + g + n → (at + v < placeOf g j) ⊎ (placeOf g j + WORDS ≤ at + v)) → setAt whole at ≡ empty
   unused at h apart =
       setAt-empty whole at (omega (arith, whole-long))
-      (λ v l. fill-other bytes n g few (cleared old) enough (2 + g + n) (omega arith) (at + v) (λ j m. apart v j l m) ∙ cleared-word (at + v) (omega arith))
+      (λ v l. fill-other bytes n g few (cleared old) enough (headSets + g + n) (omega arith) (at + v) (λ j m. apart v j l m) ∙ cleared-word (at + v) (omega arith))
 
   whole-holds : Holds whole (tableIn bytes n g)
   unfolding tableIn
   whole-holds =
-      let group : ℕ → Set = λ i. setNumber bytes n (2 + i) in
+      let group : ℕ → Set = λ i. setNumber bytes n (headSets + i) in
       record {
         initial = own 0 0 (omega arith) (by-place g 0 (λ p. p ≡ 0) (λ l. refl) (λ l. absurd (omega arith)));
         forbidden = own 1 forbiddenAt (omega arith) (by-place g 1 (λ p. p ≡ forbiddenAt) (λ l. refl) (λ l. absurd (omega arith)));
         group = λ j h. ⊎-elim
-            (λ l. own (2 + j) (groupAt j) (omega arith) (by-place g (2 + j) (λ p. p ≡ groupAt j) (λ m. omega arith) (λ m. absurd (omega arith))) ∙ sym (getD-tabulate group g j empty l))
+            (λ l. own (headSets + j) (groupAt j) (omega arith) (by-place g (headSets + j) (λ p. p ≡ groupAt j) (λ m. omega arith) (λ m. absurd (omega arith))) ∙ sym (getD-tabulate group g j empty l))
             (λ l.
             unused (groupAt j) (omega arith)
             (λ v i b m. by-place g i (λ p. (groupAt j + v < p) ⊎ (p + WORDS ≤ groupAt j + v)) (λ q. inr (omega arith)) (λ q. inl (omega arith)))
@@ -169,7 +169,7 @@ module _ (bytes : List ℕ) (n g : ℕ) (small : n ≤ maxStates) (few : g ≤ m
         row = λ s h. by-cond (λ (X : Set). setAt whole (rowAt s) ≡ X) (ltb s n) _ empty
             (λ q.
             let l = ltb-true s n q in
-            own (2 + g + s) (rowAt s) (omega arith) (by-place g (2 + g + s) (λ p. p ≡ rowAt s) (λ m. absurd (omega arith)) (λ m. omega arith))
+            own (headSets + g + s) (rowAt s) (omega arith) (by-place g (headSets + g + s) (λ p. p ≡ rowAt s) (λ m. absurd (omega arith)) (λ m. omega arith))
             ∙ sym (tableIn-row bytes n g s l))
             (λ q.
             let l = ltb-false s n q in
@@ -183,7 +183,7 @@ module _ (bytes : List ℕ) (n g : ℕ) (small : n ≤ maxStates) (few : g ≤ m
       ext-getD 0 (drop storeWords whole) (drop storeWords old) (omega (arith, length-drop storeWords whole, length-drop storeWords old, whole-long))
       (λ i h.
       getD-drop storeWords whole i 0
-      ∙ fill-other bytes n g few (cleared old) enough (2 + g + n) (omega arith) (storeWords + i) (λ j l. inr (omega (arith, place-inside g few j (omega arith))))
+      ∙ fill-other bytes n g few (cleared old) enough (headSets + g + n) (omega arith) (storeWords + i) (λ j l. inr (omega (arith, place-inside g few j (omega arith))))
       ∙ cleared-past i
       ∙ sym (getD-drop storeWords old i 0))
 

@@ -27,7 +27,7 @@ use borrow.Author.Tests.{lt-ltb, le-ltb, eq-eqb, ne-eqb}
 use lib.Dec.{eqb, ltb}
 use lib.ListN.{length, getD, take, drop}
 use Rattle.model.specs.Sets.{maxStates, any}
-use Rattle.model.specs.Stores.{maxGroups, storeWords, concat, layout, refuse, beyond, nonZero}
+use Rattle.model.specs.Stores.{headSets, maxGroups, storeWords, concat, layout, refuse, beyond, nonZero}
 use Rattle.model.specs.Blocks.{blockBytes, contentBytes, checkAt, maxSite, le16At, checkOf, blocksFor, part, contentsOf, blockGrounds}
 use Rattle.model.specs.Contents.{contentLength, setNumber, tableIn}
 use Rattle.model.specs.Files.{maxFile}
@@ -129,7 +129,7 @@ module _ (input : List ℕ) (n g : ℕ) where
         ∙ refuse-skip _ 15 _ (le-ltb maxGroups g groups)
         ∙ refuse-take _ 16 _ (ap not (ne-eqb _ _ (λ q. x (q ∙ sym (e ∙ ap (λ (l : ℕ). blocksFor l) is))))))
 
-module _ {input : List ℕ} {n g size : ℕ} (s : Sized input n g size) {b : Bool} (sets : b ≡ any (2 + g + n) (λ k. beyond n (setNumber (contentsOf input) n k))) where
+module _ {input : List ℕ} {n g size : ℕ} (s : Sized input n g size) {b : Bool} (sets : b ≡ any (headSets + g + n) (λ k. beyond n (setNumber (contentsOf input) n k))) where
   behind-size : contentRefusal input n g ≡ refuse ((b, 17) ∷ (nonZero (contentsOf input) size (contentBytes * (length input / blockBytes)), 18) ∷ [])
   unfolding contentGrounds
   behind-size =

@@ -17,6 +17,7 @@ use lib.Pow.{shl-exact}
 use lib.Seq.{ext-getD}
 use mir.Syntax.{w8}
 use mir.Val.{Fits}
+use Rattle.model.specs.Stores.{headSets}
 use Rattle.model.specs.Sets.{WORDS, Set, member, number, tabulate}
 use Rattle.model.specs.Blocks.{contentsOf}
 use Rattle.model.specs.Contents.{setWidth, headerBytes, setIn}
@@ -28,11 +29,11 @@ use Rattle.model.proofs.ContentLaws.{number-none, number-append, word-number, n
 use Rattle.block_file.specs.Reading.{SetInside, TableInside}
 use Rattle.block_file.proofs.Overwriting.{Over, over-all}
 
-pub set-inside : {input : List ℕ} {n g : ℕ} (t : TableInside input n g) {w k : ℕ} → w ≡ setWidth n → k < 2 + g + n → SetInside input w (headerBytes + w * k)
+pub set-inside : {input : List ℕ} {n g : ℕ} (t : TableInside input n g) {w k : ℕ} → w ≡ setWidth n → k < headSets + g + n → SetInside input w (headerBytes + w * k)
 set-inside {n = n} {g} t {w} e l =
     record {
       narrow = omega (arith, t .small);
-      inside = omega (arith, t .inside, mul-le-mul-left w l, ap (λ (m : ℕ). m * (2 + g + n)) e);
+      inside = omega (arith, t .inside, mul-le-mul-left w l, ap (λ (m : ℕ). m * (headSets + g + n)) e);
     }
 
 -- ---- a word of a set, byte by byte

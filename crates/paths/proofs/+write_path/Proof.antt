@@ -37,6 +37,7 @@ pub +write-path-spec : {M : Type 1} → statement M
     write-path-lts.spec (claims t) (write-path-at t) write-path.Post
     (λ c κs. search needs)
     (λ c. omega (arith, writable-first _ _ _ _ (c .smallest-within .ensures) (c .before .before .before .pre .1)))
+    (λ c. search needs)
     (λ c. omega (arith, c .before .before .before .pre .1 .fits))
     (λ c κs. (writable-first _ _ _ _ (c .before .smallest-within .ensures) (c .before .before .before .before .pre .1), c .before .before .before .before .pre .1 .long))
     (λ c. search needs)

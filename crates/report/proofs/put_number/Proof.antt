@@ -1,7 +1,8 @@
--- `report::put_number` meets its contract: the digits of `io::decimal` are those of `decimal`, and no more than three.
+-- `report::put_number` meets its contract: the digits of `io::decimal` are those of `decimal`, and no more than numberBytes.
 use native.Mathlib.Omega.{arith}
 use mathlib.Core.Path.{_∙_}
 use borrow.Author.Needs.{needs}
+use Rattle.report.specs.Put.{numberBytes}
 use Rattle.report.proofs.Putting.{put-most, put-then}
 use Rattle.report.proofs.Decimals.{fewest-le, decimal-digits}
 use Rattle.report.proofs.put_number.Statement.{statement}
@@ -10,14 +11,14 @@ use Rattle.report.proofs.put_number.Tie as tie
 put-requires-2 : tie.Need-put-requires-2
 put-requires-2 c κs =
     let d = c .before .before .before .before .before .before .decimal .ensures in
-    omega (arith, d .0, fewest-le 3 _ _ (omega arith) (search needs) (d .1 .0))
+    omega (arith, d .0, fewest-le numberBytes _ _ (omega arith) (search needs) (d .1 .0))
 
 returns : tie.Need-returns
 returns c =
     let last = c .before .before in
     let first = last .before .before .before .before .before in
     let d = first .before .before .decimal .ensures in
-    let short = fewest-le 3 _ _ (omega arith) (search needs) (d .1 .0) in
+    let short = fewest-le numberBytes _ _ (omega arith) (search needs) (d .1 .0) in
     rw (← (d .1 .1 ∙ decimal-digits (d .1 .0)))
     (put-then (first .put .ensures) (put-most (omega (arith, d .0, short)) (last .put2 .ensures)))
 

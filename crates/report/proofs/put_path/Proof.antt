@@ -5,14 +5,14 @@ use mathlib.Core.Path.{_≡_}
 use borrow.Author.Needs.{needs}
 use lib.ListN.{length, take}
 use Rattle.report.specs.Text.{spaced}
-use Rattle.report.specs.Put.{Put}
+use Rattle.report.specs.Put.{spacedBytes, Put}
 use Rattle.report.proofs.Putting.{put-none, put-then, put-most}
 use Rattle.report.proofs.Turns.{take-more, spaced-append}
 use Rattle.report.proofs.put_path.Statement.{statement}
 use Rattle.report.proofs.put_path.Tie as tie
 
 abbrev Inv-loop : tie.InvT-loop
-Inv-loop path count at out₀ end₀ i₀ out end i = (i ≤ count) × Put (4 * i) (spaced (take i path)) at out₀ end out
+Inv-loop path count at out₀ end₀ i₀ out end i = (i ≤ count) × Put (spacedBytes * i) (spaced (take i path)) at out₀ end out
 
 abbrev μ-loop : tie.MeasureT-loop
 μ-loop path count at out₀ end₀ i₀ out end i = count - i
@@ -43,6 +43,7 @@ put-path-spec =
     Inv-loop
     μ-loop
     loop-holds
+    (λ c. search needs)
     (λ c. omega arith)
     (λ c. omega (arith, c .shared-slice-known2 .given (c .before .before .loop .i)))
     (λ c κs. omega (arith, c .before .shared-slice-known2 .given (c .before .before .before .loop .i)))

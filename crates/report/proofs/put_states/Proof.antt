@@ -5,14 +5,14 @@ use mathlib.Core.Path.{_≡_}
 use borrow.Author.Needs.{needs}
 use Rattle.model.specs.Sets.{maxStates, member, members, filter}
 use Rattle.report.specs.Text.{spaced}
-use Rattle.report.specs.Put.{Put}
+use Rattle.report.specs.Put.{spacedBytes, Put}
 use Rattle.report.proofs.Putting.{put-none, put-then, put-most}
 use Rattle.report.proofs.Turns.{filter-more, spaced-append}
 use Rattle.report.proofs.put_states.Statement.{statement}
 use Rattle.report.proofs.put_states.Tie as tie
 
 abbrev Inv-loop : tie.InvT-loop
-Inv-loop x at out₀ end₀ s₀ out end s = (s ≤ maxStates) × Put (4 * s) (spaced (filter s (member (x .words)))) at out₀ end out
+Inv-loop x at out₀ end₀ s₀ out end s = (s ≤ maxStates) × Put (spacedBytes * s) (spaced (filter s (member (x .words)))) at out₀ end out
 
 abbrev μ-loop : tie.MeasureT-loop
 μ-loop x at out₀ end₀ s₀ out end s = maxStates - s

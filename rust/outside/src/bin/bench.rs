@@ -14,14 +14,14 @@ use std::hint::black_box;
 use std::process::ExitCode;
 use std::time::Instant;
 
-use shuntberry_outside::accept::MAX_LOG;
+use shuntberry_outside::accept::{MAX_ALLOWANCE, MAX_LOG};
 use shuntberry_outside::blocks;
 use shuntberry_outside::calls::Calls;
 use shuntberry_outside::families;
 use shuntberry_outside::generate::Random;
 use shuntberry_outside::logs;
 use shuntberry_outside::peer::{Looks, Peer};
-use shuntberry_outside::table::{STORE_WORDS, Table};
+use shuntberry_outside::table::{MAX_STATES, STORE_WORDS, Table};
 use shuntberry_outside::windows::{self, NextOpen};
 
 const SEED: u64 = 1;
@@ -102,7 +102,7 @@ impl Call {
             } = black_box(case);
             match self {
                 Call::Decide => {
-                    black_box(library.decide(store, *n, *g, 256, &mut buffers.path));
+                    black_box(library.decide(store, *n, *g, MAX_ALLOWANCE, &mut buffers.path));
                 }
                 Call::ShortestPath => {
                     black_box(library.shortest_path(store, *n, *g, &mut buffers.path));
@@ -131,8 +131,8 @@ impl Call {
 }
 
 struct Buffers {
-    path: [u8; 256],
-    distances: [u16; 256],
+    path: [u16; MAX_STATES],
+    distances: [u16; MAX_STATES],
     store: [u64; STORE_WORDS],
     file: [u8; blocks::LARGEST],
 }
@@ -140,8 +140,8 @@ struct Buffers {
 impl Buffers {
     fn new() -> Buffers {
         Buffers {
-            path: [0; 256],
-            distances: [0; 256],
+            path: [0; MAX_STATES],
+            distances: [0; MAX_STATES],
             store: [0; STORE_WORDS],
             file: [0; blocks::LARGEST],
         }
@@ -468,12 +468,20 @@ fn agree(libraries: &[&dyn Calls], call: Call, cases: &[Case]) -> Result<(), Str
                 let mut buffers = Buffers::new();
                 match call {
                     Call::Decide => {
-                        let answer = library.decide(store, n, g, 256, &mut buffers.path);
-                        (format!("{answer:?}"), buffers.path.to_vec(), Vec::new())
+                        let answer = library.decide(store, n, g, MAX_ALLOWANCE, &mut buffers.path);
+                        (
+                            format!("{answer:?}"),
+                            Vec::new(),
+                            buffers.path.map(u64::from).to_vec(),
+                        )
                     }
                     Call::ShortestPath => {
                         let answer = library.shortest_path(store, n, g, &mut buffers.path);
-                        (format!("{answer:?}"), buffers.path.to_vec(), Vec::new())
+                        (
+                            format!("{answer:?}"),
+                            Vec::new(),
+                            buffers.path.map(u64::from).to_vec(),
+                        )
                     }
                     Call::Distances => {
                         let answer = library.distances(store, n, g, &mut buffers.distances);

@@ -4,7 +4,7 @@ use mathlib.Core.Path.{_≡_, sym, _∙_}
 use mathlib.Core.Bool.{false}
 use borrow.Author.Needs.{needs}
 use Rattle.model.specs.Sets.{any}
-use Rattle.model.specs.Stores.{beyond}
+use Rattle.model.specs.Stores.{headSets, beyond}
 use Rattle.model.specs.Blocks.{contentsOf}
 use Rattle.model.specs.Contents.{setNumber}
 use Rattle.model.proofs.Bounds.{any-start, any-turn, any-intro, any-end}
@@ -13,10 +13,10 @@ use Rattle.block_file.proofs.reading.any_beyond.Statement.{statement}
 use Rattle.block_file.proofs.reading.any_beyond.Tie as tie
 
 abbrev Inv-loop : tie.InvT-loop
-Inv-loop input n g w k₀ k-end k = (k ≤ 2 + g + n) × (any k (λ i. beyond n (setNumber (contentsOf input) n i)) ≡ false)
+Inv-loop input n g w k₀ k-end k = (k ≤ headSets + g + n) × (any k (λ i. beyond n (setNumber (contentsOf input) n i)) ≡ false)
 
 abbrev μ-loop : tie.MeasureT-loop
-μ-loop input n g w k₀ k-end k = 2 + g + n - k
+μ-loop input n g w k₀ k-end k = headSets + g + n - k
 
 pub any-beyond-spec : {M : Type 1} → statement M
 any-beyond-spec =

@@ -3,6 +3,7 @@ use Prim.Native.Nat.{_+_, _-_, _≤_}
 use native.Mathlib.Omega.{arith}
 use borrow.Author.Needs.{needs}
 use lib.ListN.{length-take, length-drop}
+use Rattle.model.specs.Stores.{headSets}
 use Rattle.model.specs.Blocks.{contentsOf}
 use Rattle.block_file.proofs.reading.Words.{set-inside}
 use Rattle.block_file.proofs.reading.Filling.{Filling, filling-none, filling-more, filling-all}
@@ -10,10 +11,10 @@ use Rattle.block_file.proofs.reading.fill_sets.Statement.{statement}
 use Rattle.block_file.proofs.reading.fill_sets.Tie as tie
 
 abbrev Inv-loop : tie.InvT-loop
-Inv-loop input n g store₀ w k₀ k-end store k = (k ≤ 2 + g + n) × Filling (contentsOf input) n g k store₀ store
+Inv-loop input n g store₀ w k₀ k-end store k = (k ≤ headSets + g + n) × Filling (contentsOf input) n g k store₀ store
 
 abbrev μ-loop : tie.MeasureT-loop
-μ-loop input n g store₀ w k₀ k-end store k = 2 + g + n - k
+μ-loop input n g store₀ w k₀ k-end store k = headSets + g + n - k
 
 pub fill-sets-spec : {M : Type 1} → statement M
 fill-sets-spec =

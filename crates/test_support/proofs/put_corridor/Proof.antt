@@ -3,14 +3,15 @@ use Prim.Native.Nat.{_-_, _≤_}
 use borrow.Author.Needs.{needs}
 use mathlib.Core.Path.{_≡_}
 use lib.ListN.{length}
-use Rattle.paths_test.proofs.put_corridor.Statement.{statement}
-use Rattle.paths_test.proofs.put_corridor.Tie as tie
+use Rattle.model.specs.Sets.{maxStates}
+use Rattle.test_support.proofs.put_corridor.Statement.{statement}
+use Rattle.test_support.proofs.put_corridor.Tie as tie
 
 abbrev Inv-loop : tie.InvT-loop
-Inv-loop store₀ s₀ store s = (s ≤ 255) × (length store ≡ length store₀)
+Inv-loop store₀ s₀ store s = (s ≤ maxStates - 1) × (length store ≡ length store₀)
 
 abbrev μ-loop : tie.MeasureT-loop
-μ-loop store₀ s₀ store s = 255 - s
+μ-loop store₀ s₀ store s = maxStates - 1 - s
 
 pub put-corridor-spec : {M : Type 1} → statement M
 put-corridor-spec =
@@ -19,6 +20,7 @@ put-corridor-spec =
     Inv-loop
     μ-loop
     (λ c κs. search needs)
+    (λ c. search needs)
     (λ c κs. search needs)
     (λ c. search needs)
     (λ c. search needs)
