@@ -43,13 +43,13 @@ extern "C" {
  * Goes up by one with each change for which a program must be changed or compiled again; what changed is
  * in docs/changes. 1 is the header that had no such macro. From 2 on shuntberry_read and shuntberry_write
  * are given the site of the file, behind the input and behind g: their signatures changed. Site 0 gives
- * the files of version 1.
+ * the files of version 1. From 3 on a table has up to 512 states: a set is 8 words, a store 4,624, a path
+ * 16-bit numbers in a buffer of at least 512 places, the allowance goes to 512. Files are as they were.
  */
-#define SHUNTBERRY_VERSION 2
+#define SHUNTBERRY_VERSION 3
 
 /* ---- Sizes ---- */
 
-#define SHUNTBERRY_VERSION 2         /* raised where a size, a type or an argument changes: compile with the header of the library */
 #define SHUNTBERRY_MAX_STATES 512    /* the greatest n */
 #define SHUNTBERRY_MAX_GROUPS 64     /* the greatest g */
 #define SHUNTBERRY_MAX_ALLOWANCE SHUNTBERRY_MAX_STATES /* the greatest allowance, and that of a release check */
