@@ -44,7 +44,9 @@ extern "C" {
  * in docs/changes. 1 is the header that had no such macro. From 2 on shuntberry_read and shuntberry_write
  * are given the site of the file, behind the input and behind g: their signatures changed. Site 0 gives
  * the files of version 1. From 3 on a table has up to 512 states: a set is 8 words, a store 4,624, a path
- * 16-bit numbers in a buffer of at least 512 places, the allowance goes to 512. Files are as they were.
+ * 16-bit numbers in a buffer of at least 512 places (SHUNTBERRY_PATH_PLACES, where SHUNTBERRY_PATH_BYTES
+ * was), the allowance goes to 512. The file of a table of up to 256 states is as it was; the largest has
+ * 37,376 bytes.
  */
 #define SHUNTBERRY_VERSION 3
 

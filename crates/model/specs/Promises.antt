@@ -133,7 +133,7 @@ pub record IsInvariant (t : Table) (X : Set) : Type 0 where
 
 pub record Carries (t : Table) (allowance : ℕ) (a : Decision) (before after : List ℕ) : Type 0 where
   pub with-safe : a .verdict ≡ 0 → IsInvariant t (a .invariant) × (a .size ≡ size (a .invariant)) × (a .steps ≡ 0) × (after ≡ before)
-  -- the path that the specification names: d + 1 states at the front of the buffer, and no other byte
+  -- the path that the specification names: d + 1 states at the front of the buffer, and no other place
   pub with-unsafe : a .verdict ≡ 1
       → IsSmallest t (smallestPath t) × (length (smallestPath t) ≡ suc (a .steps)) × (after ≡ overwrite (smallestPath t) before)
       × (a .invariant ≡ empty) × (a .size ≡ 0)
@@ -146,7 +146,7 @@ pub record Demand2 (t : Table) (a : Decision) (after : List ℕ) : Type 0 where
   -- unsafe exactly when there is a path
   pub unsafe-path : a .verdict ≡ 1 → (xs : List ℕ) × (isPath t xs ≡ true)
   pub path-unsafe : (xs : List ℕ) → isPath t xs ≡ true → a .verdict ≡ 1
-  -- with the path that the specification names, in the d + 1 bytes at the front of the buffer
+  -- with the path that the specification names, in the d + 1 places at the front of the buffer
   pub smallest-path : a .verdict ≡ 1 → IsSmallest t (take (suc (a .steps)) after)
   -- else safe, with an invariant
   pub invariant : a .verdict ≡ 0 → IsInvariant t (a .invariant)
@@ -170,7 +170,7 @@ pub record SameAnswer (a b : Decision) (p q : List ℕ) : Type 0 where
 pub record PathAnswer (t : Table) (a : Shortest) (before after : List ℕ) : Type 0 where
   pub found-or-none : (a .found ≡ 0) ⊎ (a .found ≡ 1)
   pub found-path : (a .found ≡ 1) ↔ ((xs : List ℕ) × (isPath t xs ≡ true))
-  -- the path that the specification names, which decide writes too: d + 1 states at the front of the buffer, and no other byte
+  -- the path that the specification names, which decide writes too: d + 1 states at the front of the buffer, and no other place
   pub with-path : a .found ≡ 1
       → IsSmallest t (smallestPath t) × (length (smallestPath t) ≡ suc (a .steps)) × (after ≡ overwrite (smallestPath t) before)
   pub without-path : a .found ≡ 0 → (a .steps ≡ 0) × (after ≡ before)

@@ -1,5 +1,5 @@
 -- The texts that the specification shows (docs/SPECIFICATION.md, "The program"), as one computed fact about the definitions: tables E, G
--- and B, and a refusal. Of B's path buffer only the first four bytes are printed.
+-- and B, and a refusal. Of B's path buffer only the first four places are printed.
 use Prim.Native.Nat.{ℕ}
 use mathlib.Core.Path.{_≡_, refl}
 use mathlib.Core.List.{[], _∷_}

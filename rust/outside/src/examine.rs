@@ -590,7 +590,7 @@ pub fn random_file(libraries: &[&dyn Calls], random: &mut Random, tally: &mut Ta
     };
     let random_bytes = random.once_in(40);
     if random_bytes {
-        let length = random.pick(&[512, 1024, 10_752]);
+        let length = random.pick(&[512, 1024, blocks::LARGEST]);
         file = random.bytes(length);
     }
     let room = match random.below(8) {

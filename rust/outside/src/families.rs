@@ -38,7 +38,7 @@ pub fn named(random: &mut Random) -> Vec<Family> {
         ),
         family("dense rows", some(|| dense(MAX_STATES, random))),
         family("many looks forward", vec![many_looks_forward()]),
-        family("many looks backward", vec![many_looks_backward(15, 15)]),
+        family("many looks backward", vec![many_looks_backward()]),
     ];
     for n in GROWTH {
         let tables = some(|| fan_out(n, 4, 0, random));
@@ -167,7 +167,13 @@ fn many_looks_forward() -> Table {
 /// State 0 stays; `ticks` states beside it share its group and lead to the forbidden state, so that
 /// each round eliminates one. The one before it leads on to it also by a chain of `length` states with
 /// exact covers, which S then loses one look at a time.
-fn many_looks_backward(ticks: usize, length: usize) -> Table {
+fn many_looks_backward() -> Table {
+    // as many chains as each is long, and as long as there are states for them
+    let ticks = (1..)
+        .take_while(|k| 2 + k * (k + 1) <= MAX_STATES)
+        .last()
+        .unwrap_or(1);
+    let length = ticks;
     let n = 2 + ticks * (length + 1);
     let tick = |k: usize| 1 + k;
     let chain = |k: usize, j: usize| 1 + ticks + length * k + j;

@@ -11,7 +11,7 @@
 //! - `accept`: refusals of a store and of the other arguments, in order;
 //! - `logs`: pump logs, walked as the text says, drawn at random, and the tests of the call replay.
 //!
-//! `peer` is an optimised implementation of the calls on four-word sets: what the library is
+//! `peer` is an optimised implementation of the calls on sets of words: what the library is
 //! measured against, and a library that the tests themselves can be tested with.
 //!
 //! `windows` is the call next open minute by itself: what is expected of it, and its tests.
