@@ -1,7 +1,7 @@
 //! Is a forbidden state of a dialogue table reachable, and by which steps?
 //!
-//! A safe wrapper around the proved library: [`decide`], [`shortest_path`], [`read`], [`write()`],
-//! [`generate`] and [`replay`], with slices in and enums out. No input makes a call panic: what the library does not accept, it
+//! A safe wrapper around the proved library: [`decide`], [`shortest_path`], [`distances`], [`within`],
+//! [`read`], [`write()`], [`generate`], [`replay`] and [`next_open`], with slices in and enums out. No input makes a call panic: what the library does not accept, it
 //! refuses with a number ([`Refused`]), and every buffer is then as it was before.
 //!
 //! A table has `n` states, numbered 0 to `n` − 1 ([`MAX_STATES`] at most), and `g` groups

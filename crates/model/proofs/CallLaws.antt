@@ -1,6 +1,6 @@
 -- Read and write where they decline on no ground: the grounds as facts, what is returned, and what is left in the buffer.
 --
---   Writable, writable                          no ground of write holds; writable-room: the last of them
+--   Writable, writable                          no ground of write holds
 --   write-over, write-behind                    a site over the greatest; else the grounds behind it
 --   write-refusal, write-answer, write-buffer   the refusal of any answer; the answer and the output where nothing is refused
 --   Readable                                    no ground of read holds of a file with a block, and n and g are those of the input

@@ -3,8 +3,8 @@
 --   divided                      the division with remainder; size-le: a set inside another has no more states
 --   reachable-closed             the states that can be reached have each step out of them
 --   followed-is                  the followed entries are the longest front that obeys
---   seen-is, coverage-is         the states that they hold; the coverage
---   walk-is                      WalkIs
+--   seen-is                      the states that they hold
+--   walk-is                      WalkIs, the coverage by `divided`
 use Prim.Native.Nat.{ℕ, _*_, _/_, _≤_, _<_}
 use native.Mathlib.Nat.{mod-lt, div-add-mod', div-lt-iff-lt-mul}
 use native.Mathlib.Omega.{arith}
