@@ -1,18 +1,33 @@
 -- The states of a set that pass a test, and those that are in hold.
 --
 --   passed, image-passed            the states of a set that pass a test, as an image; passed-take, passed-skip: one more state of it
+--   word-with                       the states of a word with one bit more
 --   held, meetHold-is               the states of a set that are in hold, as an image
-use Prim.Native.Nat.{ℕ}
-use mathlib.Core.Path.{_≡_, sym, _∙_, subst}
-use mathlib.Core.Bool.{Bool, true, false, cond, _&&_}
+--   held-start, held-word           the bits of a word that are in hold: before the first; when all are gathered
+use Prim.Native.Nat.{ℕ, _+_, _*_, _/_, _%_, _^_, _<_}
+use native.Mathlib.Omega.{arith}
+use mathlib.Core.Path.{_≡_, sym, ap, _∙_, subst}
+use mathlib.Core.Logic.{inl, inr, ⊎-elim}
+use mathlib.Core.Bool.{Bool, true, false, cond, _&&_, _||_}
 use mathlib.Core.List.{List}
-use Rattle.model.specs.Sets.{maxStates, Set, member, setOf, empty, single, union, subset, image}
+use borrow.Author.Tests.{eqb-true, eq-eqb, lt-ltb}
+use lib.Dec.{eqb}
+use lib.Bits.{bitOr}
+use lib.ListN.{length, getD}
+use mir.Syntax.{w64}
+use mir.Val.{Fits}
+use Rattle.model.specs.Sets.{WORDS, maxStates, Set, bit, member, setOf, empty, single, union, subset, image}
 use Rattle.model.specs.Stores.{rowAt, setAt}
-use Rattle.model.proofs.Bounds.{and-true, and-intro, by-cond}
-use Rattle.model.proofs.SetLaws.{Proper, setOf-proper, In, in-bound, in-setOf, setOf-in, empty-in, in-single, single-in, same-set, in-image, image-in}
+use Rattle.model.proofs.Bounds.{and-true, and-intro, or-intro, or-true as or-cases, by-cond}
+use Rattle.model.proofs.SetLaws.{Proper, setOf-proper, In, in-bound, in-setOf, setOf-in, empty-in, in-single, single-in, in-union, union-in, same-set, in-image, image-in, member-setOf, member-at}
 use Rattle.model.proofs.CoverLaws.{image-proper}
-use Rattle.model.proofs.ImageLaws.{union-empty}
+use Rattle.model.proofs.ImageLaws.{union-comm, union-empty}
+use Rattle.state_set.specs.WordSets.{wordSet}
+use Rattle.state_set.proofs.Bits.{bit-or, bit-power, one-shl}
+use Rattle.state_set.proofs.Words.{word-is}
+use Rattle.state_set.proofs.WordSets.{in-wordSet, wordSet-in, word-none}
 use Rattle.table.specs.Rows.{meetHold}
+use Rattle.table.proofs.Joins.{WordJoining}
 
 -- what a state gives to the states that pass p: itself, or nothing
 unfoldable pub passed : (ℕ → Bool) → ℕ → Set
@@ -44,6 +59,44 @@ module _ (p : ℕ → Bool) (out : Set) {out′ : Set} (x : ℕ) where
   unfolding passed
   passed-skip proper e q = rw e (q ∙ sym (union-empty out proper))
 
+-- ---- a word that is gathered bit by bit
+
+member-wordSet : (w x i : ℕ) → w < WORDS → i < 64 → member (wordSet w x) (64 * w + i) ≡ bit x i
+unfolding wordSet
+member-wordSet w x i h l =
+    let here : (64 * w + i) / 64 ≡ w = omega arith in
+    let place : (64 * w + i) % 64 ≡ i = omega arith in
+    member-setOf _ (64 * w + i) ∙ rw (lt-ltb (64 * w + i) maxStates (omega arith), eq-eqb ((64 * w + i) / 64) w here, place)
+
+-- one bit more
+pub word-with : (w x i : ℕ) → w < WORDS → i < 64 → wordSet w (bitOr x (1 * 2 ^ i % 2 ^ 64)) ≡ union (wordSet w x) (single (64 * w + i))
+unfolding wordSet union
+word-with w x i h l =
+    same-set _ _ (setOf-proper _) (setOf-proper _)
+    (λ s m.
+    let at = wordSet-in w (bitOr x (1 * 2 ^ i % 2 ^ 64)) m in
+    in-union
+    (⊎-elim (λ b. inl (in-wordSet w x (in-bound m) (at .0) b)) (λ b. inr (here s (in-bound m) (at .0) (eqb-true (s % 64) i b)))
+    (or-cases (bit x (s % 64)) (eqb (s % 64) i) (sym (more s) ∙ at .1))))
+    (λ s m.
+    ⊎-elim
+    (λ k. let at = wordSet-in w x k in in-wordSet w _ (in-bound m) (at .0) (more s ∙ or-intro (bit x (s % 64)) (eqb (s % 64) i) (inl (at .1))))
+    (λ k.
+    let e : s ≡ 64 * w + i = single-in k in
+    in-wordSet w _ (in-bound m) (omega arith) (more s ∙ or-intro (bit x (s % 64)) (eqb (s % 64) i) (inr (eq-eqb (s % 64) i (omega arith)))))
+    (union-in m))
+  where
+    more : (s : ℕ) → bit (bitOr x (1 * 2 ^ i % 2 ^ 64)) (s % 64) ≡ (bit x (s % 64) || eqb (s % 64) i)
+    more s =
+        ap (λ (y : ℕ). bit (bitOr x y) (s % 64)) (one-shl i l) ∙ bit-or x (2 ^ i) (s % 64) ∙ ap (λ (b : Bool). bit x (s % 64) || b) (bit-power i (s % 64))
+
+    here : (s : ℕ) → s < maxStates → s / 64 ≡ w → s % 64 ≡ i → In (single (64 * w + i)) s
+    here s b a e =
+        let q : s ≡ 64 * w + i = omega arith in
+        subst (λ (y : ℕ). In (single y) s) q (in-single b)
+
+-- ---- hold
+
 module _ (store : List ℕ) (Y : Set) where
   -- what a state gives to `meetHold`
   abbrev pub held : ℕ → Set
@@ -52,3 +105,34 @@ module _ (store : List ℕ) (Y : Set) where
   pub meetHold-is : (X : Set) → image maxStates held X ≡ meetHold store X Y
   unfolding meetHold
   meetHold-is X = image-passed _ X
+
+  pub held-start : (w bits : ℕ) → Fits w64 bits → WordJoining held (meetHold store (wordSet w bits) Y) w bits (wordSet w 0)
+  unfolding wordSet
+  held-start w bits b =
+      let found = image maxStates held (wordSet w bits) in
+      record {
+        fits = b .fits;
+        joining = record {
+          proper = setOf-proper _;
+          whole =
+              ap (λ (X : Set). union X found) (word-none w) ∙ union-comm empty found
+              ∙ union-empty found (image-proper maxStates held (wordSet w bits)) ∙ meetHold-is (wordSet w bits);
+        };
+      }
+
+  -- a number with the states of a set's word that are in hold is the word of those of the set
+  pub held-word : (X : Set) (w x : ℕ) → w < WORDS → Fits w64 x → wordSet w x ≡ meetHold store (wordSet w (getD X w 0)) Y → x ≡ getD (meetHold store X Y) w 0
+  unfolding meetHold
+  held-word X w x h f e =
+      word-is (λ s. member X s && subset (setAt store (rowAt s)) Y) w h x (f .fits)
+      (λ i l.
+      let inside : 64 * w + i < maxStates = omega arith in
+      sym (member-wordSet w x i h l)
+      ∙ ap (λ (Z : Set). member Z (64 * w + i)) e
+      ∙ member-setOf (λ s. member (wordSet w (getD X w 0)) s && subset (setAt store (rowAt s)) Y) (64 * w + i)
+      ∙ ap (λ (b : Bool). b && (member (wordSet w (getD X w 0)) (64 * w + i) && subset (setAt store (rowAt (64 * w + i))) Y)) (lt-ltb (64 * w + i) maxStates inside)
+      ∙ ap (λ (b : Bool). b && subset (setAt store (rowAt (64 * w + i))) Y) (member-wordSet w (getD X w 0) i h l ∙ sym (member-at X w i h l)))
+
+  pub meetHold-long : (X : Set) → length (meetHold store X Y) ≡ WORDS
+  unfolding meetHold
+  meetHold-long X = setOf-proper _ .long

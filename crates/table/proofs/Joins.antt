@@ -1,12 +1,12 @@
 -- Loops that join to a set what each state of another gives, word by word and bit by bit: the image of the other under f.
 --
---   WordJoining, bits-start, bits-bound, bits-turn, bits-end    the bits of a word: what is joined, with the image of those left, is the goal
+--   WordJoining, bits-start, bits-bound, bits-place, bits-turn, bits-end    the bits of a word: what is joined, with the image of those left, is the goal
 --   WordsJoining, words-start, words-turn, words-end            the words of a set: what is joined is the image of those passed
 use Prim.Native.Nat.{ℕ, _+_, _-_, _*_, _^_, _≤_, _<_, zero-le}
 use native.Mathlib.Omega.{arith}
 use mathlib.Core.Path.{_≡_, refl, sym, ap, _∙_}
 use lib.Bits.{bitAnd}
-use lib.Count.{trailingZeros}
+use lib.Count.{trailingZeros, trailing-le}
 use lib.ListN.{getD}
 use mir.Syntax.{w64}
 use mir.Val.{Fits}
@@ -14,7 +14,7 @@ use Rattle.model.specs.Sets.{WORDS, maxStates, Set, empty, union, image}
 use Rattle.model.proofs.SetLaws.{Proper, in-bound, in-subset}
 use Rattle.model.proofs.ImageLaws.{image-none, image-union, Joining, join-turn, join-end}
 use Rattle.state_set.specs.WordSets.{wordSet, wordsBelow}
-use Rattle.state_set.proofs.WordSets.{word-lowest, word-rest, word-less, word-none, words-none, words-more, words-all}
+use Rattle.state_set.proofs.WordSets.{wordSet-in, word-lowest, word-rest, word-less, word-none, words-none, words-more, words-all}
 
 -- ---- the bits of a word
 
@@ -30,6 +30,9 @@ module _ (f : ℕ → Set) where
 module _ {f : ℕ → Set} {goal : Set} {w rest : ℕ} {out : Set} (so : WordJoining f goal w rest out) where
   pub bits-bound : w < WORDS → (rest ≡ 0 → ⊥) → 64 * w + trailingZeros 64 rest < maxStates
   bits-bound h some = in-bound (word-lowest w rest h (so .fits) some)
+
+  pub bits-place : w < WORDS → (rest ≡ 0 → ⊥) → trailingZeros 64 rest < 64
+  bits-place h some = omega (arith, wordSet-in w rest (word-lowest w rest h (so .fits) some) .0, trailing-le 64 rest)
 
   pub bits-turn : {out′ : Set} → w < WORDS → (rest ≡ 0 → ⊥) → out′ ≡ union out (f (64 * w + trailingZeros 64 rest))
       → WordJoining f goal w (bitAnd rest (rest - 1)) out′

@@ -97,21 +97,22 @@ fn row_inside(store: &[u64], s: usize, y: StateSet) -> bool
     row_at(store, s).is_subset(y)
 }
 
-// The states that `bits` has in word w and that are in hold(y), joined to `found`.
-fn join_hold(store: &[u64], w: usize, bits: u64, y: StateSet, found: StateSet) -> StateSet
+// Of the states that `bits` has in word w, those that are in hold(y), as bits. They are gathered in a number and not in a set, where each would
+// be one word written and the whole set read again.
+fn held_bits(store: &[u64], w: usize, bits: u64, y: StateSet) -> u64
     requires { ⌜ (w < WORDS) × (storeWords ≤ length (now store)) ⌝ }
-    ensures { λ r. ⌜ r .words ≡ union (found .words) (meetHold (now (store .entry)) (wordSet w bits) (y .words)) ⌝ }
+    ensures { λ r. ⌜ wordSet w r ≡ meetHold (now (store .entry)) (wordSet w bits) (y .words) ⌝ }
 {
-    let mut joined = found;
+    let mut kept = 0;
     let mut rest = bits;
     while rest != 0 {
-        let s = 64 * w + u64::trailing_zeros(rest) as usize;
-        if row_inside(store, s, y) {
-            joined = joined.with(s);
+        let i = u64::trailing_zeros(rest) as usize;
+        if row_inside(store, 64 * w + i, y) {
+            kept |= 1 << i;
         }
         rest &= rest - 1;
     }
-    joined
+    kept
 }
 
 // x meet hold(y)
@@ -119,11 +120,11 @@ pub fn meet_hold(store: &[u64], x: StateSet, y: StateSet) -> StateSet
     requires { ⌜ storeWords ≤ length (now store) ⌝ }
     ensures { λ r. ⌜ r .words ≡ meetHold (now (store .entry)) (x .words) (y .words) ⌝ }
 {
-    let mut found = StateSet::empty();
+    let mut words = [0; WORDS];
     for w in 0..WORDS {
-        found = join_hold(store, w, x.words[w], y, found);
+        words[w] = held_bits(store, w, x.words[w], y);
     }
-    found
+    StateSet { words }
 }
 
 // One row of words for each state.

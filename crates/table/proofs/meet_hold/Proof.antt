@@ -1,19 +1,18 @@
--- `meet_hold`: what is found of the words passed is what passes of them.
+-- `meet_hold`: the words passed are those of the states that are in hold.
 use Prim.Native.Nat.{_-_}
-use mathlib.Core.Path.{ap, _∙_, sym}
 use borrow.Author.Needs.{needs}
-use Rattle.model.specs.Sets.{WORDS, union}
-use Rattle.state_set.proofs.Words.{proper}
-use Rattle.table.proofs.Hold.{held, meetHold-is}
-use Rattle.table.proofs.Joins.{WordsJoining, words-start, words-turn, words-end}
+use Rattle.model.specs.Sets.{WORDS}
+use Rattle.state_set.proofs.Words.{Filling, filling-none, filling-more, filling-all}
+use Rattle.table.specs.Rows.{meetHold}
+use Rattle.table.proofs.Hold.{held-word, meetHold-long}
 use Rattle.table.proofs.meet_hold.Statement.{statement}
 use Rattle.table.proofs.meet_hold.Tie as tie
 
 abbrev Inv-loop : tie.InvT-loop
-Inv-loop store y x found₀ w₀ found w = WordsJoining (held store (y .words)) (x .words) w (found .words)
+Inv-loop store y x words₀ w₀ words w = Filling (meetHold store (x .words) (y .words)) words₀ w words
 
 abbrev μ-loop : tie.MeasureT-loop
-μ-loop store y x found₀ w₀ found w = WORDS - w
+μ-loop store y x words₀ w₀ words w = WORDS - w
 
 pub meet-hold-spec : {M : Type 1} → statement M
 meet-hold-spec =
@@ -21,12 +20,13 @@ meet-hold-spec =
     (tie.spec
     Inv-loop
     μ-loop
-    (λ c κs. search needs)
-    (λ c. words-start _ _ (c .empty .ensures))
+    (λ c. filling-none _ _ (meetHold-long _ _ _) (search needs))
     (λ c. search needs)
     (λ c. search needs)
     (λ c κs. search needs)
     (λ c. search needs)
     (λ c. search needs)
-    (λ c. words-turn (c .before .before .before .loop .inv) (search needs) (c .join-hold .ensures ∙ ap (union _) (sym (meetHold-is _ _ _))))
-    (λ c. words-end (c .before .loop .inv) (proper (search needs) (λ w. search needs)) (search needs) ∙ meetHold-is _ _ _))
+    (λ c. search needs)
+    (λ c. search needs)
+    (λ c. filling-more _ _ _ _ (c .before .before .before .loop .inv) _ (search needs) (held-word _ _ _ _ _ (search needs) (search needs) (c .held-bits .ensures)))
+    (λ c. filling-all _ _ _ _ (c .before .loop .inv) (search needs)))
