@@ -1,0 +1,39 @@
+-- `read_input`: what was read lies within the room.
+use Prim.Native.Nat.{_-_, _≤_}
+use mathlib.Core.Path.{_≡_}
+use borrow.Author.Needs.{needs}
+use lib.ListN.{length}
+use Rattle.file_input.proofs.Counting.{counts}
+use Rattle.file_input.proofs.read_input.Statement.{statement}
+use Rattle.file_input.proofs.read_input.Tie as tie
+
+abbrev Inv-loop : tie.InvT-loop
+Inv-loop room₀ got₀ room got = (got ≤ length room) × (length room ≡ length room₀)
+
+abbrev μ-loop : tie.MeasureT-loop
+μ-loop room₀ got₀ room got = length room - got
+
+pub read-input-spec : {M : Type 1} → statement M
+read-input-spec =
+    tie.close
+    (tie.spec
+    Inv-loop
+    μ-loop
+    (λ c. search needs)
+    (λ c. search needs)
+    (λ c. search needs)
+    (λ c. search needs)
+    (λ c κs. search needs)
+    (λ c. search needs)
+    (λ c. counts _ _ (search needs))
+    (λ c κs. search needs)
+    (λ c. search needs)
+    (λ c. counts _ _ (search needs))
+    (λ c. search needs)
+    (λ c. search needs)
+    (λ c. counts _ _ (search needs))
+    (λ c. search needs)
+    (λ c. search needs)
+    (λ c. search needs)
+    (λ c. search needs)
+    (λ c. counts _ _ (search needs)))
