@@ -372,7 +372,7 @@ def files_test():
     e_file, full_file, h_file, h1_file = (
         write(t, STORE_WORDS, n, g, 1024) for t, n, g in ((e, 3, 0), (full, 60, 0), (h, 61, 0), (h, 61, 1)))
     most_file = write(most, STORE_WORDS, MAX_STATES, MAX_GROUPS, MAX_FILE)
-    # The figures of docs/SPECIFICATION.md, Files.
+    # The figures of docs/SPECIFICATION.md, Files: E in the new form.
     assert e_file[2:12].hex(" ") == "03 00 00 80 01 04 00 01 04 00" and number(e_file[510:]) == E_CHECK
     assert [len(file) for file in (e_file, full_file, h_file, h1_file, most_file)] == [512, 512, 1024, 1024, MAX_FILE]
     trips = 300

@@ -1,7 +1,8 @@
 -- The proof of the round trips (specs/RoundTrip.antt).
 --
 --   Storable t g, readable-file     a table that a file can hold; read takes its blocks, and finds its n, g and sets (read-n, read-g, read-set)
---   storable, read-holds            an accepted store holds such a table, and also holds the table that is read from its file (file-read)
+--   storable, read-holds            an accepted store holds such a table, and also holds the table that is read from its file (ReadsBack, file-read;
+--                                   new-read: of the new form, with no more asked)
 --   file-is                         the file that write leaves
 --   write-read                      so a table that is written is read again
 --   contents-table, file-table      a table that was read has the contents and the file that it was read from
@@ -22,17 +23,17 @@ use lib.Dec.{ltb}
 use lib.ListN.{length, getD, take}
 use Rattle.model.specs.Sets.{WORDS, maxStates, Set, tabulate, member, number, empty}
 use Rattle.model.specs.Tables.{Dialogue}
-use Rattle.model.specs.Stores.{headSets, maxGroups, markedAt, restingAt, groupAt, rowAt, storeWords, setAt, dialogueOf, concat, layout, refuse, beyond}
+use Rattle.model.specs.Stores.{maxGroups, markedAt, restingAt, groupAt, rowAt, storeWords, setAt, dialogueOf, concat, layout, refuse, beyond}
 use Rattle.model.specs.Blocks.{blockBytes, contentBytes, checkAt, maxSite, le16, le16At, checkOf, blocksFor, blockOf, part, contentsOf}
-use Rattle.model.specs.Contents.{Form, oldForm, newForm, heads, added, setWidth, sets, headerBytes, contents, contentLength, setNumber, restingIn, dialogueIn}
+use Rattle.model.specs.Contents.{Form, oldForm, newForm, heads, added, setWidth, sets, headerBytes, contents, contentLength, setNumber, dialogueIn}
 use Rattle.model.specs.Files.{blockFile, blockFileLength, fileOf, fileLength, maxFile}
-use Rattle.model.specs.Calls.{overwrite, TableRead, statesIn, secondIn, groupsIn, readGroundsAs, readGrounds, readBuffer, Written, writeBuffer}
+use Rattle.model.specs.Calls.{overwrite, TableRead, statesIn, secondIn, groupsIn, readGroundsAs, readGrounds, readAnswerAs, readBufferAs, readBuffer, Written, writeBuffer}
 use Rattle.model.specs.RoundTrip.{Bounded, WriteRead, ReadWrite, RoundTrips, FileSizes}
 use Rattle.model.proofs.Bounds.{by-cond, lt-or-ge, length-tabulate, getD-tabulate}
 use Rattle.model.proofs.SetLaws.{In, empty-in}
 use Rattle.model.proofs.ListLaws.{getD-past, concat-cong, length-overwrite, take-overwrite}
 use Rattle.model.proofs.BlockLaws.{le16At-le16, IsBlock, block-unique, block-number, block-check, is-block, blockOf-is, length-part, part-bounded, concat-part, length-contentsOf, getD-contentsOf, contentsOf-bounded}
-use Rattle.model.proofs.ContentLaws.{setIn-proper, setIn-below, dialogueIn-row, number-setIn, setIn-is, added-most, heads-least, heads-each, sets-group, sets-row, sets-each, length-contents, contents-header, contents-set, contents-cong, header-pairs, by-content}
+use Rattle.model.proofs.ContentLaws.{setIn-proper, setIn-below, dialogueIn-row, number-setIn, setIn-is, added-most, heads-least, heads-each, sets-group, sets-row, sets-each, by-resting, length-contents, contents-header, contents-set, contents-cong, header-pairs, by-content}
 use Rattle.model.proofs.FileLaws.{length-blockFile, part-blockFile, contentsOf-blockFile, file-draft, file-blocks, length-draft, length-blocks, length-fileOf, fileLength-most}
 use Rattle.model.proofs.StoreLaws.{setAt-proper, dialogueOf-row, empty-proper, setAt-empty, Holds, holds-layout, Laid, length-layout, overwrite-holds, holds-sets, Within, beyond-below, below-beyond, malformed-clean, clean-malformed, holds-clean}
 use Rattle.model.proofs.Acceptance.{Store}
@@ -96,8 +97,8 @@ module _ (form : Form) (site : ℕ) (t : Dialogue) (g : ℕ) (ok : Storable form
 
 -- ---- write, then read
 
-module _ (store : List ℕ) (n g : ℕ) (words : Bounded (2 ^ 64) store) (held : Store store n g) where
-  storable : Storable newForm (dialogueOf store n g) g
+module _ (form : Form) (store : List ℕ) (n g : ℕ) (words : Bounded (2 ^ 64) store) (held : Store store n g) where
+  pub storable : Storable form (dialogueOf store n g) g
   unfolding dialogueOf
   storable =
       let clean = malformed-clean store n g (held .clean) in
@@ -109,28 +110,42 @@ module _ (store : List ℕ) (n g : ℕ) (words : Bounded (2 ^ 64) store) (held :
         small = small;
         few = held .few;
         within =
-            sets-each newForm (dialogueOf store n g) (length-tabulate _ g) (λ k X. Within n X)
-            (heads-each newForm (dialogueOf store n g) (λ k X. Within n X) (set 0 (omega arith) (clean .initial)) (set markedAt (omega arith) (clean .marked))
+            sets-each form (dialogueOf store n g) (length-tabulate _ g) (λ k X. Within n X)
+            (heads-each form (dialogueOf store n g) (λ k X. Within n X) (set 0 (omega arith) (clean .initial)) (set markedAt (omega arith) (clean .marked))
             (λ l. set restingAt (omega arith) (clean .resting)))
             (λ j h. rw (getD-tabulate (λ i. setAt store (groupAt i)) g j [] h) (set (groupAt j) (omega (arith, held .few)) (clean .group j h)))
             (λ s h. subst (Within n) (sym (dialogueOf-row store n g s h)) (set (rowAt s) (omega arith) (clean .row s h)));
       }
 
--- contents that have the sets of the store are those of a table that the store holds
-module _ (store : List ℕ) (n g : ℕ) (held : Store store n g) where
-  read-holds : (bytes : List ℕ) → ((k : ℕ) → k < headSets + g + n → setNumber bytes n k ≡ getD (sets newForm (dialogueOf store n g)) k []) → Holds store (dialogueIn newForm bytes n g)
-  unfolding dialogueOf dialogueIn sets
+-- ---- the first sets of a dialogue, and the resting set that contents hold, in either form
+
+sets-front : (form : Form) (t : Dialogue) → (getD (sets form t) 0 [] ≡ t .initial) × (getD (sets form t) 1 [] ≡ t .marked)
+unfolding sets
+sets-front oldForm t = (refl, refl)
+sets-front newForm t = (refl, refl)
+
+sets-resting : (form : Form) (t : Dialogue) → 2 < heads form → getD (sets form t) 2 [] ≡ t .resting
+unfolding sets
+sets-resting oldForm t h = absurd (omega arith)
+sets-resting newForm t h = refl
+
+-- contents that have the sets of the store are those of a table that the store holds; in the old form its resting set must be empty
+module _ (form : Form) (store : List ℕ) (n g : ℕ) (held : Store store n g) (bare : heads form ≤ 2 → setAt store restingAt ≡ empty) where
+  read-holds : (bytes : List ℕ) → ((k : ℕ) → k < heads form + g + n → setNumber bytes n k ≡ getD (sets form (dialogueOf store n g)) k [])
+      → Holds store (dialogueIn form bytes n g)
+  unfolding dialogueOf dialogueIn
   read-holds bytes e =
       let clean = malformed-clean store n g (held .clean) in
       let small = held .small in
       let t = dialogueOf store n g in
-      let group : ℕ → Set = λ i. setNumber bytes n (headSets + i) in
+      let group : ℕ → Set = λ i. setNumber bytes n (heads form + i) in
+      let front = sets-front form t in
       record {
-        initial = sym (e 0 (omega arith));
-        marked = sym (e 1 (omega arith));
-        resting = sym (e 2 (omega arith));
+        initial = sym (e 0 (omega (arith, heads-least form)) ∙ front .0);
+        marked = sym (e 1 (omega (arith, heads-least form)) ∙ front .1);
+        resting = by-resting form bytes n (λ (X : Set). setAt store restingAt ≡ X) (λ l. sym (e 2 (omega arith) ∙ sets-resting form t l)) bare;
         group = λ j h. ⊎-elim
-            (λ l. sym (getD-tabulate group g j empty l ∙ e (headSets + j) (omega arith) ∙ sets-group newForm t (length-tabulate _ g) j l ∙ getD-tabulate _ g j [] l))
+            (λ l. sym (getD-tabulate group g j empty l ∙ e (heads form + j) (omega arith) ∙ sets-group form t (length-tabulate _ g) j l ∙ getD-tabulate _ g j [] l))
             (λ l.
             setAt-empty store (groupAt j) (omega (arith, held .long)) (λ v x. clean .no-group (groupAt j + v) (omega arith) (omega arith))
             ∙ sym (getD-past (tabulate g group) j empty (omega (arith, length-tabulate group g))))
@@ -138,7 +153,7 @@ module _ (store : List ℕ) (n g : ℕ) (held : Store store n g) where
         row = λ s h. by-cond (λ (X : Set). setAt store (rowAt s) ≡ X) (ltb s n) _ empty
             (λ q.
             let l = ltb-true s n q in
-            sym (dialogueIn-row newForm bytes n g s l ∙ e (headSets + g + s) (omega arith) ∙ sets-row newForm t (length-tabulate _ g) s l ∙ dialogueOf-row store n g s l))
+            sym (dialogueIn-row form bytes n g s l ∙ e (heads form + g + s) (omega arith) ∙ sets-row form t (length-tabulate _ g) s l ∙ dialogueOf-row store n g s l))
             (λ q.
             let l = ltb-false s n q in
             setAt-empty store (rowAt s) (omega (arith, held .long)) (λ v x. clean .no-row (rowAt s + v) (omega arith) (omega arith)));
@@ -152,56 +167,53 @@ file-is store n g site out w =
     ap (take (fileLength newForm n g)) (write-buffer store n g site out w)
     ∙ take-overwrite (fileOf newForm site (dialogueOf store n g)) out (fileLength newForm n g) (length-fileOf newForm site (dialogueOf store n g) (length-tabulate _ g))
 
-module _ (store : List ℕ) (n g site : ℕ) (other : List ℕ) (held : Store store n g) (known : site ≤ maxSite) (ok : Storable newForm (dialogueOf store n g) g) where
+-- the file of a store in a form, read in that form into another store, gives back n, g and the words of the table
+pub record ReadsBack (form : Form) (store : List ℕ) (n g site : ℕ) (file other : List ℕ) : Type 0 where
+  pub answer : readAnswerAs form file site (length other) ≡ record { refusal = 0; n = n; g = g }
+  pub buffer : readBufferAs form file site other ≡ overwrite (take storeWords store) other
+
+module _ (form : Form) (store : List ℕ) (n g site : ℕ) (other : List ℕ) (held : Store store n g) (known : site ≤ maxSite) (ok : Storable form (dialogueOf store n g) g) (bare : heads form ≤ 2 → setAt store restingAt ≡ empty) where
   -- a file that read takes, and that has n, g and the sets of the store
-  reads-back : (file : List ℕ) → refuse (readGrounds file site (length other)) ≡ 0 → statesIn file ≡ n → groupsIn newForm file ≡ g
-      → ((k : ℕ) → k < headSets + g + n → setNumber (contentsOf file) n k ≡ getD (sets newForm (dialogueOf store n g)) k []) → WriteRead store n g site file other
+  reads-back : (file : List ℕ) → refuse (readGroundsAs form file site (length other)) ≡ 0 → statesIn file ≡ n → groupsIn form file ≡ g
+      → ((k : ℕ) → k < heads form + g + n → setNumber (contentsOf file) n k ≡ getD (sets form (dialogueOf store n g)) k []) → ReadsBack form store n g site file other
   reads-back file e p q sets-are =
       record {
-        answer = read-answer newForm file site (length other) e ∙ ap₂ (λ (a b : ℕ). record { refusal = 0; n = a; g = b }) p q;
+        answer = read-answer form file site (length other) e ∙ ap₂ (λ (a b : ℕ). record { refusal = 0; n = a; g = b }) p q;
         buffer =
-            read-buffer newForm file site other e
-            ∙ ap₂ (λ (a b : ℕ). overwrite (layout (dialogueIn newForm (contentsOf file) a b)) other) p q
-            ∙ ap (λ xs. overwrite xs other) (holds-layout store _ (read-holds store n g held (contentsOf file) sets-are));
+            read-buffer form file site other e
+            ∙ ap₂ (λ (a b : ℕ). overwrite (layout (dialogueIn form (contentsOf file) a b)) other) p q
+            ∙ ap (λ xs. overwrite xs other) (holds-layout store _ (read-holds form store n g held bare (contentsOf file) sets-are));
       }
 
-  pub file-read : storeWords ≤ length other → WriteRead store n g site (fileOf newForm site (dialogueOf store n g)) other
+  pub file-read : storeWords ≤ length other → ReadsBack form store n g site (fileOf form site (dialogueOf store n g)) other
   unfolding dialogueOf setNumber
   file-read h =
       let t = dialogueOf store n g in
       ⊎-elim
       (λ (e : n ≡ 0).
-      subst (λ (file : List ℕ). WriteRead store n g site file other) (sym (file-draft newForm site t e))
-      (reads-back [] (draft-refusal newForm [] site (length other) h known refl) (draft-says newForm [] refl .0 ∙ sym e) (draft-says newForm [] refl .1 ∙ sym (held .draft e))
-      (λ k l. setIn-is (contentsOf []) (setWidth n) (headerBytes + setWidth n * k) (getD (sets newForm t) k []) (ok .within k l .proper)
+      subst (λ (file : List ℕ). ReadsBack form store n g site file other) (sym (file-draft form site t e))
+      (reads-back [] (draft-refusal form [] site (length other) h known refl) (draft-says form [] refl .0 ∙ sym e) (draft-says form [] refl .1 ∙ sym (held .draft e))
+      (λ k l. setIn-is (contentsOf []) (setWidth n) (headerBytes + setWidth n * k) (getD (sets form t) k []) (ok .within k l .proper)
       (λ s m. omega (arith, ok .within k l .below s m)) (λ j m. absurd (omega arith)))))
       (λ (l : 0 < n).
       let some : n ≡ 0 → ⊥ = λ e. omega arith in
-      let r = readable-file newForm site t g ok some (length other) h known in
-      subst (λ (file : List ℕ). WriteRead store n g site file other) (sym (file-blocks newForm site t some))
-      (reads-back (blockFile newForm site t) (readable-refusal newForm (blockFile newForm site t) site (length other) n g r) (read-n newForm site t g ok some) (read-g newForm site t g ok some) (read-set newForm site t g ok some)))
+      let r = readable-file form site t g ok some (length other) h known in
+      subst (λ (file : List ℕ). ReadsBack form store n g site file other) (sym (file-blocks form site t some))
+      (reads-back (blockFile form site t) (readable-refusal form (blockFile form site t) site (length other) n g r) (read-n form site t g ok some) (read-g form site t g ok some) (read-set form site t g ok some)))
       (eq-zero-or-pos n)
+
+-- every set of a file of the new form is read, the resting ones too
+pub new-read : (store : List ℕ) (n g site : ℕ) (other : List ℕ) → Store store n g → site ≤ maxSite → Storable newForm (dialogueOf store n g) g → storeWords ≤ length other
+    → WriteRead store n g site (fileOf newForm site (dialogueOf store n g)) other
+new-read store n g site other held known ok h =
+    let r = file-read newForm store n g site other held known ok (λ l. absurd (omega arith)) h in
+    record { answer = r .answer; buffer = r .buffer }
 
 write-read : (store : List ℕ) (n g site : ℕ) (out other : List ℕ) → Bounded (2 ^ 64) store → Writable store n g site (length out) → storeWords ≤ length other
     → WriteRead store n g site (take (fileLength newForm n g) (writeBuffer store n g site out)) other
 write-read store n g site out other words w h =
     subst (λ (file : List ℕ). WriteRead store n g site file other) (sym (file-is store n g site out w))
-    (file-read store n g site other (w .held) (w .known) (storable store n g words (w .held)) h)
-
--- ---- the resting set that contents hold, in either form
-
-resting-is : (form : Form) (bytes : List ℕ) (n : ℕ) → 2 < heads form → restingIn form bytes n ≡ setNumber bytes n 2
-resting-is oldForm bytes n h = absurd (omega arith)
-resting-is newForm bytes n h = refl
-
-resting-wide : (form : Form) (bytes : List ℕ) (n : ℕ) → length (restingIn form bytes n) ≡ WORDS
-unfolding setNumber
-resting-wide oldForm bytes n = empty-proper .long
-resting-wide newForm bytes n = (setIn-proper bytes (setWidth n) (headerBytes + setWidth n * 2)) .long
-
-resting-within : (form : Form) (bytes : List ℕ) (n : ℕ) → (2 < heads form → beyond n (setNumber bytes n 2) ≡ false) → beyond n (restingIn form bytes n) ≡ false
-resting-within oldForm bytes n f = below-beyond n empty (λ s h. absurd (empty-in h))
-resting-within newForm bytes n f = f (omega arith)
+    (new-read store n g site other (w .held) (w .known) (storable newForm store n g words (w .held)) h)
 
 -- ---- read, then write
 
@@ -217,7 +229,7 @@ module _ (form : Form) (input : List ℕ) (n g : ℕ) where
   unfolding dialogueIn
   sets-table =
       sets-each form table many-groups (λ k X. X ≡ setNumber (contentsOf input) n k)
-      (heads-each form table (λ k X. X ≡ setNumber (contentsOf input) n k) refl refl (resting-is form (contentsOf input) n))
+      (heads-each form table (λ k X. X ≡ setNumber (contentsOf input) n k) refl refl (λ l. by-resting form (contentsOf input) n (λ (X : Set). X ≡ setNumber (contentsOf input) n 2) (λ m. refl) (λ m. absurd (omega arith))))
       (λ j h. getD-tabulate (λ i. setNumber (contentsOf input) n (heads form + i)) g j [] h) (λ s h. dialogueIn-row form (contentsOf input) n g s h)
 
   pub laid : Laid table
@@ -228,7 +240,7 @@ module _ (form : Form) (input : List ℕ) (n g : ℕ) where
       record {
         initial = (setIn-proper bytes w (headerBytes + w * 0)) .long;
         marked = (setIn-proper bytes w (headerBytes + w * 1)) .long;
-        resting = resting-wide form bytes n;
+        resting = by-resting form bytes n (λ (X : Set). length X ≡ WORDS) (λ l. (setIn-proper bytes w (headerBytes + w * 2)) .long) (λ l. empty-proper .long);
         group = λ j. ⊎-elim
             (λ h. ap length (getD-tabulate (λ i. setNumber bytes n (heads form + i)) g j empty h) ∙ (setIn-proper bytes w (headerBytes + w * (heads form + j))) .long)
             (λ h. ap length (getD-past (table .groups) j empty (omega (arith, many-groups))) ∙ empty-proper .long)
@@ -317,7 +329,7 @@ module _ (form : Form) (input store : List ℕ) (n g : ℕ) where
         clean =
             clean-malformed filled n g
             (holds-clean filled d filled-holds (length-tabulate _ g) (t .few) (t .small) (t .within 0 (omega (arith, heads-least form))) (t .within 1 (omega (arith, heads-least form)))
-            (resting-within form (contentsOf input) n (λ l. t .within 2 (omega arith)))
+            (by-resting form (contentsOf input) n (λ (X : Set). beyond n X ≡ false) (λ l. t .within 2 (omega arith)) (λ l. below-beyond n empty (λ s h. absurd (empty-in h))))
             (λ j l. ap (beyond n) (getD-tabulate (λ i. setNumber (contentsOf input) n (heads form + i)) g j empty l) ∙ t .within (heads form + j) (omega arith))
             (λ s l. ap (beyond n) (dialogueIn-row form (contentsOf input) n g s l) ∙ t .within (heads form + g + s) (omega arith)));
       }

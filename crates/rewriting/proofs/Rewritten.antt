@@ -33,8 +33,8 @@ use Rattle.model.proofs.ListLaws.{length-overwrite}
 use Rattle.model.proofs.GroundLaws.{refuse-none, refuse-skip}
 use Rattle.model.proofs.ContentLaws.{setIn-proper, dialogueIn-row, heads-each, sets-each}
 use Rattle.model.proofs.StoreLaws.{Holds, Laid, length-layout, overwrite-holds, holds-layout, Within, beyond-below, below-beyond, clean-malformed, holds-clean, holds-dialogue}
-use Rattle.model.proofs.Acceptance.{Store, store-accepted}
-use Rattle.model.proofs.RoundTrips.{Storable, Taken, taken, many-groups, laid, file-read}
+use Rattle.model.proofs.Acceptance.{Store, accepted-store, store-accepted}
+use Rattle.model.proofs.RoundTrips.{Storable, Taken, taken, many-groups, laid, file-read, new-read, storable as form-storable}
 use Rattle.rewriting.specs.Rewriting.{deadEnds, rewritten, oldTable, OldFile, oldDialogue, newFile, SameDecisions, Rewriting}
 
 -- ---- the table
@@ -166,7 +166,7 @@ module _ (input : List ℕ) (old : OldFile input) where
     unfolding newFile
     read-back =
         subst (λ (u : Dialogue). WriteRead filled n g 0 (fileOf newForm 0 u) store) is
-        (file-read filled n g 0 store held (omega arith) (subst (λ (u : Dialogue). Storable newForm u g) (sym is) storable) fits)
+        (new-read filled n g 0 store held (omega arith) (subst (λ (u : Dialogue). Storable newForm u g) (sym is) storable) fits)
 
     buffer-is : readBuffer (newFile input) 0 store ≡ filled
     buffer-is = read-back .buffer ∙ ap (λ xs. overwrite xs store) (sym (holds-layout filled now holds))
@@ -195,6 +195,10 @@ module _ (input : List ℕ) (old : OldFile input) where
 pub rewriting : Rewriting
 rewriting =
     record {
+      old-files = λ store n g other words accepted bare fits.
+          let held = accepted-store store n g [] accepted .0 in
+          let r = file-read oldForm store n g 0 other held (omega arith) (form-storable oldForm store n g words held) (λ l. bare) fits in
+          (r .answer, r .buffer);
       resting = dead-rests;
       table = forbidden-same;
       accepted = λ input store old fits. read-back input old store fits .answer;

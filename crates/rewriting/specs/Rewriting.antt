@@ -7,23 +7,24 @@
 --   newFile input            its file in the new form, at site 0
 --   SameDecisions            decide answers as the rounds of the old table do, and leaves its path, at every allowance and in every buffer
 --   Rewriting                the promise
-use Prim.Native.Nat.{ℕ, _≤_, _<_}
+use Prim.Native.Nat.{ℕ, _^_, _≤_, _<_}
 use mathlib.Core.Path.{_≡_}
 use mathlib.Core.Logic.{_↔_}
 use mathlib.Core.Bool.{true, cond}
 use mathlib.Core.List.{List}
 use lib.Dec.{eqb}
-use lib.ListN.{length}
-use Rattle.model.specs.Sets.{maxStates, Set, member, states}
+use lib.ListN.{length, take}
+use Rattle.model.specs.Sets.{maxStates, Set, member, empty, states}
 use Rattle.model.specs.Tables.{Table, Dialogue, isDeadEnd, tableFrom}
 use Rattle.model.specs.Rounds.{run}
 use Rattle.model.specs.Paths.{smallestPath}
-use Rattle.model.specs.Stores.{storeWords, layout, refuse}
+use Rattle.model.specs.Stores.{storeWords, restingAt, setAt, dialogueOf, layout, refuse, AcceptedStore}
 use Rattle.model.specs.Blocks.{contentsOf}
 use Rattle.model.specs.Contents.{oldForm, newForm, dialogueIn}
 use Rattle.model.specs.Files.{fileOf}
-use Rattle.model.specs.Calls.{overwrite, maxAllowance, decisionOf, decideAnswer, decideBuffer, statesIn, groupsIn, readGroundsAs, readAnswer, readBuffer}
+use Rattle.model.specs.Calls.{overwrite, maxAllowance, decisionOf, decideAnswer, decideBuffer, statesIn, groupsIn, readGroundsAs, readAnswerAs, readBufferAs, readAnswer, readBuffer}
 use Rattle.model.specs.Resting.{Dead, rested}
+use Rattle.model.specs.RoundTrip.{Bounded}
 
 unfoldable pub deadEnds : Dialogue → Set
 deadEnds d = states (d .n) (isDeadEnd (d .row))
@@ -53,6 +54,11 @@ pub record SameDecisions (t : Table) (store : List ℕ) (n g : ℕ) : Type 0 whe
       → decideBuffer store n g allowance path ≡ cond (eqb ((decisionOf t (run t allowance)) .verdict) 1) (overwrite (smallestPath t) path) path
 
 pub record Rewriting : Type 0 where
+  -- each table without resting states has an old file, which the old form reads back
+  pub old-files : (store : List ℕ) (n g : ℕ) (other : List ℕ) → Bounded (2 ^ 64) store → AcceptedStore store n g → setAt store restingAt ≡ empty
+      → storeWords ≤ length other
+      → (readAnswerAs oldForm (fileOf oldForm 0 (dialogueOf store n g)) 0 (length other) ≡ record { refusal = 0; n = n; g = g })
+      × (readBufferAs oldForm (fileOf oldForm 0 (dialogueOf store n g)) 0 other ≡ overwrite (take storeWords store) other)
   -- its dead ends, and no other state, rest
   pub resting : (d : Dialogue) (s : ℕ) → s < maxStates → (member ((rewritten d) .resting) s ≡ true) ↔ ((s < d .n) × Dead d s)
   -- so what is forbidden is what was

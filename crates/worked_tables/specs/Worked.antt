@@ -1,6 +1,6 @@
 -- What the specification says of the worked tables A to H, as one fact about the definitions that the calls' contracts cite.
 --
---   stored t                              the table that the store of t holds, which is what the calls speak of
+--   held t, stored t                      the dialogue that the store of t holds, and its table, which is what the calls speak of
 --   Decides t allowance answer states     decide, lent the store of t and any path buffer of at least maxStates places, answers so, leaves
 --                                         these states at the front of the buffer and the rest of it untouched
 --   Safe t allowance count invariant      safe, with the states of the invariant
@@ -15,11 +15,14 @@ use lib.ListN.{length}
 use Rattle.model.specs.Sets.{maxStates}
 use Rattle.model.specs.Tables.{Table, Dialogue}
 use Rattle.model.specs.Rounds.{backwardNumber}
-use Rattle.model.specs.Stores.{tableOf, layout}
+use Rattle.model.specs.Stores.{dialogueOf, tableOf, layout}
 use Rattle.model.specs.Blocks.{blocksFor, checkOf, blockOf}
 use Rattle.model.specs.Contents.{oldForm, newForm, contents, contentLength}
 use Rattle.model.specs.Calls.{release, overwrite, Decision, decideAnswer, decideBuffer}
 use Rattle.worked_tables.specs.Tables.{set, A, B, D, E, F, G}
+
+abbrev pub held : Dialogue → Dialogue
+held t = dialogueOf (layout t) (t .n) (length (t .groups))
 
 abbrev pub stored : Dialogue → Table
 stored t = tableOf (layout t) (t .n) (length (t .groups))
@@ -59,12 +62,14 @@ LineC = Undecided B 2 2 × Unsafe B 3 3 (0 ∷ 1 ∷ 2 ∷ 3 ∷ [])
 abbrev pub LineD : Type 0
 LineD = Unsafe D release 0 (0 ∷ 1 ∷ 2 ∷ 3 ∷ [])
 
--- The bytes and the check are of the old form.
+-- The specification's bytes and check are of the old form; those of the new one stand beside them.
 abbrev pub LineE : Type 0
 LineE =
     Safe E release 1 (0 ∷ [])
-    × (contents oldForm E ≡ 0x03 ∷ 0x00 ∷ 0x00 ∷ 0x00 ∷ 0x01 ∷ 0x04 ∷ 0x01 ∷ 0x04 ∷ 0x00 ∷ [])
-    × (checkOf 0 (blockOf 0 (contents oldForm E) 0) ≡ 97)
+    × (contents oldForm (held E) ≡ 0x03 ∷ 0x00 ∷ 0x00 ∷ 0x00 ∷ 0x01 ∷ 0x04 ∷ 0x01 ∷ 0x04 ∷ 0x00 ∷ [])
+    × (checkOf 0 (blockOf 0 (contents oldForm (held E)) 0) ≡ 97)
+    × (contents newForm (held E) ≡ 0x03 ∷ 0x00 ∷ 0x00 ∷ 0x80 ∷ 0x01 ∷ 0x04 ∷ 0x00 ∷ 0x01 ∷ 0x04 ∷ 0x00 ∷ [])
+    × (checkOf 0 (blockOf 0 (contents newForm (held E)) 0) ≡ 870)
 
 abbrev pub LineF : Type 0
 LineF = Unsafe F release 0 (0 ∷ [])
