@@ -12,10 +12,14 @@
  * groups, with g from 0 to SHUNTBERRY_MAX_GROUPS;
  * a table without states, an untouched draft, has no groups either, and its file has no bytes.
  * A SET of states is SHUNTBERRY_SET_WORDS words: state s is the bit of value 2^(s % 64) in word s / 64.
- * A STORE is at least SHUNTBERRY_STORE_WORDS words: the initial set, the forbidden set, as many groups as
- * there can be, and for each state that there can be the set of its successors (the offsets are below). The
- * words of groups from g up and of rows from n up are 0. Words past the first SHUNTBERRY_STORE_WORDS are
- * neither read nor written. A PATH is a list of 16-bit numbers, one for each state.
+ * A STORE is at least SHUNTBERRY_STORE_WORDS words: the initial set, the marked set, the resting set, as many
+ * groups as there can be, and for each state that there can be the set of its successors (the offsets are
+ * below). The words of groups from g up and of rows from n up are 0. Words past the first
+ * SHUNTBERRY_STORE_WORDS are neither read nor written. A PATH is a list of 16-bit numbers, one for each state.
+ *
+ * A state is FORBIDDEN if it is marked, or if it has no successor and is not resting (a hang, a screen with no
+ * way out). A marked state is forbidden whether it rests or not; for a state with a successor resting means
+ * nothing. In every call below a forbidden state is one of these.
  *
  * Each buffer is a pointer and the number of its elements. As with any C buffer, the pointer must be
  * valid for that many elements and aligned for its type, and a buffer that a call writes must not
@@ -47,8 +51,17 @@ extern "C" {
  * 16-bit numbers in a buffer of at least 512 places (SHUNTBERRY_PATH_PLACES, where SHUNTBERRY_PATH_BYTES
  * was), the allowance goes to 512. The file of a table of up to 256 states is as it was; the largest has
  * 37,376 bytes.
+ *
+ * From 4 on a table has resting states:
+ *  - a store is 4,632 words (one of 4,624 gets 10), with the resting set behind the marked one, so that groups
+ *    and rows have moved. SHUNTBERRY_FORBIDDEN is gone: what stood there is at SHUNTBERRY_MARKED, and is not all
+ *    that is forbidden;
+ *  - a state without successors is forbidden unless it is resting, so a table filled as before, with none
+ *    resting, may be unsafe where it was safe;
+ *  - files have another form. One of the form before gets SHUNTBERRY_GROUPS from shuntberry_read; of one of
+ *    site 0 `./rewrite` makes a new one, in which its dead ends rest, so that decide answers as it did.
  */
-#define SHUNTBERRY_VERSION 3
+#define SHUNTBERRY_VERSION 4
 
 /* ---- Sizes ---- */
 
@@ -56,8 +69,8 @@ extern "C" {
 #define SHUNTBERRY_MAX_GROUPS 64     /* the greatest g */
 #define SHUNTBERRY_MAX_ALLOWANCE SHUNTBERRY_MAX_STATES /* the greatest allowance, and that of a release check */
 #define SHUNTBERRY_SET_WORDS 8       /* words of a set */
-#define SHUNTBERRY_HEAD_SETS 2       /* sets that stand before the groups: initial and forbidden */
-#define SHUNTBERRY_STORE_WORDS 4624  /* the least length of a store, in words */
+#define SHUNTBERRY_HEAD_SETS 3       /* sets that stand before the groups: initial, marked and resting */
+#define SHUNTBERRY_STORE_WORDS 4632  /* the least length of a store, in words */
 #define SHUNTBERRY_PATH_PLACES SHUNTBERRY_MAX_STATES /* the least length of a path buffer, in 16-bit places */
 #define SHUNTBERRY_UNREACHABLE 65535 /* the distance of a state from which no forbidden state can be reached */
 #define SHUNTBERRY_BLOCK_BYTES 512   /* a file is whole blocks of this many bytes */
@@ -71,8 +84,9 @@ extern "C" {
 
 /* ---- Where the sets stand in a store, as the index of their first word ---- */
 
-#define SHUNTBERRY_INITIAL 0                /* the initial set */
-#define SHUNTBERRY_FORBIDDEN SHUNTBERRY_SET_WORDS /* the forbidden set */
+#define SHUNTBERRY_INITIAL 0                          /* the initial set */
+#define SHUNTBERRY_MARKED SHUNTBERRY_SET_WORDS        /* the marked set: states that are forbidden whatever they lead to */
+#define SHUNTBERRY_RESTING (2 * SHUNTBERRY_SET_WORDS) /* the resting set: states that may lead nowhere */
 #define SHUNTBERRY_GROUP(j) (SHUNTBERRY_SET_WORDS * (SHUNTBERRY_HEAD_SETS + (j))) /* group j */
 #define SHUNTBERRY_ROW(s) SHUNTBERRY_GROUP(SHUNTBERRY_MAX_GROUPS + (s))           /* the successors of state s */
 
@@ -84,9 +98,9 @@ extern "C" {
 #define SHUNTBERRY_BLOCK_NUMBER 12      /* block k does not hold the number k (read) */
 #define SHUNTBERRY_BLOCK_CHECK 13       /* a block's stored check is not its check for the site (read) */
 #define SHUNTBERRY_STATES 14            /* n is over SHUNTBERRY_MAX_STATES, or 0 with g above 0, in a block or in generate (all calls but next open) */
-#define SHUNTBERRY_GROUPS 15            /* g is over SHUNTBERRY_MAX_GROUPS (all calls but generate and next open) */
+#define SHUNTBERRY_GROUPS 15            /* g is over SHUNTBERRY_MAX_GROUPS; in read, the file's second number is below 32,768 (as in files of version 3 and before) or over 32,832 (all calls but generate and next open) */
 #define SHUNTBERRY_BLOCK_COUNT 16       /* the file has too few or too many blocks for its n and g (read) */
-#define SHUNTBERRY_STRAY_BIT 17         /* a set holds a state from n up, or a word of an unused group or row is not 0 (all calls but generate and next open) */
+#define SHUNTBERRY_STRAY_BIT 17         /* a set, the resting one included, holds a state from n up, or a word of an unused group or row is not 0 (all calls but generate and next open) */
 #define SHUNTBERRY_FILLER 18            /* a byte past the contents is not 0 (read) */
 #define SHUNTBERRY_OUTPUT_SHORT 19      /* the output is shorter than the file (write) */
 #define SHUNTBERRY_ALLOWANCE 20         /* the allowance is over SHUNTBERRY_MAX_ALLOWANCE (decide) */
@@ -151,8 +165,9 @@ struct shuntberry_shortest shuntberry_shortest_path(const uint64_t *store, size_
 
 /*
  * Writes the distance of each state, which is the number of steps from it to the nearest forbidden
- * state, at the front of `distances`: one place for each of the n states, SHUNTBERRY_UNREACHABLE where
- * no forbidden state can be reached. Places past n are not touched. The store is never changed.
+ * state (0 for a hang), at the front of `distances`: one place for each of the n states,
+ * SHUNTBERRY_UNREACHABLE where no forbidden state can be reached. Places past n are not touched. The store
+ * is never changed.
  * `distances_len` is the number of places. Returns 0, or the number of the refusal.
  *
  * Refuses with 10, 14, 15, 17 or 23.
@@ -168,8 +183,9 @@ struct shuntberry_within {
 
 /*
  * Is there a path of at most k steps from an initial to a forbidden state? For every k: for 0 it asks
- * for a state that is initial and forbidden. The search goes outward from the initial states and stops
- * at the first forbidden one, or when no new state is found. The store is never changed.
+ * for a state that is initial and forbidden, such as an initial hang. The search goes outward from the
+ * initial states and stops at the first forbidden one, or when no new state is found. The store is never
+ * changed.
  *
  * Refuses with 10, 14, 15 or 17.
  */
@@ -187,6 +203,7 @@ struct shuntberry_table {
  * is never changed. The check of each block starts from the site, so a block of another site that stands
  * at its own number is refused with 13. An input of no bytes is an untouched draft, at every site: n and g
  * are 0, and so is each of those words. So a read that failed must not be passed on as one of no bytes.
+ * A file of the old form, as versions 1 to 3 wrote it, is refused with 15 (SHUNTBERRY_VERSION says what to do).
  *
  * Refuses with 10, 24, 11, 12, 13, 14, 15, 16, 17 (of set bytes only) or 18.
  */
@@ -210,11 +227,11 @@ struct shuntberry_file shuntberry_write(const uint64_t *store, size_t store_len,
 
 /*
  * Fills the first SHUNTBERRY_STORE_WORDS words of `store` with the table that a seed gives, and touches no other word:
- * n states, of which state 0 is initial and state n - 1 forbidden, no groups, and for each state in
- * turn the next `fan_out` of a sequence of numbers, each modulo n, as its successors. Every call
- * accepts the table, with g = 0. The numbers are 32 bits wide: the first is the seed, each of the next
- * 54 the one before plus 2,654,435,769, and each from the 56th on the sum of the numbers 24 and 55
- * places back, all modulo 2^32; the states take those from the 56th on.
+ * n states, of which state 0 is initial, state n - 1 marked and none resting, no groups, and for each state in
+ * turn the next `fan_out` of a sequence of numbers, each modulo n, as its successors. (With a fan-out of 0 every
+ * state is a hang.) Every call accepts the table, with g = 0. The numbers are 32 bits wide: the first is the
+ * seed, each of the next 54 the one before plus 2,654,435,769, and each from the 56th on the sum of the
+ * numbers 24 and 55 places back, all modulo 2^32; the states take those from the 56th on.
  *
  * Returns 0, or refuses with 10, 14 or 22; the store is then as it was before.
  */
@@ -232,8 +249,8 @@ struct shuntberry_replay {
 /*
  * Walks a pump's log through the table. The log is a list of state numbers of two bytes each, low byte
  * first. The first entry must be initial, each later one a successor of the entry before; an entry of
- * n or more is neither. The states that can be reached include the initial ones. On a table that
- * shuntberry_decide calls safe, no followed entry is forbidden. Nothing is written.
+ * n or more is neither. The states that can be reached include the initial ones. A forbidden entry, marked
+ * or a hang, is followed as any other; on a table that shuntberry_decide calls safe, none is. Nothing is written.
  *
  * Refuses with 10, 14, 15, 17, 25 or 26.
  */

@@ -3,13 +3,15 @@
 
 NAME.table is a block file, NAME.expected what `check` prints for it. The answers are worked out by the
 rounds as the specification writes them, on Python's numbers and sets; for tables A to G they are held to the figures typed below.
+old-NAME.table is a file of the old form, and rewritten-NAME.table what it is rewritten as, for which `check` prints what the old table's rounds
+give; where there is none, rewritten-NAME.expected is the refusal of the rewriting.
 
     python3 tables/make.py            writes the files anew
     python3 tables/make.py --check    writes nothing, and fails if a file differs
 """
 
 import sys
-from dataclasses import dataclass, field
+from dataclasses import dataclass, field, replace
 from functools import reduce
 from itertools import count
 from operator import or_
@@ -20,21 +22,60 @@ ALLOWANCE = MAX_STATES
 BLOCK, CONTENT = 512, 508
 MAX_FILE = 37_376
 PRIME = 65_521
+NEW_FORM = 32_768
 
 
 @dataclass
 class Table:
     n: int
     initial: set
-    forbidden: set
+    marked: set
     steps: set  # pairs (a, b) for a -> b
     groups: list = field(default_factory=list)
+    resting: set = field(default_factory=set)
 
     def states(self):
         return set(range(self.n))
 
     def row(self, state):
         return {b for a, b in self.steps if a == state}
+
+    def dead_ends(self):
+        return self.states() - {a for a, _ in self.steps}
+
+    def forbidden(self):
+        """Marked so, or without successor and not resting."""
+        return self.marked | self.dead_ends() - self.resting
+
+    def head(self):
+        """The sets before the groups."""
+        return [self.initial, self.marked, self.resting]
+
+    def second(self):
+        """The second number of a file."""
+        return NEW_FORM + len(self.groups)
+
+
+class OldTable(Table):
+    """A table of the old form: no resting set, forbidden as marked, and g itself as the second number."""
+
+    def forbidden(self):
+        return self.marked
+
+    def head(self):
+        return [self.initial, self.marked]
+
+    def second(self):
+        return len(self.groups)
+
+
+def old(table):
+    return OldTable(table.n, table.initial, table.marked, table.steps, table.groups)
+
+
+def rewritten(table):
+    """A table of the old form with its dead ends, and no other state, resting."""
+    return Table(table.n, table.initial, table.marked, table.steps, table.groups, table.dead_ends())
 
 
 # ---- The rounds, with a set of states as one number: state s is the bit of value 2^s
@@ -61,7 +102,7 @@ def fixpoint(step, start):
 def decide(table):
     """Verdict, count and invariant of the rounds with the allowance."""
     rows = [bits(table.row(s)) for s in range(table.n)]
-    every, initial, z = bits(table.states()), bits(table.initial), bits(table.states() - table.forbidden)
+    every, initial, z = bits(table.states()), bits(table.initial), bits(table.states() - table.forbidden())
     post = lambda x: union(rows[s] for s in members(x))
     hold = lambda x: bits(s for s in range(table.n) if not rows[s] & ~x)
     spots = [every] * table.n
@@ -88,9 +129,9 @@ def decide(table):
 
 def shortest_path(table):
     """The smallest of the shortest paths: the least path to each state that a level reaches first."""
-    level, seen = {s: [s] for s in table.initial}, set()
+    level, seen, forbidden = {s: [s] for s in table.initial}, set(), table.forbidden()
     while level:
-        found = [path for s, path in level.items() if s in table.forbidden]
+        found = [path for s, path in level.items() if s in forbidden]
         if found:
             return min(found)
         seen |= set(level)
@@ -110,8 +151,8 @@ def two(number):
 
 
 def contents(table):
-    sets = [table.initial, table.forbidden, *table.groups, *map(table.row, range(table.n))]
-    return two(table.n) + two(len(table.groups)) + b"".join(set_bytes(s, table.n) for s in sets)
+    sets = [*table.head(), *table.groups, *map(table.row, range(table.n))]
+    return two(table.n) + two(table.second()) + b"".join(set_bytes(s, table.n) for s in sets)
 
 
 def check(block):
@@ -158,6 +199,13 @@ D = Table(5, {0}, {3}, B.steps, [{0}, {1}, {2}])
 E = Table(3, {0}, {2}, {(0, 0), (1, 2)})
 F = Table(1, {0}, {0}, set())
 G = Table(1, set(), set(), set())
+HANG = Table(5, {0}, set(), B.steps)
+HANG_ALONE = Table(1, {0}, set(), set())
+
+
+def rests(table, *states):
+    return replace(table, resting=set(states))
+
 
 # C differs from B only in its allowance, which a file does not hold.
 TYPED = {
@@ -175,6 +223,19 @@ TYPED = {
         Table(4, {0}, {2}, {(0, 0), (0, 1), (1, 3), (2, 3), (3, 0), (3, 2)}, [{0}]),
         "states 4 groups 1\nunsafe refinements 1\npath 0 1 3 2\n",
     ),
+    # Screens without a way out. State 3 of B not marked: as B; resting: safe; marked and resting: as B again.
+    "hang": (HANG, "states 5 groups 0\nunsafe refinements 3\npath 0 1 2 3\n"),
+    "resting": (rests(HANG, 3), "states 5 groups 0\nsafe refinements 0\ninvariant 5: 0 1 2 3 4\n"),
+    "marked-and-resting": (rests(B, 3), "states 5 groups 0\nunsafe refinements 3\npath 0 1 2 3\n"),
+    # One at the start; one that is not reached, state 2 of E not marked: as E.
+    "hang-at-the-start": (HANG_ALONE, "states 1 groups 0\nunsafe refinements 0\npath 0\n"),
+    "resting-at-the-start": (rests(HANG_ALONE, 0), "states 1 groups 0\nsafe refinements 0\ninvariant 1: 0\n"),
+    "hang-not-reached": (Table(3, {0}, set(), E.steps), "states 3 groups 0\nsafe refinements 1\ninvariant 1: 0\n"),
+    # For states with successors resting means nothing: the answers of A and of B.
+    "a-resting": (rests(A, 0, 1, 2), "states 3 groups 0\nsafe refinements 0\ninvariant 2: 0 1\n"),
+    "b-resting": (rests(B, 0, 1, 2, 4), "states 5 groups 0\nunsafe refinements 3\npath 0 1 2 3\n"),
+    # E without its step 0 -> 0: unsafe where hold leaves out a state without successors.
+    "e-held": (Table(3, {0}, {2}, {(1, 2)}, [], {0}), "states 3 groups 0\nsafe refinements 1\ninvariant 1: 0\n"),
 }
 
 # H: 0 to 40 circle, 41 to 59 lead to the forbidden 60 and are not reached. A group of the
@@ -183,9 +244,15 @@ H_STEPS = {(s, s + 1) for s in range(60) if s != 40} | {(40, 20), (60, 60)}
 H = Table(61, {0}, {60}, H_STEPS)
 H1 = Table(61, {0}, {60}, H_STEPS, [set(range(41))])
 
+# Its contents fill one block to the last byte.
+FULL_BLOCK = Table(60, {0}, {59}, {(s, (s + 1) % 60) for s in range(60)}, [], {59})
+
 # As many states as there can be, each a step to the next: the longest path. One state fewer: the last byte of a set is not full.
 CORRIDOR = Table(MAX_STATES, {0}, {MAX_STATES - 1}, {(s, s + 1) for s in range(MAX_STATES - 1)})
 ONE_FEWER = Table(MAX_STATES - 1, {0}, {MAX_STATES - 2}, {(s, s + 1) for s in range(MAX_STATES - 2)})
+
+# The same, and its last state a hang; resting, it makes all states an invariant.
+LAST_HANGS = Table(MAX_STATES, {0}, set(), CORRIDOR.steps)
 
 # The same, but its last state cannot be reached, and a group spares all refinements: an invariant of all other states.
 ALL_BUT_ONE = Table(
@@ -194,14 +261,21 @@ ALL_BUT_ONE = Table(
     [set(range(MAX_STATES - 1))],
 )
 
-# The largest file: as many states and groups as there can be, a corridor with steps back. The groups are of neighbours.
+# The largest file: as many states and groups as there can be, a corridor with steps back. The groups are of neighbours, every third state rests.
 LARGEST = Table(
     MAX_STATES, {0, 1}, {MAX_STATES - 1},
     {(s, s + 1) for s in range(MAX_STATES - 1)} | {(s, s * 7 % MAX_STATES) for s in range(MAX_STATES)},
     [{s for s in range(MAX_STATES) if s * MAX_GROUPS // MAX_STATES == j} for j in range(MAX_GROUPS)],
+    set(range(0, MAX_STATES, 3)),
 )
 
-COMPUTED = {"h": H, "h1": H1, "corridor": CORRIDOR, "one-fewer": ONE_FEWER, "all-but-one": ALL_BUT_ONE, "largest": LARGEST}
+COMPUTED = {
+    "h": H, "h1": H1, "full-block": FULL_BLOCK, "corridor": CORRIDOR, "one-fewer": ONE_FEWER, "all-but-one": ALL_BUT_ONE, "largest": LARGEST,
+    "last-hangs": LAST_HANGS, "last-rests": rests(LAST_HANGS, MAX_STATES - 1),
+}
+
+# Written in the old form and rewritten: dead ends that are marked, that are reached, that start, and none; one block that becomes two.
+OLD = {"d": D, "e": E, "f": F, "g": G, "hang": HANG, "hang-at-the-start": HANG_ALONE, "h": H, "h1": H1, "largest": LARGEST}
 
 
 # ---- Files that earn a refusal
@@ -212,7 +286,7 @@ def with_byte(data, at, value):
 
 def refused():
     e, h1 = encode(E), encode(H1)
-    content = contents(E)
+    content, most = contents(E), NEW_FORM + MAX_GROUPS
     corrupt = with_byte(h1, 100, h1[100] ^ 1)
     return {
         "short": (e[:-1], 11),
@@ -221,31 +295,61 @@ def refused():
         "bad-number": (with_byte(e, 0, 1), 12),
         "bad-number-high-byte": (sealed(256, content), 12),
         "bad-number-second-block": (h1[:BLOCK] + sealed(0, h1[BLOCK + 2:-2]), 12),
-        "bad-check": (with_byte(e, 510, 98), 13),
-        "bad-check-high-byte": (with_byte(e, 511, 1), 13),
+        "bad-check": (with_byte(e, 510, e[510] + 1), 13),
+        "bad-check-high-byte": (with_byte(e, 511, e[511] ^ 1), 13),
         "bad-check-then-bad-number": (corrupt[:BLOCK] + with_byte(h1, BLOCK, 7)[BLOCK:], 13),
         "no-states": (sealed(0, two(0) + content[2:]), 14),
         "no-states-no-groups": (sealed(0, b""), 14),
-        "no-states-and-too-many-groups": (sealed(0, two(0) + two(MAX_GROUPS + 1)), 14),
+        "no-states-and-one-group": (sealed(0, two(0) + two(NEW_FORM + 1)), 14),
+        "no-states-and-too-many-groups": (sealed(0, two(0) + two(most + 1)), 14),
+        "no-states-and-second-greatest": (sealed(0, two(0) + two(65_535)), 14),
         "too-many-states": (sealed(0, two(MAX_STATES + 1) + content[2:]), 14),
-        "too-many-states-and-groups": (sealed(0, two(MAX_STATES + 1) + two(MAX_GROUPS + 1)), 14),
-        "too-many-groups": (sealed(0, two(3) + two(MAX_GROUPS + 1) + content[4:]), 15),
+        "too-many-states-and-groups": (sealed(0, two(MAX_STATES + 1) + two(most + 1)), 14),
+        "too-many-groups": (sealed(0, two(3) + two(most + 1) + content[4:]), 15),
+        "second-greatest": (sealed(0, two(3) + two(65_535) + content[4:]), 15),
+        "second-too-low": (sealed(0, two(3) + two(NEW_FORM - 1) + content[4:]), 15),
+        "second-is-g": (sealed(0, two(3) + two(0) + content[4:]), 15),
+        "resting-set-missing": (sealed(0, two(61) + two(NEW_FORM) + contents(old(H))[4:]), 16),
         "block-missing": (h1[:BLOCK], 16),
         "block-extra": (e + sealed(1, b""), 16),
         "state-past-n": (sealed(0, with_byte(content, 4, 0x09)), 17),
-        "state-past-n-in-a-row": (sealed(0, with_byte(content, 8, 0x80)), 17),
+        "state-past-n-marked": (sealed(0, with_byte(content, 5, 0x0c)), 17),
+        "state-past-n-resting": (sealed(0, with_byte(content, 6, 0x08)), 17),
+        "state-past-n-in-a-row": (sealed(0, with_byte(content, 9, 0x80)), 17),
         "filler": (sealed(0, content.ljust(CONTENT - 1, b"\0") + b"\1"), 18),
         "filler-and-state-past-n": (sealed(0, with_byte(content, 4, 0x09) + b"\1"), 17),
     }
 
 
+def old_refused():
+    """In the old form: by `check`, and where it is to be rewritten."""
+    e, h1, content = encode(old(E)), encode(old(H1)), contents(old(E))
+    return {
+        "no-states": (sealed(0, two(0) + two(1)), 14, 14),
+        "too-many-states": (sealed(0, two(MAX_STATES + 1) + content[2:]), 14, 14),
+        "too-many-groups": (sealed(0, two(3) + two(MAX_GROUPS + 1) + content[4:]), 15, 15),
+        "block-missing": (h1[:BLOCK], 15, 16),
+        "block-extra": (e + sealed(1, b""), 15, 16),
+        "state-past-n": (sealed(0, with_byte(content, 4, 0x09)), 15, 17),
+        "filler": (sealed(0, content + b"\1"), 15, 18),
+    }
+
+
 def checked_figures():
     """The specification's figures about the files themselves (Files)."""
-    assert contents(E).hex(" ") == "03 00 00 00 01 04 01 04 00"
-    assert check(encode(E)) == 97
-    assert len(contents(H)) == 508 and len(encode(H)) == BLOCK
-    assert len(contents(H1)) == 516 and len(encode(H1)) == 2 * BLOCK
-    assert len(encode(LARGEST)) == 73 * BLOCK == MAX_FILE
+    assert contents(old(E)).hex(" ") == "03 00 00 00 01 04 01 04 00"
+    assert check(encode(old(E))) == 97
+    assert contents(E).hex(" ") == "03 00 00 80 01 04 00 01 04 00"
+    assert check(encode(E)) == 3 * 3 + 6 * 128 + 7 * 1 + 8 * 4 + 10 * 1 + 11 * 4
+    assert len(contents(H)) == 516 and len(encode(H)) == 2 * BLOCK
+    assert len(contents(H1)) == 524 and len(encode(H1)) == 2 * BLOCK
+    assert len(contents(old(H))) == 508 == len(contents(FULL_BLOCK)) and len(encode(old(H))) == BLOCK
+    assert len(contents(LARGEST)) == 37_060
+    assert len(encode(LARGEST)) == 73 * BLOCK == MAX_FILE == len(encode(old(LARGEST)))
+
+
+def refusal(number):
+    return f"refused {number}\n".encode()
 
 
 def files():
@@ -256,9 +360,18 @@ def files():
     for name, table in COMPUTED.items():
         yield f"{name}.table", encode(table)
         yield f"{name}.expected", printed(table).encode()
+    for name, table in OLD.items():
+        yield f"old-{name}.table", encode(old(table))
+        yield f"old-{name}.expected", refusal(15)
+        yield f"rewritten-{name}.table", encode(rewritten(old(table)))
+        yield f"rewritten-{name}.expected", printed(old(table)).encode()
     for name, (data, number) in refused().items():
         yield f"{name}.table", data
-        yield f"{name}.expected", f"refused {number}\n".encode()
+        yield f"{name}.expected", refusal(number)
+    for name, (data, by_check, by_rewriting) in old_refused().items():
+        yield f"old-{name}.table", data
+        yield f"old-{name}.expected", refusal(by_check)
+        yield f"rewritten-{name}.expected", refusal(by_rewriting)
 
 
 def main():

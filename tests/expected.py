@@ -9,15 +9,16 @@ from pathlib import Path
 TOP = Path(__file__).resolve().parent.parent
 sys.path.insert(0, str(TOP / "tables"))
 import make  # noqa: E402
-from make import A, B, BLOCK, CONTENT, D, E, F, G, MAX_FILE, MAX_GROUPS, MAX_STATES, Table  # noqa: E402
+from make import A, B, BLOCK, CONTENT, D, E, F, G, HANG, HANG_ALONE, MAX_FILE, MAX_GROUPS, MAX_STATES, NEW_FORM, Table, rests  # noqa: E402
 
 H_STEPS = {(0, 59), (59, 0), (58, 60)}
 H = Table(61, {0}, {60}, H_STEPS)
 H_GROUP = Table(61, {0}, {60}, H_STEPS, [{0, 59}])
 NINTH = Table(4, {0}, {2}, {(0, 0), (0, 1), (1, 3), (2, 3), (3, 0), (3, 2)}, [{0}])
 DRAFT = Table(0, set(), set(), set())
+E_HELD = Table(3, {0}, {2}, {(1, 2)}, [], {0})
 # A store is a list of sets: those before the groups, the groups, the rows.
-HEAD_SETS, WORDS = 2, MAX_STATES // 64
+HEAD_SETS, WORDS = len(DRAFT.head()), MAX_STATES // 64
 ROWS_FROM = HEAD_SETS + MAX_GROUPS
 STORE_SETS = ROWS_FROM + MAX_STATES
 STORE_WORDS = STORE_SETS * WORDS
@@ -37,7 +38,12 @@ def answer(table, allowance):
 
 def decide_test():
     lines = []
-    for name, table in [("A", A), ("B", B), ("D", D), ("E", E), ("F", F), ("G", G), ("draft", DRAFT), ("H", H), ("H with a group", H_GROUP), ("ninth", NINTH)]:
+    for name, table in [
+        ("A", A), ("A, all resting", rests(A, 0, 1, 2)), ("B", B), ("D", D), ("B, 3 resting", rests(B, 3)), ("B, 3 not marked", HANG),
+        ("B, 3 not marked, 0 1 2 4 resting", rests(HANG, 0, 1, 2, 4)), ("B, 3 not marked but resting", rests(HANG, 3)),
+        ("E", E), ("E, 0 a dead end and resting", E_HELD), ("F", F), ("F, not marked", HANG_ALONE), ("F, not marked but resting", rests(HANG_ALONE, 0)),
+        ("G", G), ("draft", DRAFT), ("H", H), ("H with a group", H_GROUP), ("ninth", NINTH),
+    ]:
         for allowance in (0, 1, 2, 3, MAX_STATES):
             lines.append(f"{name} {allowance}: {answer(table, allowance)}{KEPT}")
     over = MAX_STATES + 1
@@ -46,7 +52,7 @@ def decide_test():
         ("n 0 g 1", 0, 14), ("n 0 with groups and all else", over, 14), ("state 5 of 0", 0, 17),
         ("n too great", 0, 14), ("n too great and all else", over, 14),
         ("g too great", 0, 15), ("g too great and all else", over, 15),
-        ("state 5 of 5", 0, 17), ("state 5 of 5 and all else", over, 17),
+        ("state 5 of 5", 0, 17), ("state 5 of 5 and all else", over, 17), ("state 5 of 5 resting", 0, 17),
         ("allowance too great", over, 20), ("allowance too great and all else", over, 20),
         ("path buffer one place short", 0, 21),
     ]:
@@ -54,8 +60,11 @@ def decide_test():
     nothing = Table(MAX_STATES, set(), set(), set(), [set() for _ in range(MAX_GROUPS)])
     for name, table, allowance in [
         ("state 5 of 6", Table(6, {5}, set(), set()), MAX_STATES),
+        ("state 5 of 6 resting", Table(6, {5}, set(), set(), [], {5}), MAX_STATES),
         ("n and g at their greatest, store of 12 words more", nothing, MAX_STATES),
-        ("corridor", make.CORRIDOR, MAX_STATES), ("corridor", make.CORRIDOR, MAX_STATES - 3),
+        ("corridor", make.LAST_HANGS, MAX_STATES), ("corridor", make.LAST_HANGS, MAX_STATES - 3),
+        ("corridor, the last state resting", rests(make.LAST_HANGS, MAX_STATES - 1), MAX_STATES),
+        ("corridor, the last state marked and resting", rests(make.CORRIDOR, MAX_STATES - 1), MAX_STATES),
     ]:
         lines.append(f"{name} {allowance}: {answer(table, allowance)}{KEPT}")
     return "".join(line + "\n" for line in lines)
@@ -64,7 +73,7 @@ def decide_test():
 # ---- order_test: the looks of the first round (docs/SPECIFICATION.md, Rounds)
 
 def order(table):
-    z = table.states() - table.forbidden
+    z = table.states() - table.forbidden()
     listed = table.groups + [z]
     spot = lambda s: set.intersection(table.states(), *(y for y in listed if s in y))
     cover = lambda x: {t for s in x for t in spot(s)}
@@ -93,7 +102,10 @@ def order_test():
             ("branches, 3 with 8", Table(10, {1, 5}, {9}, branches, groups)),
             ("draft", DRAFT), ("G", G), ("nothing initial", Table(3, set(), {2}, steps("01 12"))),
             ("only a forbidden state initial", Table(3, {2}, {2}, steps("01 12"))),
-            ("corridor", corridor),
+            ("B with groups, 3 not marked", Table(5, {0}, set(), B.steps, alone(4))),
+            ("B with groups, 3 not marked but resting", Table(5, {0}, set(), B.steps, alone(4), {3})),
+            ("B with groups, 3 marked and resting", Table(5, {0}, {3}, B.steps, alone(4), {3})),
+            ("corridor", corridor), ("corridor, state 0 resting", rests(corridor, 0)),
         ]
     ]
     small = Table(3, {0}, {2}, steps("01 12"))
@@ -103,6 +115,7 @@ def order_test():
         ("n 0", small, STORE_WORDS, 0, 0), ("n 0 with a group", small, STORE_WORDS, 0, 1), ("a state too many", small, STORE_WORDS, MAX_STATES + 1, 0),
         ("a group too many", small, STORE_WORDS, 3, MAX_GROUPS + 1), ("state 2 of 2", small, STORE_WORDS, 2, 0),
         ("a group too many and state 2 of 2", small, STORE_WORDS, 2, MAX_GROUPS + 1),
+        ("state 3 of 3 resting", rests(DRAFT, 3), STORE_WORDS, 3, 0),
         ("store one word short, n 0", DRAFT, STORE_WORDS - 1, 0, 0),
     ]:
         lines.append(f"{name}: refused {refusal(store_of(table), words, n, g)}")
@@ -131,11 +144,17 @@ def generated(t):
     place = lambda s: 16 + 16 * s
     fan_out = lambda s: draw(8) % 4 if draw(place(s)) % 4 else 0
     successor = lambda s, d: (s + d % 6) % n if t % 2 else d % n
-    return Table(
+    table = Table(
         n, few(2, 3), few(5, 6),
         {(s, successor(s, draw(place(s) + 1 + k))) for s in range(n) for k in range(fan_out(s))},
         [{s for s in range(n) if draw(place(s) + 4 + j) % 2 == 0} for j in range(draw(1) % 5)],
     )
+    kind = draw(9) % 4
+    if kind == 1:
+        table.resting = {s for s in range(n) if draw(place(s) + 8) % 2 == 0}
+    elif kind > 1:
+        table.resting = table.dead_ends()
+    return table
 
 
 # ---- digests of numbers; a set goes in as its words, each as its lower and its upper half
@@ -179,7 +198,7 @@ def store_of(table):
     rows = [set() for _ in range(MAX_STATES)]
     for a, b in table.steps:
         rows[a].add(b)
-    return [table.initial, table.forbidden, *table.groups, *[set()] * (MAX_GROUPS - len(table.groups)), *rows]
+    return [*table.head(), *table.groups, *[set()] * (MAX_GROUPS - len(table.groups)), *rows]
 
 
 def largest():
@@ -188,7 +207,7 @@ def largest():
 
 
 def used(store, n, g):
-    """The sets that are counted: initial, forbidden, g groups, n rows."""
+    """The sets that are counted: initial, marked, resting, g groups, n rows."""
     return store[:HEAD_SETS + g] + store[ROWS_FROM:][:n]
 
 
@@ -227,7 +246,7 @@ def write(store, words, n, g, room, site=0):
         return 24
     if refused := refusal(store, words, n, g):
         return refused
-    contents = make.two(n) + make.two(g) + b"".join(make.set_bytes(states, n) for states in used(store, n, g))
+    contents = make.two(n) + make.two(NEW_FORM + g) + b"".join(make.set_bytes(states, n) for states in used(store, n, g))
     file = b"".join(for_site(block, site) for block in make.blocks(contents)) if n else b""
     return 19 if room < len(file) else file
 
@@ -253,11 +272,12 @@ def read(data, words, site=0):
         if number(block[510:]) != site_check(block, site):
             return 13
     content = b"".join(block[2:510] for block in split)
-    n, g = number(content[:2]), number(content[2:4])
+    n, second = number(content[:2]), number(content[2:4])
     if not 1 <= n <= MAX_STATES:
         return 14
-    if g > MAX_GROUPS:
+    if not NEW_FORM <= second <= NEW_FORM + MAX_GROUPS:
         return 15
+    g = second - NEW_FORM
     w = (n + 7) // 8
     length = 4 + w * (HEAD_SETS + g + n)
     if len(split) != -(-length // CONTENT):
@@ -323,10 +343,14 @@ def round_trip(t):
     return [*file, *(half for states in store for half in halves(states))]
 
 
+# The check of E for site 0; the site that E_CHECK is short of the prime gives 0.
+E_CHECK = 870
+
+
 def sites(e):
     yield "write E for a site"
     for words, n, g, site, room in [
-        *((STORE_WORDS, 3, 0, site, 512) for site in (0, 1, 65_424, MAX_SITE, *FAR_SITES)),
+        *((STORE_WORDS, 3, 0, site, 512) for site in (0, 1, make.PRIME - E_CHECK, MAX_SITE, *FAR_SITES)),
         (STORE_WORDS - 1, 3, 0, 65_521, 512), (STORE_WORDS, 0, 1, 65_521, 512), (STORE_WORDS, 0, 65, 65_521, 0), (STORE_WORDS, 3, 0, 65_521, 0),
     ]:
         yield f" site {site}" + written(e, words, n, g, room, site)
@@ -341,13 +365,16 @@ def sites(e):
 
 
 def files_test():
-    e, more, most = store_of(E), store_of(Table(4, {0}, {2}, E.steps | {(3, 0)}, [{0}])), largest()
-    h = store_of(Table(61, {0, 8}, {60}, {(0, 60), (31, 32), (60, 60)}))
-    e_file, h_file, h1_file = (write(t, STORE_WORDS, n, g, 1024) for t, n, g in ((e, 3, 0), (h, 61, 0), (h, 61, 1)))
+    e, most = store_of(E), largest()
+    more, resting = store_of(Table(4, {0}, {2}, E.steps | {(3, 0)}, [{0}])), store_of(rests(DRAFT, 1, 2))
+    full = store_of(Table(60, {0, 8}, {59}, {(0, 59), (31, 32), (59, 59)}, [], {9, 32}))
+    h = store_of(Table(61, {0, 8}, {60}, {(0, 60), (31, 32), (60, 60)}, [], {9, 60}))
+    e_file, full_file, h_file, h1_file = (
+        write(t, STORE_WORDS, n, g, 1024) for t, n, g in ((e, 3, 0), (full, 60, 0), (h, 61, 0), (h, 61, 1)))
     most_file = write(most, STORE_WORDS, MAX_STATES, MAX_GROUPS, MAX_FILE)
-    # The figures of docs/SPECIFICATION.md, Files.
-    assert e_file[2:11].hex(" ") == "03 00 00 00 01 04 01 04 00" and number(e_file[510:]) == 97
-    assert [len(file) for file in (e_file, h_file, h1_file, most_file)] == [512, 512, 1024, MAX_FILE]
+    # The figures of docs/SPECIFICATION.md, Files: E in the new form.
+    assert e_file[2:12].hex(" ") == "03 00 00 80 01 04 00 01 04 00" and number(e_file[510:]) == E_CHECK
+    assert [len(file) for file in (e_file, full_file, h_file, h1_file, most_file)] == [512, 512, 1024, 1024, MAX_FILE]
     trips = 300
     lines = [
         "file of E: " + " ".join(map(str, e_file)),
@@ -362,24 +389,29 @@ def files_test():
                (0, STORE_WORDS, {}), (511, STORE_WORDS, {}), (513, STORE_WORDS, {}), (511, STORE_WORDS, {0: 1})),
         *reads(e_file, *((512, STORE_WORDS, damage) for damage in (
             {0: 1}, {1: 1}, {0: 1, 510: 97}, {510: 98}, {511: 1}, {2: 0, 510: 97},
-            {2: 0}, {2: 1, 3: 2}, {3: 2, 5: 1}, {4: 64}, {4: 65}, {5: 1}, {2: 61, 4: 65}, {2: 62}, {2: 62, 13: 128}))),
+            {2: 0}, {2: 0, 5: 0}, {2: 0, 4: 65}, {2: 1, 3: 2}, {3: 2, 5: 0}, {4: 64}, {4: 65}, {5: 0}, {4: 255, 5: 127}, {5: 129}, {5: 255},
+            {2: 61, 4: 65}, {2: 61, 5: 0}, {5: 0, 6: 9}, {2: 61}, {2: 61, 13: 128}))),
         *reads(e_file, (1024, STORE_WORDS, {}), (1024, STORE_WORDS, {512: 1}), (1024, STORE_WORDS, {512: 1, 6: 9})),
         *reads(e_file, *((512, STORE_WORDS, damage) for damage in (
-            {6: 9}, {7: 12}, {10: 128}, {6: 9, 11: 1}, {11: 1}, {509: 128}))),
+            {8: 4}, {6: 9}, {7: 12}, {8: 8}, {11: 128}, {8: 8, 12: 1}, {12: 1}, {509: 128}))),
+        *writes("write nothing but 1 and 2 resting", resting, (STORE_WORDS, 3, 0, 512), (STORE_WORDS, 2, 0, 512), (STORE_WORDS, 0, 0, 512)),
         *writes("write E with a group and a step from 3", more, (STORE_WORDS, 4, 0, 512), (STORE_WORDS, 3, 1, 512), (STORE_WORDS, 4, 1, 512)),
-        *writes("write H", h, (STORE_WORDS, 61, 0, 512), (STORE_WORDS, 61, 1, 1024), (STORE_WORDS, 61, 1, 1023)),
+        *writes("write a full block", full, (STORE_WORDS, 60, 0, 512), (STORE_WORDS, 60, 0, 511), (STORE_WORDS, 60, 1, 1024), (STORE_WORDS, 60, 1, 1023)),
+        "read a full block",
+        *reads(full_file, *((512, STORE_WORDS, damage) for damage in ({}, {509: 24}, {29: 16}))),
+        *writes("write H", h, (STORE_WORDS, 61, 0, 1024), (STORE_WORDS, 61, 0, 1023), (STORE_WORDS, 61, 1, 1024), (STORE_WORDS, 61, 1, 1023)),
         "read H",
-        *reads(h_file, (512, STORE_WORDS, {}), (512, STORE_WORDS, {509: 48})),
+        *reads(h_file, (1024, STORE_WORDS, {}), (512, STORE_WORDS, {}), (1024, STORE_WORDS, {521: 48}), (1024, STORE_WORDS, {522: 1})),
         "read H with a group",
         *reads(h1_file, (1024, STORE_WORDS, {}), (512, STORE_WORDS, {}), *((1024, STORE_WORDS, damage) for damage in (
             {512: 0}, {1023: 255}, {512: 7, 1023: 255}, {0: 9, 1023: 255}, {511: 255, 512: 7},
-            {29: 32}, {521: 48}, {522: 1}, {1021: 1}))),
+            {29: 48}, {37: 32}, {529: 48}, {530: 1}, {1021: 1}))),
         *writes("write the largest table", most,
                 (STORE_WORDS + 12, MAX_STATES, MAX_GROUPS, MAX_FILE), (STORE_WORDS, MAX_STATES, MAX_GROUPS, MAX_FILE - 1), (STORE_WORDS, MAX_STATES + 1, MAX_GROUPS, MAX_FILE), (STORE_WORDS, MAX_STATES, MAX_GROUPS + 1, MAX_FILE),
                 (STORE_WORDS, MAX_STATES, MAX_GROUPS - 1, MAX_FILE), (STORE_WORDS, MAX_STATES - 1, MAX_GROUPS, MAX_FILE)),
         "read the largest table",
         *reads(most_file, (MAX_FILE, STORE_WORDS + 12, {}), (MAX_FILE + 1, STORE_WORDS, {}), (MAX_FILE + BLOCK, STORE_WORDS, {}), (MAX_FILE - BLOCK, STORE_WORDS, {}),
-               (MAX_FILE, STORE_WORDS, {4: 65}), (MAX_FILE, STORE_WORDS, {2: 1, 4: 65})),
+               (MAX_FILE, STORE_WORDS, {4: 65}), (MAX_FILE, STORE_WORDS, {2: 1, 4: 65}), (MAX_FILE, STORE_WORDS, {5: 0})),
         *sites(e),
         f"round trips {trips}, digest {digest(x for t in range(trips) for x in round_trip(t))}",
     ]

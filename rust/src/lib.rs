@@ -6,18 +6,21 @@
 //!
 //! A table has `n` states, numbered 0 to `n` − 1 ([`MAX_STATES`] at most), and `g` groups
 //! ([`MAX_GROUPS`] at most); one without states, an untouched draft, has no groups. It stands in a store of at least [`STORE_WORDS`] words of 64 bits, as
-//! sets of [`SET_WORDS`] words each: the initial set at [`INITIAL`], the forbidden set at [`FORBIDDEN`], group
-//! j at [`group`]`(j)`, the successors of state s at [`row`]`(s)`. The words of groups from g up and
+//! sets of [`SET_WORDS`] words each: the initial set at [`INITIAL`], the marked set at [`MARKED`], the resting set at
+//! [`RESTING`], group j at [`group`]`(j)`, the successors of state s at [`row`]`(s)`. The words of groups from g up and
 //! of rows from n up are 0; words past the first [`STORE_WORDS`] are neither read nor written. A path is a list of 16-bit numbers, one for
 //! each state.
 //!
-//! ```
-//! use shuntberry::{FORBIDDEN, INITIAL, MAX_ALLOWANCE, PATH_PLACES, STORE_WORDS, Verdict, decide, row};
+//! A state is forbidden if it is marked, or if it has no successor and is not resting: such a hang is a screen with
+//! no way out. A marked state is forbidden also where it rests, and a state with successors may rest or not.
 //!
-//! // Three states; 0 is initial, 2 is forbidden; steps 0 → 0 and 1 → 2.
+//! ```
+//! use shuntberry::{INITIAL, MARKED, MAX_ALLOWANCE, PATH_PLACES, RESTING, STORE_WORDS, Verdict, decide, row};
+//!
+//! // Three states; 0 is initial, 2 is marked forbidden; steps 0 → 0 and 1 → 2.
 //! let mut store = [0; STORE_WORDS];
 //! store[INITIAL] = 1 << 0;
-//! store[FORBIDDEN] = 1 << 2;
+//! store[MARKED] = 1 << 2;
 //! store[row(0)] = 1 << 0;
 //! store[row(1)] = 1 << 2;
 //!
@@ -32,6 +35,14 @@
 //! store[row(0)] |= 1 << 1;
 //! let verdict = decide(&store, 3, 0, MAX_ALLOWANCE, &mut path)?;
 //! assert!(matches!(verdict, Verdict::Unsafe { path: [0, 1, 2], .. }));
+//!
+//! // Without its mark 2 is forbidden still, since it leads nowhere, unless it rests.
+//! store[MARKED] = 0;
+//! let verdict = decide(&store, 3, 0, MAX_ALLOWANCE, &mut path)?;
+//! assert!(matches!(verdict, Verdict::Unsafe { path: [0, 1, 2], .. }));
+//! store[RESTING] = 1 << 2;
+//! let verdict = decide(&store, 3, 0, MAX_ALLOWANCE, &mut path)?;
+//! assert!(matches!(verdict, Verdict::Safe { count: 0, .. }));
 //!
 //! // A table of 513 states is refused.
 //! let refused = decide(&store, 513, 0, MAX_ALLOWANCE, &mut path).unwrap_err();
@@ -49,8 +60,8 @@ use std::fmt;
 
 /// The words of a set.
 pub const SET_WORDS: usize = 8;
-/// The sets that stand before the groups: initial and forbidden.
-pub const HEAD_SETS: usize = 2;
+/// The sets that stand before the groups: initial, marked and resting.
+pub const HEAD_SETS: usize = 3;
 /// The greatest number of states.
 pub const MAX_STATES: usize = 64 * SET_WORDS;
 /// The greatest number of groups.
@@ -81,8 +92,10 @@ pub const UNREACHABLE: u16 = 65_535;
 
 /// Where the initial set begins in a store.
 pub const INITIAL: usize = 0;
-/// Where the forbidden set begins in a store.
-pub const FORBIDDEN: usize = SET_WORDS;
+/// Where the set of the states that are marked forbidden begins in a store.
+pub const MARKED: usize = SET_WORDS;
+/// Where the resting set begins in a store.
+pub const RESTING: usize = 2 * SET_WORDS;
 
 /// Where group `j` begins in a store, for `j` below [`MAX_GROUPS`].
 pub const fn group(j: usize) -> usize {
@@ -184,14 +197,16 @@ impl Refused {
     /// The ground on which the call was refused.
     pub fn message(self) -> &'static str {
         match self.0 {
-            10 => "the store has under 4,624 words",
+            10 => "the store has under 4,632 words",
             11 => "the input's length is no multiple of 512, or over 37,376",
             12 => "a block does not hold its own number",
             13 => "a block's stored check is not its check for the site",
             14 => "n is over 512, or 0 with groups, in a block or in a load",
-            15 => "g is over 64",
+            15 => "g is over 64, or a file's second number is not g + 32,768, as in the old form",
             16 => "the number of blocks is not that of a file with this n and g",
-            17 => "a set holds a state from n up, or a word of an unused group or row is not 0",
+            17 => {
+                "a set, the resting one included, holds a state from n up, or a word of an unused group or row is not 0"
+            }
             18 => "a filler byte is not 0",
             19 => "the output is shorter than the file",
             20 => "the allowance is over 512",
@@ -264,12 +279,12 @@ pub fn decide<'p>(
 /// Refused with 10, 14, 15, 17 or 21.
 ///
 /// ```
-/// use shuntberry::{FORBIDDEN, INITIAL, PATH_PLACES, STORE_WORDS, row, shortest_path};
+/// use shuntberry::{INITIAL, MARKED, PATH_PLACES, STORE_WORDS, row, shortest_path};
 ///
-/// // Four states; 0 and 1 are initial, 3 is forbidden; steps 0 → 2, 1 → 2 and 2 → 3.
+/// // Four states; 0 and 1 are initial, 3 is marked; steps 0 → 2, 1 → 2 and 2 → 3.
 /// let mut store = [0; STORE_WORDS];
 /// store[INITIAL] = 0b0011;
-/// store[FORBIDDEN] = 0b1000;
+/// store[MARKED] = 0b1000;
 /// store[row(0)] = 0b0100;
 /// store[row(1)] = 0b0100;
 /// store[row(2)] = 0b1000;
@@ -277,8 +292,8 @@ pub fn decide<'p>(
 /// let mut path = [0; PATH_PLACES];
 /// assert_eq!(shortest_path(&store, 4, 0, &mut path)?, Some(&[0, 2, 3][..]));
 ///
-/// // Without the last step there is none.
-/// store[row(2)] = 0;
+/// // With a step back in place of the last one there is none.
+/// store[row(2)] = 0b0001;
 /// assert_eq!(shortest_path(&store, 4, 0, &mut path)?, None);
 /// # Ok::<(), shuntberry::Refused>(())
 /// ```
@@ -310,12 +325,13 @@ pub fn shortest_path<'p>(
 /// Refused with 10, 14, 15, 17 or 23.
 ///
 /// ```
-/// use shuntberry::{FORBIDDEN, INITIAL, STORE_WORDS, UNREACHABLE, distances, row, within};
+/// use shuntberry::{INITIAL, MARKED, RESTING, STORE_WORDS, UNREACHABLE, distances, row, within};
 ///
-/// // Steps 0 → 1, 1 → 2; 0 is initial, 2 is forbidden; 3 leads nowhere.
+/// // Steps 0 → 1, 1 → 2; 0 is initial, 2 is marked; 3 leads nowhere, and rests.
 /// let mut store = [0; STORE_WORDS];
 /// store[INITIAL] = 1 << 0;
-/// store[FORBIDDEN] = 1 << 2;
+/// store[MARKED] = 1 << 2;
+/// store[RESTING] = 1 << 3;
 /// store[row(0)] = 1 << 1;
 /// store[row(1)] = 1 << 2;
 ///
@@ -325,6 +341,11 @@ pub fn shortest_path<'p>(
 ///
 /// assert!(within(&store, 4, 0, 2)?);
 /// assert!(!within(&store, 4, 0, 1)?);
+///
+/// // At rest no longer, 3 is forbidden itself.
+/// store[RESTING] = 0;
+/// distances(&store, 4, 0, &mut found)?;
+/// assert_eq!(found, [2, 1, 0, 0]);
 /// # Ok::<(), shuntberry::Refused>(())
 /// ```
 pub fn distances(store: &[u64], n: usize, g: usize, distances: &mut [u16]) -> Result<(), Refused> {
@@ -356,7 +377,8 @@ pub fn within(store: &[u64], n: usize, g: usize, k: usize) -> Result<bool, Refus
 /// not be passed on as one of no bytes.
 ///
 /// Refused with 10, 24, 11, 12, 13, 14, 15, 16, 17 or 18. A block that was made for another site is refused
-/// with 13 where it stands at its own number, and with 12 elsewhere.
+/// with 13 where it stands at its own number, and with 12 elsewhere. A file of the old form, which has no resting
+/// set, is refused with 15; the program behind `./rewrite` makes a new one of it.
 pub fn read(input: &[u8], site: usize, store: &mut [u64]) -> Result<TableRead, Refused> {
     // SAFETY: as in `decide`.
     let table = unsafe {
@@ -420,8 +442,8 @@ pub fn write<'o>(
 }
 
 /// Fills the first [`STORE_WORDS`] words of `store` with the table that a seed gives; no other word is
-/// touched. It has `n` states and no groups; state 0 is initial, state `n` − 1 forbidden, and each
-/// state has up to `fan_out` successors. Every call accepts it, with `g` = 0.
+/// touched. It has `n` states and no groups; state 0 is initial, state `n` − 1 marked, none rests, and each
+/// state has up to `fan_out` successors: with a fan-out of 0 every state is a hang. Every call accepts it, with `g` = 0.
 ///
 /// Refused with 10, 14 or 22.
 ///

@@ -10,6 +10,7 @@ import sys
 WIDTH = 2**32
 LONG, SHORT = 55, 24
 BLOCK, CONTENT, PRIME = 512, 508, 65521
+NO_GROUPS = 32768
 
 
 def numbers(seed):
@@ -35,8 +36,9 @@ def set_bytes(n, states):
 
 
 def contents(seed, n, f):
-    sets = [{0}, {n - 1}] + rows(seed, n, f)
-    return n.to_bytes(2, "little") + bytes(2) + b"".join(set_bytes(n, states) for states in sets)
+    """State 0 is initial, the last one marked, and none rests."""
+    sets = [{0}, {n - 1}, set()] + rows(seed, n, f)
+    return n.to_bytes(2, "little") + NO_GROUPS.to_bytes(2, "little") + b"".join(set_bytes(n, states) for states in sets)
 
 
 def block(k, content):

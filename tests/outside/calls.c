@@ -1,8 +1,8 @@
 /*
  * The calls from C by the header alone: a corridor of as many states as there can be is laid out with the header's
  * offsets, written, read back, and asked for its path, which is every state in turn; the largest load
- * is generated; then some of the refusals, logs of the corridor, and next open minute. The calls run on a
- * painted stack, to see how much of it they take.
+ * is generated; then the corridor's end as a hang and at rest, some of the refusals, logs of the corridor, and next
+ * open minute. The calls run on a painted stack, to see how much of it they take.
  *
  * Without groups all states of Z have one cover, Z itself, so that each round loses the one state that
  * steps out: Z is all but the last state in round 0 and state 0 alone in round STATES - 2, where S is empty. That
@@ -31,6 +31,7 @@ _Static_assert(offsetof(struct shuntberry_replay, remainder) == 16, "replay.rema
 _Static_assert(sizeof(struct shuntberry_minute) == 12, "minute");
 _Static_assert(SHUNTBERRY_ROW(SHUNTBERRY_MAX_STATES) == SHUNTBERRY_STORE_WORDS, "rows");
 _Static_assert(SHUNTBERRY_GROUP(SHUNTBERRY_MAX_GROUPS) == SHUNTBERRY_ROW(0), "groups");
+_Static_assert(SHUNTBERRY_RESTING + SHUNTBERRY_SET_WORDS == SHUNTBERRY_GROUP(0), "the resting set stands before the groups");
 _Static_assert(64 * SHUNTBERRY_SET_WORDS == SHUNTBERRY_MAX_STATES, "words of a set");
 
 enum { STATES = SHUNTBERRY_MAX_STATES, STACK = 1 << 20, PAINT = 0xa5, STACK_LIMIT = 256 * 1024 };
@@ -120,11 +121,63 @@ static void load(void)
 
     require(shuntberry_generate(12345, STATES, SHUNTBERRY_MAX_FAN_OUT, other, SHUNTBERRY_STORE_WORDS) == SHUNTBERRY_ACCEPTED,
             "generate");
-    require(has(SHUNTBERRY_INITIAL, 0) && has(SHUNTBERRY_FORBIDDEN, STATES - 1), "the ends of a load");
+    require(has(SHUNTBERRY_INITIAL, 0) && has(SHUNTBERRY_MARKED, STATES - 1), "the ends of a load");
+    for (size_t word = 0; word < SHUNTBERRY_SET_WORDS; word++)
+        require(other[SHUNTBERRY_RESTING + word] == 0, "no state of a load rests");
     require(has(SHUNTBERRY_ROW(0), first % STATES) && has(SHUNTBERRY_ROW(0), second % STATES), "the successors of state 0");
     struct shuntberry_file written =
         shuntberry_write(other, SHUNTBERRY_STORE_WORDS, STATES, 0, SHUNTBERRY_MAX_SITE, file, sizeof file);
     require(written.refusal == SHUNTBERRY_ACCEPTED, "write of a load");
+}
+
+/* The corridor's last state leads nowhere: forbidden without its mark too, unless it rests, and with it also at rest. */
+static void hangs(void)
+{
+    const size_t words = SHUNTBERRY_STORE_WORDS;
+    uint64_t *marked = store + SHUNTBERRY_MARKED, *resting = store + SHUNTBERRY_RESTING;
+    const size_t set = SHUNTBERRY_SET_WORDS * sizeof *store;
+
+    for (unsigned kind = 0; kind < 4; kind++) {
+        int is_marked = kind % 2, rests = kind / 2;
+        memset(marked, 0, set);
+        memset(resting, 0, set);
+        if (is_marked)
+            add(SHUNTBERRY_MARKED, STATES - 1);
+        if (rests)
+            add(SHUNTBERRY_RESTING, STATES - 1);
+        add(SHUNTBERRY_RESTING, 0); /* which leads on */
+        uint32_t forbidden = is_marked || !rests;
+        memset(path, 0, sizeof path);
+        struct shuntberry_decision decision =
+            shuntberry_decide(store, words, STATES, 0, SHUNTBERRY_MAX_ALLOWANCE, path, SHUNTBERRY_PATH_PLACES);
+        require(decision.refusal == SHUNTBERRY_ACCEPTED &&
+                    decision.verdict == (forbidden ? SHUNTBERRY_UNSAFE : SHUNTBERRY_SAFE) &&
+                    decision.size == (forbidden ? 0 : STATES) && (!forbidden || is_corridor(decision.steps)),
+                "decide on a state that leads nowhere");
+        require(within(STATES - 1) == forbidden && within(STATES - 2) == 0, "within, of a state that leads nowhere");
+        require(shuntberry_distances(store, words, STATES, 0, distances, STATES) == SHUNTBERRY_ACCEPTED &&
+                    distances[STATES - 1] == (forbidden ? 0 : SHUNTBERRY_UNREACHABLE) &&
+                    distances[0] == (forbidden ? STATES - 1 : SHUNTBERRY_UNREACHABLE),
+                "distances to a state that leads nowhere");
+        struct shuntberry_file written = shuntberry_write(store, words, STATES, 0, 0, file, sizeof file);
+        struct shuntberry_table table = shuntberry_read(file, written.length, 0, other, words);
+        require(written.refusal == SHUNTBERRY_ACCEPTED && table.refusal == SHUNTBERRY_ACCEPTED &&
+                    memcmp(store, other, sizeof store) == 0,
+                "the resting set is written and read back");
+    }
+    memset(resting, 0, set);
+}
+
+/* Table E as versions 1 to 3 wrote it: one block, with the check 97. */
+static void old_file(void)
+{
+    static const uint8_t front[] = {0, 0, 3, 0, 0, 0, 1, 4, 1, 4, 0};
+    uint8_t block[SHUNTBERRY_BLOCK_BYTES] = {0};
+
+    memcpy(block, front, sizeof front);
+    block[SHUNTBERRY_BLOCK_BYTES - 2] = 97;
+    struct shuntberry_table table = shuntberry_read(block, sizeof block, 0, other, SHUNTBERRY_STORE_WORDS);
+    require(table.refusal == SHUNTBERRY_GROUPS && table.n == 0 && table.g == 0, "a file of the old form");
 }
 
 static uint32_t decide(size_t words, size_t n, size_t g, size_t allowance, size_t room)
@@ -140,6 +193,9 @@ static void refusals(void)
     require(decide(words, STATES + 1, 0, most, room) == SHUNTBERRY_STATES, "too many states");
     require(decide(words, STATES, SHUNTBERRY_MAX_GROUPS + 1, most, room) == SHUNTBERRY_GROUPS, "too many groups");
     require(decide(words, STATES - 1, 0, most, room) == SHUNTBERRY_STRAY_BIT, "a state from n up");
+    static uint64_t rests[SHUNTBERRY_STORE_WORDS];
+    rests[SHUNTBERRY_RESTING] = 2;
+    require(shuntberry_within(rests, words, 1, 0, 0).refusal == SHUNTBERRY_STRAY_BIT, "a resting state from n up");
     require(decide(words, STATES, 0, most + 1, room) == SHUNTBERRY_ALLOWANCE, "an allowance over the greatest");
     require(decide(words, STATES, 0, most, room - 1) == SHUNTBERRY_PATH_SHORT, "a short path buffer");
     require(shuntberry_distances(store, words, STATES, 0, distances, STATES - 1) == SHUNTBERRY_DISTANCES_SHORT,
@@ -159,7 +215,7 @@ static void sites(void)
     const size_t some[] = {0, 1, SHUNTBERRY_MAX_SITE};
     const size_t far[] = {SHUNTBERRY_MAX_SITE + 1, (size_t)1 << 32, SIZE_MAX};
 
-    require(SHUNTBERRY_VERSION == 3, "the version");
+    require(SHUNTBERRY_VERSION == 4, "the version");
     for (size_t a = 0; a < 3; a++) {
         struct shuntberry_file written = shuntberry_write(store, words, STATES, 0, some[a], file, sizeof file);
         require(written.refusal == SHUNTBERRY_ACCEPTED, "write for a site");
@@ -309,6 +365,8 @@ static void *on_painted_stack(void *unused)
     (void)unused;
     answers();
     load();
+    hangs();
+    old_file();
     refusals();
     replays();
     nothing();
@@ -320,7 +378,7 @@ static void *on_painted_stack(void *unused)
 int main(void)
 {
     add(SHUNTBERRY_INITIAL, 0);
-    add(SHUNTBERRY_FORBIDDEN, STATES - 1);
+    add(SHUNTBERRY_MARKED, STATES - 1);
     for (unsigned state = 0; state + 1 < STATES; state++)
         add(SHUNTBERRY_ROW(state), state + 1);
 

@@ -11,17 +11,21 @@ import tempfile
 from pathlib import Path
 
 LONGEST = 32768
+ADDED = 32768  # to g, in a file's second number
+HEAD_SETS = 3  # initial, marked, resting
 
 
 def table_in(path):
     """n, the initial states and the rows of a whole file."""
     blocks = path.read_bytes()
     contents = b"".join(blocks[at + 2 : at + 510] for at in range(0, len(blocks), 512))
-    n, g = (int.from_bytes(contents[at : at + 2], "little") for at in (0, 2))
+    if not contents:
+        return 0, set(), []
+    n, g = int.from_bytes(contents[:2], "little"), int.from_bytes(contents[2:4], "little") - ADDED
     width = (n + 7) // 8
-    sets = [int.from_bytes(contents[4 + width * k :][:width], "little") for k in range(2 + g + n)]
+    sets = [int.from_bytes(contents[4 + width * k :][:width], "little") for k in range(HEAD_SETS + g + n)]
     states = lambda bits: {s for s in range(n) if bits >> s & 1}
-    return n, states(sets[0]), [states(bits) for bits in sets[2 + g :]]
+    return n, states(sets[0]), [states(bits) for bits in sets[HEAD_SETS + g :]]
 
 
 def printed(table, log):

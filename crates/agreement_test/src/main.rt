@@ -7,8 +7,9 @@ use rounds::Verdict;
 use rounds::decide;
 use state_set::StateSet;
 use state_set::WORDS;
-use table::FORBIDDEN_AT;
+use table::MARKED_AT;
 use table::MAX_STATES;
+use table::RESTING_AT;
 use table::ROWS_AT;
 use table::STORE_WORDS;
 use test_support::digest;
@@ -19,6 +20,7 @@ use test_support::groups_of;
 use test_support::labelled;
 use test_support::line;
 use test_support::states_of;
+use test_support::unchanged_words;
 use test_support::wide;
 
 const TABLES: usize = 4000;
@@ -38,6 +40,26 @@ fn holds(store: &[u64], at: usize, s: usize) -> bool {
         }
     }
     false
+}
+
+// The words of its row are all 0.
+fn is_dead_end(store: &[u64], s: usize) -> bool {
+    let from = ROWS_AT + WORDS * (s % MAX_STATES);
+    let to = from + WORDS;
+    if to <= store.len() {
+        return unchanged_words(&store[from..to], 0, 0);
+    }
+    false
+}
+
+fn is_forbidden(store: &[u64], s: usize) -> bool {
+    if holds(store, MARKED_AT, s) {
+        return true;
+    }
+    if holds(store, RESTING_AT, s) {
+        return false;
+    }
+    is_dead_end(store, s)
 }
 
 fn at(xs: &[usize], i: usize) -> usize {
@@ -96,7 +118,7 @@ fn search_by(store: &[u64], n: usize, queue: &mut [usize], steps: &mut [usize]) 
         }
         let s = at(queue, i);
         let d = at(steps, s);
-        if holds(store, FORBIDDEN_AT, s) {
+        if is_forbidden(store, s) {
             return d;
         }
         end = visit_set(

@@ -13,7 +13,7 @@ use lib.ListN.{getD}
 use Rattle.model.specs.Sets.{WORDS, maxStates}
 use Rattle.model.specs.Stores.{headSets, maxGroups}
 use Rattle.model.specs.Blocks.{checkAt, modulus, maxSite, weighted, checkOf}
-use Rattle.model.specs.Contents.{setWidth, headerBytes, contentLength}
+use Rattle.model.specs.Contents.{newForm, headerBytes, contentLength}
 
 -- ---- the check
 
@@ -62,19 +62,16 @@ sum-all {site} {block} {sum} {i} s h =
 
 -- ---- lengths
 
--- the width w as code has it
-module _ {n g w : ℕ} (states : n ≤ maxStates) (groups : g ≤ maxGroups) (e : w ≡ setWidth n) where
-  sets-le : w * (headSets + g + n) ≤ 8 * WORDS * (headSets + maxGroups + maxStates)
-  sets-le =
-      let width : w ≤ 8 * WORDS = omega arith in
-      let many : headSets + g + n ≤ headSets + maxGroups + maxStates = omega arith in
-      mul-le-mul width many
+-- w bytes for each of so many sets
+module _ {w count : ℕ} (width : w ≤ 8 * WORDS) (many : count ≤ headSets + maxGroups + maxStates) where
+  sets-le : w * count ≤ 8 * WORDS * (headSets + maxGroups + maxStates)
+  sets-le = mul-le-mul width many
 
-  pub sets-fit : w * (headSets + g + n) < 2 ^ 64
+  pub sets-fit : w * count < 2 ^ 64
   sets-fit = omega (arith, sets-le)
 
-  pub contents-fit : headerBytes + w * (headSets + g + n) < 2 ^ 64
+  pub contents-fit : headerBytes + w * count < 2 ^ 64
   contents-fit = omega (arith, sets-le)
 
-  pub contents-le : headerBytes + w * (headSets + g + n) ≤ contentLength maxStates maxGroups
+  pub contents-le : headerBytes + w * count ≤ contentLength newForm maxStates maxGroups
   contents-le = omega (arith, sets-le)

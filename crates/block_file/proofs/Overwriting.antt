@@ -2,22 +2,26 @@
 --
 --   Over xs old out                  out is old with xs written over its front
 --   over-none, over-next, over-all   a loop that writes f 0, f 1, ..: before its first turn; a turn; when it is done
+--   over-list                        one that writes the elements of a list has written the list
 --   lent-back                        a buffer whose rest was lent and written over
 --   overwrite-lent                   so more is written behind what stands at the front
 --   put-long, put-own, put-other     a list put into a buffer from a place on: the length; its own places; any other place
+--   put-apart                        a set of a store that it was put into elsewhere
 use Prim.Native.Nat.{ℕ, _+_, _-_, _≤_, _<_}
 use native.Mathlib.Nat.{le-antisymm}
 use native.Mathlib.Omega.{arith}
 use mathlib.Core.Path.{_≡_, refl, sym, ap, ap₂, _∙_, subst}
-use mathlib.Core.Logic.{_⊎_, ⊎-elim}
+use mathlib.Core.Logic.{_⊎_, inl, inr, ⊎-elim}
 use mathlib.Core.List.{List, [], _∷_, _++_, append-nil}
 use borrow.Rule.Slice.PartMut.{putMid}
 use lib.ListN.{length, getD, set, take, drop, length-set, length-append, length-drop, drop-of-length-le, List·getD-append}
-use lib.Seq.{length-take-le, take-all, take-at, drop-at, getD-take, getD-drop, getD-append-add}
-use Rattle.model.specs.Sets.{tabulate}
+use lib.Seq.{ext-getD, length-take-le, take-all, take-at, drop-at, getD-take, getD-drop, getD-append-add}
+use Rattle.model.specs.Sets.{WORDS, tabulate}
+use Rattle.model.specs.Stores.{setAt}
 use Rattle.model.specs.Calls.{overwrite}
-use Rattle.model.proofs.Bounds.{length-tabulate}
+use Rattle.model.proofs.Bounds.{length-tabulate, getD-tabulate}
 use Rattle.model.proofs.ListLaws.{getD-behind, tabulate-next, length-overwrite, overwrite-more, overwrite-set}
+use Rattle.model.proofs.StoreLaws.{length-setAt, getD-setAt}
 use Rattle.block_file.specs.Reading.{overwriteFrom}
 
 pub record Over (xs old out : List ℕ) : Type 0 where
@@ -42,6 +46,14 @@ module _ (f : ℕ → ℕ) (old : List ℕ) where
 pub over-all : (xs : ℕ → List ℕ) (old out : List ℕ) (i m : ℕ) → i ≤ m → m ≤ i → Over (xs i) old out → out ≡ overwrite (xs m) old
 over-all xs old out i m l h w = w .is ∙ ap (λ (j : ℕ). overwrite (xs j) old) (le-antisymm l h)
 
+pub over-list : (xs : List ℕ) {old out : List ℕ} (i m : ℕ) → length xs ≡ m → i ≤ m → m ≤ i → Over (tabulate i (λ j. getD xs j 0)) old out → out ≡ overwrite xs old
+over-list xs {old} {out} i m long l h so =
+    let at : ℕ → ℕ = λ j. getD xs j 0 in
+    let all : tabulate m at ≡ xs =
+    ext-getD 0 (tabulate m at) xs (length-tabulate at m ∙ sym long)
+    (λ j b. getD-tabulate at m j 0 (subst (λ (k : ℕ). j < k) (length-tabulate at m) b)) in
+    over-all (λ k. tabulate k at) old out i m l h so ∙ ap (λ ys. overwrite ys old) all
+
 -- ---- the rest of a buffer, lent
 
 pub lent-back : (at : ℕ) (out rest xs : List ℕ) → rest ≡ overwrite xs (take (length out - at) (drop at out))
@@ -63,6 +75,15 @@ overwrite-lent xs ys old out rest n long e f =
     lent-back n out rest ys f ∙ ap (λ zs. take n zs ++ overwrite ys (drop n zs)) e ∙ overwrite-more xs old ys n long
 
 -- ---- a list put into a buffer
+
+-- the same words at a place
+setAt-same : (xs ys : List ℕ) (at : ℕ) → at + WORDS ≤ length xs → at + WORDS ≤ length ys
+    → ((w : ℕ) → w < WORDS → getD xs (at + w) 0 ≡ getD ys (at + w) 0) → setAt xs at ≡ setAt ys at
+setAt-same xs ys at h l e =
+    ext-getD 0 (setAt xs at) (setAt ys at) (length-setAt xs at h ∙ sym (length-setAt ys at l))
+    (λ w m.
+    let word : w < WORDS = subst (λ (j : ℕ). w < j) (length-setAt xs at h) m in
+    getD-setAt xs at w word ∙ e w word ∙ sym (getD-setAt ys at w word))
 
 module _ (at : ℕ) (xs old : List ℕ) (h : at + length xs ≤ length old) where
   front-long : length (take at old) ≡ at
@@ -93,3 +114,8 @@ module _ (at : ℕ) (xs old : List ℕ) (h : at + length xs ≤ length old) wher
       ∙ getD-drop (length xs) (drop at old) r 0
       ∙ getD-drop at old (length xs + r) 0
       ∙ ap (λ (j : ℕ). getD old j 0) place)
+
+  pub put-apart : (place : ℕ) → place + WORDS ≤ length old → (place + WORDS ≤ at) ⊎ (at + length xs ≤ place) → setAt (overwriteFrom at xs old) place ≡ setAt old place
+  put-apart place l apart =
+      setAt-same (overwriteFrom at xs old) old place (omega (arith, put-long)) l
+      (λ w m. put-other (place + w) (⊎-elim (λ b. inl (omega arith)) (λ b. inr (omega arith)) apart))

@@ -9,6 +9,7 @@ use lib.Dec.{eqb}
 use lib.ListN.{length, take, drop, length-take, length-drop}
 use Rattle.model.specs.Stores.{refuse}
 use Rattle.model.specs.Blocks.{blockBytes, part, blockGrounds}
+use Rattle.model.specs.Contents.{newForm}
 use Rattle.model.specs.Calls.{readAnswer, readBuffer, writeAnswer, writeBuffer}
 use Rattle.model.specs.Calls.{TableRead as ReadNumbers, Written as WriteNumbers}
 use Rattle.model.proofs.Bounds.{not-true}
@@ -68,7 +69,7 @@ calls-foreign =
             cr .2 ∙ ap (λ (x : ℕ). not (eqb x 0)) number,
             cr .0
                 ∙ declines .read input b (length other) declined
-                ∙ ap (λ (x : ℕ). record { refusal = x; n = 0; g = 0 }) (sym (read-refusal input b (length other)) ∙ number),
+                ∙ ap (λ (x : ℕ). record { refusal = x; n = 0; g = 0 }) (sym (read-refusal newForm input b (length other)) ∙ number),
             cr .1 ∙ untouched .read input b other declined,
           );
     }

@@ -2,7 +2,7 @@
 --
 --   le16-low, le16-high                  the bytes of a two-byte number; set-byte: a byte of a set
 --   set-place                            set k of the file stands at its place in the store
---   content-n, content-g, content-past   a byte of the contents: in the header, and past the end; content-at: behind the header
+--   content-n, content-second, content-past   a byte of the contents: in the header, and past the end; content-at: behind the header
 --   width-some, set-below, byte-below    byte i of the sets joined, of w bytes each: its set and its place there; content-set: the byte
 --   le16-written                         two bytes stored
 --   content-none, content-more           a loop that writes content, byte by byte
@@ -18,17 +18,17 @@ use mathlib.Core.List.{List, [], _∷_, _++_}
 use borrow.Author.Tests.{lt-ltb, ne-eqb}
 use lib.ListN.{set, length, getD, take, drop, List·getD-append}
 use Rattle.model.specs.Sets.{WORDS, maxStates, Set, member, number}
-use Rattle.model.specs.Stores.{headSets, forbiddenAt, groupAt, rowAt, storeWords, setAt, tableOf, concat, refuse, sharedGrounds}
+use Rattle.model.specs.Stores.{headSets, markedAt, restingAt, storeWords, setAt, dialogueOf, concat, refuse, sharedGrounds}
 use Rattle.model.specs.Blocks.{blockBytes, contentBytes, checkAt, maxSite, le16, blocksFor, checkOf, blockOf}
-use Rattle.model.specs.Contents.{setWidth, sets, headerBytes, contents, contentLength}
+use Rattle.model.specs.Contents.{newForm, added, setWidth, sets, headerBytes, contents, contentLength}
 use Rattle.model.specs.Files.{blockFile, fileOf, fileLength}
 use Rattle.model.specs.Calls.{overwrite, outputGround, writeGrounds, writeAnswer, writeBuffer}
 use Rattle.model.proofs.Bounds.{length-tabulate, getD-tabulate}
 use Rattle.model.proofs.ListLaws.{getD-behind, getD-past, div-below, mod-below, length-concat, concat-next, overwrite-front, overwrite-set}
 use Rattle.model.proofs.GroundLaws.{refuse-take, refuse-append}
 use Rattle.model.proofs.BlockLaws.{checkOf-cong, block-unique, framed-is, blockOf-is}
-use Rattle.model.proofs.ContentLaws.{byte-number, sets-each, length-contents, contents-header, contents-set}
-use Rattle.model.proofs.StoreLaws.{getD-setAt, row-is}
+use Rattle.model.proofs.ContentLaws.{byte-number, heads-each, sets-each, length-contents, contents-header, contents-set}
+use Rattle.model.proofs.StoreLaws.{getD-setAt, dialogueOf-row}
 use Rattle.model.proofs.FileLaws.{file-draft, file-blocks, length-draft, length-blocks}
 use Rattle.model.proofs.CallLaws.{Writable, write-over, write-behind, write-answer, write-buffer}
 use Rattle.model.proofs.Acceptance.{Store, accepted-store, store-accepted}
@@ -36,7 +36,7 @@ use Rattle.block_file.specs.declared.writing.Written.the-variants.{File,
 use Rattle.block_file.specs.WriteAnswers.{CalledWrite}
 use Rattle.block_file.specs.Places.{placeOf}
 use Rattle.block_file.specs.Writing.{LongEnough, contentFrom}
-use Rattle.block_file.proofs.Places.{by-place}
+use Rattle.block_file.proofs.Places.{head-place, group-place, row-place}
 use Rattle.block_file.proofs.Overwriting.{Over, over-none, over-next, overwrite-lent}
 
 -- ---- a byte of a number, and of a set
@@ -57,36 +57,36 @@ set-byte store at j h =
 
 -- ---- set k of the file, in the store
 
-set-place : (store : List ℕ) (n g k : ℕ) → k < headSets + g + n → getD (sets (tableOf store n g)) k [] ≡ setAt store (placeOf g k)
-unfolding tableOf
+set-place : (store : List ℕ) (n g k : ℕ) → k < headSets + g + n → getD (sets newForm (dialogueOf store n g)) k [] ≡ setAt store (placeOf newForm g k)
+unfolding dialogueOf
 set-place store n g =
-    let at : (k p : ℕ) → k < headSets + g → WORDS * k ≡ p → setAt store p ≡ setAt store (placeOf g k) =
-    λ k p h e. ap (setAt store) (by-place g k (λ q. p ≡ q) (λ l. sym e) (λ l. absurd (omega arith))) in
-    sets-each (tableOf store n g) (length-tabulate _ g) (λ k X. X ≡ setAt store (placeOf g k))
-    (at 0 0 (omega arith) refl)
-    (at 1 forbiddenAt (omega arith) refl)
-    (λ j h. getD-tabulate _ g j [] h ∙ at (headSets + j) (groupAt j) (omega arith) (omega arith))
-    (λ s h. row-is store n g s h ∙ ap (setAt store) (by-place g (headSets + g + s) (λ q. rowAt s ≡ q) (λ l. absurd (omega arith)) (λ l. omega arith)))
+    let At : ℕ → Set → Type 0 = λ k X. X ≡ setAt store (placeOf newForm g k) in
+    let head : (k p : ℕ) → k < headSets → WORDS * k ≡ p → At k (setAt store p) = λ k p h e. ap (setAt store) (head-place newForm g k h (sym e)) in
+    sets-each newForm (dialogueOf store n g) (length-tabulate _ g) At
+    (heads-each newForm (dialogueOf store n g) At (head 0 0 (omega arith) refl) (head 1 markedAt (omega arith) refl) (λ l. head 2 restingAt (omega arith) refl))
+    (λ j h. getD-tabulate _ g j [] h ∙ ap (setAt store) (group-place newForm g (headSets + j) (omega arith) (omega arith) (omega arith)))
+    (λ s h. dialogueOf-row store n g s h ∙ ap (setAt store) (row-place newForm g (headSets + g + s) (omega arith) (omega arith)))
 
 -- ---- a byte of the contents
 
 module _ (store : List ℕ) (n g : ℕ) where
-  pub content-n : (i : ℕ) → i < 2 → getD (le16 n) i 0 ≡ getD (contents (tableOf store n g)) i 0
-  unfolding tableOf
-  content-n i h = sym (contents-header (tableOf store n g) (length-tabulate _ g) i (omega arith) ∙ List·getD-append (le16 n) (le16 g) 0 i h)
+  pub content-n : (i : ℕ) → i < 2 → getD (le16 n) i 0 ≡ getD (contents newForm (dialogueOf store n g)) i 0
+  unfolding dialogueOf
+  content-n i h = sym (contents-header newForm (dialogueOf store n g) (length-tabulate _ g) i (omega arith) ∙ List·getD-append (le16 n) (le16 (added newForm + g)) 0 i h)
 
-  pub content-g : (i : ℕ) → 2 ≤ i → i < headerBytes → getD (le16 g) (i - 2) 0 ≡ getD (contents (tableOf store n g)) i 0
-  unfolding tableOf
-  content-g i l h =
+  pub content-second : (i : ℕ) {second : ℕ} → second ≡ added newForm + g → 2 ≤ i → i < headerBytes → getD (le16 second) (i - 2) 0 ≡ getD (contents newForm (dialogueOf store n g)) i 0
+  unfolding dialogueOf
+  content-second i e l h =
       let place : 2 + (i - 2) ≡ i = omega arith in
-      sym
-      (contents-header (tableOf store n g) (length-tabulate _ g) i h
-      ∙ ap (λ (j : ℕ). getD (le16 n ++ le16 g) j 0) (sym place)
-      ∙ getD-behind (le16 n) (le16 g) 2 (i - 2) 0 refl)
+      ap (λ (x : ℕ). getD (le16 x) (i - 2) 0) e
+      ∙ sym
+      (contents-header newForm (dialogueOf store n g) (length-tabulate _ g) i h
+      ∙ ap (λ (j : ℕ). getD (le16 n ++ le16 (added newForm + g)) j 0) (sym place)
+      ∙ getD-behind (le16 n) (le16 (added newForm + g)) 2 (i - 2) 0 refl)
 
-  pub content-past : (i : ℕ) → contentLength n g ≤ i → 0 ≡ getD (contents (tableOf store n g)) i 0
-  unfolding tableOf
-  content-past i h = sym (getD-past (contents (tableOf store n g)) i 0 (omega (arith, length-contents (tableOf store n g) (length-tabulate _ g))))
+  pub content-past : (i : ℕ) → contentLength newForm n g ≤ i → 0 ≡ getD (contents newForm (dialogueOf store n g)) i 0
+  unfolding dialogueOf
+  content-past i h = sym (getD-past (contents newForm (dialogueOf store n g)) i 0 (omega (arith, length-contents newForm (dialogueOf store n g) (length-tabulate _ g))))
 
 -- byte i of the sets joined, with their width w as code has it
 module _ (n g i w : ℕ) (wide : w ≡ setWidth n) (h : i < setWidth n * (headSets + g + n)) where
@@ -109,20 +109,20 @@ module _ (n g i w : ℕ) (wide : w ≡ setWidth n) (h : i < setWidth n * (headSe
     pub byte-below : i % w < 8 * WORDS
     byte-below = omega (arith, byte-in)
 
-  pub content-set : (store : List ℕ) (at : ℕ) → at ≡ placeOf g (i / w)
-      → number (member (setAt store at)) (8 * (i % w)) 8 ≡ getD (contents (tableOf store n g)) (headerBytes + i) 0
-  unfolding tableOf
+  pub content-set : (store : List ℕ) (at : ℕ) → at ≡ placeOf newForm g (i / w)
+      → number (member (setAt store at)) (8 * (i % w)) 8 ≡ getD (contents newForm (dialogueOf store n g)) (headerBytes + i) 0
+  unfolding dialogueOf
   content-set store at e =
       let k = i / w in
       let j = i % w in
       let place : headerBytes + setWidth n * k + j ≡ headerBytes + i = omega (arith, div-add-mod i w, ap (λ (v : ℕ). v * k) wide) in
       sym
-      (ap (λ (m : ℕ). getD (contents (tableOf store n g)) m 0) (sym place)
-      ∙ contents-set (tableOf store n g) (length-tabulate _ g) k j set-in (subst (λ (v : ℕ). j < v) wide byte-in)
+      (ap (λ (m : ℕ). getD (contents newForm (dialogueOf store n g)) m 0) (sym place)
+      ∙ contents-set newForm (dialogueOf store n g) (length-tabulate _ g) k j set-in (subst (λ (v : ℕ). j < v) wide byte-in)
       ∙ ap (λ (X : Set). number (member X) (8 * j) 8) (set-place store n g k set-in ∙ ap (setAt store) (sym e)))
 
-pub content-at : (store : List ℕ) (n g i : ℕ) → headerBytes ≤ i → getD (contents (tableOf store n g)) (headerBytes + (i - headerBytes)) 0 ≡ getD (contents (tableOf store n g)) i 0
-content-at store n g i h = let place : headerBytes + (i - headerBytes) ≡ i = omega arith in ap (λ (j : ℕ). getD (contents (tableOf store n g)) j 0) place
+pub content-at : (store : List ℕ) (n g i : ℕ) → headerBytes ≤ i → getD (contents newForm (dialogueOf store n g)) (headerBytes + (i - headerBytes)) 0 ≡ getD (contents newForm (dialogueOf store n g)) i 0
+content-at store n g i h = let place : headerBytes + (i - headerBytes) ≡ i = omega arith in ap (λ (j : ℕ). getD (contents newForm (dialogueOf store n g)) j 0) place
 
 -- ---- a buffer filled
 
@@ -207,7 +207,7 @@ module _ (store : List ℕ) (n g site : ℕ) (out : List ℕ) where
   declined k e f = let no = ne-eqb k 0 f in (rw (← e, no), rw (← e, no, no), rw (← e, no, no))
 
   -- none holds, and l bytes are written
-  accepted : {l : ℕ} {after : List ℕ} → Writable store n g site (length out) → l ≡ fileLength n g → after ≡ overwrite (fileOf site (tableOf store n g)) out
+  accepted : {l : ℕ} {after : List ℕ} → Writable store n g site (length out) → l ≡ fileLength newForm n g → after ≡ overwrite (fileOf newForm site (dialogueOf store n g)) out
       → CalledWrite store n g site out (File l) after
   accepted w e f =
       let answer = write-answer store n g site (length out) w in
@@ -233,30 +233,30 @@ module _ (store : List ℕ) (n g site : ℕ) (out : List ℕ) where
       table-held = accepted-store store n g [] (sym e ∙ z) .0
 
       pub draft-written : n ≡ 0 → CalledWrite store n g site out (File 0) out
-      unfolding overwrite tableOf
+      unfolding overwrite dialogueOf
       draft-written d =
-          let none = length-draft n g d in
+          let none = length-draft newForm n g d in
           accepted (record { held = table-held; known = known; fits = omega (arith, none) }) (sym none)
-          (ap (λ xs. overwrite xs out) (sym (file-draft site (tableOf store n g) d)))
+          (ap (λ xs. overwrite xs out) (sym (file-draft newForm site (dialogueOf store n g) d)))
 
-      module _ (some : n ≡ 0 → ⊥) (blocks : ℕ) (b : blocks ≡ blocksFor (contentLength n g)) where
-        size : fileLength n g ≡ blockBytes * blocks
-        size = length-blocks n g some ∙ ap (λ (m : ℕ). blockBytes * m) (sym b)
+      module _ (some : n ≡ 0 → ⊥) (blocks : ℕ) (b : blocks ≡ blocksFor (contentLength newForm n g)) where
+        size : fileLength newForm n g ≡ blockBytes * blocks
+        size = length-blocks newForm n g some ∙ ap (λ (m : ℕ). blockBytes * m) (sym b)
 
         pub declined-room : length out < blockBytes * blocks → CalledWrite store n g site out (Refused 19) out
         declined-room h =
             declined 19
             (sym
-            (behind ∙ store-accepted store n g _ table-held ∙ refuse-take _ 19 _ (lt-ltb (length out) (fileLength n g) (omega (arith, size)))))
+            (behind ∙ store-accepted store n g _ table-held ∙ refuse-take _ 19 _ (lt-ltb (length out) (fileLength newForm n g) (omega (arith, size)))))
             (λ x. omega arith)
 
-        pub written : (after : List ℕ) → blockBytes * blocks ≤ length out → after ≡ overwrite (concat blocks (blockOf site (contents (tableOf store n g)))) out
+        pub written : (after : List ℕ) → blockBytes * blocks ≤ length out → after ≡ overwrite (concat blocks (blockOf site (contents newForm (dialogueOf store n g)))) out
             → CalledWrite store n g site out (File (blockBytes * blocks)) after
-        unfolding blockFile tableOf
+        unfolding blockFile dialogueOf
         written after h w =
-            let t = tableOf store n g in
-            let many = ap (λ (l : ℕ). blocksFor l) (length-contents t (length-tabulate _ g)) in
+            let t = dialogueOf store n g in
+            let many = ap (λ (l : ℕ). blocksFor l) (length-contents newForm t (length-tabulate _ g)) in
             accepted (record { held = table-held; known = known; fits = omega (arith, size) }) (sym size)
             (w
-            ∙ ap (λ (m : ℕ). overwrite (concat m (blockOf site (contents t))) out) (b ∙ sym many)
-            ∙ ap (λ xs. overwrite xs out) (sym (file-blocks site t some)))
+            ∙ ap (λ (m : ℕ). overwrite (concat m (blockOf site (contents newForm t))) out) (b ∙ sym many)
+            ∙ ap (λ xs. overwrite xs out) (sym (file-blocks newForm site t some)))

@@ -1,17 +1,18 @@
 -- What the functions below `read` ask of an input, and their parts of what `read` does.
 --
 --   SetInside input w at        w bytes of a set stand in the contents from `at` on
---   TableInside input n g       n and g are in bounds, and their table stands in the contents
+--   TableInside form input n g  n and g are in bounds, and their table stands in the contents
 --   cleared store               a store whose words of a table are 0
 --   overwriteFrom at xs old     xs written from `at` on over a buffer that held old, the rest of it untouched
---   fillSets bytes n g k store  the first k sets of the contents, each put into its own words of a store
+--   fillSets form bytes n g k store
+--                               the first k sets of the contents, each put into its own words of a store
 use Prim.Native.Nat.{ℕ, zero, suc, _+_, _*_, _/_, _≤_}
 use mathlib.Core.List.{List, _++_}
 use lib.ListN.{length, take, drop}
 use Rattle.model.specs.Sets.{maxStates, tabulate}
 use Rattle.model.specs.Stores.{maxGroups, storeWords}
 use Rattle.model.specs.Blocks.{blockBytes, contentBytes}
-use Rattle.model.specs.Contents.{contentLength, setNumber}
+use Rattle.model.specs.Contents.{Form, contentLength, setNumber}
 use Rattle.model.specs.Calls.{overwrite}
 use Rattle.block_file.specs.Places.{placeOf}
 
@@ -19,10 +20,10 @@ pub record SetInside (input : List ℕ) (w at : ℕ) : Type 0 where
   pub narrow : 8 * w ≤ maxStates
   pub inside : at + w ≤ contentBytes * (length input / blockBytes)
 
-pub record TableInside (input : List ℕ) (n g : ℕ) : Type 0 where
+pub record TableInside (form : Form) (input : List ℕ) (n g : ℕ) : Type 0 where
   pub small : n ≤ maxStates
   pub few : g ≤ maxGroups
-  pub inside : contentLength n g ≤ contentBytes * (length input / blockBytes)
+  pub inside : contentLength form n g ≤ contentBytes * (length input / blockBytes)
 
 unfoldable pub cleared : List ℕ → List ℕ
 cleared store = overwrite (tabulate storeWords (λ i. 0)) store
@@ -30,6 +31,6 @@ cleared store = overwrite (tabulate storeWords (λ i. 0)) store
 unfoldable pub overwriteFrom : ℕ → List ℕ → List ℕ → List ℕ
 overwriteFrom at xs old = take at old ++ overwrite xs (drop at old)
 
-unfoldable pub fillSets : List ℕ → ℕ → ℕ → ℕ → List ℕ → List ℕ
-fillSets bytes n g zero store = store
-fillSets bytes n g (suc k) store = overwriteFrom (placeOf g k) (setNumber bytes n k) (fillSets bytes n g k store)
+unfoldable pub fillSets : Form → List ℕ → ℕ → ℕ → ℕ → List ℕ → List ℕ
+fillSets form bytes n g zero store = store
+fillSets form bytes n g (suc k) store = overwriteFrom (placeOf form g k) (setNumber bytes n k) (fillSets form bytes n g k store)

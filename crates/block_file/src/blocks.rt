@@ -1,11 +1,13 @@
 // What reading and writing a file share (the specification, "Files").
 //
 //   BLOCK, CONTENT, CONTENT_AT, CHECK_AT     a block's bytes, those of its content, and where its content and its check begin
-//   HEADER                                   the content bytes of n and g, which stand before the sets
+//   HEADER                                   the content bytes of n and of the second number, before the sets
+//   Form, head_sets, added                   the form of a file; its sets before the groups, how many; what its second number has more than g
 //   wide                                     a byte as a 64-bit number
 //   le16_at                                  the number whose two bytes stand at a place, low byte first
 //   MAX_SITE, check_of                       the greatest site number; the check of a block for a site
-//   set_width, content_length, blocks_for    the bytes of a set, those of the contents (L), the blocks that hold so many
+//   set_width, set_count                     the bytes of a set, and how many sets there are
+//   content_length, blocks_for               the bytes of the contents (L), and the blocks that hold so many
 //   place_of                                 where a set of the file begins in the store
 ghost use Prim.Native.Nat.{_+_, _≤_, _<_};
 ghost use mathlib.Core.Path.{_≡_};
@@ -13,9 +15,10 @@ ghost use lib.ListN.{length};
 ghost use Rattle.model.specs.Sets.{WORDS, maxStates};
 ghost use Rattle.model.specs.Stores.{headSets, maxGroups, storeWords};
 ghost use Rattle.model.specs.Blocks.{checkAt, maxSite, le16At, blocksFor, checkOf};
-ghost use Rattle.model.specs.Contents.{setWidth, contentLength};
-ghost use Rattle.block_file.specs.Places.{placeOf};
+ghost use Rattle.model.specs.Contents.{newForm, heads, added, setWidth, contentLength};
+ghost use Rattle.block_file.specs.Places.{formOf, placeOf};
 use state_set::WORDS;
+use table::GROUPS_AT;
 use table::HEAD_SETS;
 use table::ROWS_AT;
 
@@ -29,7 +32,37 @@ pub const CHECK_AT: usize = 510;
 
 pub const HEADER: usize = 4;
 
+// The sets before the groups of a file of the old form: initial and marked.
+const OLD_HEAD_SETS: usize = 2;
+
+// What is added to g in the second number of a file of the new form.
+const ADDED: usize = 32768;
+
 pub const MAX_SITE: usize = 65520;
+
+// The old form has no resting states.
+pub enum Form {
+    Old,
+    New,
+}
+
+pub fn head_sets(form: Form) -> usize
+    ensures { λ r. ⌜ (r ≡ heads (formOf form)) × (r ≤ headSets) ⌝ }
+{
+    match form {
+        Form::Old => OLD_HEAD_SETS,
+        Form::New => HEAD_SETS,
+    }
+}
+
+pub fn added(form: Form) -> usize
+    ensures { λ r. ⌜ (r ≡ added (formOf form)) × (r < 65536) ⌝ }
+{
+    match form {
+        Form::Old => 0,
+        Form::New => ADDED,
+    }
+}
 
 pub fn wide(b: u8) -> u64
     ensures { λ r. ⌜ (r ≡ b) × (r < 256) ⌝ }
@@ -63,28 +96,38 @@ pub fn set_width(n: usize) -> usize
     (n + 7) / 8
 }
 
-pub fn content_length(n: usize, g: usize) -> usize
+pub fn set_count(form: Form, n: usize, g: usize) -> usize
     requires { ⌜ (n ≤ maxStates) × (g ≤ maxGroups) ⌝ }
-    ensures { λ r. ⌜ (r ≡ contentLength n g) × (r ≤ contentLength maxStates maxGroups) ⌝ }
+    ensures { λ r. ⌜ (r ≡ heads (formOf form) + g + n) × (r ≤ headSets + maxGroups + maxStates) ⌝ }
 {
-    HEADER + set_width(n) * (HEAD_SETS + g + n)
+    head_sets(form) + g + n
+}
+
+pub fn content_length(form: Form, n: usize, g: usize) -> usize
+    requires { ⌜ (n ≤ maxStates) × (g ≤ maxGroups) ⌝ }
+    ensures { λ r. ⌜ (r ≡ contentLength (formOf form) n g) × (r ≤ contentLength newForm maxStates maxGroups) ⌝ }
+{
+    HEADER + set_width(n) * set_count(form, n, g)
 }
 
 pub fn blocks_for(l: usize) -> usize
-    requires { ⌜ l ≤ contentLength maxStates maxGroups ⌝ }
+    requires { ⌜ l ≤ contentLength newForm maxStates maxGroups ⌝ }
     ensures { λ r. ⌜ r ≡ blocksFor l ⌝ }
 {
     (l + CONTENT - 1) / CONTENT
 }
 
 // Where set k of the file begins in the store.
-pub fn place_of(g: usize, k: usize) -> usize
-    requires { ⌜ (g ≤ maxGroups) × (k < headSets + g + maxStates) ⌝ }
-    ensures { λ r. ⌜ (r ≡ placeOf g k) × (r + WORDS ≤ storeWords) ⌝ }
+pub fn place_of(form: Form, g: usize, k: usize) -> usize
+    requires { ⌜ (g ≤ maxGroups) × (k < heads (formOf form) + g + maxStates) ⌝ }
+    ensures { λ r. ⌜ (r ≡ placeOf (formOf form) g k) × (r + WORDS ≤ storeWords) ⌝ }
 {
-    if k < HEAD_SETS + g {
-        WORDS * k
-    } else {
-        ROWS_AT + WORDS * (k - (HEAD_SETS + g))
+    let heads = head_sets(form);
+    if k < heads {
+        return WORDS * k;
     }
+    if k < heads + g {
+        return GROUPS_AT + WORDS * (k - heads);
+    }
+    ROWS_AT + WORDS * (k - (heads + g))
 }

@@ -1,6 +1,7 @@
 // The call `read`: a file is looked at whole, ground after ground in their order, and only then put into the lent store.
 //
 //   TableRead, read                  n and g of the table that is now in the store, or why the file is declined
+//   read_old, read_as                the same of a file of the old form, and of either
 //   refusal                          the first ground that holds, or 0
 //   first_fault, block_fault         the grounds of the blocks; those of one block, on its own 512 bytes
 //   content_refusal                  the grounds behind them, those of the contents
@@ -13,23 +14,27 @@ ghost use mathlib.Core.Path.{_≡_};
 ghost use Prim.Native.Nat.{_+_, _*_, _/_, _≤_, _<_};
 ghost use lib.ListN.{length, getD};
 ghost use Rattle.model.specs.Sets.{WORDS, member, number, any};
-ghost use Rattle.model.specs.Stores.{headSets, storeWords, layout, refuse, beyond, nonZero};
+ghost use Rattle.model.specs.Stores.{storeWords, layout, refuse, beyond, nonZero};
 ghost use Rattle.model.specs.Blocks.{blockBytes, contentBytes, maxSite, contentsOf, blockGrounds};
-ghost use Rattle.model.specs.Contents.{setWidth, headerBytes, setIn, setNumber, tableIn};
-ghost use Rattle.model.specs.Calls.{overwrite, blocksGrounds, contentGrounds, readGrounds};
+ghost use Rattle.model.specs.Contents.{heads, setWidth, headerBytes, setIn, setNumber, dialogueIn};
+ghost use Rattle.model.specs.Calls.{overwrite, blocksGrounds, contentGrounds, readGroundsAs};
+ghost use Rattle.block_file.specs.Places.{formOf};
 ghost use Rattle.block_file.specs.Reading.{SetInside, TableInside, cleared, fillSets};
-ghost use Rattle.block_file.specs.ReadAnswers.{CalledRead};
+ghost use Rattle.block_file.specs.ReadAnswers.{CalledReadAs, CalledRead, CalledReadOld};
 use crate::blocks::BLOCK;
 use crate::blocks::CHECK_AT;
 use crate::blocks::CONTENT;
 use crate::blocks::CONTENT_AT;
+use crate::blocks::Form;
 use crate::blocks::HEADER;
 use crate::blocks::MAX_SITE;
+use crate::blocks::added;
 use crate::blocks::blocks_for;
 use crate::blocks::check_of;
 use crate::blocks::content_length;
 use crate::blocks::le16_at;
 use crate::blocks::place_of;
+use crate::blocks::set_count;
 use crate::blocks::set_width;
 use crate::blocks::wide;
 use state_set::WORDS;
@@ -38,7 +43,7 @@ use table::MAX_GROUPS;
 use table::MAX_STATES;
 use table::STORE_WORDS;
 
-// The length of the largest file.
+// The length of the largest file, of either form.
 pub const MAX_FILE: usize = BLOCK
     * ((HEADER + (MAX_STATES + 7) / 8 * (HEAD_SETS + MAX_GROUPS + MAX_STATES) + CONTENT - 1)
         / CONTENT);
@@ -49,11 +54,23 @@ pub enum TableRead {
     Refused(u8),
 }
 
-// Nothing is put into the store before the last ground has been looked at. An input of no bytes is an untouched draft.
 pub fn read(input: &[u8], site: usize, store: &mut [u64]) -> TableRead
     ensures { λ r. ⌜ CalledRead (now (input .entry)) site (now (store .entry)) r (now (store .exit)) ⌝ }
 {
-    let fault = refusal(input, site, store.len());
+    read_as(Form::New, input, site, store)
+}
+
+pub fn read_old(input: &[u8], site: usize, store: &mut [u64]) -> TableRead
+    ensures { λ r. ⌜ CalledReadOld (now (input .entry)) site (now (store .entry)) r (now (store .exit)) ⌝ }
+{
+    read_as(Form::Old, input, site, store)
+}
+
+// Nothing is put into the store before the last ground has been looked at. An input of no bytes is an untouched draft.
+fn read_as(form: Form, input: &[u8], site: usize, store: &mut [u64]) -> TableRead
+    ensures { λ r. ⌜ CalledReadAs (formOf form) (now (input .entry)) site (now (store .entry)) r (now (store .exit)) ⌝ }
+{
+    let fault = refusal(form, input, site, store.len());
     if fault != 0 {
         return TableRead::Refused(fault);
     }
@@ -62,16 +79,17 @@ pub fn read(input: &[u8], site: usize, store: &mut [u64]) -> TableRead
         return TableRead::Table { n: 0, g: 0 };
     }
     let n = le16_at(input, CONTENT_AT);
-    let g = le16_at(input, CONTENT_AT + 2);
-    fill(input, n, g, store);
+    let second = le16_at(input, CONTENT_AT + 2);
+    let g = second - added(form);
+    fill(form, input, n, g, store);
     TableRead::Table { n, g }
 }
 
 // ---- grounds
 
 // Why an input is declined where the store has `room` words, or 0. One of no bytes has no ground but 10 and 24.
-fn refusal(input: &[u8], site: usize, room: usize) -> u8
-    ensures { λ r. ⌜ r ≡ refuse (readGrounds (now (input .entry)) site room) ⌝ }
+fn refusal(form: Form, input: &[u8], site: usize, room: usize) -> u8
+    ensures { λ r. ⌜ r ≡ refuse (readGroundsAs (formOf form) (now (input .entry)) site room) ⌝ }
 {
     if room < STORE_WORDS {
         return 10;
@@ -93,8 +111,8 @@ fn refusal(input: &[u8], site: usize, room: usize) -> u8
         return fault;
     }
     let n = le16_at(input, CONTENT_AT);
-    let g = le16_at(input, CONTENT_AT + 2);
-    content_refusal(input, n, g)
+    let second = le16_at(input, CONTENT_AT + 2);
+    content_refusal(form, input, n, second)
 }
 
 // What is wrong with the first block that has a fault, or 0.
@@ -130,9 +148,9 @@ fn block_fault(block: &[u8], site: usize, k: usize) -> u8
     0
 }
 
-// What is wrong with the contents of a file that says n and g, or 0.
-fn content_refusal(input: &[u8], n: usize, g: usize) -> u8
-    ensures { λ r. ⌜ r ≡ refuse (contentGrounds (now (input .entry)) n g) ⌝ }
+// What is wrong with the contents of a file that says n and a second number, or 0.
+fn content_refusal(form: Form, input: &[u8], n: usize, second: usize) -> u8
+    ensures { λ r. ⌜ r ≡ refuse (contentGrounds (formOf form) (now (input .entry)) n second) ⌝ }
 {
     if n == 0 {
         return 14;
@@ -140,15 +158,20 @@ fn content_refusal(input: &[u8], n: usize, g: usize) -> u8
     if MAX_STATES < n {
         return 14;
     }
+    let least = added(form);
+    if second < least {
+        return 15;
+    }
+    let g = second - least;
     if MAX_GROUPS < g {
         return 15;
     }
     let blocks = input.len() / BLOCK;
-    let size = content_length(n, g);
+    let size = content_length(form, n, g);
     if blocks != blocks_for(size) {
         return 16;
     }
-    if any_beyond(input, n, g) {
+    if any_beyond(form, input, n, g) {
         return 17;
     }
     if non_zero(input, size, CONTENT * blocks) {
@@ -158,12 +181,12 @@ fn content_refusal(input: &[u8], n: usize, g: usize) -> u8
 }
 
 // A set of the table has a state from n up.
-fn any_beyond(input: &[u8], n: usize, g: usize) -> bool
-    requires { ⌜ TableInside (now input) n g × (0 < n) ⌝ }
-    ensures { λ r. ⌜ r ≡ any (headSets + g + n) (λ k. beyond n (setNumber (contentsOf (now (input .entry))) n k)) ⌝ }
+fn any_beyond(form: Form, input: &[u8], n: usize, g: usize) -> bool
+    requires { ⌜ TableInside (formOf form) (now input) n g × (0 < n) ⌝ }
+    ensures { λ r. ⌜ r ≡ any (heads (formOf form) + g + n) (λ k. beyond n (setNumber (contentsOf (now (input .entry))) n k)) ⌝ }
 {
     let w = set_width(n);
-    for k in 0..HEAD_SETS + g + n {
+    for k in 0..set_count(form, n, g) {
         if is_set_beyond(input, n, w, k) {
             return true;
         }
@@ -231,12 +254,12 @@ fn word_in(input: &[u8], w: usize, at: usize, v: usize) -> u64
 
 // ---- filling
 
-fn fill(input: &[u8], n: usize, g: usize, store: &mut [u64])
-    requires { ⌜ TableInside (now input) n g × (storeWords ≤ length (now store)) ⌝ }
-    ensures { λ r. ⌜ now (store .exit) ≡ overwrite (layout (tableIn (contentsOf (now (input .entry))) n g)) (now (store .entry)) ⌝ }
+fn fill(form: Form, input: &[u8], n: usize, g: usize, store: &mut [u64])
+    requires { ⌜ TableInside (formOf form) (now input) n g × (storeWords ≤ length (now store)) ⌝ }
+    ensures { λ r. ⌜ now (store .exit) ≡ overwrite (layout (dialogueIn (formOf form) (contentsOf (now (input .entry))) n g)) (now (store .entry)) ⌝ }
 {
     clear(store);
-    fill_sets(input, n, g, store);
+    fill_sets(form, input, n, g, store);
 }
 
 // Words of unused groups and rows stay 0.
@@ -251,13 +274,13 @@ fn clear(store: &mut [u64])
 
 // Each set into its own words: the part of the store from there on is lent, from ROWS_AT + WORDS * s on for the row of state s, to be
 // filled from the set's bytes.
-fn fill_sets(input: &[u8], n: usize, g: usize, store: &mut [u64])
-    requires { ⌜ TableInside (now input) n g × (storeWords ≤ length (now store)) ⌝ }
-    ensures { λ r. ⌜ now (store .exit) ≡ fillSets (contentsOf (now (input .entry))) n g (headSets + g + n) (now (store .entry)) ⌝ }
+fn fill_sets(form: Form, input: &[u8], n: usize, g: usize, store: &mut [u64])
+    requires { ⌜ TableInside (formOf form) (now input) n g × (storeWords ≤ length (now store)) ⌝ }
+    ensures { λ r. ⌜ now (store .exit) ≡ fillSets (formOf form) (contentsOf (now (input .entry))) n g (heads (formOf form) + g + n) (now (store .entry)) ⌝ }
 {
     let w = set_width(n);
-    for k in 0..HEAD_SETS + g + n {
-        let at = place_of(g, k);
+    for k in 0..set_count(form, n, g) {
+        let at = place_of(form, g, k);
         fill_set(&mut store[at..], input, w, k);
     }
 }

@@ -12,9 +12,9 @@ ghost use Prim.Native.Nat.{_+_, _*_, _≤_, _<_};
 ghost use mathlib.Core.Path.{_≡_};
 ghost use lib.ListN.{length, getD};
 ghost use Rattle.model.specs.Sets.{WORDS, member, number};
-ghost use Rattle.model.specs.Stores.{headSets, setAt, tableOf, concat};
+ghost use Rattle.model.specs.Stores.{headSets, setAt, dialogueOf, concat};
 ghost use Rattle.model.specs.Blocks.{blockBytes, contentBytes, maxSite, le16, blockOf};
-ghost use Rattle.model.specs.Contents.{setWidth, headerBytes, contents};
+ghost use Rattle.model.specs.Contents.{newForm, setWidth, headerBytes, contents};
 ghost use Rattle.model.specs.Calls.{overwrite};
 ghost use Rattle.block_file.specs.WriteAnswers.{CalledWrite};
 ghost use Rattle.block_file.specs.Writing.{LongEnough, contentFrom};
@@ -22,8 +22,10 @@ use crate::blocks::BLOCK;
 use crate::blocks::CHECK_AT;
 use crate::blocks::CONTENT;
 use crate::blocks::CONTENT_AT;
+use crate::blocks::Form;
 use crate::blocks::HEADER;
 use crate::blocks::MAX_SITE;
+use crate::blocks::added;
 use crate::blocks::blocks_for;
 use crate::blocks::check_of;
 use crate::blocks::content_length;
@@ -55,7 +57,7 @@ pub fn write(store: &[u64], n: usize, g: usize, site: usize, output: &mut [u8]) 
     if n == 0 {
         return Written::File(0);
     }
-    let l = content_length(n, g);
+    let l = content_length(Form::New, n, g);
     let blocks = blocks_for(l);
     let size = BLOCK * blocks;
     if output.len() < size {
@@ -68,7 +70,7 @@ pub fn write(store: &[u64], n: usize, g: usize, site: usize, output: &mut [u8]) 
 // The number of a block has two bytes.
 fn write_blocks(store: &[u64], n: usize, g: usize, site: usize, blocks: usize, out: &mut [u8])
     requires { ⌜ LongEnough (now store) n g × (site ≤ maxSite) × (blocks ≤ 65536) × (blockBytes * blocks ≤ length (now out)) ⌝ }
-    ensures { λ r. ⌜ now (out .exit) ≡ overwrite (concat blocks (blockOf site (contents (tableOf (now (store .entry)) n g)))) (now (out .entry)) ⌝ }
+    ensures { λ r. ⌜ now (out .exit) ≡ overwrite (concat blocks (blockOf site (contents newForm (dialogueOf (now (store .entry)) n g)))) (now (out .entry)) ⌝ }
 {
     for k in 0..blocks {
         let at = BLOCK * k;
@@ -78,7 +80,7 @@ fn write_blocks(store: &[u64], n: usize, g: usize, site: usize, blocks: usize, o
 
 fn write_block(store: &[u64], n: usize, g: usize, site: usize, k: usize, out: &mut [u8])
     requires { ⌜ LongEnough (now store) n g × (site ≤ maxSite) × (k < 65536) × (blockBytes ≤ length (now out)) ⌝ }
-    ensures { λ r. ⌜ now (out .exit) ≡ overwrite (blockOf site (contents (tableOf (now (store .entry)) n g)) k) (now (out .entry)) ⌝ }
+    ensures { λ r. ⌜ now (out .exit) ≡ overwrite (blockOf site (contents newForm (dialogueOf (now (store .entry)) n g)) k) (now (out .entry)) ⌝ }
 {
     write_le16(k, out);
     write_content(store, n, g, CONTENT * k, &mut out[CONTENT_AT..]);
@@ -89,7 +91,7 @@ fn write_block(store: &[u64], n: usize, g: usize, site: usize, k: usize, out: &m
 // The content of a block, from byte `from` of the contents on.
 fn write_content(store: &[u64], n: usize, g: usize, from: usize, out: &mut [u8])
     requires { ⌜ LongEnough (now store) n g × (from ≤ blockBytes * 65536) × (contentBytes ≤ length (now out)) ⌝ }
-    ensures { λ r. ⌜ now (out .exit) ≡ overwrite (contentFrom (contents (tableOf (now (store .entry)) n g)) from contentBytes) (now (out .entry)) ⌝ }
+    ensures { λ r. ⌜ now (out .exit) ≡ overwrite (contentFrom (contents newForm (dialogueOf (now (store .entry)) n g)) from contentBytes) (now (out .entry)) ⌝ }
 {
     for i in 0..CONTENT {
         out[i] = content_byte(store, n, g, from + i);
@@ -106,15 +108,15 @@ fn write_le16(x: usize, out: &mut [u8])
 
 fn content_byte(store: &[u64], n: usize, g: usize, i: usize) -> u8
     requires { ⌜ LongEnough (now store) n g ⌝ }
-    ensures { λ r. ⌜ r ≡ getD (contents (tableOf (now (store .entry)) n g)) i 0 ⌝ }
+    ensures { λ r. ⌜ r ≡ getD (contents newForm (dialogueOf (now (store .entry)) n g)) i 0 ⌝ }
 {
     if i < 2 {
         return le16_byte(n, i);
     }
     if i < HEADER {
-        return le16_byte(g, i - 2);
+        return le16_byte(added(Form::New) + g, i - 2);
     }
-    if i < content_length(n, g) {
+    if i < content_length(Form::New, n, g) {
         return sets_byte(store, n, g, i - HEADER);
     }
     0
@@ -123,10 +125,10 @@ fn content_byte(store: &[u64], n: usize, g: usize, i: usize) -> u8
 // Byte i of the sets joined, which stand behind the header.
 fn sets_byte(store: &[u64], n: usize, g: usize, i: usize) -> u8
     requires { ⌜ LongEnough (now store) n g × (i < setWidth n * (headSets + g + n)) ⌝ }
-    ensures { λ r. ⌜ r ≡ getD (contents (tableOf (now (store .entry)) n g)) (headerBytes + i) 0 ⌝ }
+    ensures { λ r. ⌜ r ≡ getD (contents newForm (dialogueOf (now (store .entry)) n g)) (headerBytes + i) 0 ⌝ }
 {
     let w = set_width(n);
-    let at = place_of(g, i / w);
+    let at = place_of(Form::New, g, i / w);
     set_byte(store, at, i % w)
 }
 

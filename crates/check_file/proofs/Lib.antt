@@ -1,4 +1,3 @@
-pub mod Counting
 pub mod Texts
 pub mod Reports
 pub mod ReportedKept

@@ -17,7 +17,7 @@ use Rattle.model.specs.Sets.{maxStates}
 use Rattle.model.specs.Rounds.{run}
 use Rattle.model.specs.Stores.{storeWords, tableOf, refuse}
 use Rattle.model.specs.Files.{maxFile}
-use Rattle.model.specs.Calls.{release, decideLimits, decideGrounds, decisionOf, declined, decideAnswer, badLength, fileGrounds, readGrounds, readAnswer, Written}
+use Rattle.model.specs.Calls.{release, decideLimits, decideGrounds, decisionOf, declined, decideAnswer, badLength, fileGrounds, readGroundsAs, readAnswerAs, readAnswer, Written}
 use Rattle.model.specs.Promises.{Accepted}
 use Rattle.model.specs.RoundTrip.{Bounded}
 use Rattle.model.proofs.CallLaws.{write-refusal, writable}
@@ -53,5 +53,5 @@ module _ (input : List ℕ) (bytes : Bounded 256 input) (e : (readAnswer input 0
       }
 
 pub longer-refused : (input : List ℕ) → maxFile < length input → checkText input ≡ refusedText 11
-unfolding checkText readAnswer readGrounds fileGrounds badLength refuse
+unfolding checkText readAnswerAs readGroundsAs fileGrounds badLength refuse
 longer-refused input h = rw (ne-eqb (length input) 0 (λ e. omega arith), lt-ltb maxFile (length input) h, or-true)

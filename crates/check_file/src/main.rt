@@ -1,25 +1,21 @@
 // The program `check` (the specification, "The program"): reads one file on standard input, decides its table with a release check, and prints.
 //
 //   main           reads, calls and writes
-//   read_input     the bytes of standard input, and whether reading them failed
-//   input_room     where the file is read into
 //   check          what is printed for a file, put into a lent buffer; the answer is its length
 //   check_table    the same for the table that a store holds
 //   numbers_of     decide's answer in the specification's numbers
 ghost use mathlib.Core.Path.{_≡_};
-ghost use Prim.Native.Nat.{_+_, _≤_};
+ghost use Prim.Native.Nat.{_≤_};
 ghost use lib.ListN.{length};
-ghost use Rattle.model.specs.Files.{maxFile};
 ghost use Rattle.rounds.specs.Answers.{answerOf};
-ghost use Rattle.io.specs.Counts.{Counts};
 ghost use Rattle.report.specs.Put.{room, Front};
 ghost use Rattle.check_file.specs.CheckText.{tableText, checkText};
 ghost use Rattle.check_file.specs.Numbers.{numbersOf};
-use block_file::MAX_FILE;
 use block_file::TableRead;
 use block_file::read;
+use file_input::input_room;
+use file_input::read_input;
 use libc::STDERR_FILENO;
-use libc::STDIN_FILENO;
 use libc::STDOUT_FILENO;
 use report::ROOM;
 use report::write_refused;
@@ -31,8 +27,6 @@ use rounds::decide;
 use state_set::StateSet;
 use table::MAX_STATES;
 use table::STORE_WORDS;
-
-const INPUT: usize = MAX_FILE + 1;
 
 // The site of the files that the program reads.
 const SITE: usize = 0;
@@ -48,54 +42,6 @@ fn main() {
     let mut out = [0u8; ROOM];
     let end = check(&input[..got.length], &mut out);
     io::write_all(STDOUT_FILENO, &out[..end]);
-}
-
-// Whether a read failed, and how many bytes were read before that or up to the end of the input.
-struct Input {
-    failed: bool,
-    length: usize,
-}
-
-// Reads until the room is full, the input ends or a read fails. (`io::read_full` does not tell the last two apart.)
-fn read_input(room: &mut [u8]) -> Input
-    ensures { λ r. ⌜ Counts (r .length) (now (room .exit)) ⌝ }
-{
-    let mut length = 0;
-    while length < room.len() {
-        let got = libc::read(STDIN_FILENO, &mut room[length..]);
-        if got < 0 {
-            return Input {
-                failed: true,
-                length,
-            };
-        }
-        let more = io::count(got, room);
-        if more == 0 {
-            return Input {
-                failed: false,
-                length,
-            };
-        }
-        // no read says so
-        if room.len() - length < more {
-            return Input {
-                failed: true,
-                length,
-            };
-        }
-        length += more;
-    }
-    Input {
-        failed: false,
-        length,
-    }
-}
-
-// One byte more than the largest file, so that a longer one is seen to be too long.
-fn input_room() -> [u8; INPUT]
-    ensures { λ r. ⌜ maxFile + 1 ≡ length r ⌝ }
-{
-    [0; INPUT]
 }
 
 fn check(input: &[u8], out: &mut [u8]) -> usize

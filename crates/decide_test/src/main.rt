@@ -1,5 +1,6 @@
-// Tables A to H of the specification and a ninth (which tells a list that is replaced from one that is added to) through the call decide, with allowances
-// 0, 1, 2, 3 and the greatest; then refusals, their order and their edges. tests/expected.py works out what this must print, from its text.
+// Tables A to H of the specification, some of them with states resting or no longer marked, and a ninth (which tells a list that is replaced from
+// one that is added to) through the call decide, with allowances 0, 1, 2, 3 and the greatest; then refusals, their order and their edges.
+// tests/expected.py works out what this must print, from its text.
 use rounds::Decision;
 use rounds::MAX_ALLOWANCE;
 use rounds::Verdict;
@@ -7,14 +8,15 @@ use rounds::decide;
 use table::MAX_GROUPS;
 use table::MAX_STATES;
 use table::STORE_WORDS;
-use test_support::forbidden;
 use test_support::group;
 use test_support::initial;
 use test_support::labelled;
+use test_support::marked;
 use test_support::places;
 use test_support::print_unchanged;
 use test_support::put_corridor;
 use test_support::put_table;
+use test_support::resting;
 use test_support::states;
 use test_support::step;
 use test_support::text;
@@ -91,6 +93,10 @@ fn table_a() {
     let mut t = [0u64; STORE_WORDS];
     put_table(&mut t, b"0", b"2", b"01 10 22");
     try_allowances(b"A", &t, 3, 0);
+    resting(&mut t, 0);
+    resting(&mut t, 1);
+    resting(&mut t, 2);
+    try_allowances(b"A, all resting", &t, 3, 0);
 }
 
 fn table_b() {
@@ -103,16 +109,54 @@ fn table_b() {
     try_allowances(b"D", &t, 5, 3);
 }
 
+// Marked wins over resting.
+fn table_b_resting() {
+    let mut t = [0u64; STORE_WORDS];
+    put_table(&mut t, b"0", b"3", b"01 12 23 44");
+    resting(&mut t, 3);
+    try_allowances(b"B, 3 resting", &t, 5, 0);
+}
+
+// State 3 is a hang, whatever other states rest.
+fn table_b_not_marked() {
+    let mut t = [0u64; STORE_WORDS];
+    put_table(&mut t, b"0", b"", b"01 12 23 44");
+    try_allowances(b"B, 3 not marked", &t, 5, 0);
+    resting(&mut t, 0);
+    resting(&mut t, 1);
+    resting(&mut t, 2);
+    resting(&mut t, 4);
+    try_allowances(b"B, 3 not marked, 0 1 2 4 resting", &t, 5, 0);
+}
+
+// No state is forbidden.
+fn table_b_at_rest() {
+    let mut t = [0u64; STORE_WORDS];
+    put_table(&mut t, b"0", b"", b"01 12 23 44");
+    resting(&mut t, 3);
+    try_allowances(b"B, 3 not marked but resting", &t, 5, 0);
+}
+
+// Without its step from 0 to 0 it is unsafe where hold leaves out a state without successors.
 fn table_e() {
     let mut t = [0u64; STORE_WORDS];
     put_table(&mut t, b"0", b"2", b"00 12");
     try_allowances(b"E", &t, 3, 0);
+    let mut held = [0u64; STORE_WORDS];
+    put_table(&mut held, b"0", b"2", b"12");
+    resting(&mut held, 0);
+    try_allowances(b"E, 0 a dead end and resting", &held, 3, 0);
 }
 
 fn table_f() {
     let mut t = [0u64; STORE_WORDS];
     put_table(&mut t, b"0", b"0", b"");
     try_allowances(b"F", &t, 1, 0);
+    let mut hang = [0u64; STORE_WORDS];
+    initial(&mut hang, 0);
+    try_allowances(b"F, not marked", &hang, 1, 0);
+    resting(&mut hang, 0);
+    try_allowances(b"F, not marked but resting", &hang, 1, 0);
 }
 
 fn table_g() {
@@ -126,12 +170,12 @@ fn table_draft() {
     try_allowances(b"draft", &t, 0, 0);
 }
 
-// The specification gives n and g of H alone. Here 58 leads to the forbidden state and shares a cover with the states that a session goes through, till a
-// group parts them.
+// The specification gives n and g of H alone. Here 58 leads to a forbidden state and shares a cover with the states that a session goes through, till a
+// group parts them; all others are hangs.
 fn table_h() {
     let mut t = [0u64; STORE_WORDS];
     initial(&mut t, 0);
-    forbidden(&mut t, 60);
+    marked(&mut t, 60);
     step(&mut t, 0, 59);
     step(&mut t, 59, 0);
     step(&mut t, 58, 60);
@@ -148,8 +192,8 @@ fn table_ninth() {
     try_allowances(b"ninth", &t, 4, 1);
 }
 
-// Each refusal alone, then with every later ground holding as well. `stray` has one state, 5, in the initial set.
-fn refusals(empty: &[u64], stray: &[u64]) {
+// Each refusal alone, then with every later ground holding as well. `stray` has one state, 5, in the initial set, `at_rest` in the resting one.
+fn refusals(empty: &[u64], stray: &[u64], at_rest: &[u64]) {
     let states = MAX_STATES + 1;
     let groups = MAX_GROUPS + 1;
     let allowance = MAX_ALLOWANCE + 1;
@@ -168,6 +212,7 @@ fn refusals(empty: &[u64], stray: &[u64]) {
     try_short(b"g too great and all else", stray, 5, groups, allowance);
     try_one(b"state 5 of 5", stray, 5, 0, 0);
     try_short(b"state 5 of 5 and all else", stray, 5, 0, allowance);
+    try_one(b"state 5 of 5 resting", at_rest, 5, 0, 0);
     try_one(b"allowance too great", empty, 5, 0, allowance);
     try_short(b"allowance too great and all else", empty, 5, 0, allowance);
     try_short(b"path buffer one place short", empty, 5, 0, 0);
@@ -191,7 +236,11 @@ fn whole_store() {
     let empty = [0u64; STORE_WORDS];
     let mut stray = [0u64; STORE_WORDS];
     initial(&mut stray, 5);
-    refusals(&empty, &stray);
+    let mut at_rest = [0u64; STORE_WORDS];
+    resting(&mut at_rest, 5);
+    refusals(&empty, &stray, &at_rest);
+    initial(&mut at_rest, 5);
+    try_one(b"state 5 of 6 resting", &at_rest, 6, 0, MAX_ALLOWANCE);
 }
 
 // A word past those of a table is not read.
@@ -207,17 +256,37 @@ fn long_store() {
     );
 }
 
-// Entries and counts as great as they get: seen as one lump, the states are taken off one by one, from the last.
+// Entries and counts as great as they get: seen as one lump, the states are taken off one by one, from the last. Where that rests, all of them are
+// the invariant.
 fn corridor() {
     let mut t = [0u64; STORE_WORDS];
     put_corridor(&mut t);
     try_one(b"corridor", &t, MAX_STATES, 0, MAX_ALLOWANCE);
     try_one(b"corridor", &t, MAX_STATES, 0, MAX_STATES - 3);
+    resting(&mut t, MAX_STATES - 1);
+    try_one(
+        b"corridor, the last state resting",
+        &t,
+        MAX_STATES,
+        0,
+        MAX_ALLOWANCE,
+    );
+    marked(&mut t, MAX_STATES - 1);
+    try_one(
+        b"corridor, the last state marked and resting",
+        &t,
+        MAX_STATES,
+        0,
+        MAX_ALLOWANCE,
+    );
 }
 
 fn main() {
     table_a();
     table_b();
+    table_b_resting();
+    table_b_not_marked();
+    table_b_at_rest();
     table_e();
     table_f();
     table_g();

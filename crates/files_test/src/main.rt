@@ -2,9 +2,9 @@
 // edges, and round trips. A buffer holds sevens before a call; after it, all that the answer does not account for is looked at.
 // tests/expected.py works out what this must print, from the specification's text.
 //
-// Places in the file of E, of one block: number 0 1, n 2 3, g 4 5, initial set 6, forbidden set 7, rows 8 9 10, filler 11 to 509,
-// check 510 511. In that of H the last row ends at 509, and nothing is filler. With a group, which has 22 to 29, H has a second block:
-// last row 514 to 521, filler 522 to 1021.
+// Places in the file of E, of one block: number 0 1, n 2 3, the second number 4 5, initial set 6, marked set 7, resting set 8, rows 9 10 11,
+// filler 12 to 509, check 510 511. In that of a full block the resting set has 22 to 29 and the last row ends at 509, so that nothing is filler.
+// That of H has a second block: last row 514 to 521, filler 522 to 1021. With a group, which has 30 to 37, last row 522 to 529, filler 530 to 1021.
 ghost use Prim.Native.Nat.{_*_, _^_, _<_};
 use block_file::MAX_FILE;
 use block_file::TableRead;
@@ -19,7 +19,6 @@ use test_support::byte_at;
 use test_support::bytes;
 use test_support::digest_bytes;
 use test_support::digest_words;
-use test_support::forbidden;
 use test_support::generate;
 use test_support::generate_largest;
 use test_support::group;
@@ -27,9 +26,11 @@ use test_support::groups_of;
 use test_support::initial;
 use test_support::labelled;
 use test_support::line;
+use test_support::marked;
 use test_support::print_unchanged;
 use test_support::put_byte;
 use test_support::put_table;
+use test_support::resting;
 use test_support::states_of;
 use test_support::step;
 use test_support::text;
@@ -254,34 +255,48 @@ fn read_blocks(e: &[u64]) {
     read_e(e, 2, 0, 510, 97);
 }
 
-// n 0; n 513; n 515 beside g 256; g 64; g 65; g 256; g 65 beside too few blocks for 61 states.
-fn read_numbers(e: &[u64]) {
+// n 0, alone, beside the old form's second number and beside g 65; n 513; n 515 beside the old form's second number.
+fn read_states(e: &[u64]) {
     read_e(e, 2, 0, NOWHERE, 0);
+    read_e(e, 2, 0, 5, 0);
+    read_e(e, 2, 0, 4, 65);
     read_e(e, 2, 1, 3, 2);
-    read_e(e, 3, 2, 5, 1);
-    read_e(e, 4, 64, NOWHERE, 0);
-    read_e(e, 4, 65, NOWHERE, 0);
-    read_e(e, 5, 1, NOWHERE, 0);
-    read_e(e, 2, 61, 4, 65);
+    read_e(e, 3, 2, 5, 0);
 }
 
-// Too few blocks for n 62, alone and beside the initial state 63; then a block too many: one of zeros, which does not hold its number; one
+// g 64; g 65; the second number 0, as in the old form; 32,767; 33,024; 65,280. Then g 65 and the second number 0 beside too few blocks for 61
+// states, and 0 beside the initial state 3.
+fn read_second(e: &[u64]) {
+    read_e(e, 4, 64, NOWHERE, 0);
+    read_e(e, 4, 65, NOWHERE, 0);
+    read_e(e, 5, 0, NOWHERE, 0);
+    read_e(e, 4, 255, 5, 127);
+    read_e(e, 5, 129, NOWHERE, 0);
+    read_e(e, 5, 255, NOWHERE, 0);
+    read_e(e, 2, 61, 4, 65);
+    read_e(e, 2, 61, 5, 0);
+    read_e(e, 5, 0, 6, 9);
+}
+
+// Too few blocks for n 61, alone and beside the initial state 63; then a block too many: one of zeros, which does not hold its number; one
 // that does, alone and beside the initial state 3.
 fn read_numbers_of_blocks(e: &[u64]) {
-    read_e(e, 2, 62, NOWHERE, 0);
-    read_e(e, 2, 62, 13, 128);
+    read_e(e, 2, 61, NOWHERE, 0);
+    read_e(e, 2, 61, 13, 128);
     try_file(e, 3, 0, 1024, STORE_WORDS, NOWHERE, 0, NOWHERE, 0);
     try_file(e, 3, 0, 1024, STORE_WORDS, 512, 1, NOWHERE, 0);
     try_file(e, 3, 0, 1024, STORE_WORDS, 512, 1, 6, 9);
 }
 
-// State 3 initial; 3 forbidden; 7 in the last row; 3 initial beside filler; the first and the last byte of filler.
+// State 2 resting, which is read; 3 initial; 3 marked; 3 resting; 7 in the last row; 3 resting beside filler; the first and the last byte of filler.
 fn read_contents(e: &[u64]) {
+    read_e(e, 8, 4, NOWHERE, 0);
     read_e(e, 6, 9, NOWHERE, 0);
     read_e(e, 7, 12, NOWHERE, 0);
-    read_e(e, 10, 128, NOWHERE, 0);
-    read_e(e, 6, 9, 11, 1);
-    read_e(e, 11, 1, NOWHERE, 0);
+    read_e(e, 8, 8, NOWHERE, 0);
+    read_e(e, 11, 128, NOWHERE, 0);
+    read_e(e, 8, 8, 12, 1);
+    read_e(e, 12, 1, NOWHERE, 0);
     read_e(e, 509, 128, NOWHERE, 0);
 }
 
@@ -292,7 +307,8 @@ fn try_e(e: &[u64]) {
     read_stores(e);
     read_lengths(e);
     read_blocks(e);
-    read_numbers(e);
+    read_states(e);
+    read_second(e);
     read_numbers_of_blocks(e);
     read_contents(e);
 }
@@ -305,6 +321,17 @@ fn table_e() {
 
 // ---- the other tables
 
+// At last with one of the resting states from n up, and with both.
+fn table_resting() {
+    let mut t = [0u64; STORE_WORDS];
+    resting(&mut t, 1);
+    resting(&mut t, 2);
+    text(b"write nothing but 1 and 2 resting\n");
+    try_write(&t, STORE_WORDS, 3, 0, 512);
+    try_write(&t, STORE_WORDS, 2, 0, 512);
+    try_write(&t, STORE_WORDS, 0, 0, 512);
+}
+
 // E with a state in group 0, which is unused where g is 0, and a step from state 3, whose row is unused where n is 3.
 fn table_with_more() {
     let mut t = [0u64; STORE_WORDS];
@@ -316,28 +343,58 @@ fn table_with_more() {
     try_write(&t, STORE_WORDS, 4, 1, 512);
 }
 
-fn put_h(h: &mut [u64]) {
-    initial(h, 0);
-    initial(h, 8);
-    forbidden(h, 60);
-    step(h, 0, 60);
-    step(h, 31, 32);
-    step(h, 60, 60);
+// A table whose greatest state is `last`, which is marked and steps to itself.
+fn put_with_last(t: &mut [u64], last: usize, rests: usize) {
+    initial(t, 0);
+    initial(t, 8);
+    marked(t, last);
+    resting(t, 9);
+    resting(t, rests);
+    step(t, 0, last);
+    step(t, 31, 32);
+    step(t, last, last);
 }
 
 // L either side of 508: without a group, then with one, which is empty.
+fn write_full(t: &[u64]) {
+    text(b"write a full block\n");
+    try_write(t, STORE_WORDS, 60, 0, 512);
+    try_write(t, STORE_WORDS, 60, 0, 511);
+    try_write(t, STORE_WORDS, 60, 1, 1024);
+    try_write(t, STORE_WORDS, 60, 1, 1023);
+}
+
+// At last with state 60 in the last row, and in the resting set.
+fn read_full(t: &[u64]) {
+    text(b"read a full block\n");
+    try_file(t, 60, 0, 512, STORE_WORDS, NOWHERE, 0, NOWHERE, 0);
+    try_file(t, 60, 0, 512, STORE_WORDS, 509, 24, NOWHERE, 0);
+    try_file(t, 60, 0, 512, STORE_WORDS, 29, 16, NOWHERE, 0);
+}
+
+fn table_full() {
+    let mut t = [0u64; STORE_WORDS];
+    put_with_last(&mut t, 59, 32);
+    write_full(&t);
+    read_full(&t);
+}
+
+// Two blocks without a group and with one, which is empty.
 fn write_h(h: &[u64]) {
     text(b"write H\n");
-    try_write(h, STORE_WORDS, 61, 0, 512);
+    try_write(h, STORE_WORDS, 61, 0, 1024);
+    try_write(h, STORE_WORDS, 61, 0, 1023);
     try_write(h, STORE_WORDS, 61, 1, 1024);
     try_write(h, STORE_WORDS, 61, 1, 1023);
 }
 
-// At last with state 61 in the last row.
+// All of it; the first block alone; state 61 in the last row; the first byte of filler.
 fn read_h(h: &[u64]) {
     text(b"read H\n");
+    try_file(h, 61, 0, 1024, STORE_WORDS, NOWHERE, 0, NOWHERE, 0);
     try_file(h, 61, 0, 512, STORE_WORDS, NOWHERE, 0, NOWHERE, 0);
-    try_file(h, 61, 0, 512, STORE_WORDS, 509, 48, NOWHERE, 0);
+    try_file(h, 61, 0, 1024, STORE_WORDS, 521, 48, NOWHERE, 0);
+    try_file(h, 61, 0, 1024, STORE_WORDS, 522, 1, NOWHERE, 0);
 }
 
 fn read_h1(h: &[u64], at: usize, value: u8, at2: usize, value2: u8) {
@@ -357,17 +414,18 @@ fn read_h_blocks(h: &[u64]) {
     read_h1(h, 511, 255, 512, 7);
 }
 
-// State 61 in the group; in the last row; the first and the last byte of filler.
+// State 61 resting; in the group; in the last row; the first and the last byte of filler.
 fn read_h_contents(h: &[u64]) {
-    read_h1(h, 29, 32, NOWHERE, 0);
-    read_h1(h, 521, 48, NOWHERE, 0);
-    read_h1(h, 522, 1, NOWHERE, 0);
+    read_h1(h, 29, 48, NOWHERE, 0);
+    read_h1(h, 37, 32, NOWHERE, 0);
+    read_h1(h, 529, 48, NOWHERE, 0);
+    read_h1(h, 530, 1, NOWHERE, 0);
     read_h1(h, 1021, 1, NOWHERE, 0);
 }
 
 fn table_h() {
     let mut h = [0u64; STORE_WORDS];
-    put_h(&mut h);
+    put_with_last(&mut h, 60, 60);
     write_h(&h);
     read_h(&h);
     read_h_blocks(&h);
@@ -384,7 +442,7 @@ fn write_largest(t: &[u64]) {
     try_write(t, STORE_WORDS, MAX_STATES - 1, MAX_GROUPS, MAX_FILE);
 }
 
-// All of it; a byte more; a block more; a block less; g 65; n 513 and g 65.
+// All of it; a byte more; a block more; a block less; g 65; n 513 and g 65; the second number of the old form.
 fn read_largest(t: &[u64]) {
     text(b"read the largest table\n");
     try_file(
@@ -453,6 +511,17 @@ fn read_largest(t: &[u64]) {
         4,
         65,
     );
+    try_file(
+        t,
+        MAX_STATES,
+        MAX_GROUPS,
+        MAX_FILE,
+        STORE_WORDS,
+        5,
+        0,
+        NOWHERE,
+        0,
+    );
 }
 
 // A word past those of a table is not 0, and is not read.
@@ -471,12 +540,12 @@ fn write_site(store: &[u64], words: usize, n: usize, g: usize, site: usize, room
     try_write_for(store, words, n, g, site, room);
 }
 
-// 24 stands behind 10 and before all else.
+// At site 64,651 the check of E is 0. 24 stands behind 10 and before all else.
 fn write_sites(e: &[u64]) {
     text(b"write E for a site\n");
     write_site(e, STORE_WORDS, 3, 0, 0, 512);
     write_site(e, STORE_WORDS, 3, 0, 1, 512);
-    write_site(e, STORE_WORDS, 3, 0, 65424, 512);
+    write_site(e, STORE_WORDS, 3, 0, 64651, 512);
     write_site(e, STORE_WORDS, 3, 0, 65520, 512);
     write_site(e, STORE_WORDS, 3, 0, 65521, 512);
     write_site(e, STORE_WORDS, 3, 0, 4294967296, 512);
@@ -552,7 +621,9 @@ fn round_trips() -> usize {
 
 fn main() {
     table_e();
+    table_resting();
     table_with_more();
+    table_full();
     table_h();
     table_largest();
     sites();

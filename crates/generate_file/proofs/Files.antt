@@ -10,8 +10,9 @@ use mathlib.Core.List.{List, []}
 use borrow.Author.Tests.{eqb-true, not-false, not-true}
 use lib.Dec.{eqb}
 use lib.ListN.{length}
-use Rattle.model.specs.Stores.{storeWords, tableOf, concat}
+use Rattle.model.specs.Stores.{storeWords, dialogueOf, concat}
 use Rattle.model.specs.Blocks.{blocksFor, blockOf}
+use Rattle.model.specs.Contents.{newForm}
 use Rattle.model.specs.Files.{blockFile, fileLength, fileOf, maxFile}
 use Rattle.model.specs.Calls.{overwrite, Written as WriteAnswer, writeAnswer, writeBuffer}
 use Rattle.model.proofs.Bounds.{length-tabulate}
@@ -23,7 +24,7 @@ use Rattle.block_file.specs.declared.writing.Written.the-variants.{File, Refuse
 use Rattle.block_file.specs.WriteAnswers.{writtenOf}
 use Rattle.generator.specs.declared.Generated.{Generated}
 use Rattle.generator.specs.declared.Generated.the-variants.{Filled, Refused as GenerateRefused}
-use Rattle.generator.specs.Load.{tableFrom, load, GenerateAnswer, generateAnswer}
+use Rattle.generator.specs.Load.{loadFrom, load, GenerateAnswer, generateAnswer}
 use Rattle.generator.specs.Answers.{generatedOf, isRefused, CalledGenerate}
 use Rattle.generator.proofs.Generating.{Accepted, accepted-load}
 use Rattle.generator.proofs.LoadsKept.{loads}
@@ -55,16 +56,16 @@ module _ (seed n f : ℕ) (lent store : List ℕ) (r : Generated) (called : Call
 
     pub made-file : (out : List ℕ) (w : Written) (out′ : List ℕ) → maxFile ≤ length out → writtenOf w ≡ writeAnswer store n 0 0 (length out)
         → out′ ≡ writeBuffer store n 0 0 out → (w ≡ fileMade n f) × (out′ ≡ fileBuffer seed n f out)
-    unfolding fileMade fileBuffer fileOf blockFile tableOf load tableFrom
+    unfolding fileMade fileBuffer fileOf blockFile dialogueOf load loadFrom
     made-file out w out′ room answer buffer =
         let kept = ap isRefused filled in
-        let fits : fileLength n 0 ≤ length out = omega (arith, fileLength-most n 0 (held .small) (omega arith)) in
+        let fits : fileLength newForm n 0 ≤ length out = omega (arith, fileLength-most newForm n 0 (held .small) (omega arith)) in
         let accepted = loads .accepted seed n f lent r store called kept .write 0 (length out) (omega arith) fits in
         let ok = writable store n 0 0 (length out) (sym (write-refusal store n 0 0 (length out)) ∙ accepted) in
-        let same : fileOf 0 (tableOf store n 0) ≡ fileOf 0 (load seed n f) =
+        let same : fileOf newForm 0 (dialogueOf store n 0) ≡ fileOf newForm 0 (load seed n f) =
         ap (λ bytes. cond (eqb n 0) [] (concat (blocksFor (length bytes)) (blockOf 0 bytes)))
-        (contents-cong (tableOf store n 0) (load seed n f) refl (length-tabulate _ 0) (loads .table seed n f lent r store called kept)) in (
-          written-file w (fileLength n 0) (omega (arith, length-blocks n 0 (λ z. not-none z (held .some)))) (answer ∙ write-answer store n 0 0 (length out) ok) ∙ sym (rw none),
+        (contents-cong newForm (dialogueOf store n 0) (load seed n f) refl (length-tabulate _ 0) (loads .table seed n f lent r store called kept)) in (
+          written-file w (fileLength newForm n 0) (omega (arith, length-blocks newForm n 0 (λ z. not-none z (held .some)))) (answer ∙ write-answer store n 0 0 (length out) ok) ∙ sym (rw none),
           buffer ∙ write-buffer store n 0 0 out ok ∙ ap (λ xs. overwrite xs out) same ∙ sym (rw none),
         )
 

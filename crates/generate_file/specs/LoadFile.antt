@@ -7,6 +7,7 @@ use mathlib.Core.Bool.{cond}
 use mathlib.Core.List.{List}
 use lib.Dec.{eqb}
 use Rattle.model.specs.Stores.{storeWords}
+use Rattle.model.specs.Contents.{newForm}
 use Rattle.model.specs.Files.{fileLength, fileOf}
 use Rattle.model.specs.Calls.{overwrite}
 use Rattle.block_file.specs.declared.writing.Written.{Written}
@@ -18,7 +19,7 @@ abbrev pub refused : ℕ → ℕ → ℕ
 refused n f = (generateAnswer n f storeWords) .refusal
 
 unfoldable pub fileMade : ℕ → ℕ → Written
-fileMade n f = cond (eqb (refused n f) 0) (File (fileLength n 0)) (Refused (refused n f))
+fileMade n f = cond (eqb (refused n f) 0) (File (fileLength newForm n 0)) (Refused (refused n f))
 
 unfoldable pub fileBuffer : ℕ → ℕ → ℕ → List ℕ → List ℕ
-fileBuffer seed n f out = let filled = overwrite (fileOf 0 (load seed n f)) out in cond (eqb (refused n f) 0) filled out
+fileBuffer seed n f out = let filled = overwrite (fileOf newForm 0 (load seed n f)) out in cond (eqb (refused n f) 0) filled out

@@ -2,7 +2,7 @@
 --
 --   successors-wide, laid   the sets of a table made of numbers have WORDS words each
 --   zero-word       a word of those that are all 0
---   filled          a store cleared, then written over with initial set, forbidden set and rows, holds the table
+--   filled          a store cleared, then written over with initial set, marked set and rows, holds the table
 use Prim.Native.Nat.{ℕ, _+_, _*_, _-_, _≤_, _<_}
 use native.Mathlib.Nat.{le-of-eq}
 use native.Mathlib.Omega.{arith}
@@ -13,13 +13,13 @@ use mathlib.Core.Logic.{⊎-elim}
 use lib.ListN.{length, getD, drop}
 use lib.Seq.{paste, length-paste, take-all}
 use Rattle.model.specs.Sets.{WORDS, maxStates, Set, empty, single, tabulate}
-use Rattle.model.specs.Stores.{forbiddenAt, groupAt, rowAt, storeWords, setAt, concat, layout}
+use Rattle.model.specs.Stores.{markedAt, restingAt, groupAt, rowAt, storeWords, setAt, concat, layout}
 use Rattle.model.specs.Calls.{overwrite}
 use Rattle.model.proofs.Bounds.{lt-or-ge, length-tabulate, getD-tabulate}
 use Rattle.model.proofs.SetLaws.{setOf-proper}
 use Rattle.model.proofs.ListLaws.{Wide, length-concat, part-concat}
 use Rattle.model.proofs.StoreLaws.{empty-proper, setAt-empty, Holds, Laid}
-use Rattle.generator.specs.Load.{successors, tableFrom}
+use Rattle.generator.specs.Load.{successors, loadFrom}
 use Rattle.generator.proofs.Pasting.{drop-behind, setAt-before, setAt-inside, setAt-behind, holds-overwrite}
 
 single-wide : (s : ℕ) → length (single s) ≡ WORDS
@@ -30,10 +30,16 @@ pub successors-wide : (xs : List ℕ) (n f s : ℕ) → length (successors xs n 
 unfolding successors
 successors-wide xs n f s = setOf-proper _ .long
 
-pub laid : (xs : List ℕ) (n f : ℕ) → Laid (tableFrom xs n f)
-unfolding tableFrom
+pub laid : (xs : List ℕ) (n f : ℕ) → Laid (loadFrom xs n f)
+unfolding loadFrom
 laid xs n f =
-    record { initial = single-wide _; forbidden = single-wide _; group = λ j. empty-proper .long; row = λ s. successors-wide xs n f s }
+    record {
+      initial = single-wide _;
+      marked = single-wide _;
+      resting = empty-proper .long;
+      group = λ j. empty-proper .long;
+      row = λ s. successors-wide xs n f s;
+    }
 
 -- the words of a table, all 0
 abbrev zeros : List ℕ
@@ -54,7 +60,7 @@ module _ (xs : List ℕ) (n f : ℕ) (old s₁ s₂ s₃ s₄ X Y : List ℕ) (r
     (e₁ : s₁ ≡ paste old 0 zeros storeWords)
     (e₂ : s₂ ≡ paste s₁ 0 X WORDS)
     (x : X ≡ single 0)
-    (e₃ : s₃ ≡ paste s₂ forbiddenAt Y WORDS)
+    (e₃ : s₃ ≡ paste s₂ markedAt Y WORDS)
     (y : Y ≡ single (n - 1))
     (e₄ : s₄ ≡ paste s₃ (rowAt 0) (concat n (successors xs n f)) (WORDS * n)) where
   row : ℕ → Set
@@ -83,7 +89,7 @@ module _ (xs : List ℕ) (n f : ℕ) (old s₁ s₂ s₃ s₄ X Y : List ℕ) (r
   long₂ = ap length e₂ ∙ length-paste s₁ 0 X WORDS (omega (arith, long₁)) (le-of-eq (sym x-long)) ∙ long₁
 
   long₃ : length s₃ ≡ length old
-  long₃ = ap length e₃ ∙ length-paste s₂ forbiddenAt Y WORDS (omega (arith, long₂)) (le-of-eq (sym y-long)) ∙ long₂
+  long₃ = ap length e₃ ∙ length-paste s₂ markedAt Y WORDS (omega (arith, long₂)) (le-of-eq (sym y-long)) ∙ long₂
 
   room₁ : 0 + storeWords ≤ length old
   room₁ = omega arith
@@ -91,17 +97,17 @@ module _ (xs : List ℕ) (n f : ℕ) (old s₁ s₂ s₃ s₄ X Y : List ℕ) (r
   room₂ : 0 + WORDS ≤ length s₁
   room₂ = omega (arith, long₁)
 
-  room₃ : forbiddenAt + WORDS ≤ length s₂
+  room₃ : markedAt + WORDS ≤ length s₂
   room₃ = omega (arith, long₂)
 
   room₄ : rowAt 0 + WORDS * n ≤ length s₃
   room₄ = omega (arith, long₃)
 
   -- what stands behind the two sets in front is still empty
-  empty₃ : (b : ℕ) → groupAt 0 ≤ b → b + WORDS ≤ storeWords → setAt s₃ b ≡ empty
+  empty₃ : (b : ℕ) → restingAt ≤ b → b + WORDS ≤ storeWords → setAt s₃ b ≡ empty
   empty₃ b h l =
       ap (λ zs. setAt zs b) e₃
-      ∙ setAt-behind s₂ forbiddenAt Y WORDS room₃ y-long b (omega arith)
+      ∙ setAt-behind s₂ markedAt Y WORDS room₃ y-long b (omega arith)
       ∙ ap (λ zs. setAt zs b) e₂
       ∙ setAt-behind s₁ 0 X WORDS room₂ x-long b (omega arith)
       ∙ ap (λ zs. setAt zs b) e₁
@@ -117,24 +123,25 @@ module _ (xs : List ℕ) (n f : ℕ) (old s₁ s₂ s₃ s₄ X Y : List ℕ) (r
   unfolding setAt
   among s l = part-concat row WORDS n s rows-wide l
 
-  holds : Holds s₄ (tableFrom xs n f)
-  unfolding tableFrom row
+  holds : Holds s₄ (loadFrom xs n f)
+  unfolding loadFrom row
   holds =
       record {
         initial =
             before₄ 0 (omega arith)
             ∙ ap (λ zs. setAt zs 0) e₃
-            ∙ setAt-before s₂ forbiddenAt Y WORDS room₃ y-long 0 (omega arith)
+            ∙ setAt-before s₂ markedAt Y WORDS room₃ y-long 0 (omega arith)
             ∙ ap (λ zs. setAt zs 0) e₂
             ∙ setAt-inside s₁ 0 X WORDS room₂ x-long 0 0 (omega arith) refl
             ∙ whole X x-long
             ∙ x;
-        forbidden =
-            before₄ forbiddenAt (omega arith)
-            ∙ ap (λ zs. setAt zs forbiddenAt) e₃
-            ∙ setAt-inside s₂ forbiddenAt Y WORDS room₃ y-long 0 forbiddenAt (omega arith) refl
+        marked =
+            before₄ markedAt (omega arith)
+            ∙ ap (λ zs. setAt zs markedAt) e₃
+            ∙ setAt-inside s₂ markedAt Y WORDS room₃ y-long 0 markedAt (omega arith) refl
             ∙ whole Y y-long
             ∙ y;
+        resting = before₄ restingAt (omega arith) ∙ empty₃ restingAt (omega arith) (omega arith);
         group = λ j h. before₄ (groupAt j) (omega arith) ∙ empty₃ (groupAt j) (omega arith) (omega arith);
         row = λ s h.
             ap (λ zs. setAt zs (rowAt s)) e₄
@@ -156,11 +163,11 @@ module _ (xs : List ℕ) (n f : ℕ) (old s₁ s₂ s₃ s₄ X Y : List ℕ) (r
       ap (drop storeWords) e₄
       ∙ drop-behind s₃ (rowAt 0) (concat n row) (WORDS * n) room₄ rows-long storeWords (omega arith)
       ∙ ap (drop storeWords) e₃
-      ∙ drop-behind s₂ forbiddenAt Y WORDS room₃ y-long storeWords (omega arith)
+      ∙ drop-behind s₂ markedAt Y WORDS room₃ y-long storeWords (omega arith)
       ∙ ap (drop storeWords) e₂
       ∙ drop-behind s₁ 0 X WORDS room₂ x-long storeWords (omega arith)
       ∙ ap (drop storeWords) e₁
       ∙ drop-behind old 0 zeros storeWords room₁ zeros-long storeWords (omega arith)
 
-  pub filled : s₄ ≡ overwrite (layout (tableFrom xs n f)) old
-  filled = holds-overwrite (tableFrom xs n f) old s₄ (laid xs n f) holds past
+  pub filled : s₄ ≡ overwrite (layout (loadFrom xs n f)) old
+  filled = holds-overwrite (loadFrom xs n f) old s₄ (laid xs n f) holds past

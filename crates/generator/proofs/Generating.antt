@@ -16,7 +16,7 @@ use Rattle.model.specs.Stores.{storeWords, layout, refuse}
 use Rattle.model.specs.Calls.{overwrite}
 use Rattle.model.proofs.Bounds.{or-false}
 use Rattle.model.proofs.GroundLaws.{refuse-clear}
-use Rattle.generator.specs.Load.{maxFanOut, numbers, tableFrom, load, generateGrounds, generateAnswer, generateBuffer}
+use Rattle.generator.specs.Load.{maxFanOut, numbers, loadFrom, load, generateGrounds, generateAnswer, generateBuffer}
 use Rattle.generator.specs.declared.Generated.the-variants.{Filled, Refused}
 use Rattle.generator.specs.Answers.{CalledGenerate}
 
@@ -78,12 +78,12 @@ module _ (seed n f : ℕ) (before : List ℕ) {k : ℕ} (e : k ≡ refuse (gener
       let test = ne-eqb (refuse (generateGrounds n f (length before))) 0 (λ z. some (e ∙ z)) in
       (ap (λ (r : ℕ). record { refusal = r }) e, rw test, rw test)
 
-  pub filled-load : k ≡ 0 → (after xs : List ℕ) → xs ≡ numbers seed (55 + n * f) → after ≡ overwrite (layout (tableFrom xs n f)) before
+  pub filled-load : k ≡ 0 → (after xs : List ℕ) → xs ≡ numbers seed (55 + n * f) → after ≡ overwrite (layout (loadFrom xs n f)) before
       → CalledGenerate seed n f before Filled after
   unfolding generateAnswer generateBuffer load
   filled-load z after xs drawn made =
       let test = eq-eqb (refuse (generateGrounds n f (length before))) 0 (sym e ∙ z) in (
         ap (λ (r : ℕ). record { refusal = r }) (sym z ∙ e),
-        made ∙ ap (λ ys. overwrite (layout (tableFrom ys n f)) before) drawn ∙ sym (rw test),
+        made ∙ ap (λ ys. overwrite (layout (loadFrom ys n f)) before) drawn ∙ sym (rw test),
         rw test,
       )

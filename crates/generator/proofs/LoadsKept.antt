@@ -9,22 +9,21 @@ use borrow.Author.Tests.{le-ltb, eqb-true, eq-eqb, not-true, not-false}
 use lib.Dec.{eqb, ltb}
 use lib.ListN.{length, getD, drop}
 use lib.Seq.{drop-at}
-use Rattle.model.specs.Sets.{maxStates, single}
+use Rattle.model.specs.Sets.{maxStates, empty, single}
 use Rattle.model.specs.Rounds.{run}
 use Rattle.model.specs.Paths.{shortest, hasPath}
-use Rattle.model.specs.Stores.{storeWords, tableOf, layout, refuse, beyond}
-use Rattle.model.specs.Contents.{sets}
+use Rattle.model.specs.Stores.{storeWords, dialogueOf, tableOf, layout, refuse, beyond}
+use Rattle.model.specs.Contents.{newForm, sets}
 use Rattle.model.specs.Files.{fileLength}
 use Rattle.model.specs.Calls.{overwrite, maxAllowance, decideGrounds, decisionOf, declined, decideAnswer, Shortest, shortestGrounds, shortestAnswer}
 use Rattle.model.proofs.Bounds.{by-cond, any-find}
-use Rattle.model.proofs.SetLaws.{setOf-in, single-in}
+use Rattle.model.proofs.SetLaws.{setOf-in, empty-in, single-in}
 use Rattle.model.proofs.ListLaws.{length-overwrite}
-use Rattle.model.proofs.ContentLaws.{sets-each}
 use Rattle.model.proofs.StoreLaws.{Holds, length-layout, overwrite-holds, below-beyond, Clean, clean-malformed, holds-sets, holds-clean}
 use Rattle.model.proofs.CallLaws.{write-refusal, write-behind}
 use Rattle.model.proofs.Acceptance.{Store, store-accepted}
 use Rattle.model.proofs.Kept.{not-refused}
-use Rattle.generator.specs.Load.{numbers, successors, tableFrom, load, generateGrounds, generateAnswer, generateBuffer}
+use Rattle.generator.specs.Load.{numbers, successors, loadFrom, load, generateGrounds, generateAnswer, generateBuffer}
 use Rattle.generator.specs.declared.Generated.{Generated}
 use Rattle.generator.specs.Answers.{isRefused, CalledGenerate}
 use Rattle.generator.specs.Loads.{Accepts, Loads}
@@ -49,33 +48,32 @@ module _ (n : ℕ) where
 
 module _ (xs : List ℕ) (n f : ℕ) (old : List ℕ) (a : Accepted n f (length old)) where
   abbrev filled : List ℕ
-  filled = overwrite (layout (tableFrom xs n f)) old
+  filled = overwrite (layout (loadFrom xs n f)) old
 
-  filled-holds : Holds filled (tableFrom xs n f)
-  filled-holds = overwrite-holds (tableFrom xs n f) (laid xs n f) old
+  filled-holds : Holds filled (loadFrom xs n f)
+  filled-holds = overwrite-holds (loadFrom xs n f) (laid xs n f) old
 
   filled-clean : Clean filled n 0
-  unfolding tableFrom
+  unfolding loadFrom
   filled-clean =
-      let t = tableFrom xs n f in
-      holds-clean filled t filled-holds refl (omega arith) (a .small)
-      (sets-each t refl (λ k X. beyond n X ≡ false) (single-below n 0 (a .some)) (single-below n (n - 1) (omega (arith, a .some)))
-      (λ j h. absurd (not-suc-le-zero h)) (λ s h. row-below n xs f s (a .some)))
+      let t = loadFrom xs n f in
+      holds-clean filled t filled-holds refl (omega arith) (a .small) (single-below n 0 (a .some)) (single-below n (n - 1) (omega (arith, a .some)))
+      (below-beyond n empty (λ s h. absurd (empty-in h))) (λ j h. absurd (not-suc-le-zero h)) (λ s h. row-below n xs f s (a .some))
 
   filled-store : Store filled n 0
   filled-store =
-      let size = length-layout (tableFrom xs n f) (laid xs n f) in
+      let size = length-layout (loadFrom xs n f) (laid xs n f) in
       record {
-        long = omega (arith, a .long, size, length-overwrite (layout (tableFrom xs n f)) old (omega (arith, a .long, size)));
+        long = omega (arith, a .long, size, length-overwrite (layout (loadFrom xs n f)) old (omega (arith, a .long, size)));
         draft = λ e. refl;
         small = a .small;
         few = omega arith;
         clean = clean-malformed filled n 0 filled-clean;
       }
 
-  filled-sets : sets (tableOf filled n 0) ≡ sets (tableFrom xs n f)
-  unfolding tableFrom
-  filled-sets = holds-sets filled (tableFrom xs n f) filled-holds refl (omega arith) (a .small)
+  filled-sets : sets newForm (dialogueOf filled n 0) ≡ sets newForm (loadFrom xs n f)
+  unfolding loadFrom
+  filled-sets = holds-sets filled (loadFrom xs n f) filled-holds refl (omega arith) (a .small)
 
 -- ---- every call accepts a store that none of the grounds that they share declines
 
@@ -88,8 +86,8 @@ module _ (store : List ℕ) (n g : ℕ) (s : Store store n g) where
         write = λ site room k h.
             write-refusal store n g site room
             ∙ write-behind store n g site room (s .long) k
-            ∙ store-accepted store n g ((ltb room (fileLength n g), 19) ∷ []) s
-            ∙ rw (le-ltb room (fileLength n g) h);
+            ∙ store-accepted store n g ((ltb room (fileLength newForm n g), 19) ∷ []) s
+            ∙ rw (le-ltb room (fileLength newForm n g) h);
         decide = λ allowance room h l.
             let none : refuse (decideGrounds store n g allowance room) ≡ 0 =
             store-accepted store n g ((ltb maxAllowance allowance, 20) ∷ (ltb room maxStates, 21) ∷ []) s
@@ -148,7 +146,7 @@ loads =
           (accepts (filled xs n f before (accepted seed n f before r after called e)) n 0
           (filled-store xs n f before (accepted seed n f before r after called e)));
       table = λ seed n f before r after called e.
-          ap (λ store. sets (tableOf store n 0)) (made seed n f before r after called e)
+          ap (λ store. sets newForm (dialogueOf store n 0)) (made seed n f before r after called e)
           ∙ filled-sets (numbers seed (55 + n * f)) n f before (accepted seed n f before r after called e);
       declined = λ seed n f before r after called e. kept seed n f before r after called e;
       past = λ seed n f before r after called. past seed n f before r after called;

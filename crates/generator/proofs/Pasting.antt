@@ -17,7 +17,7 @@ use mathlib.Core.List.{List, _++_, append-assoc}
 use lib.ListN.{length, getD, set, take, drop, length-set, take-append-drop}
 use lib.Seq.{paste, paste-zero, paste-suc, length-paste, length-paste-head, take-paste, drop-paste, length-take-le, take-all, take-append-add, drop-drop}
 use Rattle.model.specs.Sets.{WORDS, Set}
-use Rattle.model.specs.Tables.{Table}
+use Rattle.model.specs.Tables.{Dialogue}
 use Rattle.model.specs.Stores.{rowAt, storeWords, setAt, concat, layout}
 use Rattle.model.specs.Calls.{overwrite}
 use Rattle.model.proofs.ListLaws.{part-front, part-behind, length-concat, concat-next}
@@ -139,7 +139,7 @@ module _ (f : ℕ → Set) (d : List ℕ) (n : ℕ) where
 
 -- ---- a store that was filled
 
-pub holds-overwrite : (t : Table) (old store : List ℕ) → Laid t → Holds store t → drop storeWords store ≡ drop storeWords old
+pub holds-overwrite : (t : Dialogue) (old store : List ℕ) → Laid t → Holds store t → drop storeWords store ≡ drop storeWords old
     → store ≡ overwrite (layout t) old
 unfolding overwrite
 holds-overwrite t old store laid h past =

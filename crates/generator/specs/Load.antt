@@ -4,15 +4,15 @@
 --   nextNumber seed xs   the number that follows the numbers xs
 --   numbers seed k       the first k numbers (the additive generator with lags 24 and 55 in Knuth, volume 2)
 --   successors xs n f s  the f numbers that state s takes of xs, each modulo n
---   load seed n f        the table
+--   load seed n f        the table, which has no resting states
 --   generateGrounds, GenerateAnswer, generateAnswer, generateBuffer     the grounds in order, the answer, the store at exit
 use Prim.Native.Nat.{ℕ, zero, suc, _+_, _*_, _-_, _%_, _^_}
 use mathlib.Core.Bool.{cond, _||_}
 use mathlib.Core.List.{List, [], _∷_, _++_}
 use lib.Dec.{eqb, ltb}
 use lib.ListN.{length, getD}
-use Rattle.model.specs.Sets.{maxStates, Set, any, setOf, single}
-use Rattle.model.specs.Tables.{Table}
+use Rattle.model.specs.Sets.{maxStates, Set, any, setOf, empty, single}
+use Rattle.model.specs.Tables.{Dialogue}
 use Rattle.model.specs.Stores.{layout, Ground, refuse, storeGround}
 use Rattle.model.specs.Calls.{overwrite}
 
@@ -39,12 +39,13 @@ numbers seed (suc k) = let xs = numbers seed k in xs ++ (nextNumber seed xs ∷ 
 unfoldable pub successors : List ℕ → ℕ → ℕ → ℕ → Set
 successors xs n f s = setOf (λ t. any f (λ i. eqb t (getD xs (55 + s * f + i) 0 % n)))
 
-unfoldable pub tableFrom : List ℕ → ℕ → ℕ → Table
-tableFrom xs n f = record { n = n; initial = single 0; forbidden = single (n - 1); groups = []; row = successors xs n f }
+unfoldable pub loadFrom : List ℕ → ℕ → ℕ → Dialogue
+loadFrom xs n f =
+    record { n = n; initial = single 0; marked = single (n - 1); resting = empty; groups = []; row = successors xs n f }
 
 -- The states take n · f numbers in all.
-unfoldable pub load : ℕ → ℕ → ℕ → Table
-load seed n f = tableFrom (numbers seed (55 + n * f)) n f
+unfoldable pub load : ℕ → ℕ → ℕ → Dialogue
+load seed n f = loadFrom (numbers seed (55 + n * f)) n f
 
 -- ---- the call
 

@@ -9,9 +9,9 @@ use mathlib.Core.Bool.{true, false}
 use mathlib.Core.List.{List}
 use lib.ListN.{drop}
 use Rattle.model.specs.Sets.{maxStates}
-use Rattle.model.specs.Stores.{storeWords, tableOf}
+use Rattle.model.specs.Stores.{storeWords, dialogueOf}
 use Rattle.model.specs.Blocks.{maxSite}
-use Rattle.model.specs.Contents.{sets}
+use Rattle.model.specs.Contents.{newForm, sets}
 use Rattle.model.specs.Files.{fileLength}
 use Rattle.model.specs.Calls.{maxAllowance, decideAnswer, shortestAnswer, writeAnswer}
 use Rattle.generator.specs.Load.{load}
@@ -19,7 +19,7 @@ use Rattle.generator.specs.declared.Generated.{Generated}
 use Rattle.generator.specs.Answers.{isRefused, CalledGenerate}
 
 pub record Accepts (store : List ℕ) (n g : ℕ) : Type 0 where
-  pub write : (site room : ℕ) → site ≤ maxSite → fileLength n g ≤ room → (writeAnswer store n g site room) .refusal ≡ 0
+  pub write : (site room : ℕ) → site ≤ maxSite → fileLength newForm n g ≤ room → (writeAnswer store n g site room) .refusal ≡ 0
   pub decide : (allowance room : ℕ) → allowance ≤ maxAllowance → maxStates ≤ room → (decideAnswer store n g allowance room) .refusal ≡ 0
   pub shortest : (room : ℕ) → maxStates ≤ room → (shortestAnswer store n g room) .refusal ≡ 0
 
@@ -29,7 +29,7 @@ pub record Loads : Type 0 where
       → CalledGenerate seed n f before r after → isRefused r ≡ false → Accepts after n 0
   -- the table in the store is the one that the seed gives
   pub table : (seed n f : ℕ) (before : List ℕ) (r : Generated) (after : List ℕ)
-      → CalledGenerate seed n f before r after → isRefused r ≡ false → sets (tableOf after n 0) ≡ sets (load seed n f)
+      → CalledGenerate seed n f before r after → isRefused r ≡ false → sets newForm (dialogueOf after n 0) ≡ sets newForm (load seed n f)
   pub declined : (seed n f : ℕ) (before : List ℕ) (r : Generated) (after : List ℕ)
       → CalledGenerate seed n f before r after → isRefused r ≡ true → after ≡ before
   pub past : (seed n f : ℕ) (before : List ℕ) (r : Generated) (after : List ℕ)

@@ -15,11 +15,11 @@ ghost use lib.Seq.{paste};
 ghost use Rattle.model.specs.Sets.{WORDS, maxStates, tabulate};
 ghost use Rattle.model.specs.Stores.{storeWords, rowAt, layout, concat, refuse};
 ghost use Rattle.model.specs.Calls.{overwrite};
-ghost use Rattle.generator.specs.Load.{nextNumber, numbers, successors, tableFrom, generateGrounds};
+ghost use Rattle.generator.specs.Load.{nextNumber, numbers, successors, loadFrom, generateGrounds};
 ghost use Rattle.generator.specs.Answers.{CalledGenerate};
 use state_set::StateSet;
 use state_set::WORDS;
-use table::FORBIDDEN_AT;
+use table::MARKED_AT;
 use table::MAX_STATES;
 use table::ROWS_AT;
 use table::STORE_WORDS;
@@ -105,11 +105,11 @@ fn put_numbers(seed: u32, count: usize, buffer: &mut [u32])
 
 fn fill(numbers: &[u32], n: usize, f: usize, store: &mut [u64])
     requires { ⌜ (0 < n) × (n ≤ maxStates) × (55 + n * f ≤ length (now numbers)) × (storeWords ≤ length (now store)) ⌝ }
-    ensures { λ r. ⌜ now (store .exit) ≡ overwrite (layout (tableFrom (now (numbers .entry)) n f)) (now (store .entry)) ⌝ }
+    ensures { λ r. ⌜ now (store .exit) ≡ overwrite (layout (loadFrom (now (numbers .entry)) n f)) (now (store .entry)) ⌝ }
 {
     clear(store);
     put_set(store, 0, StateSet::single(0));
-    put_set(store, FORBIDDEN_AT, StateSet::single(n - 1));
+    put_set(store, MARKED_AT, StateSet::single(n - 1));
     put_rows(numbers, n, f, store);
 }
 

@@ -13,12 +13,13 @@ use lib.Dec.{eqb, ltb}
 use lib.ListN.{length}
 use Rattle.model.specs.Sets.{maxStates, Set, firstStates}
 use Rattle.model.specs.Tables.{Table}
-use Rattle.model.specs.Stores.{maxGroups, storeWords, forbiddenAt, rowAt, setAt, tableOf, Ground, refuse, beyond, malformed, badStates, sharedGrounds}
+use Rattle.model.specs.Stores.{maxGroups, storeWords, markedAt, rowAt, setAt, tableOf, Ground, refuse, beyond, malformed, badStates, sharedGrounds}
 use Rattle.model.specs.Calls.{release, decideLimits, decideGrounds, decisionOf, declined, decideAnswer}
 use Rattle.model.specs.Rounds.{Outcome, run}
 use Rattle.model.specs.Promises.{Accepted}
 use Rattle.model.proofs.Bounds.{or-false, decided}
-use Rattle.model.proofs.SetLaws.{in-bound, in-firstStates, _⊆_}
+use Rattle.model.proofs.SetLaws.{in-bound, in-firstStates, union-in, _⊆_}
+use Rattle.model.proofs.HangLaws.{hangs-within}
 use Rattle.model.proofs.GroundLaws.{refuse-behind, refuse-clear}
 use Rattle.model.proofs.StoreLaws.{beyond-below, malformed-clean, row-is}
 use Rattle.model.proofs.WellFormed.{WellFormed}
@@ -70,7 +71,7 @@ well-formed store n g s =
     let c = malformed-clean store n g (s .clean) in
     record {
       initial = inside (setAt store 0) (c .initial);
-      forbidden = inside (setAt store forbiddenAt) (c .forbidden);
+      forbidden = λ x h. ⊎-elim (inside (setAt store markedAt) (c .marked) x) (hangs-within n _ _ x) (union-in h);
       rows = λ x h. subst (λ (X : Set). X ⊆ firstStates n) (sym (row-is store n g x h)) (inside (setAt store (rowAt x)) (c .row x h));
     }
   where

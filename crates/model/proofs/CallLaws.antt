@@ -3,6 +3,7 @@
 --   Writable, writable                          no ground of write holds
 --   write-over, write-behind                    a site over the greatest; else the grounds behind it
 --   write-refusal, write-answer, write-buffer   the refusal of any answer; the answer and the output where nothing is refused
+--   second-pass, second-passes                  ground 15 of a file: the test and the facts
 --   Readable                                    no ground of read holds of a file with a block, and n and g are those of the input
 --   blocks-clear                                no ground of the blocks holds, if nothing is refused
 --   clear-block, right-block                    no ground of a block holds exactly if its number and its check are right
@@ -11,7 +12,7 @@
 --   draft-refusal, readable-refusal             and back
 --   read-refusal, read-answer, read-buffer      the refusal of any answer; the answer and the store where nothing is refused
 --   no-bytes, draft-says                        what an input of no bytes says
-use Prim.Native.Nat.{ℕ, _+_, _*_, _/_, _%_, _≤_, _<_}
+use Prim.Native.Nat.{ℕ, _+_, _*_, _-_, _/_, _%_, _≤_, _<_}
 use native.Mathlib.Omega.{arith}
 use mathlib.Core.Path.{_≡_, refl, sym, ap, _∙_, subst}
 use mathlib.Core.Logic.{_⊎_, inl, inr, ⊎-elim}
@@ -21,11 +22,11 @@ use borrow.Author.Tests.{ltb-false, lt-ltb, le-ltb, eqb-true, eqb-false, eq-eqb,
 use lib.Dec.{eqb, ltb}
 use lib.ListN.{length, getD}
 use Rattle.model.specs.Sets.{maxStates, number}
-use Rattle.model.specs.Stores.{headSets, maxGroups, storeWords, tableOf, concat, layout, Ground, refuse, beyond, storeGround, sharedGrounds}
+use Rattle.model.specs.Stores.{maxGroups, storeWords, dialogueOf, concat, layout, Ground, refuse, beyond, storeGround, sharedGrounds}
 use Rattle.model.specs.Blocks.{blockBytes, contentBytes, checkAt, maxSite, siteGround, le16At, checkOf, blocksFor, part, contentsOf, blockGrounds}
-use Rattle.model.specs.Contents.{contentLength, setNumber, tableIn}
+use Rattle.model.specs.Contents.{Form, newForm, heads, added, contentLength, setNumber, dialogueIn}
 use Rattle.model.specs.Files.{fileOf, fileLength, maxFile}
-use Rattle.model.specs.Calls.{overwrite, TableRead, statesIn, groupsIn, badLength, blocksGrounds, contentGrounds, fileGrounds, readGrounds, readAnswer, readBuffer, Written, outputGround, writeGrounds, writeAnswer, writeBuffer}
+use Rattle.model.specs.Calls.{overwrite, TableRead, statesIn, secondIn, groupsIn, badLength, badSecond, blocksGrounds, contentGrounds, fileGrounds, readGroundsAs, readAnswerAs, readBufferAs, Written, outputGround, writeGrounds, writeAnswer, writeBuffer}
 use Rattle.model.proofs.Bounds.{by-cond, decided, any-none, or-false, no-any}
 use Rattle.model.proofs.GroundLaws.{Clear, refuse-none, refuse-skip, refuse-take, clear-refuse, refuse-clear, clear-append, clear-concat, concat-clear, numbered-concat}
 use Rattle.model.proofs.StoreLaws.{nonZero-zero, zero-nonZero}
@@ -40,7 +41,7 @@ chosen k x y e = by-cond (λ z. z ≡ x) (eqb k 0) x y (λ q. refl) (λ q. absur
 pub record Writable (store : List ℕ) (n g site room : ℕ) : Type 0 where
   pub held : Store store n g
   pub known : site ≤ maxSite
-  pub fits : fileLength n g ≤ room
+  pub fits : fileLength newForm n g ≤ room
 
 module _ (store : List ℕ) (n g site room : ℕ) where
   -- the grounds of write behind 10, and those behind 24
@@ -68,25 +69,25 @@ module _ (store : List ℕ) (n g site room : ℕ) where
       let long = ltb-false (length store) storeWords (early .0) in
       let known = ltb-false maxSite site (early .1 .0) in
       let parts = accepted-store store n g (outputGround n g room ∷ []) (sym (write-behind long known) ∙ e) in
-      record { held = parts .0; known = known; fits = ltb-false room (fileLength n g) (refuse-clear (outputGround n g room ∷ []) [] refl (parts .1) .0 .0) }
+      record { held = parts .0; known = known; fits = ltb-false room (fileLength newForm n g) (refuse-clear (outputGround n g room ∷ []) [] refl (parts .1) .0 .0) }
 
-  pub write-answer : Writable store n g site room → writeAnswer store n g site room ≡ record { refusal = 0; length = fileLength n g }
+  pub write-answer : Writable store n g site room → writeAnswer store n g site room ≡ record { refusal = 0; length = fileLength newForm n g }
   unfolding writeAnswer
   write-answer w =
       chosen (refuse (writeGrounds store n g site room)) _ _
       (write-behind (w .held .long) (w .known)
       ∙ store-accepted store n g (outputGround n g room ∷ []) (w .held)
-      ∙ refuse-skip _ 19 _ (le-ltb room (fileLength n g) (w .fits))
+      ∙ refuse-skip _ 19 _ (le-ltb room (fileLength newForm n g) (w .fits))
       ∙ refuse-none)
 
-pub write-buffer : (store : List ℕ) (n g site : ℕ) (out : List ℕ) → Writable store n g site (length out) → writeBuffer store n g site out ≡ overwrite (fileOf site (tableOf store n g)) out
+pub write-buffer : (store : List ℕ) (n g site : ℕ) (out : List ℕ) → Writable store n g site (length out) → writeBuffer store n g site out ≡ overwrite (fileOf newForm site (dialogueOf store n g)) out
 unfolding writeBuffer
 write-buffer store n g site out w =
     chosen ((writeAnswer store n g site (length out)) .refusal) _ out (ap (λ (a : Written). a .refusal) (write-answer store n g site (length out) w))
 
 -- ---- read
 
-pub record Readable (input : List ℕ) (site room n g : ℕ) : Type 0 where
+pub record Readable (form : Form) (input : List ℕ) (site room n g : ℕ) : Type 0 where
   pub fits : storeWords ≤ room
   pub known : site ≤ maxSite
   pub present : length input ≡ 0 → ⊥
@@ -95,13 +96,28 @@ pub record Readable (input : List ℕ) (site room n g : ℕ) : Type 0 where
   pub number : (k : ℕ) → k < length input / blockBytes → le16At (part input k) 0 ≡ k
   pub check : (k : ℕ) → k < length input / blockBytes → le16At (part input k) checkAt ≡ checkOf site (part input k)
   pub n-is : statesIn input ≡ n
-  pub g-is : groupsIn input ≡ g
+  pub g-is : groupsIn form input ≡ g
+  pub second : secondIn input ≡ added form + g
   pub some : n ≡ 0 → ⊥
   pub small : n ≤ maxStates
   pub few : g ≤ maxGroups
-  pub blocks : length input / blockBytes ≡ blocksFor (contentLength n g)
-  pub within : (k : ℕ) → k < headSets + g + n → beyond n (setNumber (contentsOf input) n k) ≡ false
-  pub filler : (i : ℕ) → contentLength n g ≤ i → i < contentBytes * (length input / blockBytes) → getD (contentsOf input) i 0 ≡ 0
+  pub blocks : length input / blockBytes ≡ blocksFor (contentLength form n g)
+  pub within : (k : ℕ) → k < heads form + g + n → beyond n (setNumber (contentsOf input) n k) ≡ false
+  pub filler : (i : ℕ) → contentLength form n g ≤ i → i < contentBytes * (length input / blockBytes) → getD (contentsOf input) i 0 ≡ 0
+
+-- ground 15: the second number is g with what the form adds
+module _ (form : Form) (second : ℕ) where
+  pub second-pass : (g : ℕ) → second ≡ added form + g → g ≤ maxGroups → badSecond form second ≡ false
+  unfolding badSecond
+  second-pass g e h = rw (le-ltb second (added form) (omega arith)) (le-ltb (added form + maxGroups) second (omega arith))
+
+  pub second-passes : badSecond form second ≡ false → (second ≡ added form + (second - added form)) × (second - added form ≤ maxGroups)
+  unfolding badSecond
+  second-passes e =
+      let bounds = or-false (ltb second (added form)) (ltb (added form + maxGroups) second) e in
+      let least = ltb-false second (added form) (bounds .0) in
+      let most = ltb-false (added form + maxGroups) second (bounds .1) in
+      (omega arith, omega arith)
 
 module _ (site : ℕ) (block : List ℕ) (k : ℕ) where
   pub clear-block : Clear (blockGrounds site block k) → (le16At block 0 ≡ k) × (le16At block checkAt ≡ checkOf site block)
@@ -116,40 +132,41 @@ pub blocks-clear : (input : List ℕ) (site : ℕ) (later : List Ground) → ref
 unfolding blocksGrounds blockGrounds
 blocks-clear input site later = refuse-clear (blocksGrounds input site) later (numbered-concat (λ k. blockGrounds site (part input k) k) (λ k. refl) (length input / blockBytes))
 
-module _ (input : List ℕ) (site room : ℕ) where
-  pub read-refusal : (readAnswer input site room) .refusal ≡ refuse (readGrounds input site room)
-  unfolding readAnswer
+module _ (form : Form) (input : List ℕ) (site room : ℕ) where
+  pub read-refusal : (readAnswerAs form input site room) .refusal ≡ refuse (readGroundsAs form input site room)
+  unfolding readAnswerAs
   read-refusal =
-      let k = refuse (readGrounds input site room) in
+      let k = refuse (readGroundsAs form input site room) in
       by-cond (λ (a : TableRead). a .refusal ≡ k) (eqb k 0) _ _ (λ q. sym (eqb-true k 0 q)) (λ q. refl)
 
-  pub read-over : storeWords ≤ room → maxSite < site → refuse (readGrounds input site room) ≡ 24
-  unfolding readGrounds
+  pub read-over : storeWords ≤ room → maxSite < site → refuse (readGroundsAs form input site room) ≡ 24
+  unfolding readGroundsAs
   read-over fits h = refuse-skip _ 10 _ (le-ltb room storeWords fits) ∙ refuse-take _ 24 _ (lt-ltb maxSite site h)
 
   -- a file with any block: the grounds behind 24, and those behind 11
   module _ (fits : storeWords ≤ room) (known : site ≤ maxSite) (present : length input ≡ 0 → ⊥) where
-    pub behind-site : refuse (readGrounds input site room) ≡ refuse (fileGrounds input site)
-    unfolding readGrounds
+    pub behind-site : refuse (readGroundsAs form input site room) ≡ refuse (fileGrounds form input site)
+    unfolding readGroundsAs
     behind-site = refuse-skip _ 10 _ (le-ltb room storeWords fits) ∙ refuse-skip _ 24 _ (le-ltb maxSite site known) ∙ rw (ne-eqb (length input) 0 present)
 
     pub behind-length : badLength input ≡ false
-        → refuse (readGrounds input site room) ≡ refuse (blocksGrounds input site ++ contentGrounds input (statesIn input) (groupsIn input))
+        → refuse (readGroundsAs form input site room) ≡ refuse (blocksGrounds input site ++ contentGrounds form input (statesIn input) (secondIn input))
     unfolding fileGrounds
     behind-length whole = behind-site ∙ refuse-skip _ 11 _ whole
 
-  file-readable : storeWords ≤ room → site ≤ maxSite → (length input ≡ 0 → ⊥) → refuse (fileGrounds input site) ≡ 0 → Readable input site room (statesIn input) (groupsIn input)
+  file-readable : storeWords ≤ room → site ≤ maxSite → (length input ≡ 0 → ⊥) → refuse (fileGrounds form input site) ≡ 0 → Readable form input site room (statesIn input) (groupsIn form input)
   unfolding fileGrounds badLength blocksGrounds contentGrounds
   file-readable fits known present e =
       let bytes = contentsOf input in
       let n = statesIn input in
-      let g = groupsIn input in
+      let g = groupsIn form input in
       let m = length input / blockBytes in
       let early = refuse-clear ((badLength input, 11) ∷ []) _ refl e in
-      let blocks = blocks-clear input site (contentGrounds input n g) (early .1) in
-      let late = refuse-clear (contentGrounds input n g) [] refl (blocks .1) .0 in
+      let blocks = blocks-clear input site (contentGrounds form input n (secondIn input)) (early .1) in
+      let late = refuse-clear (contentGrounds form input n (secondIn input)) [] refl (blocks .1) .0 in
       let size = or-false (not (eqb (length input % blockBytes) 0)) (ltb maxFile (length input)) (early .0 .0) in
       let states = or-false (eqb n 0) (ltb maxStates n) (late .0) in
+      let second = second-passes form (secondIn input) (late .1 .0) in
       let right : (k : ℕ) → k < m → (le16At (part input k) 0 ≡ k) × (le16At (part input k) checkAt ≡ checkOf site (part input k)) =
       λ k h. clear-block site (part input k) k (concat-clear (λ j. blockGrounds site (part input j) j) m (blocks .0) k h) in
       record {
@@ -162,16 +179,17 @@ module _ (input : List ℕ) (site room : ℕ) where
         check = λ k h. right k h .1;
         n-is = refl;
         g-is = refl;
+        second = second .0;
         some = eqb-false n 0 (states .0);
         small = ltb-false maxStates n (states .1);
-        few = ltb-false maxGroups g (late .1 .0);
+        few = second .1;
         blocks = eqb-true m _ (not-false _ (late .1 .1 .0));
-        within = any-none (λ k. beyond n (setNumber bytes n k)) (headSets + g + n) (late .1 .1 .1 .0);
-        filler = nonZero-zero bytes (contentLength n g) (contentBytes * m) (late .1 .1 .1 .1 .0);
+        within = any-none (λ k. beyond n (setNumber bytes n k)) (heads form + g + n) (late .1 .1 .1 .0);
+        filler = nonZero-zero bytes (contentLength form n g) (contentBytes * m) (late .1 .1 .1 .1 .0);
       }
 
-  pub readable : refuse (readGrounds input site room) ≡ 0 → (storeWords ≤ room) × (site ≤ maxSite) × ((length input ≡ 0) ⊎ Readable input site room (statesIn input) (groupsIn input))
-  unfolding readGrounds
+  pub readable : refuse (readGroundsAs form input site room) ≡ 0 → (storeWords ≤ room) × (site ≤ maxSite) × ((length input ≡ 0) ⊎ Readable form input site room (statesIn input) (groupsIn form input))
+  unfolding readGroundsAs
   readable e =
       let first = refuse-clear (storeGround room ∷ siteGround site ∷ []) _ refl e in
       let fits = ltb-false room storeWords (first .0 .0) in
@@ -183,49 +201,49 @@ module _ (input : List ℕ) (site room : ℕ) where
             (decided (eqb (length input) 0)),
       )
 
-  pub draft-refusal : storeWords ≤ room → site ≤ maxSite → length input ≡ 0 → refuse (readGrounds input site room) ≡ 0
-  unfolding readGrounds
-  draft-refusal h known e = clear-refuse (readGrounds input site room) (le-ltb room storeWords h, (le-ltb maxSite site known, rw (eq-eqb (length input) 0 e) tt))
+  pub draft-refusal : storeWords ≤ room → site ≤ maxSite → length input ≡ 0 → refuse (readGroundsAs form input site room) ≡ 0
+  unfolding readGroundsAs
+  draft-refusal h known e = clear-refuse (readGroundsAs form input site room) (le-ltb room storeWords h, (le-ltb maxSite site known, rw (eq-eqb (length input) 0 e) tt))
 
-  pub readable-refusal : (n g : ℕ) → Readable input site room n g → refuse (readGrounds input site room) ≡ 0
-  unfolding readGrounds fileGrounds badLength blocksGrounds contentGrounds
-  readable-refusal n g r =
+  pub readable-refusal : (n g : ℕ) → Readable form input site room n g → refuse (readGroundsAs form input site room) ≡ 0
+  unfolding readGroundsAs fileGrounds badLength blocksGrounds contentGrounds
+  readable-refusal n g says =
+      let r : Readable form input site room (statesIn input) (groupsIn form input) =
+      subst (λ (b : ℕ). Readable form input site room (statesIn input) b) (sym (says .g-is)) (subst (λ (a : ℕ). Readable form input site room a g) (sym (says .n-is)) says) in
       let bytes = contentsOf input in
       let m = length input / blockBytes in
-      clear-refuse (readGrounds input site room) (
+      clear-refuse (readGroundsAs form input site room) (
         le-ltb room storeWords (r .fits),
         (
           le-ltb maxSite site (r .known),
           rw (ne-eqb (length input) 0 (r .present)) (
             rw (eq-eqb (length input % blockBytes) 0 (r .whole)) (le-ltb maxFile (length input) (r .short)),
-            clear-append (blocksGrounds input site) (contentGrounds input (statesIn input) (groupsIn input))
-                (clear-concat (λ j. blockGrounds site (part input j) j) m (λ k h. right-block site (part input k) k (r .number k h) (r .check k h)))
-                (subst (λ (a : ℕ). Clear (contentGrounds input a (groupsIn input))) (sym (r .n-is))
-                (subst (λ (b : ℕ). Clear (contentGrounds input n b)) (sym (r .g-is)) (
-                  rw (ne-eqb n 0 (r .some)) (le-ltb maxStates n (r .small)),
+            clear-append (blocksGrounds input site) (contentGrounds form input (statesIn input) (secondIn input))
+                (clear-concat (λ j. blockGrounds site (part input j) j) m (λ k h. right-block site (part input k) k (r .number k h) (r .check k h))) (
+                  rw (ne-eqb (statesIn input) 0 (r .some)) (le-ltb maxStates (statesIn input) (r .small)),
                   (
-                    le-ltb maxGroups g (r .few),
+                    second-pass form (secondIn input) (groupsIn form input) (r .second) (r .few),
                     (
-                      ap not (eq-eqb m (blocksFor (contentLength n g)) (r .blocks)),
+                      ap not (eq-eqb m (blocksFor (contentLength form (statesIn input) (groupsIn form input))) (r .blocks)),
                       (
-                        no-any (λ k. beyond n (setNumber bytes n k)) (headSets + g + n) (r .within),
-                        (zero-nonZero bytes (contentLength n g) (contentBytes * m) (r .filler), tt),
+                        no-any (λ k. beyond (statesIn input) (setNumber bytes (statesIn input) k)) (heads form + groupsIn form input + statesIn input) (r .within),
+                        (zero-nonZero bytes (contentLength form (statesIn input) (groupsIn form input)) (contentBytes * m) (r .filler), tt),
                       ),
                     ),
                   ),
-                ))),
+                ),
           ),
         ),
       )
 
-  pub read-answer : refuse (readGrounds input site room) ≡ 0 → readAnswer input site room ≡ record { refusal = 0; n = statesIn input; g = groupsIn input }
-  unfolding readAnswer
-  read-answer e = chosen (refuse (readGrounds input site room)) _ _ e
+  pub read-answer : refuse (readGroundsAs form input site room) ≡ 0 → readAnswerAs form input site room ≡ record { refusal = 0; n = statesIn input; g = groupsIn form input }
+  unfolding readAnswerAs
+  read-answer e = chosen (refuse (readGroundsAs form input site room)) _ _ e
 
-pub read-buffer : (input : List ℕ) (site : ℕ) (store : List ℕ) → refuse (readGrounds input site (length store)) ≡ 0
-    → readBuffer input site store ≡ overwrite (layout (tableIn (contentsOf input) (statesIn input) (groupsIn input))) store
-unfolding readBuffer
-read-buffer input site store e = chosen (refuse (readGrounds input site (length store))) _ store e
+pub read-buffer : (form : Form) (input : List ℕ) (site : ℕ) (store : List ℕ) → refuse (readGroundsAs form input site (length store)) ≡ 0
+    → readBufferAs form input site store ≡ overwrite (layout (dialogueIn form (contentsOf input) (statesIn input) (groupsIn form input))) store
+unfolding readBufferAs
+read-buffer form input site store e = chosen (refuse (readGroundsAs form input site (length store))) _ store e
 
 -- ---- an input of no bytes
 
@@ -233,6 +251,9 @@ pub no-bytes : (input : List ℕ) → length input ≡ 0 → input ≡ []
 no-bytes [] e = refl
 no-bytes (x ∷ xs) e = absurd (omega arith)
 
-pub draft-says : (input : List ℕ) → length input ≡ 0 → (statesIn input ≡ 0) × (groupsIn input ≡ 0)
+pub draft-says : (form : Form) (input : List ℕ) → length input ≡ 0 → (statesIn input ≡ 0) × (groupsIn form input ≡ 0)
 unfolding contentsOf concat
-draft-says input e = let none = no-bytes input e in (ap (λ (xs : List ℕ). statesIn xs) none, ap (λ (xs : List ℕ). groupsIn xs) none)
+draft-says form input e =
+    let none = no-bytes input e in
+    let second : secondIn input ≡ 0 = ap (λ (xs : List ℕ). secondIn xs) none in
+    (ap (λ (xs : List ℕ). statesIn xs) none, omega arith)

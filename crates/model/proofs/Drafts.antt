@@ -17,9 +17,9 @@ use Rattle.model.specs.Sets.{WORDS, maxStates, Set, filter, member, empt
 use Rattle.model.specs.Tables.{post}
 use Rattle.model.specs.Rounds.{iterate, forward, isSafe, roundOf, firstRound, safe, settle, rounds, run}
 use Rattle.model.specs.Paths.{shortest, hasPath, smallestPath}
-use Rattle.model.specs.Stores.{headSets, forbiddenAt, groupAt, rowAt, storeWords, setAt, tableOf, layout, Ground, refuse, badStates, sharedGrounds}
+use Rattle.model.specs.Stores.{markedAt, restingAt, groupAt, rowAt, storeWords, setAt, dialogueOf, tableOf, layout, Ground, refuse, badStates, sharedGrounds}
 use Rattle.model.specs.Blocks.{contentsOf}
-use Rattle.model.specs.Contents.{setIn, setNumber, tableIn}
+use Rattle.model.specs.Contents.{Form, newForm, heads, setIn, setNumber, dialogueIn}
 use Rattle.model.specs.Calls.{overwrite, Decision, decisionOf, decideBuffer, Shortest, shortestGrounds, shortestAnswer, shortestBuffer, TableRead, statesIn, blocksGrounds, contentGrounds, readBuffer, Written, writeAnswer}
 use Rattle.model.specs.Draft.{Draft}
 use Rattle.model.proofs.Bounds.{is-false, by-cond, length-tabulate, getD-tabulate}
@@ -27,6 +27,7 @@ use Rattle.model.proofs.SetLaws.{setOf-cong, empty-in, firstStates-in}
 use Rattle.model.proofs.Fixpoints.{backward-is}
 use Rattle.model.proofs.ListLaws.{getD-past}
 use Rattle.model.proofs.GroundLaws.{refuse-none, refuse-skip, refuse-take, refuse-behind}
+use Rattle.model.proofs.ContentLaws.{by-resting}
 use Rattle.model.proofs.StoreLaws.{setAt-empty, Holds, holds-layout}
 use Rattle.model.proofs.FileLaws.{file-draft, length-draft}
 use Rattle.model.proofs.RoundLaws.{isSafe-intro}
@@ -49,20 +50,21 @@ setNumber-none : (bytes : List ℕ) (k : ℕ) → setNumber bytes 0 k ≡ empty
 unfolding setNumber setIn empty
 setNumber-none bytes k = setOf-cong _ _ (λ s h. rw (le-ltb s 0 (omega arith)))
 
-zeros-hold : (bytes : List ℕ) → Holds zeros (tableIn bytes 0 0)
-unfolding tableIn
-zeros-hold bytes =
+zeros-hold : (form : Form) (bytes : List ℕ) → Holds zeros (dialogueIn form bytes 0 0)
+unfolding dialogueIn
+zeros-hold form bytes =
     record {
       initial = zeros-empty 0 (omega arith) ∙ sym (setNumber-none bytes 0);
-      forbidden = zeros-empty forbiddenAt (omega arith) ∙ sym (setNumber-none bytes 1);
+      marked = zeros-empty markedAt (omega arith) ∙ sym (setNumber-none bytes 1);
+      resting = zeros-empty restingAt (omega arith) ∙ by-resting form bytes 0 (λ X. empty ≡ X) (λ l. sym (setNumber-none bytes 2)) (λ l. refl);
       group = λ j h.
-          let group : ℕ → Set = λ i. setNumber bytes 0 (headSets + i) in
+          let group : ℕ → Set = λ i. setNumber bytes 0 (heads form + i) in
           zeros-empty (groupAt j) (omega arith) ∙ sym (getD-past (tabulate 0 group) j empty (omega (arith, length-tabulate group 0)));
       row = λ s h. zeros-empty (rowAt s) (omega arith) ∙ sym (rw (le-ltb s 0 (omega arith)));
     }
 
-pub draft-layout : (bytes : List ℕ) → layout (tableIn bytes 0 0) ≡ tabulate storeWords (λ i. 0)
-draft-layout bytes = holds-layout zeros (tableIn bytes 0 0) (zeros-hold bytes) ∙ take-all storeWords zeros (omega (arith, zeros-long))
+pub draft-layout : (form : Form) (bytes : List ℕ) → layout (dialogueIn form bytes 0 0) ≡ tabulate storeWords (λ i. 0)
+draft-layout form bytes = holds-layout zeros (dialogueIn form bytes 0 0) (zeros-hold form bytes) ∙ take-all storeWords zeros (omega (arith, zeros-long))
 
 -- ---- the rounds and the path
 
@@ -102,21 +104,21 @@ unfolding badStates
 groups-alone store g later h f = refuse-skip _ 10 _ (le-ltb (length store) storeWords h) ∙ refuse-take _ 14 _ (rw (ne-eqb g 0 f))
 
 pub draft : Draft
-unfolding decisionOf decideBuffer shortestAnswer shortestBuffer overwrite tableOf contentGrounds
+unfolding decisionOf decideBuffer shortestAnswer shortestBuffer overwrite dialogueOf contentGrounds
 draft =
     record {
       read = λ site store k h.
-          let none = draft-refusal [] site (length store) h k refl in
-          let says = draft-says [] refl in (
-            read-answer [] site (length store) none ∙ ap₂ (λ (a b : ℕ). record { refusal = 0; n = a; g = b }) (says .0) (says .1),
-            read-buffer [] site store none
-                ∙ ap₂ (λ (a b : ℕ). overwrite (layout (tableIn (contentsOf []) a b)) store) (says .0) (says .1)
-                ∙ ap (λ xs. overwrite xs store) (draft-layout (contentsOf [])),
+          let none = draft-refusal newForm [] site (length store) h k refl in
+          let says = draft-says newForm [] refl in (
+            read-answer newForm [] site (length store) none ∙ ap₂ (λ (a b : ℕ). record { refusal = 0; n = a; g = b }) (says .0) (says .1),
+            read-buffer newForm [] site store none
+                ∙ ap₂ (λ (a b : ℕ). overwrite (layout (dialogueIn newForm (contentsOf []) a b)) store) (says .0) (says .1)
+                ∙ ap (λ xs. overwrite xs store) (draft-layout newForm (contentsOf [])),
           );
       read-accepted = λ site store k h.
-          let none = draft-refusal [] site (length store) h k refl in
-          let back = round-trips .read-write [] site store [] (λ i. omega arith) (omega arith) (read-refusal [] site (length store) ∙ none) in
-          let numbers = read-answer [] site (length store) none ∙ ap₂ (λ (a b : ℕ). record { refusal = 0; n = a; g = b }) (draft-says [] refl .0) (draft-says [] refl .1) in
+          let none = draft-refusal newForm [] site (length store) h k refl in
+          let back = round-trips .read-write [] site store [] (λ i. omega arith) (omega arith) (read-refusal newForm [] site (length store) ∙ none) in
+          let numbers = read-answer newForm [] site (length store) none ∙ ap₂ (λ (a b : ℕ). record { refusal = 0; n = a; g = b }) (draft-says newForm [] refl .0) (draft-says newForm [] refl .1) in
           let answer = ap (λ (a : TableRead). (writeAnswer (readBuffer [] site store) (a .n) (a .g) site 0) .refusal) (sym numbers) ∙ ap (λ (a : Written). a .refusal) (back .answer) in
           store-accepted (readBuffer [] site store) 0 0 []
           (writable (readBuffer [] site store) 0 0 site 0 (sym (write-refusal (readBuffer [] site store) 0 0 site 0) ∙ answer) .held)
@@ -138,16 +140,16 @@ draft =
           (answer, ap (λ (a : Shortest). cond (eqb (a .found) 1) (overwrite (smallestPath (tableOf store 0 0)) path) path) answer);
       write = λ store site output k e.
           let w : Writable store 0 0 site (length output) =
-          record { held = accepted-store store 0 0 [] e .0; known = k; fits = omega (arith, length-draft 0 0 refl) } in (
-            write-answer store 0 0 site (length output) w ∙ ap (λ (l : ℕ). record { refusal = 0; length = l }) (length-draft 0 0 refl),
-            write-buffer store 0 0 site output w ∙ ap (λ xs. overwrite xs output) (file-draft site (tableOf store 0 0) refl),
+          record { held = accepted-store store 0 0 [] e .0; known = k; fits = omega (arith, length-draft newForm 0 0 refl) } in (
+            write-answer store 0 0 site (length output) w ∙ ap (λ (l : ℕ). record { refusal = 0; length = l }) (length-draft newForm 0 0 refl),
+            write-buffer store 0 0 site output w ∙ ap (λ xs. overwrite xs output) (file-draft newForm site (dialogueOf store 0 0) refl),
           );
       groups-alone = groups-alone;
       groups-written = λ store g site room h k f.
           write-refusal store 0 g site room ∙ write-behind store 0 g site room h k ∙ groups-alone store g _ h f;
       block-without-states = λ input site room h k some whole blocks none.
-          read-refusal input site room
-          ∙ behind-length input site room h k some whole
+          read-refusal newForm input site room
+          ∙ behind-length newForm input site room h k some whole
           ∙ refuse-behind (blocksGrounds input site) _ (blocks-clear input site [] (ap refuse (append-nil (blocksGrounds input site)) ∙ blocks) .0)
           ∙ refuse-take _ 14 _ (rw (eq-eqb (statesIn input) 0 none));
     }

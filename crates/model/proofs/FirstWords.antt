@@ -1,8 +1,8 @@
 -- The calls read the first words of a store and no other.
 --
---   same-word, same-set-at, table-words     words, sets and the table of two stores that are alike in their first words
+--   same-word, .., table-words              words, sets, the dialogue and the table of two stores that are alike in their first words
 --   malformed-same, grounds-same            ground 17, and the shared grounds, of both
---   same-call                               what is made of the grounds and, where none holds, of the table, is the same
+--   same-dialogue, same-call                what is made of the grounds and, where none holds, of the dialogue or of the table, is the same
 --   same-write                              the same of write
 --   first-words                             specs/Promises
 use Prim.Native.Nat.{ℕ, _+_, _≤_, _<_}
@@ -16,11 +16,12 @@ use lib.Dec.{eqb, leb, ltb, lit≤}
 use lib.ListN.{length, getD, take, drop, take-append-drop}
 use lib.Seq.{length-take-le, getD-take}
 use Rattle.model.specs.Sets.{WORDS, maxStates, empty}
-use Rattle.model.specs.Tables.{Table}
+use Rattle.model.specs.Tables.{Table, Dialogue, tableFrom}
 use Rattle.model.specs.Rounds.{run}
 use Rattle.model.specs.Paths.{shortest, hasPath, smallestPath}
-use Rattle.model.specs.Stores.{maxGroups, storeWords, forbiddenAt, groupAt, rowAt, setAt, tableOf, Ground, refuse, beyond, nonZero, malformed, badStates, sharedGrounds}
+use Rattle.model.specs.Stores.{maxGroups, storeWords, markedAt, restingAt, groupAt, rowAt, setAt, dialogueOf, tableOf, Ground, refuse, beyond, nonZero, malformed, badStates, sharedGrounds}
 use Rattle.model.specs.Blocks.{maxSite}
+use Rattle.model.specs.Contents.{newForm}
 use Rattle.model.specs.Files.{fileOf, fileLength}
 use Rattle.model.specs.Calls.{overwrite, Decision, decideGrounds, decisionOf, declined, decideAnswer, decideBuffer, Shortest, shortestGrounds, shortestAnswer, shortestBuffer, Written, writeGrounds, writeAnswer, writeBuffer}
 use Rattle.model.specs.Promises.{FirstWords}
@@ -51,19 +52,24 @@ module _ (store other : List ℕ) (long : storeWords ≤ length store) (long′ 
   same-set-at : (at : ℕ) → at + WORDS ≤ storeWords → setAt store at ≡ setAt other at
   same-set-at at h = front-part store at long h ∙ ap (λ (xs : List ℕ). setAt xs at) e ∙ sym (front-part other at long′ h)
 
-  pub table-words : (n g : ℕ) → n ≤ maxStates → g ≤ maxGroups → tableOf store n g ≡ tableOf other n g
-  unfolding tableOf
-  table-words n g small few = λ i.
+  dialogue-words : (n g : ℕ) → n ≤ maxStates → g ≤ maxGroups → dialogueOf store n g ≡ dialogueOf other n g
+  unfolding dialogueOf
+  dialogue-words n g small few = λ i.
       record {
         n = n;
         initial = same-set-at 0 (lit≤ tt) i;
-        forbidden = same-set-at forbiddenAt (lit≤ tt) i;
+        marked = same-set-at markedAt (lit≤ tt) i;
+        resting = same-set-at restingAt (lit≤ tt) i;
         groups = tabulate-cong _ _ g (λ j h. same-set-at (groupAt j) (omega arith)) i;
         row = fun-ext same-row i;
       }
     where
       same-row : (s : ℕ) → cond (ltb s n) (setAt store (rowAt s)) empty ≡ cond (ltb s n) (setAt other (rowAt s)) empty
       same-row s = ⊎-elim (λ q. rw q (same-set-at (rowAt s) (omega (arith, ltb-true s n q)))) (λ q. rw q) (decided (ltb s n))
+
+  pub table-words : (n g : ℕ) → n ≤ maxStates → g ≤ maxGroups → tableOf store n g ≡ tableOf other n g
+  unfolding tableOf
+  table-words n g small few = ap tableFrom (dialogue-words n g small few)
 
   malformed-same : (n g : ℕ) → n ≤ maxStates → g ≤ maxGroups → malformed store n g ≡ malformed other n g
   unfolding malformed
@@ -72,7 +78,9 @@ module _ (store other : List ℕ) (long : storeWords ≤ length store) (long′ 
       (ap₂ _||_
       (ap₂ _||_
       (ap₂ _||_
-      (ap₂ _||_ (ap (beyond n) (same-set-at 0 (lit≤ tt))) (ap (beyond n) (same-set-at forbiddenAt (lit≤ tt))))
+      (ap₂ _||_
+      (ap₂ _||_ (ap (beyond n) (same-set-at 0 (lit≤ tt))) (ap (beyond n) (same-set-at markedAt (lit≤ tt))))
+      (ap (beyond n) (same-set-at restingAt (lit≤ tt))))
       (any-cong _ _ g (λ j h. ap (beyond n) (same-set-at (groupAt j) (omega arith)))))
       (any-cong _ _ n (λ s h. ap (beyond n) (same-set-at (rowAt s) (omega arith)))))
       (zero-same (groupAt g) (groupAt maxGroups) (lit≤ tt)))
@@ -94,30 +102,36 @@ module _ (store other : List ℕ) (long : storeWords ≤ length store) (long′ 
       (decided (ltb maxGroups g)))
       (decided (badStates n g)))
 
-  -- f is given the first ground that holds, and the table, which it reads only where there is none
-  pub same-call : {A : Type 0} (f : ℕ → Table → A) (n g : ℕ) (later : List Ground) → ((k : ℕ) (t u : Table) → eqb k 0 ≡ false → f k t ≡ f k u)
-      → f (refuse (sharedGrounds store n g ++ later)) (tableOf store n g) ≡ f (refuse (sharedGrounds other n g ++ later)) (tableOf other n g)
-  same-call f n g later only =
+  -- f is given the first ground that holds, and the dialogue, which it reads only where there is none
+  same-dialogue : {A : Type 0} (f : ℕ → Dialogue → A) (n g : ℕ) (later : List Ground) → ((k : ℕ) (d e : Dialogue) → eqb k 0 ≡ false → f k d ≡ f k e)
+      → f (refuse (sharedGrounds store n g ++ later)) (dialogueOf store n g) ≡ f (refuse (sharedGrounds other n g ++ later)) (dialogueOf other n g)
+  same-dialogue f n g later only =
       let k = refuse (sharedGrounds store n g ++ later) in
       ⊎-elim
-      (λ (q : eqb k 0 ≡ true). let held = accepted-store store n g later (eqb-true k 0 q) .0 in ap (f k) (table-words n g (held .small) (held .few)))
+      (λ (q : eqb k 0 ≡ true). let held = accepted-store store n g later (eqb-true k 0 q) .0 in ap (f k) (dialogue-words n g (held .small) (held .few)))
       (λ (q : eqb k 0 ≡ false). only k _ _ q)
       (decided (eqb k 0))
-      ∙ ap (λ (m : ℕ). f m (tableOf other n g)) (grounds-same n g later)
+      ∙ ap (λ (m : ℕ). f m (dialogueOf other n g)) (grounds-same n g later)
+
+  -- or the table
+  pub same-call : {A : Type 0} (f : ℕ → Table → A) (n g : ℕ) (later : List Ground) → ((k : ℕ) (t u : Table) → eqb k 0 ≡ false → f k t ≡ f k u)
+      → f (refuse (sharedGrounds store n g ++ later)) (tableOf store n g) ≡ f (refuse (sharedGrounds other n g ++ later)) (tableOf other n g)
+  unfolding tableOf
+  same-call f n g later only = same-dialogue (λ k d. f k (tableFrom d)) n g later (λ k d e q. only k (tableFrom d) (tableFrom e) q)
 
   -- the same of write, which looks at the site behind the store's length
-  same-write : {A : Type 0} (f : ℕ → Table → A) (n g site room : ℕ) → ((k : ℕ) (t u : Table) → eqb k 0 ≡ false → f k t ≡ f k u)
-      → f (refuse (writeGrounds store n g site room)) (tableOf store n g) ≡ f (refuse (writeGrounds other n g site room)) (tableOf other n g)
+  same-write : {A : Type 0} (f : ℕ → Dialogue → A) (n g site room : ℕ) → ((k : ℕ) (d e : Dialogue) → eqb k 0 ≡ false → f k d ≡ f k e)
+      → f (refuse (writeGrounds store n g site room)) (dialogueOf store n g) ≡ f (refuse (writeGrounds other n g site room)) (dialogueOf other n g)
   same-write f n g site room only =
       ⊎-elim
       (λ (h : maxSite < site).
-      ap (λ (k : ℕ). f k (tableOf store n g)) (write-over store n g site room long h)
+      ap (λ (k : ℕ). f k (dialogueOf store n g)) (write-over store n g site room long h)
       ∙ only 24 _ _ refl
-      ∙ sym (ap (λ (k : ℕ). f k (tableOf other n g)) (write-over other n g site room long′ h)))
+      ∙ sym (ap (λ (k : ℕ). f k (dialogueOf other n g)) (write-over other n g site room long′ h)))
       (λ (h : site ≤ maxSite).
-      ap (λ (k : ℕ). f k (tableOf store n g)) (write-behind store n g site room long h)
-      ∙ same-call f n g _ only
-      ∙ sym (ap (λ (k : ℕ). f k (tableOf other n g)) (write-behind other n g site room long′ h)))
+      ap (λ (k : ℕ). f k (dialogueOf store n g)) (write-behind store n g site room long h)
+      ∙ same-dialogue f n g _ only
+      ∙ sym (ap (λ (k : ℕ). f k (dialogueOf other n g)) (write-behind other n g site room long′ h)))
       (lt-or-ge maxSite site)
 
   pub first-words : FirstWords store other
@@ -133,8 +147,8 @@ module _ (store other : List ℕ) (long : storeWords ≤ length store) (long′ 
           same-call (λ k t. cond (eqb ((found-by k t) .found) 1) (overwrite (smallestPath t) path) path) n g _ (λ k t u q. rw q),
         );
         write = λ n g site output. (
-          same-write (λ k t. written-by n g k) n g site (length output) (λ k t u q. refl),
-          same-write (λ k t. cond (eqb ((written-by n g k) .refusal) 0) (overwrite (fileOf site t) output) output) n g site (length output) (λ k t u q. rw (q, q)),
+          same-write (λ k d. written-by n g k) n g site (length output) (λ k d e q. refl),
+          same-write (λ k d. cond (eqb ((written-by n g k) .refusal) 0) (overwrite (fileOf newForm site d) output) output) n g site (length output) (λ k d e q. rw (q, q)),
         );
       }
     where
@@ -147,4 +161,4 @@ module _ (store other : List ℕ) (long : storeWords ≤ length store) (long′ 
           (record { refusal = k; found = 0; steps = 0 })
 
       written-by : ℕ → ℕ → ℕ → Written
-      written-by n g k = cond (eqb k 0) (record { refusal = 0; length = fileLength n g }) (record { refusal = k; length = 0 })
+      written-by n g k = cond (eqb k 0) (record { refusal = 0; length = fileLength newForm n g }) (record { refusal = k; length = 0 })

@@ -24,8 +24,9 @@ use Rattle.model.specs.Tables.{Table, coverOf, cover}
 use Rattle.model.specs.Rounds.{Outcome, safe, unsafe, undecided, run, backwardNumber}
 use Rattle.model.specs.Paths.{isPath, shortest, hasPath, smallestPath}
 use Rattle.model.specs.Stores.{groupAt, setAt, tableOf, beyond, refuse}
+use Rattle.model.specs.Contents.{newForm}
 use Rattle.model.specs.Files.{fileLength}
-use Rattle.model.specs.Calls.{overwrite, Decision, release, decideGrounds, decisionOf, declined, decideAnswer, decideBuffer, Shortest, shortestGrounds, shortestAnswer, shortestBuffer, TableRead, statesIn, groupsIn, readGrounds, readAnswer, readBuffer, Written, writeGrounds, writeAnswer, writeBuffer}
+use Rattle.model.specs.Calls.{overwrite, Decision, release, decideGrounds, decisionOf, declined, decideAnswer, decideBuffer, Shortest, shortestGrounds, shortestAnswer, shortestBuffer, TableRead, statesIn, groupsIn, readGrounds, readAnswerAs, readBufferAs, Written, writeGrounds, writeAnswer, writeBuffer}
 use Rattle.model.specs.Promises.{Operations, StopsFirst, IsSmallest, Carries, Demand2, Demand3, SameAnswer, PathAnswer, Accepted, Promises, Untouched, Declined}
 use Rattle.model.specs.Sizes.{Sizes}
 use Rattle.model.proofs.Bounds.{decided, by-cond, clash, in-tabulate}
@@ -286,7 +287,7 @@ path-not-refused t true = refl
 path-not-refused t false = refl
 
 pub untouched : Untouched
-unfolding decideAnswer decideBuffer declined shortestAnswer shortestBuffer readBuffer writeBuffer
+unfolding decideAnswer decideBuffer declined shortestAnswer shortestBuffer readBufferAs writeBuffer
 untouched =
     record {
       decide = λ store n g allowance path.
@@ -299,7 +300,7 @@ untouched =
           (by-cond (λ (a : Shortest). eqb (refuse (shortestGrounds store n g (length path))) 0 ≡ true → (a .refusal ≡ 0 → ⊥) → cond (eqb (a .found) 1) (overwrite (smallestPath (tableOf store n g)) path) path ≡ path)
           (hasPath (tableOf store n g)) _ _ (λ h q f. absurd (f refl)) (λ h q f. refl))
           (λ q f. refl);
-      read = λ input site store f. rw (ne-eqb (refuse (readGrounds input site (length store))) 0 (λ e. f (read-refusal input site (length store) ∙ e)));
+      read = λ input site store f. rw (ne-eqb (refuse (readGrounds input site (length store))) 0 (λ e. f (read-refusal newForm input site (length store) ∙ e)));
       write = λ store n g site output f. rw (ne-eqb ((writeAnswer store n g site (length output)) .refusal) 0 f);
     }
 
@@ -310,7 +311,7 @@ declining refusal k given other e =
     by-cond (λ a. (refusal a ≡ 0 → ⊥) → a ≡ other) (eqb k 0) given other (λ q f. absurd (f e)) (λ q f. refl)
 
 pub declines : Declined
-unfolding decideAnswer declined shortestAnswer readAnswer writeAnswer
+unfolding decideAnswer declined shortestAnswer readAnswerAs writeAnswer
 declines =
     record {
       decide = λ store n g allowance room.
@@ -324,10 +325,10 @@ declines =
           (path-not-refused t (hasPath t));
       read = λ input site room.
           let k = refuse (readGrounds input site room) in
-          declining (λ (a : TableRead). a .refusal) k (record { refusal = 0; n = statesIn input; g = groupsIn input }) (record { refusal = k; n = 0; g = 0 }) refl;
+          declining (λ (a : TableRead). a .refusal) k (record { refusal = 0; n = statesIn input; g = groupsIn newForm input }) (record { refusal = k; n = 0; g = 0 }) refl;
       write = λ store n g site room.
           let k = refuse (writeGrounds store n g site room) in
-          declining (λ (a : Written). a .refusal) k (record { refusal = 0; length = fileLength n g }) (record { refusal = k; length = 0 }) refl;
+          declining (λ (a : Written). a .refusal) k (record { refusal = 0; length = fileLength newForm n g }) (record { refusal = k; length = 0 }) refl;
     }
 
 pub sizes : Sizes
@@ -337,12 +338,16 @@ sizes =
       most-states = refl;
       most-groups = refl;
       words-of-a-store = refl;
-      forbidden-at = refl;
+      marked-at = refl;
+      resting-at = refl;
       group-at = λ j. refl;
       row-at = λ s. refl;
       greatest-allowance = refl;
       release-allowance = refl;
       block = refl;
+      heads-of-a-file = (refl, refl);
+      added-to-g = (refl, refl);
       most-blocks = refl;
+      most-blocks-old = refl;
       largest-file = refl;
     }

@@ -3,6 +3,7 @@ pub mod SetLaws
 pub mod Counting
 pub mod Fixpoints
 pub mod CoverLaws
+pub mod HangLaws
 pub mod ImageLaws
 pub mod WellFormed
 pub mod RoundLaws

@@ -16,8 +16,9 @@ use Rattle.model.specs.Tables.{Table}
 use Rattle.model.specs.Rounds.{Outcome, safe, unsafe, undecided, run}
 use Rattle.model.specs.Paths.{reaching, shortest, hasPath}
 use Rattle.model.specs.Stores.{maxGroups, tableOf, refuse}
+use Rattle.model.specs.Contents.{newForm}
 use Rattle.model.specs.Files.{maxFile}
-use Rattle.model.specs.Calls.{Decision, maxAllowance, decideGrounds, decisionOf, declined, decideAnswer, Shortest, shortestGrounds, shortestAnswer, TableRead, readGrounds, readAnswer, Written, writeGrounds, writeAnswer}
+use Rattle.model.specs.Calls.{Decision, maxAllowance, decideGrounds, decisionOf, declined, decideAnswer, Shortest, shortestGrounds, shortestAnswer, TableRead, readGrounds, readAnswer, readAnswerAs, Written, writeGrounds, writeAnswer}
 use Rattle.model.proofs.Bounds.{by-cond, first-le}
 use Rattle.model.proofs.Counting.{size-most}
 use Rattle.model.proofs.Fixpoints.{backward-is}
@@ -70,14 +71,14 @@ pub record ReadRange (a : TableRead) : Type 0 where
   pub g : a .g ≤ maxGroups
 
 pub read-range : (input : List ℕ) (site room : ℕ) → ReadRange (readAnswer input site room)
-unfolding readAnswer
+unfolding readAnswerAs
 read-range input site room =
     by-cond ReadRange (eqb (refuse (readGrounds input site room)) 0) _ _
     (λ q.
     ⊎-elim
-    (λ none. let says = draft-says input none in record { n = omega (arith, says .0); g = omega (arith, says .1) })
+    (λ none. let says = draft-says newForm input none in record { n = omega (arith, says .0); g = omega (arith, says .1) })
     (λ r. record { n = r .small; g = r .few })
-    (readable input site room (eqb-true (refuse (readGrounds input site room)) 0 q) .2))
+    (readable newForm input site room (eqb-true (refuse (readGrounds input site room)) 0 q) .2))
     (λ q. record { n = omega arith; g = omega arith })
 
 pub write-range : (store : List ℕ) (n g site room : ℕ) → (writeAnswer store n g site room) .length ≤ maxFile
@@ -86,5 +87,5 @@ write-range store n g site room =
     by-cond (λ (a : Written). a .length ≤ maxFile) (eqb (refuse (writeGrounds store n g site room)) 0) _ _
     (λ q.
     let w = writable store n g site room (eqb-true (refuse (writeGrounds store n g site room)) 0 q) in
-    fileLength-most n g (w .held .small) (w .held .few))
+    fileLength-most newForm n g (w .held .small) (w .held .few))
     (λ q. omega arith)

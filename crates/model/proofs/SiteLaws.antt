@@ -14,11 +14,11 @@ use mathlib.Core.List.{List, [], _∷_, _++_, append-nil}
 use borrow.Author.Tests.{eq-eqb, ne-eqb}
 use lib.Dec.{eqb}
 use lib.ListN.{length, take, drop, replicate}
-use Rattle.model.specs.Stores.{storeWords, tableOf, concat, Ground, refuse}
+use Rattle.model.specs.Stores.{storeWords, dialogueOf, concat, Ground, refuse}
 use Rattle.model.specs.Blocks.{blockBytes, contentBytes, checkAt, modulus, maxSite, le16, le16At, weighted, checkOf, blockOf, part, blockGrounds}
-use Rattle.model.specs.Contents.{contents}
+use Rattle.model.specs.Contents.{newForm, contents}
 use Rattle.model.specs.Files.{fileLength}
-use Rattle.model.specs.Calls.{badLength, blocksGrounds, readGrounds, readAnswer, Written, writeGrounds, writeAnswer, writeBuffer}
+use Rattle.model.specs.Calls.{badLength, blocksGrounds, readGroundsAs, readAnswer, Written, writeGrounds, writeAnswer, writeBuffer}
 use Rattle.model.specs.Sites.{Sites}
 use Rattle.model.proofs.Bounds.{length-tabulate}
 use Rattle.model.proofs.GroundLaws.{refuse-skip, refuse-take, refuse-append, clear-refuse, refuse-clear, numbered-concat, refuse-stop}
@@ -54,22 +54,22 @@ module _ (a b : ℕ) (h : a ≤ maxSite) (l : b ≤ maxSite) (apart : a ≡ b �
       let passed = refuse-clear (concat k grounds) [] (numbered-concat grounds (λ j. refl) k) (ap refuse (append-nil (concat k grounds)) ∙ before) .0 in
       let first : 13 ≡ refuse (blocksGrounds input b) =
       refuse-stop grounds (length input / blockBytes) k inside passed (sym (foreign-fault (part input k) k own)) (λ z. omega arith) in
-      read-refusal input b room
-      ∙ behind-length input b room fits l (λ z. omega arith) whole
+      read-refusal newForm input b room
+      ∙ behind-length newForm input b room fits l (λ z. omega arith) whole
       ∙ sym (refuse-append (blocksGrounds input b) _ first (λ z. omega arith))
 
 -- ---- a block of the same site
 
 module _ (store : List ℕ) (n g site : ℕ) (out : List ℕ) (k : ℕ) (w : Writable store n g site (length out)) where
-  written-block : k < fileLength n g / blockBytes → refuse (blockGrounds site (part (take (fileLength n g) (writeBuffer store n g site out)) k) k) ≡ 0
-  unfolding tableOf
+  written-block : k < fileLength newForm n g / blockBytes → refuse (blockGrounds site (part (take (fileLength newForm n g) (writeBuffer store n g site out)) k) k) ≡ 0
+  unfolding dialogueOf
   written-block h =
-      let t = tableOf store n g in
-      let some : n ≡ 0 → ⊥ = λ z. omega (arith, length-draft n g z) in
-      let block = blockOf-is site (contents t) k in
-      let most = fileLength-most n g (w .held .small) (w .held .few) in
-      ap (λ (file : List ℕ). refuse (blockGrounds site (part file k) k)) (file-is store n g site out w ∙ file-blocks site t some)
-      ∙ ap (λ (b : List ℕ). refuse (blockGrounds site b k)) (part-blockFile site t (length-tabulate _ g) k (omega (arith, length-blocks n g some)))
+      let t = dialogueOf store n g in
+      let some : n ≡ 0 → ⊥ = λ z. omega (arith, length-draft newForm n g z) in
+      let block = blockOf-is site (contents newForm t) k in
+      let most = fileLength-most newForm n g (w .held .small) (w .held .few) in
+      ap (λ (file : List ℕ). refuse (blockGrounds site (part file k) k)) (file-is store n g site out w ∙ file-blocks newForm site t some)
+      ∙ ap (λ (b : List ℕ). refuse (blockGrounds site b k)) (part-blockFile newForm site t (length-tabulate _ g) k (omega (arith, length-blocks newForm n g some)))
       ∙ clear-refuse _ (right-block site _ k (block-number block (omega arith)) (block-check block))
 
 own-block : (store : List ℕ) (n g site : ℕ) (out : List ℕ) (k : ℕ)
@@ -98,7 +98,7 @@ grounds-zero block k =
 -- ---- all of them
 
 pub sites : Sites
-unfolding checkOf blockOf readGrounds writeGrounds refuse
+unfolding checkOf blockOf readGroundsAs writeGrounds refuse
 sites =
     record {
       greatest = refl;
@@ -109,6 +109,6 @@ sites =
       write-zero = λ store n g room. refl;
       own-block = own-block;
       foreign-block = foreign-block;
-      read-over = λ input site room h l. read-refusal input site room ∙ read-over input site room h l;
+      read-over = λ input site room h l. read-refusal newForm input site room ∙ read-over newForm input site room h l;
       write-over = λ store n g site room h l. write-refusal store n g site room ∙ write-over store n g site room h l;
     }

@@ -11,28 +11,29 @@
 --   beyond-below, below-beyond                no state from n up: the test and the fact
 --   nonZero-zero, zero-nonZero                only zeros in a stretch: the test and the fact
 --   Clean, malformed-clean, clean-malformed           ground 17 does not hold: the test and the facts
---   holds-sets, holds-clean                   the table read from a store that holds t has the sets of t, and the store is clean if they are
+--   dialogueOf-row, row-is                    a state has its row in the store
+--   holds-dialogue, holds-sets, holds-clean                   the dialogue read from a store that holds t has the sets of t, and the store is clean if they are
 use Prim.Native.Nat.{ℕ, _+_, _*_, _-_, _/_, _^_, _≤_, _<_}
 use native.Mathlib.Nat.{not-le-of-lt}
 use native.Mathlib.Omega.{arith}
-use mathlib.Core.Path.{_≡_, refl, sym, ap, ap₂, _∙_, subst}
+use mathlib.Core.Path.{_≡_, refl, sym, ap, ap₂, _∙_, subst, fun-ext}
 use mathlib.Core.Logic.{⊎-elim}
 use mathlib.Core.Bool.{false, not, _&&_, cond}
-use mathlib.Core.List.{List, [], _∷_, _++_}
-use borrow.Author.Tests.{lt-ltb, le-ltb, leb-true, le-leb, eqb-true, eqb-false}
+use mathlib.Core.List.{List, _∷_, _++_}
+use borrow.Author.Tests.{ltb-true, ltb-false, lt-ltb, le-ltb, leb-true, le-leb, eqb-true, eqb-false}
 use lib.Dec.{eqb, ltb, leb}
 use lib.ListN.{length, getD, take, drop, length-append, length-drop}
 use lib.Seq.{ext-getD, getD-take, getD-drop, length-take-le, take-add, drop-drop, take-at}
 use Rattle.model.specs.Sets.{WORDS, maxStates, Set, any, tabulate, member, setOf, empty}
-use Rattle.model.specs.Tables.{Table}
-use Rattle.model.specs.Stores.{headSets, maxGroups, forbiddenAt, groupAt, rowAt, storeWords, setAt, tableOf, concat, layout, beyond, nonZero, malformed}
-use Rattle.model.specs.Contents.{sets}
+use Rattle.model.specs.Tables.{Dialogue}
+use Rattle.model.specs.Stores.{maxGroups, markedAt, restingAt, groupAt, rowAt, storeWords, setAt, dialogueOf, tableOf, concat, layout, beyond, nonZero, malformed}
+use Rattle.model.specs.Contents.{newForm, sets}
 use Rattle.model.specs.Calls.{overwrite}
 use Rattle.model.specs.RoundTrip.{Bounded}
 use Rattle.model.proofs.Bounds.{and-true, and-intro, not-true, is-false, clash, decided, by-cond, lt-or-ge, any-intro, any-find, any-none, length-tabulate, getD-tabulate, tabulate-cong, or-false, no-any}
 use Rattle.model.proofs.SetLaws.{Proper, setOf-proper, In, in-bound}
 use Rattle.model.proofs.ListLaws.{part-front, part-behind, getD-past, Wide, length-concat, part-concat, concat-cong, concat-parts}
-use Rattle.model.proofs.ContentLaws.{number-none, sets-group, sets-row}
+use Rattle.model.proofs.ContentLaws.{number-none}
 
 -- ---- a set among the words of a store
 
@@ -77,46 +78,45 @@ empty-setAt store at i e h l =
 
 -- ---- a store that holds a table, and its layout
 
-pub record Holds (store : List ℕ) (t : Table) : Type 0 where
+pub record Holds (store : List ℕ) (t : Dialogue) : Type 0 where
   pub initial : setAt store 0 ≡ t .initial
-  pub forbidden : setAt store forbiddenAt ≡ t .forbidden
+  pub marked : setAt store markedAt ≡ t .marked
+  pub resting : setAt store restingAt ≡ t .resting
   pub group : (j : ℕ) → j < maxGroups → setAt store (groupAt j) ≡ getD (t .groups) j empty
   pub row : (s : ℕ) → s < maxStates → setAt store (rowAt s) ≡ cond (ltb s (t .n)) (t .row s) empty
 
-four-parts : (xs : List ℕ) (a b c d : ℕ) → take a xs ++ (take b (drop a xs) ++ (take c (drop (a + b) xs) ++ take d (drop (a + b + c) xs))) ≡ take (a + (b + (c + d))) xs
-four-parts xs a b c d =
-    sym
-    (take-add a (b + (c + d)) xs
-    ∙ ap (λ ys. take a xs ++ ys)
-    (take-add b (c + d) (drop a xs)
-    ∙ ap (λ ys. take b (drop a xs) ++ ys)
-    (ap (take (c + d)) (drop-drop b a xs)
-    ∙ take-add c d (drop (a + b) xs)
-    ∙ ap (λ ys. take c (drop (a + b) xs) ++ take d ys) (drop-drop c (a + b) xs))))
+-- m elements from a on, in two parts
+two-parts : (xs : List ℕ) (a b m : ℕ) → take b (drop a xs) ++ take m (drop (a + b) xs) ≡ take (b + m) (drop a xs)
+two-parts xs a b m = ap (λ ys. take b (drop a xs) ++ take m ys) (sym (drop-drop b a xs)) ∙ sym (take-add b m (drop a xs))
 
-pub holds-layout : (store : List ℕ) (t : Table) → Holds store t → layout t ≡ take storeWords store
+pub holds-layout : (store : List ℕ) (t : Dialogue) → Holds store t → layout t ≡ take storeWords store
 unfolding setAt layout
 holds-layout store t h =
     ap₂ (λ xs ys. xs ++ ys) (sym (h .initial))
-    (ap₂ (λ xs ys. xs ++ ys) (sym (h .forbidden))
+    (ap₂ (λ xs ys. xs ++ ys) (sym (h .marked))
+    (ap₂ (λ xs ys. xs ++ ys) (sym (h .resting))
     (ap₂ (λ xs ys. xs ++ ys)
     (concat-cong _ _ maxGroups (λ j l. sym (h .group j l)) ∙ concat-parts store (groupAt 0) WORDS maxGroups)
-    (concat-cong _ _ maxStates (λ s l. sym (h .row s l)) ∙ concat-parts store (rowAt 0) WORDS maxStates)))
-    ∙ four-parts store WORDS WORDS (WORDS * maxGroups) (WORDS * maxStates)
+    (concat-cong _ _ maxStates (λ s l. sym (h .row s l)) ∙ concat-parts store (rowAt 0) WORDS maxStates)
+    ∙ two-parts store (groupAt 0) (WORDS * maxGroups) (WORDS * maxStates))
+    ∙ two-parts store restingAt WORDS (WORDS * maxGroups + WORDS * maxStates))
+    ∙ two-parts store markedAt WORDS (WORDS + (WORDS * maxGroups + WORDS * maxStates)))
+    ∙ two-parts store 0 WORDS (WORDS + (WORDS + (WORDS * maxGroups + WORDS * maxStates)))
 
-pub record Laid (t : Table) : Type 0 where
+pub record Laid (t : Dialogue) : Type 0 where
   pub initial : length (t .initial) ≡ WORDS
-  pub forbidden : length (t .forbidden) ≡ WORDS
+  pub marked : length (t .marked) ≡ WORDS
+  pub resting : length (t .resting) ≡ WORDS
   pub group : (j : ℕ) → length (getD (t .groups) j empty) ≡ WORDS
   pub row : (s : ℕ) → length (t .row s) ≡ WORDS
 
-abbrev groupWords : Table → List ℕ
+abbrev groupWords : Dialogue → List ℕ
 groupWords t = concat maxGroups (λ j. getD (t .groups) j empty)
 
-abbrev rowWords : Table → List ℕ
+abbrev rowWords : Dialogue → List ℕ
 rowWords t = concat maxStates (λ s. cond (ltb s (t .n)) (t .row s) empty)
 
-module _ (t : Table) (laid : Laid t) where
+module _ (t : Dialogue) (laid : Laid t) where
   groups-wide : Wide maxGroups WORDS (λ j. getD (t .groups) j empty)
   groups-wide j h = laid .group j
 
@@ -134,10 +134,12 @@ module _ (t : Table) (laid : Laid t) where
   length-layout =
       omega (
         arith,
-        length-append (t .initial) (t .forbidden ++ (groupWords t ++ rowWords t)),
+        length-append (t .initial) (t .marked ++ (t .resting ++ (groupWords t ++ rowWords t))),
         laid .initial,
-        length-append (t .forbidden) (groupWords t ++ rowWords t),
-        laid .forbidden,
+        length-append (t .marked) (t .resting ++ (groupWords t ++ rowWords t)),
+        laid .marked,
+        length-append (t .resting) (groupWords t ++ rowWords t),
+        laid .resting,
         length-append (groupWords t) (rowWords t),
         groups-long,
         rows-long,
@@ -146,24 +148,28 @@ module _ (t : Table) (laid : Laid t) where
   pub layout-holds : Holds (layout t) t
   unfolding setAt layout
   layout-holds =
-      let rest = t .forbidden ++ (groupWords t ++ rowWords t) in
+      let rest = t .resting ++ (groupWords t ++ rowWords t) in
+      let behind : (i m : ℕ) → i ≡ WORDS + (WORDS + (WORDS + m)) → take WORDS (drop i (layout t)) ≡ take WORDS (drop m (groupWords t ++ rowWords t)) =
+      λ i m place.
+      ap (λ (k : ℕ). take WORDS (drop k (layout t))) place
+      ∙ part-behind (t .initial) (t .marked ++ rest) WORDS (WORDS + (WORDS + m)) WORDS (laid .initial)
+      ∙ part-behind (t .marked) rest WORDS (WORDS + m) WORDS (laid .marked)
+      ∙ part-behind (t .resting) (groupWords t ++ rowWords t) WORDS m WORDS (laid .resting) in
       record {
-        initial = take-at (t .initial) rest WORDS (laid .initial);
-        forbidden =
-            part-behind (t .initial) rest WORDS 0 WORDS (laid .initial)
-            ∙ take-at (t .forbidden) (groupWords t ++ rowWords t) WORDS (laid .forbidden);
+        initial = take-at (t .initial) (t .marked ++ rest) WORDS (laid .initial);
+        marked =
+            part-behind (t .initial) (t .marked ++ rest) WORDS 0 WORDS (laid .initial)
+            ∙ take-at (t .marked) rest WORDS (laid .marked);
+        resting =
+            part-behind (t .initial) (t .marked ++ rest) WORDS WORDS WORDS (laid .initial)
+            ∙ part-behind (t .marked) rest WORDS 0 WORDS (laid .marked)
+            ∙ take-at (t .resting) (groupWords t ++ rowWords t) WORDS (laid .resting);
         group = λ j h.
-            let place : groupAt j ≡ WORDS + (WORDS + WORDS * j) = omega arith in
-            ap (λ (i : ℕ). take WORDS (drop i (layout t))) place
-            ∙ part-behind (t .initial) rest WORDS (WORDS + WORDS * j) WORDS (laid .initial)
-            ∙ part-behind (t .forbidden) (groupWords t ++ rowWords t) WORDS (WORDS * j) WORDS (laid .forbidden)
+            behind (groupAt j) (WORDS * j) (omega arith)
             ∙ part-front (groupWords t) (rowWords t) (WORDS * j) WORDS (omega (arith, groups-long))
             ∙ part-concat _ WORDS maxGroups j groups-wide h;
         row = λ s h.
-            let place : rowAt s ≡ WORDS + (WORDS + (WORDS * maxGroups + WORDS * s)) = omega arith in
-            ap (λ (i : ℕ). take WORDS (drop i (layout t))) place
-            ∙ part-behind (t .initial) rest WORDS (WORDS + (WORDS * maxGroups + WORDS * s)) WORDS (laid .initial)
-            ∙ part-behind (t .forbidden) (groupWords t ++ rowWords t) WORDS (WORDS * maxGroups + WORDS * s) WORDS (laid .forbidden)
+            behind (rowAt s) (WORDS * maxGroups + WORDS * s) (omega arith)
             ∙ part-behind (groupWords t) (rowWords t) (WORDS * maxGroups) (WORDS * s) WORDS groups-long
             ∙ part-concat _ WORDS maxStates s rows-wide h;
       }
@@ -174,7 +180,8 @@ module _ (t : Table) (laid : Laid t) where
       λ at h. setAt-overwrite (layout t) old at (omega (arith, length-layout)) in
       record {
         initial = kept 0 (omega arith) ∙ layout-holds .initial;
-        forbidden = kept forbiddenAt (omega arith) ∙ layout-holds .forbidden;
+        marked = kept markedAt (omega arith) ∙ layout-holds .marked;
+        resting = kept restingAt (omega arith) ∙ layout-holds .resting;
         group = λ j h. kept (groupAt j) (omega arith) ∙ layout-holds .group j h;
         row = λ s h. kept (rowAt s) (omega arith) ∙ layout-holds .row s h;
       }
@@ -221,7 +228,8 @@ module _ (xs : List ℕ) (from to : ℕ) where
 
 pub record Clean (store : List ℕ) (n g : ℕ) : Type 0 where
   pub initial : beyond n (setAt store 0) ≡ false
-  pub forbidden : beyond n (setAt store forbiddenAt) ≡ false
+  pub marked : beyond n (setAt store markedAt) ≡ false
+  pub resting : beyond n (setAt store restingAt) ≡ false
   pub group : (j : ℕ) → j < g → beyond n (setAt store (groupAt j)) ≡ false
   pub row : (s : ℕ) → s < n → beyond n (setAt store (rowAt s)) ≡ false
   pub no-group : (i : ℕ) → groupAt g ≤ i → i < groupAt maxGroups → getD store i 0 ≡ 0
@@ -234,10 +242,12 @@ malformed-clean store n g e =
     let groups = or-false _ (nonZero store (groupAt g) (groupAt maxGroups)) (rows .0) in
     let row = or-false _ (any n (λ s. beyond n (setAt store (rowAt s)))) (groups .0) in
     let group = or-false _ (any g (λ j. beyond n (setAt store (groupAt j)))) (row .0) in
-    let pair = or-false (beyond n (setAt store 0)) (beyond n (setAt store forbiddenAt)) (group .0) in
+    let resting = or-false _ (beyond n (setAt store restingAt)) (group .0) in
+    let pair = or-false (beyond n (setAt store 0)) (beyond n (setAt store markedAt)) (resting .0) in
     record {
       initial = pair .0;
-      forbidden = pair .1;
+      marked = pair .1;
+      resting = resting .1;
       group = any-none (λ j. beyond n (setAt store (groupAt j))) g (group .1);
       row = any-none (λ s. beyond n (setAt store (rowAt s))) n (row .1);
       no-group = nonZero-zero store (groupAt g) (groupAt maxGroups) (groups .1);
@@ -249,21 +259,26 @@ unfolding malformed
 clean-malformed store n g c =
     rw (
       c .initial,
-      c .forbidden,
+      c .marked,
+      c .resting,
       no-any (λ j. beyond n (setAt store (groupAt j))) g (c .group),
       no-any (λ s. beyond n (setAt store (rowAt s))) n (c .row),
       zero-nonZero store (groupAt g) (groupAt maxGroups) (c .no-group),
       zero-nonZero store (rowAt n) storeWords (c .no-row),
     )
 
--- ---- the table that a store holds
+-- ---- the dialogue that a store holds
 
 -- a state of the table has its row in the store
+pub dialogueOf-row : (store : List ℕ) (n g s : ℕ) → s < n → (dialogueOf store n g) .row s ≡ setAt store (rowAt s)
+unfolding dialogueOf
+dialogueOf-row store n g s h = rw (lt-ltb s n h)
+
 pub row-is : (store : List ℕ) (n g s : ℕ) → s < n → (tableOf store n g) .row s ≡ setAt store (rowAt s)
 unfolding tableOf
-row-is store n g s h = rw (lt-ltb s n h)
+row-is = dialogueOf-row
 
-module _ (store : List ℕ) (t : Table) (h : Holds store t) {g : ℕ} (many : length (t .groups) ≡ g) (groups : g ≤ maxGroups) (states : t .n ≤ maxStates) where
+module _ (store : List ℕ) (t : Dialogue) (h : Holds store t) {g : ℕ} (many : length (t .groups) ≡ g) (groups : g ≤ maxGroups) (states : t .n ≤ maxStates) where
   row-at : (s : ℕ) → s < t .n → setAt store (rowAt s) ≡ t .row s
   row-at s l = h .row s (omega arith) ∙ rw (lt-ltb s (t .n) l)
 
@@ -274,21 +289,30 @@ module _ (store : List ℕ) (t : Table) (h : Holds store t) {g : ℕ} (many : le
       let few : j < g = subst (λ (m : ℕ). j < m) (length-tabulate (λ i. setAt store (groupAt i)) g) l in
       getD-tabulate _ g j empty few ∙ h .group j (omega arith))
 
-  pub holds-sets : sets (tableOf store (t .n) g) ≡ sets t
-  unfolding sets tableOf
-  holds-sets = λ i. h .initial i ∷ h .forbidden i ∷ (groups-at i ++ tabulate-cong _ _ (t .n) (λ s l. row-is store (t .n) g s l ∙ row-at s l) i)
+  pub holds-sets : sets newForm (dialogueOf store (t .n) g) ≡ sets newForm t
+  unfolding sets dialogueOf
+  holds-sets = λ i. h .initial i ∷ h .marked i ∷ h .resting i ∷ (groups-at i ++ tabulate-cong _ _ (t .n) (λ s l. dialogueOf-row store (t .n) g s l ∙ row-at s l) i)
 
-  pub holds-clean : ((k : ℕ) → k < headSets + g + t .n → beyond (t .n) (getD (sets t) k []) ≡ false) → Clean store (t .n) g
-  unfolding sets tableOf
-  holds-clean within =
+  -- where the rows past the states are empty, it is that dialogue
+  pub holds-dialogue : ((s : ℕ) → t .n ≤ s → t .row s ≡ empty) → dialogueOf store (t .n) g ≡ t
+  unfolding dialogueOf
+  holds-dialogue none = λ i.
+      record { n = t .n; initial = h .initial i; marked = h .marked i; resting = h .resting i; groups = groups-at i; row = fun-ext same-row i }
+    where
+      same-row : (s : ℕ) → cond (ltb s (t .n)) (setAt store (rowAt s)) empty ≡ t .row s
+      same-row s = ⊎-elim (λ q. rw q (row-at s (ltb-true s (t .n) q))) (λ q. rw q (sym (none s (ltb-false s (t .n) q)))) (decided (ltb s (t .n)))
+
+  pub holds-clean : beyond (t .n) (t .initial) ≡ false → beyond (t .n) (t .marked) ≡ false → beyond (t .n) (t .resting) ≡ false
+      → ((j : ℕ) → j < g → beyond (t .n) (getD (t .groups) j empty) ≡ false) → ((s : ℕ) → s < t .n → beyond (t .n) (t .row s) ≡ false)
+      → Clean store (t .n) g
+  holds-clean initial marked resting group row =
       let n = t .n in
-      let u = tableOf store n g in
-      let held : (k : ℕ) → k < headSets + g + n → beyond n (getD (sets u) k []) ≡ false = λ k l. ap (λ xs. beyond n (getD xs k [])) holds-sets ∙ within k l in
       record {
-        initial = held 0 (omega arith);
-        forbidden = held 1 (omega arith);
-        group = λ j l. ap (beyond n) (sym (sets-group u (length-tabulate _ g) j l ∙ getD-tabulate _ g j [] l)) ∙ held (headSets + j) (omega arith);
-        row = λ s l. ap (beyond n) (sym (sets-row u (length-tabulate _ g) s l ∙ row-is store n g s l)) ∙ held (headSets + g + s) (omega arith);
+        initial = ap (beyond n) (h .initial) ∙ initial;
+        marked = ap (beyond n) (h .marked) ∙ marked;
+        resting = ap (beyond n) (h .resting) ∙ resting;
+        group = λ j l. ap (beyond n) (h .group j (omega arith)) ∙ group j l;
+        row = λ s l. ap (beyond n) (row-at s l) ∙ row s l;
         no-group = λ i a b.
             let j = (i - groupAt 0) / WORDS in
             empty-setAt store (groupAt j) i (h .group j (omega arith) ∙ getD-past (t .groups) j empty (omega arith)) (omega arith) (omega arith);

@@ -13,3 +13,4 @@ pub mod Promises
 pub mod RoundTrip
 pub mod Sites
 pub mod Draft
+pub mod Resting

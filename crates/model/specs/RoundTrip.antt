@@ -12,10 +12,10 @@ use mathlib.Core.Path.{_≡_}
 use mathlib.Core.List.{List}
 use lib.ListN.{length, getD, take}
 use Rattle.model.specs.Sets.{maxStates}
-use Rattle.model.specs.Tables.{Table}
+use Rattle.model.specs.Tables.{Dialogue}
 use Rattle.model.specs.Stores.{maxGroups, storeWords}
 use Rattle.model.specs.Blocks.{blockBytes}
-use Rattle.model.specs.Contents.{contents, contentLength}
+use Rattle.model.specs.Contents.{Form, contents, contentLength}
 use Rattle.model.specs.Files.{fileOf, fileLength, maxFile}
 use Rattle.model.specs.Calls.{overwrite, readAnswer, readBuffer, writeAnswer, writeBuffer}
 
@@ -45,7 +45,7 @@ pub record RoundTrips : Type 0 where
       → ReadWrite (readBuffer input site store) ((readAnswer input site (length store)) .n) ((readAnswer input site (length store)) .g) site input out
 
 pub record FileSizes : Type 0 where
-  pub contents-long : (t : Table) → length (contents t) ≡ contentLength (t .n) (length (t .groups))
-  pub file-long : (site : ℕ) (t : Table) → length (fileOf site t) ≡ fileLength (t .n) (length (t .groups))
-  pub largest : (n g : ℕ) → n ≤ maxStates → g ≤ maxGroups → fileLength n g ≤ maxFile
+  pub contents-long : (form : Form) (d : Dialogue) → length (contents form d) ≡ contentLength form (d .n) (length (d .groups))
+  pub file-long : (form : Form) (site : ℕ) (d : Dialogue) → length (fileOf form site d) ≡ fileLength form (d .n) (length (d .groups))
+  pub largest : (form : Form) (n g : ℕ) → n ≤ maxStates → g ≤ maxGroups → fileLength form n g ≤ maxFile
   pub largest-is : maxFile ≡ 73 * blockBytes

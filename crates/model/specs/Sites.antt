@@ -9,6 +9,7 @@ use lib.Dec.{eqb}
 use lib.ListN.{length, take, drop, replicate}
 use Rattle.model.specs.Stores.{storeWords, concat, refuse, storeGround, sharedGrounds}
 use Rattle.model.specs.Blocks.{blockBytes, contentBytes, checkAt, modulus, maxSite, le16, le16At, weighted, checkOf, blockOf, part, blockGrounds}
+use Rattle.model.specs.Contents.{newForm}
 use Rattle.model.specs.Calls.{badLength, fileGrounds, readGrounds, readAnswer, outputGround, writeGrounds, writeAnswer, writeBuffer}
 
 pub record Sites : Type 0 where
@@ -23,7 +24,7 @@ pub record Sites : Type 0 where
       ≡ (not (eqb (le16At block 0) k), 12) ∷ (not (eqb (le16At block checkAt) (weighted block checkAt % modulus)), 13) ∷ []
   -- and read and write are declined as without ground 24
   pub read-zero : (input : List ℕ) (room : ℕ)
-      → refuse (readGrounds input 0 room) ≡ refuse (storeGround room ∷ cond (eqb (length input) 0) [] (fileGrounds input 0))
+      → refuse (readGrounds input 0 room) ≡ refuse (storeGround room ∷ cond (eqb (length input) 0) [] (fileGrounds newForm input 0))
   pub write-zero : (store : List ℕ) (n g room : ℕ)
       → refuse (writeGrounds store n g 0 room) ≡ refuse (sharedGrounds store n g ++ (outputGround n g room ∷ []))
   -- each block of a file that write made passes at the site that it was made for

@@ -1,12 +1,12 @@
 -- The lent store, and what every call asks of it (the specification, "The store" and "Refusals").
 --
 --   maxGroups, storeWords      the greatest g, and the words that a table takes
---   headSets                   the sets that stand before the groups: initial and forbidden
---   groupAt j, rowAt s         where group j and the successors of state s begin; the initial set begins at 0, the forbidden set at
---                              forbiddenAt
+--   headSets                   the sets that stand before the groups: initial, marked and resting
+--   groupAt j, rowAt s         where group j and the successors of state s begin; the initial set begins at 0, the marked states at
+--                              markedAt, the resting ones at restingAt
 --   setAt store at             the set whose words begin at `at`
---   tableOf store n g          the table that a store holds
---   layout t                   the words of a table, those of unused groups and rows 0
+--   dialogueOf store n g       the dialogue that a store holds; tableOf store n g: its table
+--   layout d                   the words of a dialogue, those of unused groups and rows 0
 --   beyond n X                 X has a state from n up
 --   malformed store n g        ground 17 of a store
 --   Ground                     a ground of refusal: whether it holds, and its number (the error code)
@@ -21,18 +21,21 @@ use mathlib.Core.List.{List, [], _∷_, _++_}
 use lib.Dec.{eqb, leb, ltb}
 use lib.ListN.{length, getD, take, drop}
 use Rattle.model.specs.Sets.{WORDS, maxStates, Set, member, empty, any, tabulate}
-use Rattle.model.specs.Tables.{Table}
+use Rattle.model.specs.Tables.{Table, Dialogue, tableFrom}
 
 -- The one place that says how many groups a table can have. The greatest n is maxStates.
 abbrev pub maxGroups : ℕ
 maxGroups = 64
 
--- Initial and forbidden, in a store as in a file.
+-- Initial, marked and resting, in a store as in a file.
 abbrev pub headSets : ℕ
-headSets = 2
+headSets = 3
 
-abbrev pub forbiddenAt : ℕ
-forbiddenAt = WORDS
+abbrev pub markedAt : ℕ
+markedAt = WORDS
+
+abbrev pub restingAt : ℕ
+restingAt = 2 * WORDS
 
 abbrev pub groupAt : ℕ → ℕ
 groupAt j = headSets * WORDS + WORDS * j
@@ -46,27 +49,33 @@ storeWords = (headSets + maxGroups + maxStates) * WORDS
 unfoldable pub setAt : List ℕ → ℕ → Set
 setAt store at = take WORDS (drop at store)
 
-unfoldable pub tableOf : List ℕ → ℕ → ℕ → Table
-tableOf store n g =
+unfoldable pub dialogueOf : List ℕ → ℕ → ℕ → Dialogue
+dialogueOf store n g =
     record {
       n = n;
       initial = setAt store 0;
-      forbidden = setAt store forbiddenAt;
+      marked = setAt store markedAt;
+      resting = setAt store restingAt;
       groups = tabulate g (λ j. setAt store (groupAt j));
       row = λ s. cond (ltb s n) (setAt store (rowAt s)) empty;
     }
+
+unfoldable pub tableOf : List ℕ → ℕ → ℕ → Table
+unfolding tableFrom dialogueOf
+tableOf store n g = tableFrom (dialogueOf store n g)
 
 -- The lists f 0, f 1, .., f (n − 1), one after the other.
 unfoldable pub concat : {A : Type 0} → ℕ → (ℕ → List A) → List A
 concat zero f = []
 concat (suc n) f = concat n f ++ f n
 
-unfoldable pub layout : Table → List ℕ
-layout t =
-    t .initial
-    ++ (t .forbidden
-    ++ (concat maxGroups (λ j. getD (t .groups) j empty)
-    ++ concat maxStates (λ s. cond (ltb s (t .n)) (t .row s) empty)))
+unfoldable pub layout : Dialogue → List ℕ
+layout d =
+    d .initial
+    ++ (d .marked
+    ++ (d .resting
+    ++ (concat maxGroups (λ j. getD (d .groups) j empty)
+    ++ concat maxStates (λ s. cond (ltb s (d .n)) (d .row s) empty))))
 
 -- ---- refusals
 
@@ -88,7 +97,8 @@ nonZero xs from to = any to (λ i. leb from i && not (eqb (getD xs i 0) 0))
 unfoldable pub malformed : List ℕ → ℕ → ℕ → Bool
 malformed store n g =
     beyond n (setAt store 0)
-    || beyond n (setAt store forbiddenAt)
+    || beyond n (setAt store markedAt)
+    || beyond n (setAt store restingAt)
     || any g (λ j. beyond n (setAt store (groupAt j)))
     || any n (λ s. beyond n (setAt store (rowAt s)))
     || nonZero store (groupAt g) (groupAt maxGroups)

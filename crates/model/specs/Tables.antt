@@ -2,6 +2,10 @@
 --
 --   Table               a finite transition system: n states, the initial and the forbidden (error) states, the groups (the predicates
 --                       that generate the first abstraction), and for each state its row (the set of its successors)
+--   Dialogue            a table as a store or a file holds it: with the states that are marked forbidden, and the resting ones
+--   isDeadEnd row s     s has no successor (a deadlock)
+--   isHang, hangs       a dead end that is not resting; those of a table
+--   tableFrom d         the table of a dialogue: a state is forbidden if it is marked so or is a hang
 --   post n row X        all successors of states in X (the strongest postcondition)
 --   hold n row X        all states of the table whose every successor is in X (the universal predecessor, or weakest liberal precondition)
 --   coverOf n L s       the cover of one state for a list L of sets (the closure of {s} in the disjunctive abstraction that L generates)
@@ -10,9 +14,9 @@
 --
 -- Each definition takes only what it uses of a table.
 use Prim.Native.Nat.{ℕ}
-use mathlib.Core.Bool.{cond, not}
+use mathlib.Core.Bool.{Bool, cond, not, _&&_}
 use mathlib.Core.List.{List, [], _∷_}
-use Rattle.model.specs.Sets.{Set, member, meet, subset, states, firstStates, image}
+use Rattle.model.specs.Sets.{maxStates, Set, any, member, union, meet, subset, states, firstStates, image}
 
 pub record Table : Type 0 where
   pub n : ℕ
@@ -20,6 +24,33 @@ pub record Table : Type 0 where
   pub forbidden : Set
   pub groups : List Set
   pub row : ℕ → Set
+
+pub record Dialogue : Type 0 where
+  pub n : ℕ
+  pub initial : Set
+  pub marked : Set
+  pub resting : Set
+  pub groups : List Set
+  pub row : ℕ → Set
+
+unfoldable pub isDeadEnd : (ℕ → Set) → ℕ → Bool
+isDeadEnd row s = not (any maxStates (member (row s)))
+
+unfoldable pub isHang : (ℕ → Set) → Set → ℕ → Bool
+isHang row resting s = isDeadEnd row s && not (member resting s)
+
+unfoldable pub hangs : ℕ → (ℕ → Set) → Set → Set
+hangs n row resting = states n (isHang row resting)
+
+unfoldable pub tableFrom : Dialogue → Table
+tableFrom d =
+    record {
+      n = d .n;
+      initial = d .initial;
+      forbidden = union (d .marked) (hangs (d .n) (d .row) (d .resting));
+      groups = d .groups;
+      row = d .row;
+    }
 
 unfoldable pub post : ℕ → (ℕ → Set) → Set → Set
 post n row X = image n row X

@@ -1,5 +1,5 @@
 // The order in which the first round expands the states that it reaches: tables with circles, with groups, with nothing initial, without
-// states, a corridor whose states the groups tell apart, and refusals. tests/expected.py works out what this must print, from the
+// states, with a hang, a corridor whose states the groups tell apart, and refusals. tests/expected.py works out what this must print, from the
 // specification's text.
 ghost use Prim.Native.Nat.{_/_, _<_};
 ghost use Rattle.model.specs.Sets.{maxStates};
@@ -14,7 +14,9 @@ use test_support::group;
 use test_support::initial;
 use test_support::labelled;
 use test_support::line;
+use test_support::marked;
 use test_support::put_table;
+use test_support::resting;
 use test_support::step;
 use test_support::text;
 use test_support::wide;
@@ -99,6 +101,18 @@ fn nothing_initial() {
     try_one(b"only a forbidden state initial", &t, 3, 0);
 }
 
+// State 3 is a hang, and not expanded; resting, it is; marked as well, it is not.
+fn hangs() {
+    let mut t = [0u64; STORE_WORDS];
+    put_table(&mut t, b"0", b"", b"01 12 23 44");
+    for_each_alone(&mut t, 4);
+    try_one(b"B with groups, 3 not marked", &t, 5, 4);
+    resting(&mut t, 3);
+    try_one(b"B with groups, 3 not marked but resting", &t, 5, 4);
+    marked(&mut t, 3);
+    try_one(b"B with groups, 3 marked and resting", &t, 5, 4);
+}
+
 // Two groups for each binary digit of a state, as many digits as there can be groups for: more than tell all states apart.
 const DIGITS: usize = MAX_GROUPS / 2;
 
@@ -119,7 +133,7 @@ fn put_digits(store: &mut [u64], s: usize) {
     }
 }
 
-// State 0 leads nowhere.
+// State 0 leads nowhere, so that it is a hang till it rests.
 fn put_step_down(store: &mut [u64], s: usize) {
     if 0 < s {
         step(store, s, s - 1);
@@ -139,6 +153,8 @@ fn corridor() {
     initial(&mut t, MAX_STATES - 1);
     put_corridor(&mut t);
     try_one(b"corridor", &t, MAX_STATES, MAX_GROUPS);
+    resting(&mut t, 0);
+    try_one(b"corridor, state 0 resting", &t, MAX_STATES, MAX_GROUPS);
     try_one(
         b"corridor, its last digit's groups not counted",
         &t,
@@ -158,6 +174,9 @@ fn refusals() {
     try_one(b"a group too many", &t, 3, MAX_GROUPS + 1);
     try_one(b"state 2 of 2", &t, 2, 0);
     try_one(b"a group too many and state 2 of 2", &t, 2, MAX_GROUPS + 1);
+    let mut at_rest = [0u64; STORE_WORDS];
+    resting(&mut at_rest, 3);
+    try_one(b"state 3 of 3 resting", &at_rest, 3, 0);
     let short = [0u64; STORE_WORDS - 1];
     try_one(b"store one word short, n 0", &short, 0, 0);
 }
@@ -166,6 +185,7 @@ fn main() {
     circles();
     branches();
     nothing_initial();
+    hangs();
     corridor();
     refusals();
 }

@@ -17,7 +17,7 @@ use Rattle.model.specs.Sets.{maxStates, Set, first, member, empty, meets}
 use Rattle.model.specs.Tables.{Table}
 use Rattle.model.specs.Rounds.{iterate}
 use Rattle.model.specs.Paths.{reaching, unreachable, distance}
-use Rattle.model.specs.Stores.{forbiddenAt, setAt, tableOf}
+use Rattle.model.specs.Stores.{setAt, tableOf}
 use Rattle.model.proofs.Bounds.{and-true, and-intro, not-true, is-false, same-test, by-cond, any-intro, any-find, first-passes, first-before}
 use Rattle.model.proofs.SetLaws.{In, in-bound, empty-in, in-union, union-in, in-firstStates, _⊆_, in-meets, meets-in}
 use Rattle.model.proofs.CoverLaws.{post-in}
@@ -116,12 +116,12 @@ withinBy Nothing k = false
 module _ (store : List ℕ) (n g : ℕ) (ok : WellFormed (tableOf store n g)) (small : n ≤ maxStates) where
   -- at most k steps lead from an initial to a forbidden state
   abbrev met : ℕ → Bool
-  met k = meets (before store (setAt store 0) (suc k)) (setAt store forbiddenAt)
+  met k = meets (before store (setAt store 0) (suc k)) ((tableOf store n 0) .forbidden)
 
   met-is : (k : ℕ) → met k ≡ meets ((tableOf store n g) .initial) (reaching (tableOf store n g) k)
   unfolding tableOf
   met-is k =
-      ap (λ (X : Set). meets X (setAt store forbiddenAt)) (before-is store n g (setAt store 0) ok (ok .initial) (suc k)) ∙ outward-reaching ok k
+      ap (λ (X : Set). meets X ((tableOf store n 0) .forbidden)) (before-is store n g (setAt store 0) ok (ok .initial) (suc k)) ∙ outward-reaching ok k
 
   met-mono : (j k : ℕ) → j ≤ k → met j ≡ true → met k ≡ true
   met-mono j k l m = let w = meets-in m in in-meets (before-mono store (setAt store 0) (suc j) (suc k) (suc-le-suc l) (w .0) (w .1)) (w .2)
@@ -135,7 +135,7 @@ module _ (store : List ℕ) (n g : ℕ) (ok : WellFormed (tableOf store n g)) (s
       let soon : met (a .0) ≡ true = met-is (a .0) ∙ in-meets (w .1) (a .2 .within) in
       omega (arith, first-before met maxStates (a .0) soon, at-lt ok (a .0) (a .2))
 
-  pub within-found : {found : Found} (k : ℕ) → found ≡ firstLayer store (setAt store 0) (setAt store forbiddenAt)
+  pub within-found : {found : Found} (k : ℕ) → found ≡ firstLayer store (setAt store 0) ((tableOf store n 0) .forbidden)
       → withinBy found k ≡ isWithin (tableOf store n g) k
   unfolding firstLayer tableOf
   within-found k e =

@@ -30,9 +30,9 @@ ghost use Rattle.paths.specs.Within.{CalledWithin};
 use reach::newly_reached;
 use state_set::StateSet;
 use state_set::WORDS;
-use table::FORBIDDEN_AT;
 use table::MAX_STATES;
 use table::Rows;
+use table::forbidden;
 use table::meet_hold;
 use table::refusal;
 use table::row_at;
@@ -136,7 +136,7 @@ pub fn all_distances(store: &[u64], n: usize) -> [u16; MAX_STATES]
     ensures { λ r. ⌜ r ≡ tabulate maxStates (distance (tableOf (now (store .entry)) n 0)) ⌝ }
 {
     let mut distances = [UNREACHABLE; MAX_STATES];
-    let mut layer = set_at(store, FORBIDDEN_AT);
+    let mut layer = forbidden(store, n);
     let mut rest = StateSet::first_states(n).difference(layer);
     let mut d = 0;
     while !layer.is_empty() {
@@ -345,7 +345,7 @@ pub fn within(store: &[u64], n: usize, g: usize, k: usize) -> WithinAnswer
     if refused != 0 {
         return WithinAnswer::Refused(refused);
     }
-    match first_layer(store, set_at(store, 0), set_at(store, FORBIDDEN_AT)) {
+    match first_layer(store, set_at(store, 0), forbidden(store, n)) {
         Found::Steps(steps) => {
             if steps <= k {
                 WithinAnswer::Yes

@@ -18,6 +18,7 @@ use test_support::number;
 use test_support::places;
 use test_support::put_corridor;
 use test_support::put_table;
+use test_support::resting;
 use test_support::text;
 use test_support::unchanged_places;
 use test_support::wide;
@@ -83,7 +84,7 @@ fn report_long(name: &[u8], store: &[u64], n: usize, g: usize) {
     report(name, store, n, g, &mut path);
 }
 
-// A table without groups, by the digits of its initial states, its forbidden states and its steps.
+// A table without groups, by the digits of its initial states, its marked states and its steps.
 fn report_table(name: &[u8], n: usize, first: &[u8], last: &[u8], steps: &[u8]) {
     let mut store = [0u64; STORE_WORDS];
     put_table(&mut store, first, last, steps);
@@ -122,12 +123,36 @@ fn pathless() {
 }
 
 // Two shortest paths: from 1 and from 2, while a longer one starts in 0; through 2 and through 3, while 1 leads back; to 3 and to 4, while 2
-// is a dead end. At last 2 is initial and forbidden, and 0 is initial and one step from it.
+// leads only to itself. At last 2 is initial and forbidden, and 0 is initial and one step from it.
 fn ties() {
     report_table(b"two first states", 5, b"012", b"4", b"03 34 14 24");
     report_table(b"two middle states", 5, b"0", b"4", b"01 02 03 10 24 34");
-    report_table(b"two last states", 5, b"0", b"34", b"01 12 13 14");
+    report_table(b"two last states", 5, b"0", b"34", b"01 12 13 14 22");
     report_table(b"initial and forbidden", 3, b"02", b"2", b"02");
+}
+
+// The dead ends 2, 3 and 4 end a path as hangs, until 2 and then 3 rests; the marked 4 ends one though it rests. At last all states rest.
+fn hangs() {
+    let mut t = [0u64; STORE_WORDS];
+    put_table(&mut t, b"0", b"4", b"01 12 13 14");
+    report_just(b"three dead ends", &t, 5, 0);
+    resting(&mut t, 2);
+    report_just(b"three dead ends, 2 resting", &t, 5, 0);
+    resting(&mut t, 3);
+    resting(&mut t, 4);
+    report_just(b"three dead ends, all resting", &t, 5, 0);
+    resting(&mut t, 0);
+    resting(&mut t, 1);
+    report_just(b"three dead ends, all states resting", &t, 5, 0);
+}
+
+// State 3 is a hang; then nothing is forbidden.
+fn hang_of_b() {
+    let mut t = [0u64; STORE_WORDS];
+    put_table(&mut t, b"0", b"", b"01 12 23 44");
+    report_just(b"B, 3 not marked", &t, 5, 0);
+    resting(&mut t, 3);
+    report_just(b"B, 3 not marked but resting", &t, 5, 0);
 }
 
 fn longest() {
@@ -136,6 +161,8 @@ fn longest() {
     report_just(b"corridor", &store, MAX_STATES, 0);
     report_long(b"corridor, long buffer", &store, MAX_STATES, MAX_GROUPS);
     report_short(b"corridor, short buffer", &store, MAX_STATES, 0);
+    resting(&mut store, MAX_STATES - 1);
+    report_just(b"corridor, the last state resting", &store, MAX_STATES, 0);
 }
 
 fn edges_of(b: &[u64]) {
@@ -167,7 +194,7 @@ fn short_store() {
     report_short(b"store one word short, n 0", &store, 0, 0);
 }
 
-// A state from n up: in an unused group, in the initial set, in a row.
+// A state from n up: in an unused group, in the initial set, in the resting set, in a row.
 fn malformed() {
     let mut d = [0u64; STORE_WORDS];
     put_d(&mut d);
@@ -176,6 +203,10 @@ fn malformed() {
     put_b(&mut b);
     initial(&mut b, MAX_STATES - 1);
     report_just(b"B, the last state initial", &b, 5, 0);
+    let mut at_rest = [0u64; STORE_WORDS];
+    put_b(&mut at_rest);
+    resting(&mut at_rest, 5);
+    report_just(b"B, 5 resting", &at_rest, 5, 0);
     report_table(b"B, 2 to 5", 5, b"0", b"3", b"01 12 23 44 25");
 }
 
@@ -250,6 +281,28 @@ fn measured() {
     );
 }
 
+// B with 3 no longer marked, and with a sixth state, which nothing leads to: both are hangs, until they rest.
+fn measured_hangs() {
+    let mut t = [0u64; STORE_WORDS];
+    put_table(&mut t, b"0", b"", b"01 12 23 44");
+    measure_7(b"B, 3 not marked, n 6", &t, 6, 0);
+    resting(&mut t, 5);
+    measure_7(b"B, 3 not marked, n 6, 5 resting", &t, 6, 0);
+    measure_7(b"B, 3 not marked, 5 resting", &t, 5, 0);
+    resting(&mut t, 3);
+    measure_7(b"B, 3 not marked, n 6, 3 5 resting", &t, 6, 0);
+}
+
+// The marked state rests, and so do those that have successors.
+fn measured_resting() {
+    let mut t = [0u64; STORE_WORDS];
+    put_b(&mut t);
+    resting(&mut t, 0);
+    resting(&mut t, 3);
+    resting(&mut t, 4);
+    measure_7(b"B, 0 3 4 resting", &t, 5, 0);
+}
+
 fn measured_edges_of(b: &[u64]) {
     measure_5(b"B, 5 places", b, 5, 0);
     measure_5(b"B, n 6, 5 places", b, 6, 0);
@@ -271,10 +324,14 @@ fn main() {
     worked();
     pathless();
     ties();
+    hangs();
+    hang_of_b();
     longest();
     edges();
     short_store();
     malformed();
     measured();
+    measured_hangs();
+    measured_resting();
     measured_edges();
 }

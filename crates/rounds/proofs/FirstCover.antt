@@ -17,7 +17,7 @@ use lib.Seq.{drop-cons, ext-getD, getD-set-same, getD-set-other}
 use Rattle.model.specs.Sets.{maxStates, Set, member, empty, meet, members, firstStates, tabulate}
 use Rattle.model.specs.Tables.{coverOf, notForbidden}
 use Rattle.model.specs.Rounds.{iterate, roundOf, firstRound}
-use Rattle.model.specs.Stores.{forbiddenAt, setAt, tableOf, refuse, sharedGrounds}
+use Rattle.model.specs.Stores.{setAt, tableOf, refuse, sharedGrounds}
 use Rattle.model.specs.Calls.{overwrite}
 use Rattle.model.proofs.Bounds.{below-suc, length-tabulate, getD-tabulate}
 use Rattle.model.proofs.ListLaws.{concat-cong}
@@ -146,18 +146,18 @@ module _ (store : List ℕ) (n g : ℕ) where
   order-refused {k} e f = let some = ne-eqb k 0 f in (rw (← e, some), rw (← e, some, some))
 
   module _ (none : refuse (sharedGrounds store n g) ≡ 0) (few : n ≤ maxStates) where
-    pub order-listed : {Z initial : Set} {rows : List Set} {order : List ℕ} {count : ℕ} → Z ≡ notForbidden n (setAt store forbiddenAt)
+    pub order-listed : {Z initial : Set} {rows : List Set} {order : List ℕ} {count : ℕ} → Z ≡ notForbidden n ((tableOf store n 0) .forbidden)
         → rows ≡ covers n (Z ∷ (tableOf store n g) .groups) → initial ≡ setAt store 0
         → order ≡ padded (orderBy store rows initial Z) → count ≡ length (orderBy store rows initial Z)
         → Ordered store n g (record { expansion = Listed count; states = order })
     unfolding orderAnswer firstRound roundOf tableOf
     order-listed {Z} {initial} {rows} z c i o m =
         let t = tableOf store n g in
-        let Z0 = notForbidden n (setAt store forbiddenAt) in
+        let Z0 = notForbidden n ((tableOf store n 0) .forbidden) in
         let same : orderBy store rows initial Z ≡ forwardOrder t (Z0 ∷ t .groups) Z0 =
         ap₂ (λ (R : List Set) (X : Set). orderBy store R X Z) c i
         ∙ ap (λ (X : Set). orderBy store (covers n (X ∷ t .groups)) (setAt store 0) X) z
-        ∙ order-is store n g few (Z0 ∷ t .groups) Z0 (notForbidden-within n (setAt store forbiddenAt)) in
+        ∙ order-is store n g few (Z0 ∷ t .groups) Z0 (notForbidden-within n ((tableOf store n 0) .forbidden)) in
         let listed : OrderAnswer = record { refusal = 0; count = length (forwardOrder t (Z0 ∷ t .groups) Z0); states = padded (forwardOrder t (Z0 ∷ t .groups) Z0) } in
         let numbers : (record { refusal = 0; count = _; states = _ }) ≡ listed =
         ap₂ (λ (k : ℕ) (xs : List ℕ). record { refusal = 0; count = k; states = xs }) (m ∙ ap length same) (o ∙ ap padded same) in

@@ -21,7 +21,7 @@ use borrow.Author.Tests.{ne-eqb, not-false}
 use Rattle.model.specs.Sets.{Set, empty, union, meet, subset, firstStates, tabulate}
 use Rattle.model.specs.Tables.{Table, hold, notForbidden}
 use Rattle.model.specs.Rounds.{iterate, forwardStep, forward, backwardStep, backward, Round, roundOf, firstRound, nextRound, isSafe, isUnsafe, safe, unsafe, undecided, run}
-use Rattle.model.specs.Stores.{setAt, forbiddenAt, groupAt, tableOf}
+use Rattle.model.specs.Stores.{setAt, groupAt, tableOf}
 use Rattle.model.specs.Promises.{IsLeast, IsGreatest, roundAt, Continues}
 use Rattle.model.proofs.Bounds.{below-suc, not-true}
 use Rattle.model.proofs.SetLaws.{empty-in, meet-in, _⊆_, ⊆-of-eq}
@@ -75,7 +75,7 @@ pub record Ready (store : List ℕ) (n g allowance : ℕ) (initial : Set) (rows 
   pub before : (k : ℕ) → k < i → Continues (tableOf store n g) k
 
 module _ (store : List ℕ) (n g allowance : ℕ) where
-  pub run-start : {initial Z : Set} {rows : List Set} → initial ≡ setAt store 0 → rows ≡ covers n [] → Z ≡ notForbidden n (setAt store forbiddenAt)
+  pub run-start : {initial Z : Set} {rows : List Set} → initial ≡ setAt store 0 → rows ≡ covers n [] → Z ≡ notForbidden n ((tableOf store n 0) .forbidden)
       → Running store n g allowance initial rows Z g 0
   unfolding roundAt firstRound tableOf
   run-start a c e =
@@ -83,7 +83,7 @@ module _ (store : List ℕ) (n g allowance : ℕ) where
         list = [];
         rows-are = c;
         initial-is = a;
-        within = λ s h. notForbidden-within n (setAt store forbiddenAt) s (⊆-of-eq e s h);
+        within = λ s h. notForbidden-within n ((tableOf store n 0) .forbidden) s (⊆-of-eq e s h);
         round-is = ap₂ (λ (Z : Set) (L : List Set). roundOf (tableOf store n g) (Z ∷ L) Z) e (append-nil (tabulate g (group store)));
         left = le-refl g;
         used = zero-le;

@@ -18,7 +18,7 @@ ghost use Rattle.model.specs.Sets.{WORDS, maxStates, member, union, meet, diffe
 ghost use Rattle.state_set.specs.WordSets.{wordSet};
 ghost use Rattle.model.specs.Tables.{coverOf, notForbidden};
 ghost use Rattle.model.specs.Rounds.{run as run·model};
-ghost use Rattle.model.specs.Stores.{storeWords, maxGroups, forbiddenAt, rowAt, setAt, tableOf, refuse};
+ghost use Rattle.model.specs.Stores.{storeWords, maxGroups, rowAt, setAt, tableOf, refuse};
 ghost use Rattle.model.specs.Calls.{decideGrounds};
 ghost use Rattle.model.specs.Promises.{IsLeast, IsGreatest};
 ghost use Rattle.table.specs.Rows.{successorsBy, meetHold};
@@ -30,9 +30,9 @@ use paths::Found;
 use paths::find_path;
 use state_set::StateSet;
 use state_set::WORDS;
-use table::FORBIDDEN_AT;
 use table::MAX_STATES;
 use table::Rows;
+use table::forbidden;
 use table::group_at;
 use table::meet_hold;
 use table::refusal;
@@ -211,10 +211,10 @@ pub struct Ended {
 
 // Z of the first round: the states of the table that are not forbidden.
 fn not_forbidden(store: &[u64], n: usize) -> StateSet
-    requires { ⌜ storeWords ≤ length (now store) ⌝ }
-    ensures { λ r. ⌜ r .words ≡ notForbidden n (setAt (now (store .entry)) forbiddenAt) ⌝ }
+    requires { ⌜ (n ≤ maxStates) × (storeWords ≤ length (now store)) ⌝ }
+    ensures { λ r. ⌜ r .words ≡ notForbidden n ((tableOf (now (store .entry)) n 0) .forbidden) ⌝ }
 {
-    StateSet::first_states(n).difference(set_at(store, FORBIDDEN_AT))
+    StateSet::first_states(n).difference(forbidden(store, n))
 }
 
 // What a round comes to: safe (step 2), unsafe (step 4), or neither.
@@ -262,7 +262,7 @@ fn conclude(store: &[u64], rows: &Rows, initial: StateSet, z: StateSet) -> Concl
 // The rounds, from 0 on, till one of them says safe or unsafe or the allowance is used. Each turn of the outer loop adds a set to the list and
 // narrows the cover by it: first the groups, from the last to the first, then Z0 and the Z of each later round, with which that round begins.
 fn run(store: &[u64], n: usize, g: usize, allowance: usize) -> Ended
-    requires { ⌜ (g ≤ maxGroups) × (storeWords ≤ length (now store)) ⌝ }
+    requires { ⌜ (n ≤ maxStates) × (g ≤ maxGroups) × (storeWords ≤ length (now store)) ⌝ }
     ensures { λ r. ⌜ (outcomeOf r ≡ run·model (tableOf (now (store .entry)) n g) allowance) × (r .invariant .words ≡ invariantOf (outcomeOf r)) ⌝ }
 {
     let initial = set_at(store, 0);

@@ -1,6 +1,8 @@
 -- The states of a set that pass a test, and those that are in hold.
 --
---   passed, image-passed            the states of a set that pass a test, as an image; passed-take, passed-skip: one more state of it
+--   passed, in-passed, passed-in    what a state gives to those that pass a test
+--   image-passed, states-more       the states of a set that pass, as an image; those below a number, one after the other
+--   passed-take, passed-skip        one more state, which passes or does not
 --   word-with                       the states of a word with one bit more
 --   held, meetHold-is               the states of a set that are in hold, as an image
 --   held-start, held-word           the bits of a word that are in hold: before the first; when all are gathered
@@ -16,10 +18,10 @@ use lib.Bits.{bitOr}
 use lib.ListN.{length, getD}
 use mir.Syntax.{w64}
 use mir.Val.{Fits}
-use Rattle.model.specs.Sets.{WORDS, maxStates, Set, bit, member, setOf, empty, single, union, subset, image}
+use Rattle.model.specs.Sets.{WORDS, maxStates, Set, bit, member, setOf, empty, single, union, subset, states, image}
 use Rattle.model.specs.Stores.{rowAt, setAt}
-use Rattle.model.proofs.Bounds.{and-true, and-intro, or-intro, or-true as or-cases, by-cond}
-use Rattle.model.proofs.SetLaws.{Proper, setOf-proper, In, in-bound, in-setOf, setOf-in, empty-in, in-single, single-in, in-union, union-in, same-set, in-image, image-in, member-setOf, member-at}
+use Rattle.model.proofs.Bounds.{and-true, and-intro, or-intro, or-true as or-cases, by-cond, below-suc}
+use Rattle.model.proofs.SetLaws.{Proper, setOf-proper, In, in-bound, in-setOf, setOf-in, empty-in, in-single, single-in, in-union, union-in, in-states, states-in, same-set, in-image, image-in, member-setOf, member-at}
 use Rattle.model.proofs.CoverLaws.{image-proper}
 use Rattle.model.proofs.ImageLaws.{union-comm, union-empty}
 use Rattle.state_set.specs.WordSets.{wordSet}
@@ -33,21 +35,40 @@ use Rattle.table.proofs.Joins.{WordJoining}
 unfoldable pub passed : (ℕ → Bool) → ℕ → Set
 passed p s = cond (p s) (single s) empty
 
-image-passed : (p : ℕ → Bool) (X : Set) → image maxStates (passed p) X ≡ setOf (λ s. member X s && p s)
-unfolding passed
-image-passed p X =
-    same-set _ _ (image-proper maxStates (passed p) X) (setOf-proper _)
-    (λ s h. let w = image-in (passed p) X maxStates h in there s (w .0) (w .2) (w .3))
-    (λ s h.
-    let both = and-true (member X s) (p s) (setOf-in _ h) in
-    in-image (passed p) X maxStates (in-bound h) (record { is = both .0 })
-    (subst (λ (b : Bool). In (cond b (single s) empty) s) (sym (both .1)) (in-single (in-bound h))))
-  where
-    there : (s x : ℕ) → In X x → In (passed p x) s → In (setOf (λ s. member X s && p s)) s
-    there s x i =
-        by-cond (λ (Y : Set). In Y s → In (setOf (λ s. member X s && p s)) s) (p x) _ _
-        (λ e h. in-setOf _ (in-bound h) (subst (λ (y : ℕ). (member X y && p y) ≡ true) (sym (single-in h)) (and-intro (member X x) (p x) (i .is) e)))
-        (λ e h. absurd (empty-in h))
+module _ (p : ℕ → Bool) where
+  in-passed : {s : ℕ} → s < maxStates → p s ≡ true → In (passed p s) s
+  unfolding passed
+  in-passed {s} h e = subst (λ (b : Bool). In (cond b (single s) empty) s) (sym e) (in-single h)
+
+  passed-in : (x : ℕ) {s : ℕ} → In (passed p x) s → (s ≡ x) × (p s ≡ true)
+  unfolding passed
+  passed-in x {s} =
+      by-cond (λ (Y : Set). In Y s → (s ≡ x) × (p s ≡ true)) (p x) (single x) empty
+      (λ e h. (single-in h, ap p (single-in h) ∙ e)) (λ e h. absurd (empty-in h))
+
+  image-passed : (X : Set) → image maxStates (passed p) X ≡ setOf (λ s. member X s && p s)
+  image-passed X =
+      same-set _ _ (image-proper maxStates (passed p) X) (setOf-proper _)
+      (λ s h.
+      let w = image-in (passed p) X maxStates h in
+      let v = passed-in (w .0) (w .3) in
+      in-setOf _ (in-bound h) (and-intro (member X s) (p s) (ap (member X) (v .0) ∙ w .2 .is) (v .1)))
+      (λ s h.
+      let both = and-true (member X s) (p s) (setOf-in _ h) in
+      in-image (passed p) X maxStates (in-bound h) (record { is = both .0 }) (in-passed (in-bound h) (both .1)))
+
+  pub states-more : (i : ℕ) → states (i + 1) p ≡ union (states i p) (passed p i)
+  unfolding states union
+  states-more i =
+      same-set _ _ (setOf-proper _) (setOf-proper _)
+      (λ s h.
+      let w = states-in (i + 1) p h in
+      in-union
+      (⊎-elim (λ e. inr (subst (λ (x : ℕ). In (passed p x) s) e (in-passed (in-bound h) (w .1)))) (λ l. inl (in-states i p (in-bound h) l (w .1)))
+      (below-suc (omega (arith, w .0)))))
+      (λ s h.
+      ⊎-elim (λ k. let w = states-in i p k in in-states (i + 1) p (in-bound h) (omega (arith, w .0)) (w .1))
+      (λ k. let v = passed-in i k in in-states (i + 1) p (in-bound h) (omega (arith, v .0)) (v .1)) (union-in h))
 
 -- a state that passes is added, one that does not is passed over
 module _ (p : ℕ → Bool) (out : Set) {out′ : Set} (x : ℕ) where

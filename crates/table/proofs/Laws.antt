@@ -19,7 +19,7 @@ use lib.Dec.{eqb, leb}
 use lib.ListN.{length, getD, set, take, drop, length-set, length-take, length-drop}
 use lib.Seq.{ext-getD, getD-take, getD-drop, getD-set-same, getD-set-other}
 use Rattle.model.specs.Sets.{WORDS, maxStates, Set, member, subset, firstStates, any, empty, union}
-use Rattle.model.specs.Stores.{maxGroups, forbiddenAt, groupAt, rowAt, storeWords, setAt, beyond, nonZero, malformed}
+use Rattle.model.specs.Stores.{maxGroups, markedAt, restingAt, groupAt, rowAt, storeWords, setAt, beyond, nonZero, malformed}
 use Rattle.model.proofs.Bounds.{and-true, and-intro, or-intro, or-true as or-cases, is-false, same-test, lt-or-ge, any-intro, any-find, any-turn, no-any, not-true}
 use Rattle.model.proofs.SetLaws.{In, in-bound, empty-in, in-firstStates, firstStates-in, in-union, union-in, subset-in, subset-not}
 
@@ -132,8 +132,11 @@ module _ (store : List ℕ) (n g : ℕ) where
   abbrev pub initial-beyond : Bool
   initial-beyond = beyond n (setAt store 0)
 
-  abbrev pub forbidden-beyond : Bool
-  forbidden-beyond = beyond n (setAt store forbiddenAt)
+  abbrev pub marked-beyond : Bool
+  marked-beyond = beyond n (setAt store markedAt)
+
+  abbrev pub resting-beyond : Bool
+  resting-beyond = beyond n (setAt store restingAt)
 
   abbrev pub group-beyond : Bool
   group-beyond = any g (λ j. beyond n (setAt store (groupAt j)))
@@ -148,23 +151,27 @@ module _ (store : List ℕ) (n g : ℕ) where
   unfolding malformed
   malformed-initial e = rw e
 
-  pub malformed-forbidden : forbidden-beyond ≡ true → true ≡ malformed store n g
+  pub malformed-marked : marked-beyond ≡ true → true ≡ malformed store n g
   unfolding malformed
-  malformed-forbidden e = rw (e, or-true initial-beyond)
+  malformed-marked e = rw (e, or-true initial-beyond)
+
+  pub malformed-resting : resting-beyond ≡ true → true ≡ malformed store n g
+  unfolding malformed
+  malformed-resting e = rw (e, or-true (initial-beyond || marked-beyond))
 
   pub malformed-group : group-beyond ≡ true → true ≡ malformed store n g
   unfolding malformed
-  malformed-group e = rw (e, or-true (initial-beyond || forbidden-beyond))
+  malformed-group e = rw (e, or-true (initial-beyond || marked-beyond || resting-beyond))
 
   pub malformed-row : row-beyond ≡ true → true ≡ malformed store n g
   unfolding malformed
-  malformed-row e = rw (e, or-true (initial-beyond || forbidden-beyond || group-beyond))
+  malformed-row e = rw (e, or-true (initial-beyond || marked-beyond || resting-beyond || group-beyond))
 
   pub malformed-unused : group-used ≡ true → true ≡ malformed store n g
   unfolding malformed
-  malformed-unused e = rw (e, or-true (initial-beyond || forbidden-beyond || group-beyond || row-beyond))
+  malformed-unused e = rw (e, or-true (initial-beyond || marked-beyond || resting-beyond || group-beyond || row-beyond))
 
-  pub malformed-last : initial-beyond ≡ false → forbidden-beyond ≡ false → group-beyond ≡ false → row-beyond ≡ false → group-used ≡ false
+  pub malformed-last : initial-beyond ≡ false → marked-beyond ≡ false → resting-beyond ≡ false → group-beyond ≡ false → row-beyond ≡ false → group-used ≡ false
       → nonZero store (rowAt n) storeWords ≡ malformed store n g
   unfolding malformed
-  malformed-last a b c d e = rw (a, b, c, d, e)
+  malformed-last a b c d e f = rw (a, b, c, d, e, f)

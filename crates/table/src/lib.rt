@@ -3,6 +3,7 @@
 //   set_at, group_at, row_at     a set of the store
 //   successors                   post: all successors of the states of a set
 //   meet_hold                    x meet hold(y): the states of a set whose every successor is in another
+//   forbidden                    the forbidden states: those marked so, and the hangs
 //   Rows, row_of, union_of       a row of words for each state, the set in one row, the union of the rows of a set's states
 //   refusal                      the first of the grounds 10, 14, 15 and 17 that holds, or 0
 //
@@ -14,8 +15,9 @@ ghost use lib.Dec.{eqb};
 ghost use lib.ListN.{length, getD};
 ghost use mathlib.Core.List.{[]};
 ghost use Rattle.model.specs.Sets.{WORDS, maxStates, any, union, subset, image};
+ghost use Rattle.model.specs.Tables.{isHang};
 ghost use Rattle.state_set.specs.WordSets.{wordSet};
-ghost use Rattle.model.specs.Stores.{storeWords, maxGroups, groupAt, rowAt, setAt, beyond, nonZero, malformed, refuse, sharedGrounds};
+ghost use Rattle.model.specs.Stores.{storeWords, maxGroups, groupAt, rowAt, setAt, tableOf, beyond, nonZero, malformed, refuse, sharedGrounds};
 ghost use Rattle.table.specs.Rows.{successorsBy, meetHold};
 use state_set::StateSet;
 use state_set::WORDS;
@@ -24,10 +26,12 @@ pub const MAX_STATES: usize = 64 * WORDS;
 
 pub const MAX_GROUPS: usize = 64;
 
-// Initial and forbidden, which stand before the groups.
-pub const HEAD_SETS: usize = 2;
+// Initial, marked and resting, which stand before the groups.
+pub const HEAD_SETS: usize = 3;
 
-pub const FORBIDDEN_AT: usize = WORDS;
+pub const MARKED_AT: usize = WORDS;
+
+pub const RESTING_AT: usize = 2 * WORDS;
 
 pub const GROUPS_AT: usize = HEAD_SETS * WORDS;
 
@@ -127,6 +131,29 @@ pub fn meet_hold(store: &[u64], x: StateSet, y: StateSet) -> StateSet
     StateSet { words }
 }
 
+// Without successors, and not resting.
+fn is_hang(store: &[u64], s: usize, resting: StateSet) -> bool
+    requires { ⌜ (s < maxStates) × (storeWords ≤ length (now store)) ⌝ }
+    ensures { λ b. ⌜ b ≡ isHang (λ s. setAt (now (store .entry)) (rowAt s)) (resting .words) s ⌝ }
+{
+    row_at(store, s).is_empty() & !resting.contains(s)
+}
+
+// The forbidden states of a table with n states; its groups play no part.
+pub fn forbidden(store: &[u64], n: usize) -> StateSet
+    requires { ⌜ (n ≤ maxStates) × (storeWords ≤ length (now store)) ⌝ }
+    ensures { λ r. ⌜ r .words ≡ (tableOf (now (store .entry)) n 0) .forbidden ⌝ }
+{
+    let resting = set_at(store, RESTING_AT);
+    let mut found = set_at(store, MARKED_AT);
+    for s in 0..n {
+        if is_hang(store, s, resting) {
+            found = found.with(s);
+        }
+    }
+    found
+}
+
 // One row of words for each state.
 pub type Rows = [[u64; WORDS]; MAX_STATES];
 
@@ -204,7 +231,10 @@ fn is_malformed(store: &[u64], n: usize, g: usize) -> bool
     if is_beyond(set_at(store, 0), n) {
         return true;
     }
-    if is_beyond(set_at(store, FORBIDDEN_AT), n) {
+    if is_beyond(set_at(store, MARKED_AT), n) {
+        return true;
+    }
+    if is_beyond(set_at(store, RESTING_AT), n) {
         return true;
     }
     if any_beyond(store, GROUPS_AT, g, n) {

@@ -7,11 +7,12 @@
 //   states              n = 1 + d(0) % 40, or 1 + d(0) % m if 37 divides t, where m is the greatest n
 //   groups              d(1) % 5
 //   initial states      (5 + d(2) % 13) / 6 of the states d(3) % n, d(4) % n
-//   forbidden states    (5 + d(5) % 13) / 6 of the states d(6) % n, d(7) % n
+//   marked states       (5 + d(5) % 13) / 6 of the states d(6) % n, d(7) % n
 //   of state s, with p = 16 + 16 * s
 //     successors        none if 4 divides d(p), otherwise d(8) % 4 of those drawn at p + 1, p + 2, p + 3: if t is even the state d % n,
 //                       otherwise, for longer paths, (s + d % 6) % n
 //     in group j        if d(p + 4 + j) is even
+//     resting           if d(9) % 4 is 1, where d(p + 8) is even; if it is 2 or 3, where the state has no successors; if it is 0, never
 //
 // The largest table has as many states and groups as a store holds, and each word of its store is drawn: word i is 2^32 draw(0, 2 i) +
 // draw(0, 2 i + 1).
@@ -20,8 +21,9 @@ use crate::add;
 use crate::group;
 use crate::left_out;
 use crate::step;
-use table::FORBIDDEN_AT;
+use table::MARKED_AT;
 use table::MAX_STATES;
+use table::RESTING_AT;
 use table::STORE_WORDS;
 
 // More than the places of any table.
@@ -79,8 +81,8 @@ fn put_ends(store: &mut [u64], t: usize) {
     let n = states_of(t);
     add_if(0 < few(t, 2), store, 0, draw_state(t, 3, n));
     add_if(1 < few(t, 2), store, 0, draw_state(t, 4, n));
-    add_if(0 < few(t, 5), store, FORBIDDEN_AT, draw_state(t, 6, n));
-    add_if(1 < few(t, 5), store, FORBIDDEN_AT, draw_state(t, 7, n));
+    add_if(0 < few(t, 5), store, MARKED_AT, draw_state(t, 6, n));
+    add_if(1 < few(t, 5), store, MARKED_AT, draw_state(t, 7, n));
 }
 
 fn fan_out(t: usize, p: usize) -> usize {
@@ -130,9 +132,22 @@ fn put_in_groups(store: &mut [u64], t: usize, g: usize, s: usize) {
     group_if(draw(t, p + 7) % 2 == 0, store, 3, g, s);
 }
 
+fn rests(t: usize, s: usize) -> bool {
+    let p = place_of(s);
+    let kind = draw(t, 9) % 4;
+    if kind == 0 {
+        return false;
+    }
+    if kind == 1 {
+        return draw(t, p + 8) % 2 == 0;
+    }
+    fan_out(t, p) == 0
+}
+
 fn put_state(store: &mut [u64], t: usize, n: usize, g: usize, s: usize) {
     put_successors(store, t, n, s);
     put_in_groups(store, t, g, s);
+    add_if(rests(t, s), store, RESTING_AT, s);
 }
 
 fn put_states(store: &mut [u64], t: usize, n: usize, g: usize) {

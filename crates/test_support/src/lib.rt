@@ -1,6 +1,7 @@
 // What the test programs share: tables put into a store, answers printed, buffers looked at.
 //
-//   add, step, initial, forbidden, group      a state put into a set of a store
+//   add, step, initial, marked, resting, group
+//                                             a state put into a set of a store
 //   put_table                                 a small table put into a store, given by the digits of its states
 //   put_corridor                              the longest path that there can be
 //   generate, states_of, groups_of            a generated table, its n and its g (generated.rt)
@@ -27,10 +28,11 @@ pub use generated::states_of;
 use libc::STDOUT_FILENO;
 use state_set::StateSet;
 use state_set::WORDS;
-use table::FORBIDDEN_AT;
 use table::GROUPS_AT;
+use table::MARKED_AT;
 use table::MAX_GROUPS;
 use table::MAX_STATES;
+use table::RESTING_AT;
 use table::ROWS_AT;
 
 // ---- what does not fit
@@ -66,8 +68,12 @@ pub fn initial(store: &mut [u64], s: usize) {
     add(store, 0, s);
 }
 
-pub fn forbidden(store: &mut [u64], s: usize) {
-    add(store, FORBIDDEN_AT, s);
+pub fn marked(store: &mut [u64], s: usize) {
+    add(store, MARKED_AT, s);
+}
+
+pub fn resting(store: &mut [u64], s: usize) {
+    add(store, RESTING_AT, s);
 }
 
 pub fn group(store: &mut [u64], j: usize, s: usize) {
@@ -110,17 +116,16 @@ fn put_steps(store: &mut [u64], pairs: &[u8]) {
     }
 }
 
-// A table without groups of at most ten states: its initial states and its forbidden states, as b"03", and its steps, as b"01 12".
+// A table of at most ten states, without groups and resting states: its initial and its marked states, as b"03", and its steps, as b"01 12".
 pub fn put_table(store: &mut [u64], first: &[u8], last: &[u8], steps: &[u8]) {
     put_set(store, 0, first);
-    put_set(store, FORBIDDEN_AT, last);
+    put_set(store, MARKED_AT, last);
     put_steps(store, steps);
 }
 
-// Each of as many states as a table can have steps to the next.
+// Each of as many states as a table can have steps to the next; the last is a hang.
 pub fn put_corridor(store: &mut [u64]) {
     initial(store, 0);
-    forbidden(store, MAX_STATES - 1);
     for s in 0..MAX_STATES - 1 {
         step(store, s, s + 1);
     }

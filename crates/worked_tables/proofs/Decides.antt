@@ -17,10 +17,10 @@ use borrow.Author.Tests.{eqb-true, eq-eqb, leb-true, le-ltb}
 use lib.Dec.{eqb, ltb}
 use lib.ListN.{length, getD, drop}
 use Rattle.model.specs.Sets.{maxStates, any}
-use Rattle.model.specs.Tables.{Table}
+use Rattle.model.specs.Tables.{Dialogue}
 use Rattle.model.specs.Rounds.{run}
 use Rattle.model.specs.Paths.{smallestPath}
-use Rattle.model.specs.Stores.{maxGroups, forbiddenAt, groupAt, rowAt, storeWords, setAt, tableOf, layout, refuse, beyond, nonZero, malformed, badStates}
+use Rattle.model.specs.Stores.{maxGroups, markedAt, restingAt, groupAt, rowAt, storeWords, setAt, tableOf, layout, refuse, beyond, nonZero, malformed, badStates}
 use Rattle.model.specs.Calls.{release, overwrite, Decision, decisionOf, decideGrounds, decideAnswer, decideBuffer}
 use Rattle.model.proofs.Bounds.{and-true, not-true, is-false, clash, any-find}
 use Rattle.worked_tables.specs.Worked.{stored, Decides}
@@ -60,7 +60,8 @@ module _ (store : List ℕ) (n g allowance : ℕ) where
   abbrev straySet : Bool
   straySet =
       beyond n (setAt store 0)
-      || beyond n (setAt store forbiddenAt)
+      || beyond n (setAt store markedAt)
+      || beyond n (setAt store restingAt)
       || any g (λ j. beyond n (setAt store (groupAt j)))
       || any n (λ s. beyond n (setAt store (rowAt s)))
       || nonZero store (groupAt g) (groupAt maxGroups)
@@ -96,7 +97,7 @@ module _ (store : List ℕ) (n g allowance : ℕ) where
       go false e = ap (λ xs. overwrite xs path) e
 
 -- Nothing is written unless the verdict is unsafe.
-pub decides : (t : Table) (allowance : ℕ) {answer : Decision} {states : List ℕ}
+pub decides : (t : Dialogue) (allowance : ℕ) {answer : Decision} {states : List ℕ}
     → fits (layout t) (t .n) (length (t .groups)) allowance ≡ true
     → decisionOf (stored t) (run (stored t) allowance) ≡ answer
     → cond (eqb (answer .verdict) 1) (smallestPath (stored t)) [] ≡ states

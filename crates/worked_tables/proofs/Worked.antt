@@ -5,10 +5,10 @@
 --   worked        the fact
 use mathlib.Core.Path.{refl}
 use Rattle.model.specs.Sets.{any, all, first, filter, tabulate, bit, member, number, setOf, empty, union, meet, subset, same, meets, states, firstStates, members, size, smallest, image}
-use Rattle.model.specs.Tables.{post, hold, coverOf, cover, notForbidden}
+use Rattle.model.specs.Tables.{isDeadEnd, isHang, hangs, post, hold, coverOf, cover, notForbidden}
 use Rattle.model.specs.Rounds.{iterate, forwardStep, forward, backwardStep, backward, roundOf, firstRound, nextRound, isSafe, isUnsafe, settle, rounds, run, eliminationStep, eliminated, backwardNumber}
 use Rattle.model.specs.Paths.{reaching, shortest, walk, smallestPath}
-use Rattle.model.specs.Stores.{setAt, tableOf, concat, layout, refuse, beyond, nonZero, badStates}
+use Rattle.model.specs.Stores.{setAt, dialogueOf, tableOf, concat, layout, refuse, beyond, nonZero, badStates}
 use Rattle.model.specs.Blocks.{weighted, checkOf, blockOf}
 use Rattle.model.specs.Contents.{setBytes, sets, contents}
 use Rattle.model.specs.Calls.{release, decisionOf}
@@ -17,7 +17,7 @@ use Rattle.worked_tables.specs.Worked.{LineA, LineB, LineC, LineD, LineE
 use Rattle.worked_tables.proofs.Decides.{zeros, fits, decides}
 
 computes : Type 0
-unfolding any all first filter tabulate bit member number setOf empty union meet subset same meets states firstStates members size smallest image post hold coverOf cover notForbidden iterate forwardStep forward backwardStep backward roundOf firstRound nextRound isSafe isUnsafe settle rounds run eliminationStep eliminated backwardNumber reaching shortest walk smallestPath setAt tableOf concat layout refuse beyond nonZero badStates setBytes sets contents weighted checkOf blockOf decisionOf zeros fits
+unfolding any all first filter tabulate bit member number setOf empty union meet subset same meets states firstStates members size smallest image isDeadEnd isHang hangs post hold coverOf cover notForbidden iterate forwardStep forward backwardStep backward roundOf firstRound nextRound isSafe isUnsafe settle rounds run eliminationStep eliminated backwardNumber reaching shortest walk smallestPath setAt dialogueOf tableOf concat layout refuse beyond nonZero badStates setBytes sets contents weighted checkOf blockOf decisionOf zeros fits
 computes = Unit {0}
 
 -- A pair by a call: what stands in a tuple itself is computed twice, which costs seconds for B and C.
@@ -42,7 +42,7 @@ d = decides D release refl refl refl
 
 e : LineE
 unfolding computes
-e = (decides E release refl refl refl, refl, refl)
+e = (decides E release refl refl refl, refl, refl, refl, refl)
 
 f : LineF
 unfolding computes
@@ -62,5 +62,5 @@ worked =
       line-E = e;
       line-F = f;
       line-G = g;
-      line-H = (refl, refl, refl, refl, refl);
+      line-H = (refl, refl, refl, refl);
     }

@@ -1,6 +1,6 @@
 -- What the specification says of the worked tables A to H, as one fact about the definitions that the calls' contracts cite.
 --
---   stored t                              the table that the store of t holds, which is what the calls speak of
+--   held t, stored t                      the dialogue that the store of t holds, and its table, which is what the calls speak of
 --   Decides t allowance answer states     decide, lent the store of t and any path buffer of at least maxStates places, answers so, leaves
 --                                         these states at the front of the buffer and the rest of it untouched
 --   Safe t allowance count invariant      safe, with the states of the invariant
@@ -8,39 +8,42 @@
 --   Undecided t allowance count           undecided
 --   LineA, .., LineH                      the specification's lines, with every figure that they give
 --   Worked                                all eight
-use Prim.Native.Nat.{ℕ, _-_, _*_, _≤_}
+use Prim.Native.Nat.{ℕ, _-_, _≤_}
 use mathlib.Core.Path.{_≡_}
 use mathlib.Core.List.{List, [], _∷_}
 use lib.ListN.{length}
 use Rattle.model.specs.Sets.{maxStates}
-use Rattle.model.specs.Tables.{Table}
+use Rattle.model.specs.Tables.{Table, Dialogue}
 use Rattle.model.specs.Rounds.{backwardNumber}
-use Rattle.model.specs.Stores.{tableOf, layout}
+use Rattle.model.specs.Stores.{dialogueOf, tableOf, layout}
 use Rattle.model.specs.Blocks.{blocksFor, checkOf, blockOf}
-use Rattle.model.specs.Contents.{contents, contentLength}
+use Rattle.model.specs.Contents.{oldForm, newForm, contents, contentLength}
 use Rattle.model.specs.Calls.{release, overwrite, Decision, decideAnswer, decideBuffer}
 use Rattle.worked_tables.specs.Tables.{set, A, B, D, E, F, G}
 
-abbrev pub stored : Table → Table
+abbrev pub held : Dialogue → Dialogue
+held t = dialogueOf (layout t) (t .n) (length (t .groups))
+
+abbrev pub stored : Dialogue → Table
 stored t = tableOf (layout t) (t .n) (length (t .groups))
 
-pub record Decides (t : Table) (allowance : ℕ) (answer : Decision) (states : List ℕ) : Type 0 where
+pub record Decides (t : Dialogue) (allowance : ℕ) (answer : Decision) (states : List ℕ) : Type 0 where
   pub answers : (path : List ℕ) → maxStates ≤ length path
       → decideAnswer (layout t) (t .n) (length (t .groups)) allowance (length path) ≡ answer
   pub writes : (path : List ℕ) → maxStates ≤ length path
       → decideBuffer (layout t) (t .n) (length (t .groups)) allowance path ≡ overwrite states path
 
-abbrev pub Safe : Table → ℕ → ℕ → List ℕ → Type 0
+abbrev pub Safe : Dialogue → ℕ → ℕ → List ℕ → Type 0
 Safe t allowance count invariant =
     Decides t allowance
     (record { refusal = 0; verdict = 0; count = count; invariant = set invariant; size = length invariant; steps = 0 }) []
 
-abbrev pub Unsafe : Table → ℕ → ℕ → List ℕ → Type 0
+abbrev pub Unsafe : Dialogue → ℕ → ℕ → List ℕ → Type 0
 Unsafe t allowance count path =
     Decides t allowance
     (record { refusal = 0; verdict = 1; count = count; invariant = set []; size = 0; steps = length path - 1 }) path
 
-abbrev pub Undecided : Table → ℕ → ℕ → Type 0
+abbrev pub Undecided : Dialogue → ℕ → ℕ → Type 0
 Undecided t allowance count =
     Decides t allowance (record { refusal = 0; verdict = 2; count = count; invariant = set []; size = 0; steps = 0 }) []
 
@@ -59,11 +62,14 @@ LineC = Undecided B 2 2 × Unsafe B 3 3 (0 ∷ 1 ∷ 2 ∷ 3 ∷ [])
 abbrev pub LineD : Type 0
 LineD = Unsafe D release 0 (0 ∷ 1 ∷ 2 ∷ 3 ∷ [])
 
+-- The specification's bytes and check are of the old form; those of the new one stand beside them.
 abbrev pub LineE : Type 0
 LineE =
     Safe E release 1 (0 ∷ [])
-    × (contents (stored E) ≡ 0x03 ∷ 0x00 ∷ 0x00 ∷ 0x00 ∷ 0x01 ∷ 0x04 ∷ 0x01 ∷ 0x04 ∷ 0x00 ∷ [])
-    × (checkOf 0 (blockOf 0 (contents (stored E)) 0) ≡ 97)
+    × (contents oldForm (held E) ≡ 0x03 ∷ 0x00 ∷ 0x00 ∷ 0x00 ∷ 0x01 ∷ 0x04 ∷ 0x01 ∷ 0x04 ∷ 0x00 ∷ [])
+    × (checkOf 0 (blockOf 0 (contents oldForm (held E)) 0) ≡ 97)
+    × (contents newForm (held E) ≡ 0x03 ∷ 0x00 ∷ 0x00 ∷ 0x80 ∷ 0x01 ∷ 0x04 ∷ 0x00 ∷ 0x01 ∷ 0x04 ∷ 0x00 ∷ [])
+    × (checkOf 0 (blockOf 0 (contents newForm (held E)) 0) ≡ 870)
 
 abbrev pub LineF : Type 0
 LineF = Unsafe F release 0 (0 ∷ [])
@@ -71,14 +77,12 @@ LineF = Unsafe F release 0 (0 ∷ [])
 abbrev pub LineG : Type 0
 LineG = Safe G release 0 []
 
--- The third figure is "no filler": the content of the one block is just L bytes.
 abbrev pub LineH : Type 0
 LineH =
-    (contentLength 61 0 ≡ 508)
-    × (blocksFor (contentLength 61 0) ≡ 1)
-    × (508 * blocksFor (contentLength 61 0) ≡ contentLength 61 0)
-    × (contentLength 61 1 ≡ 516)
-    × (blocksFor (contentLength 61 1) ≡ 2)
+    (contentLength newForm 61 0 ≡ 516)
+    × (blocksFor (contentLength newForm 61 0) ≡ 2)
+    × (contentLength newForm 61 1 ≡ 524)
+    × (blocksFor (contentLength newForm 61 1) ≡ 2)
 
 pub record Worked : Type 0 where
   pub line-A : LineA

@@ -1,7 +1,9 @@
 //! The refusals of the calls on a store, in their order, and of read's store and site.
 
-use crate::blocks::{MAX_SITE, file_length};
-use crate::table::{FORBIDDEN_AT, MAX_GROUPS, MAX_STATES, STORE_WORDS, WORDS, group_at, row_at};
+use crate::blocks::{Form, MAX_SITE};
+use crate::table::{
+    INITIAL_AT, MARKED_AT, MAX_GROUPS, MAX_STATES, RESTING_AT, STORE_WORDS, WORDS, group_at, row_at,
+};
 
 pub const PATH_PLACES: usize = MAX_STATES;
 pub const MAX_ALLOWANCE: usize = MAX_STATES;
@@ -36,7 +38,7 @@ pub fn within(store: &[u64], n: usize, g: usize) -> Result<(), u32> {
 pub fn write(store: &[u64], n: usize, g: usize, site: usize, output_len: usize) -> Result<(), u32> {
     read(store.len(), site)?;
     table(store, n, g)?;
-    refuse_if(output_len < file_length(n, g), 19)
+    refuse_if(output_len < Form::New.file_length(n, g), 19)
 }
 
 pub fn replay(store: &[u64], n: usize, g: usize, log_len: usize) -> Result<(), u32> {
@@ -61,7 +63,8 @@ fn table(store: &[u64], n: usize, g: usize) -> Result<(), u32> {
     let not_empty = |at: usize| store[at..at + WORDS].iter().any(|&word| word != 0);
     let groups = (0..MAX_GROUPS).map(|j| (j < g, group_at(j)));
     let rows = (0..MAX_STATES).map(|s| (s < n, row_at(s)));
-    let stray = [(true, 0), (true, FORBIDDEN_AT)]
+    let stray = [INITIAL_AT, MARKED_AT, RESTING_AT]
+        .map(|at| (true, at))
         .into_iter()
         .chain(groups)
         .chain(rows)

@@ -1,9 +1,9 @@
 //! Files that earn refusals: a good file with one kind of damage, whose refusal is mostly known, or
-//! with several at once.
+//! with several at once. What is done to a file, and what it earns, is the same in both forms.
 
-use crate::blocks::{self, BLOCK, CONTENT, LARGEST};
+use crate::blocks::{self, BLOCK, CONTENT, Form, LARGEST};
 use crate::generate::Random;
-use crate::table::{HEAD_SETS, MAX_GROUPS, MAX_STATES, Table};
+use crate::table::{Dialogue, MAX_GROUPS, MAX_STATES};
 
 /// A kind of damage. Those that come first here are done first; each leaves the blocks' numbers and
 /// checks right unless they are what it damages.
@@ -11,7 +11,7 @@ use crate::table::{HEAD_SETS, MAX_GROUPS, MAX_STATES, Table};
 pub enum Damage {
     /// No state or too many.
     StateCount,
-    /// Too many groups.
+    /// Too many groups; in the new form also a second number that is no file's of that form.
     GroupCount,
     /// Another number of states or groups, but one that a table can have.
     OtherCount,
@@ -55,12 +55,12 @@ impl Damage {
         }
     }
 
-    /// Whether the file of a table can be damaged in this way.
-    pub fn applies_to(self, table: &Table) -> bool {
-        let length = blocks::contents_length(table.n, table.g());
+    /// Whether the file of a dialogue can be damaged in this way.
+    pub fn applies_to(self, form: Form, dialogue: &Dialogue) -> bool {
+        let length = form.contents_length(dialogue.n, dialogue.g());
         let count = length.div_ceil(CONTENT);
         match self {
-            Damage::StrayBit => !table.n.is_multiple_of(8),
+            Damage::StrayBit => !dialogue.n.is_multiple_of(8),
             Damage::Filler => !length.is_multiple_of(CONTENT),
             Damage::BlockMissing | Damage::BlocksExchanged => count > 1,
             Damage::BlockExtra => count < LARGEST / BLOCK,
@@ -69,16 +69,22 @@ impl Damage {
     }
 }
 
-/// The file of a table for a site with some damages, each of which applies to it and is done once.
-pub fn damaged(table: &Table, site: usize, damages: &[Damage], random: &mut Random) -> Vec<u8> {
+/// The file of a dialogue for a site with some damages, each of which applies to it and is done once.
+pub fn damaged(
+    form: Form,
+    dialogue: &Dialogue,
+    site: usize,
+    damages: &[Damage],
+    random: &mut Random,
+) -> Vec<u8> {
     let mut damages = damages.to_vec();
     damages.sort();
     damages.dedup();
-    let mut contents = blocks::contents(table);
+    let mut contents = form.contents(dialogue);
     let used = contents.len();
     contents.resize(used.div_ceil(CONTENT) * CONTENT, 0);
     for &damage in &damages {
-        damage_contents(damage, table, used, &mut contents, random);
+        damage_contents(damage, form, dialogue, used, &mut contents, random);
     }
     let mut file = blocks::file_of(&contents, site);
     for &damage in &damages {
@@ -89,12 +95,14 @@ pub fn damaged(table: &Table, site: usize, damages: &[Damage], random: &mut Rand
 
 fn damage_contents(
     damage: Damage,
-    table: &Table,
+    form: Form,
+    dialogue: &Dialogue,
     used: usize,
     contents: &mut Vec<u8>,
     random: &mut Random,
 ) {
-    let width = table.n.div_ceil(8);
+    let (n, g) = (dialogue.n, dialogue.g());
+    let width = n.div_ceil(8);
     match damage {
         Damage::StateCount => {
             let n = match random.below(3) {
@@ -105,28 +113,29 @@ fn damage_contents(
             contents[0..2].copy_from_slice(&blocks::two_bytes(n));
         }
         Damage::GroupCount => {
-            let g = match random.below(2) {
-                0 => MAX_GROUPS + 1,
-                _ => random.within(MAX_GROUPS + 1, 65_535),
+            let (least, most) = (form.added(), form.added() + MAX_GROUPS);
+            let second = match random.below(6) {
+                0 if least > 0 => g,
+                1 if least > 0 => least - 1,
+                2 if least > 0 => random.below(least),
+                3 | 4 => most + 1,
+                _ => random.within(most + 1, 65_535),
             };
-            contents[2..4].copy_from_slice(&blocks::two_bytes(g));
+            contents[2..4].copy_from_slice(&blocks::two_bytes(second));
         }
         Damage::OtherCount => {
-            let n = random.pick(&[
-                1,
-                table.n / 2,
-                table.n - 1,
-                table.n + 1,
-                MAX_STATES - 1,
-                MAX_STATES,
-            ]);
-            let g = random.pick(&[0, table.g() / 2, table.g() + 1, MAX_GROUPS - 1, MAX_GROUPS]);
-            let (at, number) = random.pick(&[(0, n.clamp(1, MAX_STATES)), (2, g.min(MAX_GROUPS))]);
+            let n = random.pick(&[1, n / 2, n - 1, n + 1, MAX_STATES - 1, MAX_STATES]);
+            let g = random.pick(&[0, g / 2, g + 1, MAX_GROUPS - 1, MAX_GROUPS]);
+            let second = form.added() + g.min(MAX_GROUPS);
+            let (at, number) = random.pick(&[(0, n.clamp(1, MAX_STATES)), (2, second)]);
             contents[at..at + 2].copy_from_slice(&blocks::two_bytes(number));
         }
         Damage::StrayBit => {
-            let set = random.below(HEAD_SETS + table.g() + table.n);
-            let state = random.within(table.n, 8 * width - 1);
+            let set = match random.below(2) {
+                0 => random.below(form.head_sets()),
+                _ => random.below(form.head_sets() + g + n),
+            };
+            let state = random.within(n, 8 * width - 1);
             contents[4 + width * set + state / 8] |= 1 << (state % 8);
         }
         Damage::Filler => {

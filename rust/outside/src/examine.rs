@@ -7,7 +7,7 @@ use std::collections::BTreeMap;
 use std::fmt::Debug;
 
 use crate::accept::{MAX_ALLOWANCE, PATH_PLACES};
-use crate::blocks::{self, BLOCK, MAX_SITE};
+use crate::blocks::{self, BLOCK, Form, MAX_SITE};
 use crate::buffer::Lent;
 use crate::calls::{
     Calls, Decision, SAFE, Shortest, TableRead, UNDECIDED, UNSAFE, Within, Written,
@@ -20,7 +20,8 @@ use crate::named;
 use crate::rounds::{self, Rounds};
 use crate::search;
 use crate::table::{
-    HEAD_SETS, MAX_GROUPS, MAX_STATES, STORE_WORDS, Table, WORDS, group_at, row_at, set_where,
+    Dialogue, HEAD_SETS, MAX_GROUPS, MAX_STATES, STORE_WORDS, Table, WORDS, group_at, row_at,
+    set_where,
 };
 
 pub type Outcome = Result<(), String>;
@@ -54,7 +55,7 @@ fn same<T: PartialEq + Debug>(what: &str, answer: T, expected: T) -> Outcome {
     }
 }
 
-fn decide(
+pub(crate) fn decide(
     library: &dyn Calls,
     store: &[u64],
     (n, g, allowance): (usize, usize, usize),
@@ -69,7 +70,7 @@ fn decide(
     store.holds(&format!("store after {what}"), &[])
 }
 
-fn shortest_path(
+pub(crate) fn shortest_path(
     library: &dyn Calls,
     store: &[u64],
     (n, g): (usize, usize),
@@ -84,7 +85,7 @@ fn shortest_path(
     store.holds(&format!("store after {what}"), &[])
 }
 
-fn distances(
+pub(crate) fn distances(
     library: &dyn Calls,
     store: &[u64],
     (n, g): (usize, usize),
@@ -100,7 +101,7 @@ fn distances(
 }
 
 /// Within for each of the numbers of steps, each with its answer.
-fn within(
+pub(crate) fn within(
     library: &dyn Calls,
     store: &[u64],
     (n, g): (usize, usize),
@@ -117,7 +118,7 @@ fn within(
     store.holds("store after within", &[])
 }
 
-fn read(
+pub(crate) fn read(
     library: &dyn Calls,
     (input, site): (&[u8], usize),
     store: &[u64],
@@ -155,25 +156,27 @@ fn ensure(holds: bool, what: impl FnOnce() -> String) -> Outcome {
 /// A random table through all calls, then with spoiled arguments.
 pub fn random_table(libraries: &[&dyn Calls], random: &mut Random, tally: &mut Tally) -> Outcome {
     let kind = Kind::random(random);
-    let table = kind.table(random);
+    let dialogue = kind.dialogue(random);
     tally.count("kind of steps", format!("{:?}", kind.steps));
     tally.count("kind of ends", format!("{:?}", kind.ends));
+    tally.count("kind of resting", format!("{:?}", kind.resting));
     tally.count("kind of groups", format!("{:?}", kind.groups));
-    accepted_table(libraries, &table, random, tally)
-        .and_then(|()| spoiled_arguments(libraries, &table, random, tally))
-        .and_then(|()| logs::random_logs(libraries, &table, random, tally))
+    accepted_table(libraries, &dialogue, random, tally)
+        .and_then(|()| spoiled_arguments(libraries, &dialogue, random, tally))
+        .and_then(|()| logs::random_logs(libraries, &dialogue, random, tally))
         .map_err(|fault| format!("{kind:?}: {fault}"))
 }
 
 /// The calls on a table, with demands 2 and 3, both round trips, and what distances and within share.
 pub fn accepted_table(
     libraries: &[&dyn Calls],
-    table: &Table,
+    dialogue: &Dialogue,
     random: &mut Random,
     tally: &mut Tally,
 ) -> Outcome {
-    let (n, g) = (table.n, table.g());
-    let mut store = table.to_store();
+    let (n, g) = (dialogue.n, dialogue.g());
+    let table = &dialogue.table();
+    let mut store = dialogue.to_store();
     let beyond = random.pick(&[0, 0, 1, 7]);
     store.extend(random.words(beyond));
     let mut judged = Judged::new(table);
@@ -195,13 +198,14 @@ pub fn accepted_table(
         .filter(|&&allowance| allowance <= MAX_ALLOWANCE)
         .map(|&allowance| (allowance, judged.decide(allowance)))
         .collect();
-    demand_2(table, &judged, &expected)?;
+    demand_2(dialogue, &judged, &expected)?;
     demand_3(&judged, &expected, backward)?;
     if n <= SMALL {
         try_everything(table, &judged)?;
     }
     let far = judged.distances();
     agreement(table, &judged, &far.front)?;
+    count_forbidden(dialogue, table, tally);
     tally.count("states", n);
     tally.count("groups", g);
     for &steps in &far.front {
@@ -244,9 +248,31 @@ pub fn accepted_table(
         let steps = (0..=n + 1).chain(FAR).map(|k| (k, judged.within(k)));
         within(*library, &store, (n, g), steps)?;
         let site = random_site(random);
-        round_trips(*library, &store, (n, g, site), &judged.write(site), random)?;
+        let written = expected::written(dialogue, site);
+        round_trips(*library, &store, (n, g, site), &written, random)?;
     }
     Ok(())
+}
+
+/// Why the states are forbidden, or are not though they have no successor.
+fn count_forbidden(dialogue: &Dialogue, table: &Table, tally: &mut Tally) {
+    let dead_ends = dialogue.dead_ends();
+    for s in 0..dialogue.n {
+        let (marked, resting) = (dialogue.marked[s], dialogue.resting[s]);
+        let why = match (dead_ends[s], marked, resting) {
+            (true, false, false) => "hang",
+            (true, false, true) => "dead end at rest",
+            (true, true, true) => "dead end, marked and resting",
+            (true, true, false) => "dead end, marked",
+            (false, true, true) => "leads on, marked and resting",
+            (false, true, false) => "leads on, marked",
+            (false, false, true) => "leads on, resting",
+            (false, false, false) => "leads on",
+        };
+        tally.count("states of a kind", why);
+    }
+    let hangs = (0..table.n).filter(|&s| table.forbidden[s] && !dialogue.marked[s]);
+    tally.count("hangs in a table", hangs.count());
 }
 
 /// Numbers of steps that no path has: either side of 65,535, which stands for no distance, and past 16
@@ -272,11 +298,12 @@ fn agreement(table: &Table, judged: &Judged, far: &[u16]) -> Outcome {
 /// Demand 2: the verdict is unsafe just where a depth-first search, which knows no rounds, finds a
 /// forbidden state; a safe set is an invariant; a path is one.
 fn demand_2(
-    table: &Table,
+    dialogue: &Dialogue,
     judged: &Judged,
     answers: &[(usize, Expected<Decision, u16>)],
 ) -> Outcome {
-    let reachable = search::reaches_forbidden(table);
+    let table = judged.table;
+    let reachable = search::reaches_forbidden(dialogue);
     ensure(judged.path.is_some() == reachable, || {
         "the two searches differ".to_string()
     })?;
@@ -446,15 +473,15 @@ struct Arguments {
 }
 
 impl Arguments {
-    fn of(table: &Table, random: &mut Random) -> Arguments {
-        let (n, g) = (table.n, table.g());
+    fn of(dialogue: &Dialogue, random: &mut Random) -> Arguments {
+        let (n, g) = (dialogue.n, dialogue.g());
         Arguments {
-            store: table.to_store(),
+            store: dialogue.to_store(),
             n,
             g,
             allowance: random.pick(&[0, 1, MAX_ALLOWANCE]),
             path_len: PATH_PLACES,
-            output_len: blocks::file_length(n, g),
+            output_len: Form::New.file_length(n, g),
             places: n,
             site: random_site(random),
         }
@@ -475,7 +502,9 @@ impl Arguments {
             Fault::StrayBit if self.n < MAX_STATES && self.g <= MAX_GROUPS => {
                 let last = random.pick(&[self.n, MAX_STATES - 1]);
                 let state = random.within(self.n, last);
-                let at = match random.below(HEAD_SETS + self.g + self.n) {
+                let sets = HEAD_SETS + self.g + self.n;
+                let bound = random.pick(&[HEAD_SETS, sets]);
+                let at = match random.below(bound) {
                     set if set < HEAD_SETS + self.g => WORDS * set,
                     set => row_at(set - HEAD_SETS - self.g),
                 };
@@ -521,11 +550,11 @@ impl Arguments {
 /// The calls that are lent a table, with one to three faults in their arguments.
 fn spoiled_arguments(
     libraries: &[&dyn Calls],
-    table: &Table,
+    dialogue: &Dialogue,
     random: &mut Random,
     tally: &mut Tally,
 ) -> Outcome {
-    let mut arguments = Arguments::of(table, random);
+    let mut arguments = Arguments::of(dialogue, random);
     let faults: Vec<Fault> = (0..random.within(1, 3))
         .map(|_| random.pick(&FAULTS))
         .collect();
@@ -570,19 +599,23 @@ fn spoiled_arguments(
 
 // ---- A file
 
-/// A random file, whole, damaged in one way or in several, or of random bytes.
+/// A random file, whole, damaged in one way or in several, of the old form, or of random bytes.
 pub fn random_file(libraries: &[&dyn Calls], random: &mut Random, tally: &mut Tally) -> Outcome {
     let kind = Kind::random(random);
-    let table = kind.table(random);
+    let dialogue = kind.dialogue(random);
+    let form = match random.below(12) {
+        0 => Form::Old,
+        _ => Form::New,
+    };
     let applicable: Vec<Damage> = DAMAGES
         .into_iter()
-        .filter(|damage| damage.applies_to(&table))
+        .filter(|damage| damage.applies_to(form, &dialogue))
         .collect();
     let damages: Vec<Damage> = (0..random.pick(&[0, 1, 1, 1, 2, 3]))
         .map(|_| random.pick(&applicable))
         .collect();
     let made = random_site(random);
-    let mut file = damage::damaged(&table, made, &damages, random);
+    let mut file = damage::damaged(form, &dialogue, made, &damages, random);
     let site = match random.below(12) {
         0 => random.pick(&FAR_SITES),
         1 => random_site(random),
@@ -599,12 +632,13 @@ pub fn random_file(libraries: &[&dyn Calls], random: &mut Random, tally: &mut Ta
         _ => STORE_WORDS,
     };
     let expected = expected::read(&file, site, room);
-    let fault = |fault: String| format!("{kind:?} with {damages:?}: {fault}");
+    let fault = |fault: String| format!("{kind:?}, {form:?} form with {damages:?}: {fault}");
 
     // Of a whole file and of most single damages the answer is known beforehand.
-    let known = match damages[..] {
-        [] => Some(0),
-        [damage] => damage.refusal(),
+    let known = match (form, &damages[..]) {
+        (Form::New, []) => Some(0),
+        (Form::New, [damage]) => damage.refusal(),
+        (Form::Old, []) => Some(15),
         _ => None,
     };
     if let Some(known) = known.filter(|_| room >= STORE_WORDS && site == made && !random_bytes) {
@@ -624,24 +658,25 @@ pub fn random_file(libraries: &[&dyn Calls], random: &mut Random, tally: &mut Ta
 pub fn named_tables(libraries: &[&dyn Calls], random: &mut Random, tally: &mut Tally) -> Outcome {
     for named in named::decided() {
         let fault = |fault: String| format!("table {}: {fault}", named.name);
-        let expected = Judged::new(&named.table).decide(named.allowance);
+        let table = named.dialogue.table();
+        let expected = Judged::new(&table).decide(named.allowance);
         same("the plain rounds", expected.answer, named.decision).map_err(fault)?;
         same("the plain path", &expected.front[..], named.path).map_err(fault)?;
         if let Some(number) = named.backward {
-            let backward = rounds::backward_number(&named.table);
+            let backward = rounds::backward_number(&table);
             same("the backward number", backward, number).map_err(fault)?;
         }
-        let (n, g) = (named.table.n, named.table.g());
+        let (n, g) = (named.dialogue.n, named.dialogue.g());
         let typed = Expected {
             answer: named.decision,
             front: named.path.to_vec(),
         };
-        let store = named.table.to_store();
+        let store = named.dialogue.to_store();
         for library in libraries {
             let path = random.places(PATH_PLACES);
             decide(*library, &store, (n, g, named.allowance), &path, &typed).map_err(fault)?;
         }
-        accepted_table(libraries, &named.table, random, tally).map_err(fault)?;
+        accepted_table(libraries, &named.dialogue, random, tally).map_err(fault)?;
     }
     named_files(libraries, random, tally)?;
     drafts(libraries, random, tally)?;
@@ -737,8 +772,10 @@ fn drafts(libraries: &[&dyn Calls], random: &mut Random, tally: &mut Tally) -> O
             read(*library, (&[], 0), &store, &expected)?;
         }
     }
-    for header in [[0, 0, 0, 0], [0, 0, 1, 0], [0, 0, 65, 0]] {
-        refused_file(libraries, (&blocks::file_of(&header, 0), 0), 14, random)?;
+    for second in [0, 1, 65, 32_767, 32_768, 32_769, 32_833] {
+        let [low, high] = blocks::two_bytes(second);
+        let header = [0, 0, low, high];
+        answered_file(libraries, (&blocks::file_of(&header, 0), 0), 14, random)?;
     }
     accepted_table(libraries, &named::draft(), random, tally)
 }
@@ -746,10 +783,10 @@ fn drafts(libraries: &[&dyn Calls], random: &mut Random, tally: &mut Tally) -> O
 /// Files of two sites, whole and with a block of one put into the other; sites at the ends of their range
 /// and past it; the order of 24 among the other grounds; drafts.
 fn sites(libraries: &[&dyn Calls], random: &mut Random) -> Outcome {
-    let table = loop {
-        let table = Kind::random(random).table(random);
-        if blocks::file_length(table.n, table.g()) >= 3 * BLOCK {
-            break table;
+    let dialogue = loop {
+        let dialogue = Kind::random(random).dialogue(random);
+        if Form::New.file_length(dialogue.n, dialogue.g()) >= 3 * BLOCK {
+            break dialogue;
         }
     };
     let any = random.within(2, MAX_SITE - 1);
@@ -762,22 +799,22 @@ fn sites(libraries: &[&dyn Calls], random: &mut Random) -> Outcome {
         (0, any),
         (any, any - 1),
     ] {
-        let [of_a, of_b] = [a, b].map(|site| blocks::encode(&table, site));
-        refused_file(libraries, (&of_a, b), 13, random)?;
+        let [of_a, of_b] = [a, b].map(|site| Form::New.encode(&dialogue, site));
+        answered_file(libraries, (&of_a, b), 13, random)?;
         for far in FAR_SITES {
-            refused_file(libraries, (&of_a, far), 24, random)?;
-            refused_file(libraries, (&of_a[1..], far), 24, random)?;
+            answered_file(libraries, (&of_a, far), 24, random)?;
+            answered_file(libraries, (&of_a[1..], far), 24, random)?;
         }
         for k in 0..of_b.len() / BLOCK {
             // At its own number, and at another.
             let own = BLOCK * k..BLOCK * (k + 1);
             let mut spliced = of_b.clone();
             spliced[own.clone()].copy_from_slice(&of_a[own.clone()]);
-            refused_file(libraries, (&spliced, b), 13, random)?;
+            answered_file(libraries, (&spliced, b), 13, random)?;
             let other = (k + 1) % (of_b.len() / BLOCK);
             let mut moved = of_b.clone();
             moved[BLOCK * other..BLOCK * (other + 1)].copy_from_slice(&of_a[own]);
-            refused_file(libraries, (&moved, b), 12, random)?;
+            answered_file(libraries, (&moved, b), 12, random)?;
         }
     }
     // A draft passes at every site, in and out; a short store comes before the site, the site before all else.
@@ -822,37 +859,78 @@ fn sites(libraries: &[&dyn Calls], random: &mut Random) -> Outcome {
     Ok(())
 }
 
-/// The specification's figures about files: E's bytes and check, H's lengths.
+/// The specification's figures about files: E's bytes and check, H's lengths, in both forms.
 fn named_files(libraries: &[&dyn Calls], random: &mut Random, tally: &mut Tally) -> Outcome {
-    let mut e_file = [0; BLOCK];
-    e_file[..named::E_FRONT.len()].copy_from_slice(&named::E_FRONT);
-    e_file[510..].copy_from_slice(&named::E_CHECK);
+    let block = |front: &[u8], check: [u8; 2]| {
+        let mut file = front.to_vec();
+        file.resize(BLOCK - 2, 0);
+        file.extend(check);
+        file
+    };
+    let e_old = block(&named::E_OLD_FRONT, named::E_OLD_CHECK);
+    same("the old file of E", Form::Old.encode(&named::e(), 0), e_old)?;
     let typed = Expected {
         answer: Written {
             refusal: 0,
             length: 512,
         },
-        front: e_file.to_vec(),
+        front: block(&named::E_FRONT, named::E_CHECK),
     };
     for library in libraries {
         let output = random.bytes(600);
         write(*library, &named::e().to_store(), (3, 0, 0), &output, &typed)?;
     }
-    for (groups, contents, length) in [(&[][..], 508, 512), (&[&[0, 60][..]][..], 516, 1024)] {
-        let table = named::h(groups);
-        same("L of H", blocks::contents(&table).len(), contents)?;
-        same("the length of H", blocks::encode(&table, 0).len(), length)?;
-        accepted_table(libraries, &table, random, tally)?;
+    for (form, groups, contents, length) in [
+        (Form::Old, &[][..], 508, 512),
+        (Form::Old, &[&[0, 60][..]][..], 516, 1024),
+        (Form::New, &[][..], 516, 1024),
+        (Form::New, &[&[0, 60][..]][..], 524, 1024),
+    ] {
+        let dialogue = named::h(groups);
+        same("L of H", form.contents(&dialogue).len(), contents)?;
+        same("the length of H", form.encode(&dialogue, 0).len(), length)?;
+        accepted_table(libraries, &dialogue, random, tally)?;
     }
-    // G's check is 3. Stored as 3 + 65,521 it is the same modulo the prime, and still another number.
-    let mut unreduced = blocks::encode(&named::g(), 0);
-    same("the check of G", blocks::check(&unreduced, 0), 3)?;
+    // An old file is turned away, whole or not, before its blocks are counted.
+    for dialogue in [named::e(), named::h(&[]), named::h(&[&[0, 60]])] {
+        let mut old = Form::Old.encode(&dialogue, 0);
+        answered_file(libraries, (&old, 0), 15, random)?;
+        let blocks = old.len() / BLOCK;
+        old.extend(blocks::block(blocks, &[], 0));
+        answered_file(libraries, (&old, 0), 15, random)?;
+    }
+    // The second number at its limits, 0 where the file is read; a state past n in each set of a file.
+    for (second, number) in [
+        (0, 15),
+        (64, 15),
+        (65, 15),
+        (32_767, 15),
+        (32_768, 0),
+        (32_832, 0),
+        (32_833, 15),
+        (65_535, 15),
+    ] {
+        let [low, high] = blocks::two_bytes(second);
+        let file = blocks::file_of(&[1, 0, low, high], 0);
+        answered_file(libraries, (&file, 0), number, random)?;
+    }
+    let one_of_each = Dialogue::of(1, &[], &[], &[&[]], &[]);
+    for set in 0..HEAD_SETS + 2 {
+        let mut contents = Form::New.contents(&one_of_each);
+        contents[4 + set] |= 1 << 1;
+        let file = blocks::file_of(&contents, 0);
+        answered_file(libraries, (&file, 0), 17, random)?;
+    }
+    // G's check at this site is 3. Stored as 3 + 65,521 it is the same modulo the prime, and still another number.
+    let site = 65_521 - 6 * 128;
+    let mut unreduced = Form::New.encode(&named::g(), site);
+    same("the check of G", blocks::check(&unreduced, site), 3)?;
     unreduced[510..].copy_from_slice(&blocks::two_bytes(3 + 65_521));
-    refused_file(libraries, (&unreduced, 0), 13, random)
+    answered_file(libraries, (&unreduced, site), 13, random)
 }
 
-/// That a file is refused with a number.
-fn refused_file(
+/// That a file is refused with a number, or read for 0.
+pub(crate) fn answered_file(
     libraries: &[&dyn Calls],
     (file, site): (&[u8], usize),
     number: u32,
@@ -874,11 +952,11 @@ fn edges(libraries: &[&dyn Calls], random: &mut Random, tally: &mut Tally) -> Ou
         .collect();
     let singletons: Vec<&[usize]> = singletons.iter().map(|group| &group[..]).collect();
     let last = MAX_STATES - 1;
-    let largest = Table::of(MAX_STATES, &[0], &[last], &singletons, &corridor);
+    let largest = Dialogue::of(MAX_STATES, &[0], &[last], &singletons, &corridor);
     accepted_table(libraries, &largest, random, tally)?;
-    let plain = Table::of(MAX_STATES, &[0], &[last], &[], &corridor);
+    let plain = Dialogue::of(MAX_STATES, &[0], &[last], &[], &corridor);
     accepted_table(libraries, &plain, random, tally)?;
-    let fewer = Table::of(last, &[0], &[last - 1], &[], &corridor[..last - 1]);
+    let fewer = Dialogue::of(last, &[0], &[last - 1], &[], &corridor[..last - 1]);
     accepted_table(libraries, &fewer, random, tally)?;
 
     let store = largest.to_store();

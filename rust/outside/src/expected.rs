@@ -2,11 +2,11 @@
 //! from the plain implementations.
 
 use crate::accept;
-use crate::blocks;
+use crate::blocks::Form;
 use crate::calls::{Decision, SAFE, Shortest, TableRead, UNDECIDED, UNSAFE, Within, Written};
 use crate::rounds::{Outcome, Rounds};
 use crate::search;
-use crate::table::{Table, words};
+use crate::table::{Dialogue, Table, words};
 
 /// An answer, and the front of the written buffer; what lies past the front stays.
 pub struct Expected<A, T> {
@@ -85,16 +85,11 @@ impl<'t> Judged<'t> {
             within: yes as u32,
         }
     }
+}
 
-    /// Write on an accepted store for a site, with output enough.
-    pub fn write(&self, site: usize) -> Expected<Written, u8> {
-        let front = blocks::encode(self.table, site);
-        let answer = Written {
-            refusal: 0,
-            length: front.len() as u32,
-        };
-        Expected { answer, front }
-    }
+/// The table in an accepted store.
+fn table_in(store: &[u64], n: usize, g: usize) -> Table {
+    Dialogue::from_store(store, n, g).table()
 }
 
 /// Decide on any arguments.
@@ -106,7 +101,7 @@ pub fn decide(
     path_len: usize,
 ) -> Expected<Decision, u16> {
     match accept::decide(store, n, g, allowance, path_len) {
-        Ok(()) => Judged::new(&Table::from_store(store, n, g)).decide(allowance),
+        Ok(()) => Judged::new(&table_in(store, n, g)).decide(allowance),
         Err(refusal) => Expected {
             answer: Decision {
                 refusal,
@@ -125,7 +120,7 @@ pub fn shortest_path(
     path_len: usize,
 ) -> Expected<Shortest, u16> {
     match accept::shortest_path(store, n, g, path_len) {
-        Ok(()) => Judged::new(&Table::from_store(store, n, g)).shortest_path(),
+        Ok(()) => Judged::new(&table_in(store, n, g)).shortest_path(),
         Err(refusal) => Expected {
             answer: Shortest {
                 refusal,
@@ -139,7 +134,7 @@ pub fn shortest_path(
 /// Distances on any arguments.
 pub fn distances(store: &[u64], n: usize, g: usize, room: usize) -> Expected<u32, u16> {
     match accept::distances(store, n, g, room) {
-        Ok(()) => Judged::new(&Table::from_store(store, n, g)).distances(),
+        Ok(()) => Judged::new(&table_in(store, n, g)).distances(),
         Err(refusal) => Expected {
             answer: refusal,
             front: Vec::new(),
@@ -150,9 +145,19 @@ pub fn distances(store: &[u64], n: usize, g: usize, room: usize) -> Expected<u32
 /// Within on any arguments.
 pub fn within(store: &[u64], n: usize, g: usize, k: usize) -> Within {
     match accept::within(store, n, g) {
-        Ok(()) => Judged::new(&Table::from_store(store, n, g)).within(k),
+        Ok(()) => Judged::new(&table_in(store, n, g)).within(k),
         Err(refusal) => Within { refusal, within: 0 },
     }
+}
+
+/// Write on an accepted store that holds the dialogue, for a site, with output enough.
+pub fn written(dialogue: &Dialogue, site: usize) -> Expected<Written, u8> {
+    let front = Form::New.encode(dialogue, site);
+    let answer = Written {
+        refusal: 0,
+        length: front.len() as u32,
+    };
+    Expected { answer, front }
 }
 
 /// Write on any arguments.
@@ -164,7 +169,7 @@ pub fn write(
     output_len: usize,
 ) -> Expected<Written, u8> {
     match accept::write(store, n, g, site, output_len) {
-        Ok(()) => Judged::new(&Table::from_store(store, n, g)).write(site),
+        Ok(()) => written(&Dialogue::from_store(store, n, g), site),
         Err(refusal) => Expected {
             answer: Written { refusal, length: 0 },
             front: Vec::new(),
@@ -174,15 +179,15 @@ pub fn write(
 
 /// Read on any arguments.
 pub fn read(input: &[u8], site: usize, store_len: usize) -> Expected<TableRead, u64> {
-    let read = accept::read(store_len, site).and_then(|()| blocks::decode(input, site));
+    let read = accept::read(store_len, site).and_then(|()| Form::New.decode(input, site));
     match read {
-        Ok(table) => Expected {
+        Ok(dialogue) => Expected {
             answer: TableRead {
                 refusal: 0,
-                n: table.n as u32,
-                g: table.g() as u32,
+                n: dialogue.n as u32,
+                g: dialogue.g() as u32,
             },
-            front: table.to_store(),
+            front: dialogue.to_store(),
         },
         Err(refusal) => Expected {
             answer: TableRead {

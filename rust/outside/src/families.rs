@@ -1,11 +1,12 @@
-//! Tables to measure on: each family is a few tables of one kind, all of one size.
+//! Tables to measure on: each family is a few tables of one kind, all of one size. Their dead ends rest, so that
+//! just the marked states are forbidden.
 
 use crate::generate::{Random, Steps, add_fan_out, rows};
-use crate::table::{MAX_GROUPS, MAX_STATES, Set, Table, set_where};
+use crate::table::{Dialogue, MAX_GROUPS, MAX_STATES, Set, set_where};
 
 pub struct Family {
     pub name: String,
-    pub tables: Vec<Table>,
+    pub tables: Vec<Dialogue>,
 }
 
 /// Tables of a family that is drawn at random.
@@ -14,10 +15,13 @@ const TABLES: usize = 16;
 /// The sizes at which the growth of the cost is measured.
 const GROWTH: [usize; 4] = [MAX_STATES / 8, MAX_STATES / 4, MAX_STATES / 2, MAX_STATES];
 
-fn family(name: impl Into<String>, tables: Vec<Table>) -> Family {
+fn family(name: impl Into<String>, tables: Vec<Dialogue>) -> Family {
     Family {
         name: name.into(),
-        tables,
+        tables: tables
+            .into_iter()
+            .map(Dialogue::dead_ends_resting)
+            .collect(),
     }
 }
 
@@ -93,46 +97,47 @@ pub fn for_logs(random: &mut Random) -> Vec<Family> {
     ]
 }
 
-fn some(mut table: impl FnMut() -> Table) -> Vec<Table> {
+fn some(mut table: impl FnMut() -> Dialogue) -> Vec<Dialogue> {
     (0..TABLES).map(|_| table()).collect()
 }
 
-/// From state 0 to the forbidden last state, with no groups.
-fn with_rows(rows: Vec<Set>) -> Table {
+/// From state 0 to the marked last state, with no groups.
+fn with_rows(rows: Vec<Set>) -> Dialogue {
     let n = rows.len();
-    Table {
+    Dialogue {
         n,
         initial: set_where(n, |s| s == 0),
-        forbidden: set_where(n, |s| s == n - 1),
+        marked: set_where(n, |s| s == n - 1),
+        resting: vec![false; n],
         groups: Vec::new(),
         rows,
     }
 }
 
-fn corridor(n: usize) -> Table {
+fn corridor(n: usize) -> Dialogue {
     with_rows((0..n).map(|s| set_where(n, |t| t == s + 1)).collect())
 }
 
-fn fan_out(n: usize, fan_out: usize, groups: usize, random: &mut Random) -> Table {
+fn fan_out(n: usize, fan_out: usize, groups: usize, random: &mut Random) -> Dialogue {
     let mut rows = vec![vec![false; n]; n];
     add_fan_out(&mut rows, fan_out, random);
     let mut group = || (0..n).map(|_| random.once_in(2)).collect();
-    Table {
+    Dialogue {
         groups: (0..groups).map(|_| group()).collect(),
         ..with_rows(rows)
     }
 }
 
-fn dense(n: usize, random: &mut Random) -> Table {
+fn dense(n: usize, random: &mut Random) -> Dialogue {
     with_rows(rows(Steps::Dense, n, random))
 }
 
-fn layers(n: usize, random: &mut Random) -> Table {
+fn layers(n: usize, random: &mut Random) -> Dialogue {
     with_rows(rows(Steps::Layers, n, random))
 }
 
 /// The forbidden state has no predecessor but itself.
-fn no_path(n: usize, random: &mut Random) -> Table {
+fn no_path(n: usize, random: &mut Random) -> Dialogue {
     let mut table = fan_out(n, 4, 0, random);
     for row in &mut table.rows {
         row[n - 1] = false;
@@ -141,7 +146,7 @@ fn no_path(n: usize, random: &mut Random) -> Table {
     table
 }
 
-fn leads_nowhere(n: usize, random: &mut Random) -> Table {
+fn leads_nowhere(n: usize, random: &mut Random) -> Dialogue {
     let mut table = fan_out(n, 4, 0, random);
     table.rows[0].fill(false);
     table
@@ -157,8 +162,8 @@ fn exact_groups(n: usize, exact: impl Fn(usize) -> bool) -> Vec<Set> {
 
 /// A corridor whose first half has exact covers, so that each round reaches its states one look at a
 /// time, and whose second half has none, so that each round eliminates one state.
-fn many_looks_forward() -> Table {
-    Table {
+fn many_looks_forward() -> Dialogue {
+    Dialogue {
         groups: exact_groups(MAX_STATES, |s| s < MAX_STATES / 2),
         ..corridor(MAX_STATES)
     }
@@ -167,7 +172,7 @@ fn many_looks_forward() -> Table {
 /// State 0 stays; `ticks` states beside it share its group and lead to the forbidden state, so that
 /// each round eliminates one. The one before it leads on to it also by a chain of `length` states with
 /// exact covers, which S then loses one look at a time.
-fn many_looks_backward() -> Table {
+fn many_looks_backward() -> Dialogue {
     // as many chains as each is long, and as long as there are states for them
     let ticks = (1..)
         .take_while(|k| 2 + k * (k + 1) <= MAX_STATES)
@@ -185,7 +190,7 @@ fn many_looks_backward() -> Table {
         steps.extend((1..length).map(|j| (chain(k, j - 1), chain(k, j))));
         steps.push((chain(k, length - 1), tick(k)));
     }
-    let mut table = Table::of(n, &[0], &[forbidden], &[], &steps);
+    let mut table = Dialogue::of(n, &[0], &[forbidden], &[], &steps);
     table.groups = exact_groups(n, |s| s > ticks);
     table.groups.push(set_where(n, |s| s <= ticks));
     table

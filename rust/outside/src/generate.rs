@@ -1,7 +1,7 @@
-//! Tables at random: sizes, steps, initial and forbidden sets and groups are drawn independently, each
-//! from a list of kinds, so that all combinations come up.
+//! Tables at random: sizes, steps, initial and marked sets, resting sets and groups are drawn independently,
+//! each from a list of kinds, so that all combinations come up.
 
-use crate::table::{MAX_GROUPS, MAX_STATES, Set, Table, WORDS, set_where};
+use crate::table::{Dialogue, MAX_GROUPS, MAX_STATES, Set, WORDS, set_where};
 
 /// A small generator of random numbers (SplitMix64), the same on every machine.
 #[derive(Clone)]
@@ -103,7 +103,7 @@ pub const STEPS: [Steps; 8] = [
     Steps::Layers,
 ];
 
-/// Initial and forbidden sets.
+/// Initial and marked sets.
 #[derive(Clone, Copy, Debug, PartialEq, Eq, PartialOrd, Ord)]
 pub enum Ends {
     /// The first and the last state, where a corridor or layers begin and end.
@@ -111,7 +111,7 @@ pub enum Ends {
     OneEach,
     Few,
     NoInitial,
-    NoForbidden,
+    NoMarked,
     Overlapping,
     All,
 }
@@ -121,9 +121,36 @@ pub const ENDS: [Ends; 7] = [
     Ends::OneEach,
     Ends::Few,
     Ends::NoInitial,
-    Ends::NoForbidden,
+    Ends::NoMarked,
     Ends::Overlapping,
     Ends::All,
+];
+
+/// Resting sets.
+#[derive(Clone, Copy, Debug, PartialEq, Eq, PartialOrd, Ord)]
+pub enum Resting {
+    /// The dead ends and no other state, as in an old file that was rewritten: no state is a hang.
+    DeadEnds,
+    /// Every dead end is a hang.
+    None,
+    All,
+    /// All but one of the dead ends, and none of the other states: one hang.
+    AllButOne,
+    Some,
+    /// The states with successors, for which resting means nothing.
+    LeadingOn,
+    /// The marked states, which are forbidden all the same.
+    Marked,
+}
+
+pub const RESTING: [Resting; 7] = [
+    Resting::DeadEnds,
+    Resting::None,
+    Resting::All,
+    Resting::AllButOne,
+    Resting::Some,
+    Resting::LeadingOn,
+    Resting::Marked,
 ];
 
 /// Groups of states.
@@ -152,7 +179,10 @@ pub struct Kind {
     pub n: usize,
     pub steps: Steps,
     pub ends: Ends,
+    pub resting: Resting,
     pub groups: Groups,
+    /// Whether some states lost their steps.
+    pub cut: bool,
     /// Whether the states were renamed at random at the end.
     pub renamed: bool,
 }
@@ -171,29 +201,43 @@ impl Kind {
             0 => Ends::FirstAndLast,
             _ => random.pick(&ENDS),
         };
+        // Hangs end most rounds early, so a good part of the tables has none.
+        let resting = match random.below(3) {
+            0 => Resting::DeadEnds,
+            _ => random.pick(&RESTING),
+        };
         Kind {
             n,
             steps: random.pick(&STEPS),
             ends,
+            resting,
+            cut: random.once_in(3),
             groups: random.pick(&GROUPS),
             renamed: random.once_in(2),
         }
     }
 
-    pub fn table(&self, random: &mut Random) -> Table {
+    pub fn dialogue(&self, random: &mut Random) -> Dialogue {
         let n = self.n;
-        let (initial, forbidden) = ends(self.ends, n, random);
-        let table = Table {
+        let (initial, marked) = ends(self.ends, n, random);
+        let mut dialogue = Dialogue {
             n,
             initial,
-            forbidden,
+            marked,
+            resting: vec![false; n],
             groups: groups(self.groups, n, random),
             rows: rows(self.steps, n, random),
         };
+        if self.cut {
+            for _ in 0..random.within(1, 4) {
+                dialogue.rows[random.below(n)].fill(false);
+            }
+        }
+        dialogue.resting = resting(self.resting, &dialogue, random);
         if self.renamed {
-            rename(&table, &random.order(n))
+            rename(&dialogue, &random.order(n))
         } else {
-            table
+            dialogue
         }
     }
 }
@@ -251,7 +295,7 @@ pub fn rows(steps: Steps, n: usize, random: &mut Random) -> Vec<Set> {
                 rows[random.below(n)][random.below(n)] = true;
             }
         }
-        // Steps stay within parts, so most forbidden states cannot be reached.
+        // Steps stay within parts, so most marked states cannot be reached.
         Steps::Parts => {
             let parts = random.within(2, 5);
             for _ in 0..3 * n {
@@ -292,19 +336,37 @@ fn ends(ends: Ends, n: usize, random: &mut Random) -> (Set, Set) {
         Ends::OneEach => (one(random.below(n)), one(random.below(n))),
         Ends::Few => (random.few(n), random.few(n)),
         Ends::NoInitial => (none(), random.set(n, 60)),
-        Ends::NoForbidden => (random.set(n, 60), none()),
+        Ends::NoMarked => (random.set(n, 60), none()),
         Ends::Overlapping => {
             let both = random.below(n);
-            let (mut initial, mut forbidden) = (random.few(n), random.few(n));
+            let (mut initial, mut marked) = (random.few(n), random.few(n));
             initial[both] = true;
-            forbidden[both] = true;
-            (initial, forbidden)
+            marked[both] = true;
+            (initial, marked)
         }
         Ends::All => match random.below(3) {
             0 => (vec![true; n], random.set(n, 60)),
             1 => (random.set(n, 60), vec![true; n]),
             _ => (vec![true; n], vec![true; n]),
         },
+    }
+}
+
+fn resting(resting: Resting, dialogue: &Dialogue, random: &mut Random) -> Set {
+    let n = dialogue.n;
+    let dead_ends = dialogue.dead_ends();
+    match resting {
+        Resting::DeadEnds => dead_ends,
+        Resting::None => vec![false; n],
+        Resting::All => vec![true; n],
+        Resting::AllButOne => {
+            let one = random.below(n);
+            let hang = (0..n).map(|i| (one + i) % n).find(|&s| dead_ends[s]);
+            set_where(n, |s| dead_ends[s] && Some(s) != hang)
+        }
+        Resting::Some => random.set(n, 128),
+        Resting::LeadingOn => set_where(n, |s| !dead_ends[s]),
+        Resting::Marked => dialogue.marked.clone(),
     }
 }
 
@@ -348,8 +410,8 @@ fn groups(groups: Groups, n: usize, random: &mut Random) -> Vec<Set> {
     }
 }
 
-/// The table with state s called order[s].
-fn rename(table: &Table, order: &[usize]) -> Table {
+/// The dialogue with state s called order[s].
+fn rename(dialogue: &Dialogue, order: &[usize]) -> Dialogue {
     let renamed = |set: &Set| {
         let mut moved = vec![false; set.len()];
         for s in 0..set.len() {
@@ -357,15 +419,16 @@ fn rename(table: &Table, order: &[usize]) -> Table {
         }
         moved
     };
-    let mut rows = vec![Vec::new(); table.n];
-    for s in 0..table.n {
-        rows[order[s]] = renamed(&table.rows[s]);
+    let mut rows = vec![Vec::new(); dialogue.n];
+    for s in 0..dialogue.n {
+        rows[order[s]] = renamed(&dialogue.rows[s]);
     }
-    Table {
-        n: table.n,
-        initial: renamed(&table.initial),
-        forbidden: renamed(&table.forbidden),
-        groups: table.groups.iter().map(renamed).collect(),
+    Dialogue {
+        n: dialogue.n,
+        initial: renamed(&dialogue.initial),
+        marked: renamed(&dialogue.marked),
+        resting: renamed(&dialogue.resting),
+        groups: dialogue.groups.iter().map(renamed).collect(),
         rows,
     }
 }

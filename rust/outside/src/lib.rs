@@ -7,7 +7,7 @@
 //! - `rounds`: the rounds and backward elimination, as the specification writes them, on lists of booleans;
 //! - `search`: a depth-first search for the verdict, a breadth-first one for the smallest path,
 //!   relaxation for the distances, and all sequences of states in order, for small tables;
-//! - `blocks`: block files, to and from bytes;
+//! - `blocks`: block files of both forms, to and from bytes;
 //! - `accept`: refusals of a store and of the other arguments, in order;
 //! - `logs`: pump logs, walked as the text says, drawn at random, and the tests of the call replay.
 //!
@@ -19,7 +19,7 @@
 //! `table` is what all of them speak of, `named` the specification's tables with their figures typed in,
 //! `generate` makes tables at random, `families` those to measure on, `damage` files that earn refusals,
 //! `buffer` lent buffers with guards, and `examine` is the tests; `block_check` are those of damaged
-//! blocks, `regroup` those of groups put another way.
+//! blocks, `regroup` those of groups put another way, `rewriting` those of old files.
 
 pub mod accept;
 pub mod block_check;
@@ -35,6 +35,7 @@ pub mod logs;
 pub mod named;
 pub mod peer;
 pub mod regroup;
+pub mod rewriting;
 pub mod rounds;
 pub mod search;
 pub mod table;

@@ -9,7 +9,7 @@ use crate::calls::{Calls, Replay};
 use crate::examine::{Outcome, Tally};
 use crate::generate::Random;
 use crate::named;
-use crate::table::{MAX_GROUPS, MAX_STATES, STORE_WORDS, Table};
+use crate::table::{Dialogue, MAX_GROUPS, MAX_STATES, STORE_WORDS, Table};
 
 /// What the high byte of an entry counts.
 const HIGH: usize = 256;
@@ -91,7 +91,7 @@ fn obeys_on(table: &Table, before: usize, entry: usize) -> bool {
 /// Replay on any arguments.
 pub fn expected(store: &[u64], n: usize, g: usize, log: &[u8]) -> Replay {
     match accept::replay(store, n, g, log.len()) {
-        Ok(()) => walk(&Table::from_store(store, n, g), log),
+        Ok(()) => walk(&Dialogue::from_store(store, n, g).table(), log),
         Err(refusal) => Replay {
             refusal,
             ..Replay::default()
@@ -177,19 +177,20 @@ pub fn replay(
 /// A random log through an accepted table, and what the specification says of every answer.
 pub fn random_logs(
     libraries: &[&dyn Calls],
-    table: &Table,
+    dialogue: &Dialogue,
     random: &mut Random,
     tally: &mut Tally,
 ) -> Outcome {
-    let (n, g) = (table.n, table.g());
-    let mut store = table.to_store();
+    let (n, g) = (dialogue.n, dialogue.g());
+    let mut store = dialogue.to_store();
     let beyond = random.pick(&[0, 0, 1, 7]);
     store.extend(random.words(beyond));
-    let log = random_log(table, random);
+    let log = random_log(&dialogue.table(), random);
     let answer = expected(&store, n, g, &log);
     let count = log.len() / 2;
     if answer.refusal == 0 {
-        promises(table, &log, &answer)?;
+        let hang = promises(dialogue, &log, &answer)?;
+        tally.count("a hang followed", if hang { "yes" } else { "no" });
         let how_far = match answer.followed as usize {
             all if all == count => "all",
             0 => "none",
@@ -204,8 +205,10 @@ pub fn random_logs(
         .try_for_each(|library| replay(*library, &store, (n, g), &log, answer))
 }
 
-/// What the specification says of an answer, tried on the definition's own words.
-fn promises(table: &Table, log: &[u8], answer: &Replay) -> Outcome {
+/// What the specification says of an answer, tried on the definition's own words; whether a state was followed
+/// that is forbidden without being marked.
+fn promises(dialogue: &Dialogue, log: &[u8], answer: &Replay) -> Result<bool, String> {
+    let table = &dialogue.table();
     let entries = entries(log);
     let followed = answer.followed as usize;
     let reachable = reachable(table);
@@ -214,13 +217,13 @@ fn promises(table: &Table, log: &[u8], answer: &Replay) -> Outcome {
         && answer.seen as usize <= reachable
         && answer.percent <= 100
         && (reachable == 0 || (answer.remainder as usize) < reachable);
-    let safe = !crate::search::reaches_forbidden(table);
+    let safe = !crate::search::reaches_forbidden(dialogue);
     if !holds {
         return Err(format!("the plain walk gives {answer:?}"));
     }
     match entries[..followed].iter().find(|&&s| table.forbidden[s]) {
         Some(state) if safe => Err(format!("{state} is followed, and the table is safe")),
-        _ => Ok(()),
+        state => Ok(state.is_some_and(|&s| !dialogue.marked[s])),
     }
 }
 
@@ -243,9 +246,9 @@ pub fn spoiled(
 
 /// Lengths about the limit, entries about n, and figures worked out by hand.
 pub fn edges(libraries: &[&dyn Calls], random: &mut Random) -> Outcome {
-    let each = |table: &Table, log: &[u8], by_hand: Replay| -> Outcome {
-        let store = table.to_store();
-        let (n, g) = (table.n, table.g());
+    let each = |dialogue: &Dialogue, log: &[u8], by_hand: Replay| -> Outcome {
+        let store = dialogue.to_store();
+        let (n, g) = (dialogue.n, dialogue.g());
         let plain = expected(&store, n, g, log);
         if plain != by_hand {
             return Err(format!(
@@ -269,7 +272,7 @@ pub fn edges(libraries: &[&dyn Calls], random: &mut Random) -> Outcome {
     };
 
     // 0 → 1 → 2 → 0, and 3, which nothing leads to.
-    let cycle = Table::of(4, &[0], &[3], &[], &[(0, 1), (1, 2), (2, 0), (3, 3)]);
+    let cycle = Dialogue::of(4, &[0], &[3], &[], &[(0, 1), (1, 2), (2, 0), (3, 3)]);
     for (entries, expected) in [
         (&[][..], answer(0, 0, 0, 0)),
         (&[0][..], answer(1, 1, 33, 1)),
@@ -287,8 +290,11 @@ pub fn edges(libraries: &[&dyn Calls], random: &mut Random) -> Outcome {
     ] {
         each(&cycle, &bytes(entries), expected)?;
     }
+    // A hang is walked into as any other state.
+    let hang = named::hang(&[], &[]);
+    each(&hang, &bytes(&[0, 1]), answer(2, 2, 100, 0))?;
     // Nothing can be reached: 0 remainder 0.
-    let idle = Table::of(2, &[], &[], &[], &[(0, 1)]);
+    let idle = Dialogue::of(2, &[], &[], &[], &[(0, 1)]);
     each(&idle, &[0, 0, 1, 0], answer(0, 0, 0, 0))?;
     // A table without states.
     for log in [&[][..], &[0, 0], &[255, 255], &[0, 0, 0, 0]] {
@@ -297,7 +303,7 @@ pub fn edges(libraries: &[&dyn Calls], random: &mut Random) -> Outcome {
     each(&named::draft(), &[0], refused(25))?;
     // The last state, and the first number that is none.
     let z = MAX_STATES - 1;
-    let last = Table::of(MAX_STATES, &[z], &[], &[], &[(z, z), (z, 0)]);
+    let last = Dialogue::of(MAX_STATES, &[z], &[], &[], &[(z, z), (z, 0)]);
     each(&last, &bytes(&[z, z, 0, z]), answer(3, 2, 100, 0))?;
     each(&last, &bytes(&[z, MAX_STATES]), answer(1, 1, 50, 0))?;
 

@@ -22,7 +22,9 @@ const WORDS: usize = 8;
 const MAX_STATES: usize = 64 * WORDS;
 const MAX_GROUPS: usize = 64;
 /// The sets that stand before the groups.
-const HEAD_SETS: usize = 2;
+const HEAD_SETS: usize = 3;
+/// What is added to g in a file's second number.
+const ADDED: usize = 32_768;
 const STORE_WORDS: usize = (HEAD_SETS + MAX_GROUPS + MAX_STATES) * WORDS;
 const MAX_ALLOWANCE: usize = MAX_STATES;
 const PATH_PLACES: usize = MAX_STATES;
@@ -126,7 +128,8 @@ impl Set {
 struct Table<'s> {
     n: usize,
     initial: Set,
-    forbidden: Set,
+    marked: Set,
+    resting: Set,
     groups: &'s [Words],
     rows: &'s [Words; MAX_STATES],
 }
@@ -160,10 +163,19 @@ impl<'s> Table<'s> {
         Ok(Table {
             n,
             initial: Set(fixed[0]),
-            forbidden: Set(fixed[1]),
+            marked: Set(fixed[1]),
+            resting: Set(fixed[2]),
             groups: used,
             rows: rows.try_into().expect("MAX_STATES rows"),
         })
+    }
+
+    /// The forbidden states of a set of the table's states.
+    fn forbidden(&self, among: Set) -> Set {
+        let hangs = among
+            .minus(self.resting)
+            .filter(|state| Set(self.rows[state]).is_empty());
+        among.meet(self.marked).union(hangs)
     }
 
     fn post(&self, x: Set) -> Set {
@@ -249,7 +261,8 @@ fn rounds(table: &Table, allowance: usize, looks: Looks) -> (u32, usize, Set) {
     for &group in table.groups {
         narrow(&mut covers, Set(group));
     }
-    let mut z = Set::below(table.n).minus(table.forbidden);
+    let all = Set::below(table.n);
+    let mut z = all.minus(table.forbidden(all));
     let mut count = 0;
     loop {
         narrow(&mut covers, z);
@@ -274,7 +287,7 @@ fn rounds(table: &Table, allowance: usize, looks: Looks) -> (u32, usize, Set) {
 /// Writes the smallest of the shortest paths and returns its number of steps, if there is one.
 ///
 /// The layers are the states at each distance from the initial ones; cut down to those that lead on to
-/// the next layer, back from the first that meets the forbidden set, they hold the shortest paths and
+/// the next layer, back from the first with a forbidden state, they hold the shortest paths and
 /// nothing else.
 fn write_path(table: &Table, path: &mut [u16]) -> Option<usize> {
     let mut layers = [Set::EMPTY; MAX_STATES];
@@ -285,7 +298,7 @@ fn write_path(table: &Table, path: &mut [u16]) -> Option<usize> {
         if layer.is_empty() {
             return None;
         }
-        let last = layer.meet(table.forbidden);
+        let last = table.forbidden(layer);
         if !last.is_empty() {
             layers[steps] = last;
             break;
@@ -321,7 +334,7 @@ fn put_distances(table: &Table, out: &mut [u16]) {
         Set(table.rows[state]).each(|after| before[after] = Set(before[after]).union(alone).0);
     }
     out.fill(u16::MAX);
-    let mut layer = table.forbidden;
+    let mut layer = table.forbidden(Set::below(table.n));
     let mut seen = layer;
     let mut steps = 0;
     while !layer.is_empty() {
@@ -338,7 +351,7 @@ fn steps_to_forbidden(table: &Table) -> Option<usize> {
     let mut seen = layer;
     let mut steps = 0;
     while !layer.is_empty() {
-        if !layer.meet(table.forbidden).is_empty() {
+        if !table.forbidden(layer).is_empty() {
             return Some(steps);
         }
         layer = table.post(layer).minus(seen);
@@ -391,13 +404,14 @@ fn open(
         joined[CONTENT * k..][..CONTENT].copy_from_slice(&block[2..510]);
     }
     let n = u16_at(joined, 0);
-    let g = u16_at(joined, 2);
+    let second = u16_at(joined, 2);
     if n == 0 || n > MAX_STATES {
         return Err(14);
     }
-    if g > MAX_GROUPS {
+    if !(ADDED..=ADDED + MAX_GROUPS).contains(&second) {
         return Err(15);
     }
+    let g = second - ADDED;
     let (length, needed) = blocks_needed(n, g);
     if blocks.len() != needed {
         return Err(16);
@@ -608,9 +622,9 @@ impl Calls for Peer {
         };
         let mut joined = [0; CONTENTS_ROOM];
         joined[0..2].copy_from_slice(&(n as u16).to_le_bytes());
-        joined[2..4].copy_from_slice(&(g as u16).to_le_bytes());
+        joined[2..4].copy_from_slice(&((ADDED + g) as u16).to_le_bytes());
         // Each set is laid down whole; the bytes of it past its width are 0, and the next set's place.
-        let sets = [table.initial.0, table.forbidden.0];
+        let sets = [table.initial.0, table.marked.0, table.resting.0];
         let sets = sets
             .iter()
             .chain(table.groups)

@@ -5,9 +5,9 @@ use crate::accept::{MAX_ALLOWANCE, PATH_PLACES};
 use crate::calls::{Calls, Decision};
 use crate::examine::{Outcome, Tally};
 use crate::generate::{Kind, Random};
-use crate::table::{MAX_GROUPS, Set, Table};
+use crate::table::{Dialogue, MAX_GROUPS, Set};
 
-const TABLES: usize = 400;
+const TABLES: usize = 500;
 /// At least so many tables are put another way in each of these ways.
 const ENOUGH: usize = 50;
 
@@ -41,13 +41,13 @@ pub fn regrouped_tables(
     tally: &mut Tally,
 ) -> Outcome {
     for _ in 0..TABLES {
-        let table = Kind::random(random).table(random);
+        let table = Kind::random(random).dialogue(random);
         let others = put_another_way(&table, random, tally);
         let path = random.places(PATH_PLACES);
         let mut needed = false;
         for library in libraries {
             for (allowance, room) in CALLS {
-                let call = |table: &Table| decide(*library, table, allowance, &path[..room]);
+                let call = |table: &Dialogue| decide(*library, table, allowance, &path[..room]);
                 let expected = call(&table);
                 needed |= call(&regrouped(&table, Vec::new())) != expected;
                 for other in &others {
@@ -84,7 +84,7 @@ fn came_up(tally: &Tally) -> Outcome {
 /// The answer, and the path buffer after it.
 fn decide(
     library: &dyn Calls,
-    table: &Table,
+    table: &Dialogue,
     allowance: usize,
     path: &[u16],
 ) -> (Decision, Vec<u16>) {
@@ -93,14 +93,14 @@ fn decide(
     (answer, path)
 }
 
-fn regrouped(table: &Table, groups: Vec<Set>) -> Table {
-    Table {
+fn regrouped(table: &Dialogue, groups: Vec<Set>) -> Dialogue {
+    Dialogue {
         groups,
         ..table.clone()
     }
 }
 
-fn put_another_way(table: &Table, random: &mut Random, tally: &mut Tally) -> Vec<Table> {
+fn put_another_way(table: &Dialogue, random: &mut Random, tally: &mut Tally) -> Vec<Dialogue> {
     let mut others = Vec::new();
     for rewriting in REWRITINGS {
         if let Some(groups) = rewritten(&table.groups, rewriting, random) {

@@ -184,7 +184,7 @@ pub fn extremes_hold(rounds: &Rounds) -> bool {
     let table = rounds.table;
     let n = table.n;
     rounds.rounds.iter().enumerate().all(|(i, round)| {
-        let list = &rounds.list[..table.g() + 1 + i];
+        let list = &rounds.list[..table.groups.len() + 1 + i];
         let covers = covers(n, list);
         let forward_step = |x: &Set| {
             let reached = union(post(table, x), &table.initial);

@@ -4,21 +4,26 @@
 
 use std::collections::{BTreeMap, VecDeque};
 
-use crate::table::Table;
+use crate::table::{Dialogue, Table};
 
-/// Whether some forbidden state can be reached from an initial one: depth first, with a stack.
-pub fn reaches_forbidden(table: &Table) -> bool {
-    let mut seen = table.initial.clone();
-    let mut stack: Vec<usize> = (0..table.n).filter(|&s| table.initial[s]).collect();
+/// Whether some forbidden state can be reached from an initial one: depth first, with a stack. Which states are
+/// forbidden is seen on the way: a state is if it is marked, or if no step is found from it and it does not rest.
+pub fn reaches_forbidden(dialogue: &Dialogue) -> bool {
+    let mut seen = dialogue.initial.clone();
+    let mut stack: Vec<usize> = (0..dialogue.n).filter(|&s| dialogue.initial[s]).collect();
     while let Some(state) = stack.pop() {
-        if table.forbidden[state] {
-            return true;
-        }
-        for next in 0..table.n {
-            if table.rows[state][next] && !seen[next] {
-                seen[next] = true;
-                stack.push(next);
+        let mut steps = 0;
+        for next in 0..dialogue.n {
+            if dialogue.rows[state][next] {
+                steps += 1;
+                if !seen[next] {
+                    seen[next] = true;
+                    stack.push(next);
+                }
             }
+        }
+        if dialogue.marked[state] || steps == 0 && !dialogue.resting[state] {
+            return true;
         }
     }
     false

@@ -3,10 +3,10 @@
 #![cfg(feature = "library")]
 
 use shuntberry::{Refused, raw};
-use shuntberry_outside::blocks;
+use shuntberry_outside::blocks::Form;
 use shuntberry_outside::buffer::Lent;
 use shuntberry_outside::generate::Random;
-use shuntberry_outside::table::{MAX_STATES, STORE_WORDS, Table, set_where};
+use shuntberry_outside::table::{Dialogue, MAX_STATES, STORE_WORDS, set_where};
 
 const MAX_FAN_OUT: usize = 16;
 
@@ -40,7 +40,7 @@ impl Iterator for Numbers {
     }
 }
 
-fn load(seed: u32, n: usize, fan_out: usize) -> Table {
+fn load(seed: u32, n: usize, fan_out: usize) -> Dialogue {
     let mut numbers = Numbers::new(seed);
     let mut row = || {
         let drawn: Vec<usize> = numbers
@@ -50,10 +50,11 @@ fn load(seed: u32, n: usize, fan_out: usize) -> Table {
             .collect();
         set_where(n, |state| drawn.contains(&state))
     };
-    Table {
+    Dialogue {
         n,
         initial: set_where(n, |state| state == 0),
-        forbidden: set_where(n, |state| state == n - 1),
+        marked: set_where(n, |state| state == n - 1),
+        resting: vec![false; n],
         groups: vec![],
         rows: (0..n).map(|_| row()).collect(),
     }
@@ -104,7 +105,7 @@ fn examine(seed: u32, n: usize, fan_out: usize, room: usize, random: &mut Random
 fn accepted_by_all(seed: u32, n: usize, fan_out: usize) {
     let mut store = [u64::MAX; STORE_WORDS];
     shuntberry::generate(seed, n, fan_out, &mut store).unwrap();
-    let file = blocks::encode(&load(seed, n, fan_out), 0);
+    let file = Form::New.encode(&load(seed, n, fan_out), 0);
     let mut output = vec![0; file.len()];
     assert_eq!(
         shuntberry::write(&store, n, 0, 0, &mut output),

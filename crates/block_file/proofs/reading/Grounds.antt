@@ -4,9 +4,10 @@
 --   passed-none, passed-next                a loop over the blocks: before its first turn, and after a turn that found no ground
 --   passed-stop, passed-all                 it returns the first ground that holds, or 0 when it is done
 --   number-wrong, check-wrong, block-right  what `block_fault` returns
+--   second-is                               the second number, from g as code works it out
 --   contentRefusal                          what is wrong with the contents, or 0
---   no-states, many-states, many-groups,    what `content_refusal` returns for the grounds 14 to 16
---   other-blocks
+--   no-states, many-states, second-low,     what `content_refusal` returns for the grounds 14 to 16
+--   second-high, other-blocks
 --   Sized                                   none of these holds; size is the length of the contents
 --   set-beyond, filler-non-zero,            what it returns then
 --   content-right
@@ -15,7 +16,7 @@
 --   part-block, long-input
 --   Whole                                   neither of these holds
 --   block-wrong, blocks-right               what it returns then
---   declined, draft-read, table-read        the contract of `read` in each case; room-enough, some-block, table-inside: what it may do
+--   declined, draft-read, table-read        the contract of `read_as` in each case; room-enough, some-block, table-inside: what it may do
 use Prim.Native.Nat.{ℕ, _+_, _*_, _-_, _/_, _%_, _≤_, _<_}
 use native.Mathlib.Nat.{add-assoc, le-antisymm}
 use native.Mathlib.Omega.{arith}
@@ -27,17 +28,17 @@ use borrow.Author.Tests.{lt-ltb, le-ltb, eq-eqb, ne-eqb}
 use lib.Dec.{eqb, ltb}
 use lib.ListN.{length, getD, take, drop}
 use Rattle.model.specs.Sets.{maxStates, any}
-use Rattle.model.specs.Stores.{headSets, maxGroups, storeWords, concat, layout, refuse, beyond, nonZero}
+use Rattle.model.specs.Stores.{maxGroups, storeWords, concat, layout, refuse, beyond, nonZero}
 use Rattle.model.specs.Blocks.{blockBytes, contentBytes, checkAt, maxSite, le16At, checkOf, blocksFor, part, contentsOf, blockGrounds}
-use Rattle.model.specs.Contents.{contentLength, setNumber, tableIn}
+use Rattle.model.specs.Contents.{Form, heads, added, contentLength, setNumber, dialogueIn}
 use Rattle.model.specs.Files.{maxFile}
-use Rattle.model.specs.Calls.{overwrite, statesIn, groupsIn, badLength, blocksGrounds, contentGrounds, fileGrounds, readGrounds, readAnswer, readBuffer}
+use Rattle.model.specs.Calls.{overwrite, statesIn, secondIn, groupsIn, badLength, badSecond, blocksGrounds, contentGrounds, fileGrounds, readGroundsAs, readAnswerAs, readBufferAs}
 use Rattle.model.proofs.GroundLaws.{Clear, refuse-none, refuse-skip, refuse-take, refuse-append, refuse-behind, clear-refuse, refuse-clear, clear-next, refuse-stop}
 use Rattle.model.proofs.BlockLaws.{getD-contentsOf-at}
-use Rattle.model.proofs.CallLaws.{right-block, blocks-clear, Readable, read-over, behind-site, behind-length, readable, draft-refusal, read-answer, read-buffer, draft-says}
+use Rattle.model.proofs.CallLaws.{second-pass, right-block, blocks-clear, Readable, read-over, behind-site, behind-length, readable, draft-refusal, read-answer, read-buffer, draft-says}
 use Rattle.model.proofs.Drafts.{draft-layout}
 use Rattle.block_file.specs.declared.reading.TableRead.the-variants.{Table, Refused}
-use Rattle.block_file.specs.ReadAnswers.{CalledRead}
+use Rattle.block_file.specs.ReadAnswers.{CalledReadAs}
 use Rattle.block_file.specs.Reading.{TableInside, cleared}
 
 -- ---- the blocks
@@ -94,19 +95,24 @@ module _ (site : ℕ) (block : List ℕ) {k number check sum : ℕ} (n-is : numb
 
 -- ---- the contents
 
-pub record Sized (input : List ℕ) (n g size : ℕ) : Type 0 where
+pub record Sized (form : Form) (input : List ℕ) (n second g size : ℕ) : Type 0 where
   pub some : n ≡ 0 → ⊥
   pub states : n ≤ maxStates
-  pub groups : g ≤ maxGroups
-  pub is : size ≡ contentLength n g
+  pub is-second : second ≡ added form + g
+  pub few : g ≤ maxGroups
+  pub is : size ≡ contentLength form n g
   pub blocks : length input / blockBytes ≡ blocksFor size
+
+-- the second number, from g as code works it out with what the form adds
+pub second-is : {second least adds : ℕ} → least ≡ adds → least ≤ second → second ≡ adds + (second - least)
+second-is e l = omega arith
 
 states-pass : (n : ℕ) → (n ≡ 0 → ⊥) → n ≤ maxStates → (eqb n 0 || ltb maxStates n) ≡ false
 states-pass n some h = rw (ne-eqb n 0 some) (le-ltb maxStates n h)
 
-module _ (input : List ℕ) (n g : ℕ) where
+module _ (form : Form) (input : List ℕ) (n second : ℕ) where
   abbrev pub contentRefusal : ℕ
-  contentRefusal = refuse (contentGrounds input n g)
+  contentRefusal = refuse (contentGrounds form input n second)
 
   pub no-states : n ≡ 0 → 14 ≡ contentRefusal
   unfolding contentGrounds
@@ -117,35 +123,52 @@ module _ (input : List ℕ) (n g : ℕ) where
   many-states some h = sym (refuse-take _ 14 _ (rw (ne-eqb n 0 some) (lt-ltb maxStates n h)))
 
   module _ (some : n ≡ 0 → ⊥) (states : n ≤ maxStates) where
-    pub many-groups : maxGroups < g → 15 ≡ contentRefusal
+    -- ground 15 decides
+    second-wrong : badSecond form second ≡ true → 15 ≡ contentRefusal
     unfolding contentGrounds
-    many-groups h = sym (refuse-skip _ 14 _ (states-pass n some states) ∙ refuse-take _ 15 _ (lt-ltb maxGroups g h))
+    second-wrong b = sym (refuse-skip _ 14 _ (states-pass n some states) ∙ refuse-take _ 15 _ b)
 
-    pub other-blocks : g ≤ maxGroups → {size blocks : ℕ} → size ≡ contentLength n g → blocks ≡ blocksFor size → (length input / blockBytes ≡ blocks → ⊥) → 16 ≡ contentRefusal
-    unfolding contentGrounds
-    other-blocks groups is e x =
-        sym
-        (refuse-skip _ 14 _ (states-pass n some states)
-        ∙ refuse-skip _ 15 _ (le-ltb maxGroups g groups)
-        ∙ refuse-take _ 16 _ (ap not (ne-eqb _ _ (λ q. x (q ∙ sym (e ∙ ap (λ (l : ℕ). blocksFor l) is))))))
+    pub second-low : {least : ℕ} → least ≡ added form → second < least → 15 ≡ contentRefusal
+    unfolding badSecond
+    second-low e h = second-wrong (rw (lt-ltb second (added form) (omega arith)))
 
-module _ {input : List ℕ} {n g size : ℕ} (s : Sized input n g size) {b : Bool} (sets : b ≡ any (headSets + g + n) (λ k. beyond n (setNumber (contentsOf input) n k))) where
-  behind-size : contentRefusal input n g ≡ refuse ((b, 17) ∷ (nonZero (contentsOf input) size (contentBytes * (length input / blockBytes)), 18) ∷ [])
+    module _ {g : ℕ} (e : second ≡ added form + g) where
+      pub second-high : maxGroups < g → 15 ≡ contentRefusal
+      unfolding badSecond
+      second-high h = second-wrong (rw (le-ltb second (added form) (omega arith)) (lt-ltb (added form + maxGroups) second (omega arith)))
+
+      pub other-blocks : g ≤ maxGroups → {size blocks : ℕ} → size ≡ contentLength form n g → blocks ≡ blocksFor size → (length input / blockBytes ≡ blocks → ⊥) → 16 ≡ contentRefusal
+      unfolding contentGrounds
+      other-blocks few is f x =
+          let groups : second - added form ≡ g = omega arith in
+          sym
+          (refuse-skip _ 14 _ (states-pass n some states)
+          ∙ refuse-skip _ 15 _ (second-pass form second g e few)
+          ∙ refuse-take _ 16 _
+          (ap not (ne-eqb _ _ (λ q. x (q ∙ ap (λ (m : ℕ). blocksFor (contentLength form n m)) groups ∙ sym (f ∙ ap (λ (l : ℕ). blocksFor l) is))))))
+
+module _ {form : Form} {input : List ℕ} {n second g size : ℕ} (s : Sized form input n second g size)
+    {b : Bool} (sets : b ≡ any (heads form + g + n) (λ k. beyond n (setNumber (contentsOf input) n k))) where
+  behind-size : contentRefusal form input n second ≡ refuse ((b, 17) ∷ (nonZero (contentsOf input) size (contentBytes * (length input / blockBytes)), 18) ∷ [])
   unfolding contentGrounds
   behind-size =
+      let groups : second - added form ≡ g = omega (arith, s .is-second) in
       refuse-skip _ 14 _ (states-pass n (s .some) (s .states))
-      ∙ refuse-skip _ 15 _ (le-ltb maxGroups g (s .groups))
-      ∙ refuse-skip _ 16 _ (ap not (eq-eqb _ _ (s .blocks ∙ ap (λ (l : ℕ). blocksFor l) (s .is))))
-      ∙ ap₂ (λ a (l : ℕ). refuse ((a, 17) ∷ (nonZero (contentsOf input) l (contentBytes * (length input / blockBytes)), 18) ∷ [])) (sym sets) (sym (s .is))
+      ∙ refuse-skip _ 15 _ (second-pass form second g (s .is-second) (s .few))
+      ∙ refuse-skip _ 16 _
+      (ap not (eq-eqb _ _ (s .blocks ∙ ap (λ (l : ℕ). blocksFor l) (s .is) ∙ ap (λ (m : ℕ). blocksFor (contentLength form n m)) (sym groups))))
+      ∙ ap₂ (λ a (l : ℕ). refuse ((a, 17) ∷ (nonZero (contentsOf input) l (contentBytes * (length input / blockBytes)), 18) ∷ []))
+      (ap (λ (m : ℕ). any (heads form + m + n) (λ k. beyond n (setNumber (contentsOf input) n k))) groups ∙ sym sets)
+      (ap (λ (m : ℕ). contentLength form n m) groups ∙ sym (s .is))
 
-  pub set-beyond : b ≡ true → 17 ≡ contentRefusal input n g
+  pub set-beyond : b ≡ true → 17 ≡ contentRefusal form input n second
   set-beyond t = sym (behind-size ∙ refuse-take _ 17 _ t)
 
   module _ (within : b ≡ false) {z : Bool} (filler : z ≡ nonZero (contentsOf input) size (contentBytes * (length input / blockBytes))) where
-    pub filler-non-zero : z ≡ true → 18 ≡ contentRefusal input n g
+    pub filler-non-zero : z ≡ true → 18 ≡ contentRefusal form input n second
     filler-non-zero t = sym (behind-size ∙ refuse-skip _ 17 _ within ∙ refuse-take _ 18 _ (sym filler ∙ t))
 
-    pub content-right : z ≡ false → 0 ≡ contentRefusal input n g
+    pub content-right : z ≡ false → 0 ≡ contentRefusal form input n second
     content-right t = sym (behind-size ∙ refuse-skip _ 17 _ within ∙ refuse-skip _ 18 _ (sym filler ∙ t) ∙ refuse-none)
 
 -- ---- all grounds
@@ -165,98 +188,103 @@ pub record Whole (input : List ℕ) (site room : ℕ) : Type 0 where
   pub whole : length input % blockBytes ≡ 0
   pub short : length input ≤ maxFile
 
-module _ (input : List ℕ) (site room : ℕ) where
-  pub small-store : room < storeWords → 10 ≡ refuse (readGrounds input site room)
-  unfolding readGrounds
+module _ (form : Form) (input : List ℕ) (site room : ℕ) where
+  pub small-store : room < storeWords → 10 ≡ refuse (readGroundsAs form input site room)
+  unfolding readGroundsAs
   small-store h = sym (refuse-take _ 10 _ (lt-ltb room storeWords h))
 
-  pub far-site : storeWords ≤ room → maxSite < site → 24 ≡ refuse (readGrounds input site room)
-  far-site fits h = sym (read-over input site room fits h)
+  pub far-site : storeWords ≤ room → maxSite < site → 24 ≡ refuse (readGroundsAs form input site room)
+  far-site fits h = sym (read-over form input site room fits h)
 
   module _ (fits : storeWords ≤ room) (known : site ≤ maxSite) where
-    pub no-input : length input ≡ 0 → 0 ≡ refuse (readGrounds input site room)
-    no-input e = sym (draft-refusal input site room fits known e)
+    pub no-input : length input ≡ 0 → 0 ≡ refuse (readGroundsAs form input site room)
+    no-input e = sym (draft-refusal form input site room fits known e)
 
     module _ (some : length input ≡ 0 → ⊥) where
       -- ground 11 decides
-      length-wrong : badLength input ≡ true → 11 ≡ refuse (readGrounds input site room)
+      length-wrong : badLength input ≡ true → 11 ≡ refuse (readGroundsAs form input site room)
       unfolding fileGrounds
-      length-wrong b = sym (behind-site input site room fits known some ∙ refuse-take _ 11 _ b)
+      length-wrong b = sym (behind-site form input site room fits known some ∙ refuse-take _ 11 _ b)
 
-      pub part-block : (length input % blockBytes ≡ 0 → ⊥) → 11 ≡ refuse (readGrounds input site room)
+      pub part-block : (length input % blockBytes ≡ 0 → ⊥) → 11 ≡ refuse (readGroundsAs form input site room)
       unfolding badLength
       part-block x = length-wrong (rw (ne-eqb (length input % blockBytes) 0 x))
 
-      pub long-input : length input % blockBytes ≡ 0 → maxFile < length input → 11 ≡ refuse (readGrounds input site room)
+      pub long-input : length input % blockBytes ≡ 0 → maxFile < length input → 11 ≡ refuse (readGroundsAs form input site room)
       unfolding badLength
       long-input e h = length-wrong (rw (eq-eqb (length input % blockBytes) 0 e) (lt-ltb maxFile (length input) h))
 
-module _ {input : List ℕ} {site room : ℕ} (w : Whole input site room) {fault : ℕ} (e : fault ≡ refuse (blocksGrounds input site)) where
-  behind-whole : refuse (readGrounds input site room) ≡ refuse (blocksGrounds input site ++ contentGrounds input (statesIn input) (groupsIn input))
+module _ (form : Form) {input : List ℕ} {site room : ℕ} (w : Whole input site room) {fault : ℕ} (e : fault ≡ refuse (blocksGrounds input site)) where
+  behind-whole : refuse (readGroundsAs form input site room) ≡ refuse (blocksGrounds input site ++ contentGrounds form input (statesIn input) (secondIn input))
   unfolding badLength
   behind-whole =
-      behind-length input site room (w .fits) (w .known) (w .some) (rw (eq-eqb (length input % blockBytes) 0 (w .whole)) (le-ltb maxFile (length input) (w .short)))
+      behind-length form input site room (w .fits) (w .known) (w .some) (rw (eq-eqb (length input % blockBytes) 0 (w .whole)) (le-ltb maxFile (length input) (w .short)))
 
-  pub block-wrong : (fault ≡ 0 → ⊥) → fault ≡ refuse (readGrounds input site room)
+  pub block-wrong : (fault ≡ 0 → ⊥) → fault ≡ refuse (readGroundsAs form input site room)
   block-wrong x = refuse-append (blocksGrounds input site) _ e x ∙ sym behind-whole
 
-  pub blocks-right : fault ≡ 0 → {n g k : ℕ} → n ≡ le16At input 2 → g ≡ le16At input 4 → k ≡ contentRefusal input n g → k ≡ refuse (readGrounds input site room)
+  pub blocks-right : fault ≡ 0 → {n second k : ℕ} → n ≡ le16At input 2 → second ≡ le16At input 4 → k ≡ contentRefusal form input n second → k ≡ refuse (readGroundsAs form input site room)
   blocks-right z p q f =
       let long : blockBytes ≤ length input = omega (arith, w .some, w .whole) in
       let clear = blocks-clear input site [] (ap refuse (append-nil (blocksGrounds input site)) ∙ sym e ∙ z) .0 in
       f
-      ∙ ap₂ (λ (a b : ℕ). contentRefusal input a b) (p ∙ header input 0 long (omega arith)) (q ∙ header input 2 long (omega arith))
+      ∙ ap₂ (λ (a b : ℕ). contentRefusal form input a b) (p ∙ header input 0 long (omega arith)) (q ∙ header input 2 long (omega arith))
       ∙ sym (behind-whole ∙ refuse-behind (blocksGrounds input site) _ clear)
 
 -- ---- the call
 
 -- no ground holds
-module _ (input : List ℕ) (site room : ℕ) {k : ℕ} (e : k ≡ refuse (readGrounds input site room)) (z : k ≡ 0) where
+module _ (form : Form) (input : List ℕ) (site room : ℕ) {k : ℕ} (e : k ≡ refuse (readGroundsAs form input site room)) (z : k ≡ 0) where
   pub room-enough : storeWords ≤ room
-  room-enough = readable input site room (sym e ∙ z) .0
+  room-enough = readable form input site room (sym e ∙ z) .0
 
   module _ (some : length input ≡ 0 → ⊥) where
-    file : Readable input site room (statesIn input) (groupsIn input)
-    file = ⊎-elim (λ q. absurd (some q)) (λ r. r) (readable input site room (sym e ∙ z) .2)
+    file : Readable form input site room (statesIn input) (groupsIn form input)
+    file = ⊎-elim (λ q. absurd (some q)) (λ r. r) (readable form input site room (sym e ∙ z) .2)
 
     pub some-block : blockBytes ≤ length input
     some-block = omega (arith, some, file .whole)
 
-    module _ {n g : ℕ} (p : n ≡ le16At input 2) (q : g ≡ le16At input 4) where
-      says : (n ≡ statesIn input) × (g ≡ groupsIn input)
-      says = (p ∙ header input 0 some-block (omega arith), q ∙ header input 2 some-block (omega arith))
+    pub second-least : {second least : ℕ} → second ≡ le16At input 4 → least ≡ added form → least ≤ second
+    second-least q e = omega (arith, q, header input 2 some-block (omega arith), file .second)
 
-      pub table-inside : TableInside input n g
+    module _ {n g : ℕ} (p : n ≡ le16At input 2) (q : g ≡ le16At input 4 - added form) where
+      says : (n ≡ statesIn input) × (g ≡ groupsIn form input)
+      says = (p ∙ header input 0 some-block (omega arith), q ∙ ap (λ (m : ℕ). m - added form) (header input 2 some-block (omega arith)))
+
+      pub table-inside : TableInside form input n g
       table-inside =
-          let blocks : length input / blockBytes ≡ blocksFor (contentLength n g) =
-          file .blocks ∙ ap₂ (λ (a b : ℕ). blocksFor (contentLength a b)) (sym (says .0)) (sym (says .1)) in
+          let blocks : length input / blockBytes ≡ blocksFor (contentLength form n g) =
+          file .blocks ∙ ap₂ (λ (a b : ℕ). blocksFor (contentLength form a b)) (sym (says .0)) (sym (says .1)) in
           record { small = omega (arith, says .0, file .small); few = omega (arith, says .1, file .few); inside = omega arith }
 
 -- k is the first ground that holds, or 0
-module _ (input : List ℕ) (site : ℕ) (store : List ℕ) {k : ℕ} (e : k ≡ refuse (readGrounds input site (length store))) where
-  pub declined : (k ≡ 0 → ⊥) → CalledRead input site store (Refused k) store
-  unfolding readAnswer readBuffer
+module _ (form : Form) (input : List ℕ) (site : ℕ) (store : List ℕ) {k : ℕ} (e : k ≡ refuse (readGroundsAs form input site (length store))) where
+  pub declined : (k ≡ 0 → ⊥) → CalledReadAs form input site store (Refused k) store
+  unfolding readAnswerAs readBufferAs
   declined x = let no = ne-eqb k 0 x in (rw (← e, no), rw (← e, no), rw (← e, no, no))
 
   module _ (z : k ≡ 0) where
     -- n and g are what the input says
-    accepted : {n g : ℕ} {after : List ℕ} → statesIn input ≡ n → groupsIn input ≡ g
-        → after ≡ overwrite (layout (tableIn (contentsOf input) n g)) store
-        → CalledRead input site store (Table n g) after
+    accepted : {n g : ℕ} {after : List ℕ} → statesIn input ≡ n → groupsIn form input ≡ g
+        → after ≡ overwrite (layout (dialogueIn form (contentsOf input) n g)) store
+        → CalledReadAs form input site store (Table n g) after
     accepted {n} {g} p q f =
         let none = sym e ∙ z in
-        let answer = read-answer input site (length store) none ∙ ap₂ (λ (a b : ℕ). record { refusal = 0; n = a; g = b }) p q in (
+        let answer = read-answer form input site (length store) none ∙ ap₂ (λ (a b : ℕ). record { refusal = 0; n = a; g = b }) p q in (
           sym answer,
-          f ∙ sym (read-buffer input site store none ∙ ap₂ (λ (a b : ℕ). overwrite (layout (tableIn (contentsOf input) a b)) store) p q),
+          f ∙ sym (read-buffer form input site store none ∙ ap₂ (λ (a b : ℕ). overwrite (layout (dialogueIn form (contentsOf input) a b)) store) p q),
           rw answer,
         )
 
-    pub draft-read : length input ≡ 0 → {after : List ℕ} → after ≡ cleared store → CalledRead input site store (Table 0 0) after
+    pub draft-read : length input ≡ 0 → {after : List ℕ} → after ≡ cleared store → CalledReadAs form input site store (Table 0 0) after
     unfolding cleared
     draft-read empty f =
-        let none = draft-says input empty in
-        accepted (none .0) (none .1) (f ∙ ap (λ (xs : List ℕ). overwrite xs store) (sym (draft-layout (contentsOf input))))
+        let none = draft-says form input empty in
+        accepted (none .0) (none .1) (f ∙ ap (λ (xs : List ℕ). overwrite xs store) (sym (draft-layout form (contentsOf input))))
 
-    pub table-read : (length input ≡ 0 → ⊥) → {n g : ℕ} → n ≡ le16At input 2 → g ≡ le16At input 4
-        → {after : List ℕ} → after ≡ overwrite (layout (tableIn (contentsOf input) n g)) store → CalledRead input site store (Table n g) after
-    table-read some p q f = let header = says input site (length store) e z some p q in accepted (sym (header .0)) (sym (header .1)) f
+    pub table-read : (length input ≡ 0 → ⊥) → {n g : ℕ} → n ≡ le16At input 2 → g ≡ le16At input 4 - added form
+        → {after : List ℕ} → after ≡ overwrite (layout (dialogueIn form (contentsOf input) n g)) store → CalledReadAs form input site store (Table n g) after
+    table-read some p q f =
+        let header = says form input site (length store) e z some p q in
+        accepted (sym (header .0)) (sym (header .1)) f

@@ -4,36 +4,31 @@
 --   byte-inside                         a byte of a set is one of the contents
 --   word-past                           a word past the bytes of a set
 --   word-none, word-more, word-all      a loop that makes a word of a set from its bytes
---   words-all                           a loop that writes the words of a set, one after the other, has written the set
 use Prim.Native.Nat.{ℕ, _+_, _*_, _%_, _^_, _≤_, _<_}
 use native.Mathlib.Nat.{mul-le-mul-left, not-le-of-lt}
 use native.Mathlib.Omega.{arith}
-use mathlib.Core.Path.{_≡_, refl, sym, ap, ap₂, _∙_, subst}
+use mathlib.Core.Path.{_≡_, refl, sym, ap, ap₂, _∙_}
 use mathlib.Core.Bool.{false}
 use mathlib.Core.List.{List}
 use lib.Bits.{bitOr, or-shifted-r}
 use lib.ListN.{getD}
 use lib.Pow.{shl-exact}
-use lib.Seq.{ext-getD}
 use mir.Syntax.{w8}
 use mir.Val.{Fits}
-use Rattle.model.specs.Stores.{headSets}
-use Rattle.model.specs.Sets.{WORDS, Set, member, number, tabulate}
+use Rattle.model.specs.Sets.{WORDS, Set, member, number}
 use Rattle.model.specs.Blocks.{contentsOf}
-use Rattle.model.specs.Contents.{setWidth, headerBytes, setIn}
-use Rattle.model.specs.Calls.{overwrite}
-use Rattle.model.proofs.Bounds.{is-false, length-tabulate, getD-tabulate}
+use Rattle.model.specs.Contents.{Form, heads, setWidth, headerBytes, setIn}
+use Rattle.model.proofs.Bounds.{is-false}
 use Rattle.model.proofs.SetLaws.{Proper, number-lt}
 use Rattle.model.proofs.BlockLaws.{contentsOf-bounded}
 use Rattle.model.proofs.ContentLaws.{number-none, number-append, word-number, number-setIn, setIn-proper, setIn-below}
 use Rattle.block_file.specs.Reading.{SetInside, TableInside}
-use Rattle.block_file.proofs.Overwriting.{Over, over-all}
 
-pub set-inside : {input : List ℕ} {n g : ℕ} (t : TableInside input n g) {w k : ℕ} → w ≡ setWidth n → k < headSets + g + n → SetInside input w (headerBytes + w * k)
-set-inside {n = n} {g} t {w} e l =
+pub set-inside : {form : Form} {input : List ℕ} {n g : ℕ} (t : TableInside form input n g) {w k : ℕ} → w ≡ setWidth n → k < heads form + g + n → SetInside input w (headerBytes + w * k)
+set-inside {form} {n = n} {g} t {w} e l =
     record {
       narrow = omega (arith, t .small);
-      inside = omega (arith, t .inside, mul-le-mul-left w l, ap (λ (m : ℕ). m * (headSets + g + n)) e);
+      inside = omega (arith, t .inside, mul-le-mul-left w l, ap (λ (m : ℕ). m * (heads form + g + n)) e);
     }
 
 -- ---- a word of a set, byte by byte
@@ -72,11 +67,3 @@ module _ (X : Set) (v : ℕ) where
   word-all b word x h l m e =
       let whole : 8 * b ≡ 64 = omega arith in
       e ∙ ap (number (member X) (64 * v)) whole ∙ sym (word-number X x v h)
-
-pub words-all : (X : Set) → Proper X → {old out : List ℕ} (v : ℕ) → v ≤ WORDS → WORDS ≤ v → Over (tabulate v (λ w. getD X w 0)) old out → out ≡ overwrite X old
-words-all X x {old} {out} v l h so =
-    let word : ℕ → ℕ = λ w. getD X w 0 in
-    let all : tabulate WORDS word ≡ X =
-    ext-getD 0 (tabulate WORDS word) X (length-tabulate word WORDS ∙ sym (x .long))
-    (λ w m. getD-tabulate word WORDS w 0 (subst (λ (j : ℕ). w < j) (length-tabulate word WORDS) m)) in
-    over-all (λ m. tabulate m word) old out v WORDS l h so ∙ ap (λ xs. overwrite xs old) all

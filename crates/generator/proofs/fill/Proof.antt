@@ -1,4 +1,4 @@
--- `fill`: the store cleared, then initial set, forbidden set and rows, one after the other.
+-- `fill`: the store cleared, then initial set, marked set and rows, one after the other.
 use borrow.Author.Needs.{needs}
 use Rattle.generator.proofs.Filled.{filled}
 use Rattle.generator.proofs.fill.Statement.{statement}
@@ -18,8 +18,8 @@ fill-spec =
     (λ c. search needs)
     (λ c.
     let rows = c .before .before in
-    let forbidden = rows .before .before .before .before in
-    let initial = forbidden .before .before .before .before .before in
+    let marked = rows .before .before .before .before in
+    let initial = marked .before .before .before .before .before in
     let cleared = initial .before .before .before .before .before in
     filled _ _ _ _ _ _ _ _ _ _ (search needs) (search needs) (cleared .clear .ensures) (initial .put-set .ensures)
-    (initial .before .single .ensures) (forbidden .put-set2 .ensures) (forbidden .before .single2 .ensures) (rows .put-rows .ensures)))
+    (initial .before .single .ensures) (marked .put-set2 .ensures) (marked .before .single2 .ensures) (rows .put-rows .ensures)))

@@ -31,12 +31,12 @@ all-distances-spec =
     (tie.spec
     Inv-loop
     μ-loop
-    (λ c κs. omega (arith, c .before .pre .long))
+    (λ c κs. (c .before .pre .small, c .before .pre .long))
     (λ c κs. search needs)
     (λ c κs. search needs)
     (λ c.
     let held = c .before .before .before .before .pre in
-    swept-start (held .formed) (held .small) (proper (search needs) (λ w. search needs)) (c .before .before .set-at .ensures)
+    swept-start (held .formed) (held .small) (proper (search needs) (λ w. search needs)) (c .before .before .forbidden .ensures)
     (c .difference .ensures ∙ ap₂ difference (c .before .first-states .ensures) refl))
     (λ c κs. search needs)
     (λ c κs. let d = c .before .before .before .before in (d .before .before .before .before .before .pre, d .loop .inv))

@@ -24,7 +24,7 @@ told : (c : tie.After-first-layer) → let a = c .before .before .before .before
 told c =
     let d = c .before .before .before in
     within-found _ _ _ (well-formed _ _ _ (held d)) (held d .small) _
-    (c .first-layer .ensures ∙ ap₂ (firstLayer _) (c .before .before .set-at .ensures) (c .before .set-at2 .ensures))
+    (c .first-layer .ensures ∙ ap₂ (firstLayer _) (c .before .before .set-at .ensures) (c .before .forbidden .ensures))
 
 pub within-spec : {M : Type 1} → statement M
 within-spec =
@@ -33,7 +33,7 @@ within-spec =
     (λ c κs. search needs)
     (λ c. within-refused _ _ _ _ (c .before .refusal .ensures) (c .if1 .taken))
     (λ c κs. omega (arith, held c .long))
-    (λ c κs. omega (arith, held (c .before) .long))
+    (λ c κs. (held (c .before) .small, held (c .before) .long))
     (λ c κs. held (c .before .before) .long)
     (λ c. search needs)
     (λ c. search needs)

@@ -14,7 +14,7 @@ decide-spec =
     (λ c κs. search needs)
     (λ c κs. search needs)
     (λ c. refused-answer _ _ _ _ _ (c .before .before .decide-refusal .ensures) (c .before .if1 .taken) (c .empty .ensures))
-    (λ c κs. let held = accepted _ _ _ _ _ (c .before .decide-refusal .ensures) (c .if1 .left) .0 in (held .few, held .long))
+    (λ c κs. let held = accepted _ _ _ _ _ (c .before .decide-refusal .ensures) (c .if1 .left) .0 in (held .small, held .few, held .long))
     (λ c. search needs)
     (λ c κs. search needs)
     (λ c. search needs)

@@ -22,7 +22,7 @@ first-order-spec =
     (tie.spec
     (λ c κs. search needs)
     (λ c. order-refused _ _ _ (c .before .refusal .ensures) (c .if1 .taken))
-    (λ c κs. held c .long)
+    (λ c κs. (held c .small, held c .long))
     (λ c κs. (held (c .before) .few, held (c .before) .long))
     (λ c κs. omega (arith, held (c .before .before .before) .long))
     (λ c κs. (held (c .before .before .before .before) .long, record { n = _; list = _; is = c .before .before .first-cover .ensures }))

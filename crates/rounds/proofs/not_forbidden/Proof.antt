@@ -14,4 +14,4 @@ not-forbidden-spec =
     (λ c κs. search needs)
     (λ c κs. search needs)
     (λ c.
-    c .difference .ensures ∙ ap₂ difference (c .before .before .first-states .ensures) (c .before .set-at .ensures) ∙ notForbidden-is _ _))
+    c .difference .ensures ∙ ap₂ difference (c .before .before .first-states .ensures) (c .before .forbidden .ensures) ∙ notForbidden-is _ _))

@@ -15,13 +15,13 @@ use std::process::ExitCode;
 use std::time::Instant;
 
 use shuntberry_outside::accept::{MAX_ALLOWANCE, MAX_LOG};
-use shuntberry_outside::blocks;
+use shuntberry_outside::blocks::{Form, LARGEST};
 use shuntberry_outside::calls::Calls;
 use shuntberry_outside::families;
 use shuntberry_outside::generate::Random;
 use shuntberry_outside::logs;
 use shuntberry_outside::peer::{Looks, Peer};
-use shuntberry_outside::table::{MAX_STATES, STORE_WORDS, Table};
+use shuntberry_outside::table::{Dialogue, MAX_STATES, STORE_WORDS};
 use shuntberry_outside::windows::{self, NextOpen};
 
 const SEED: u64 = 1;
@@ -41,24 +41,24 @@ struct Case {
 }
 
 impl Case {
-    fn of(table: &Table) -> Case {
+    fn of(dialogue: &Dialogue) -> Case {
         Case {
-            store: table.to_store(),
-            file: blocks::encode(table, SITE),
+            store: dialogue.to_store(),
+            file: Form::New.encode(dialogue, SITE),
             log: Vec::new(),
-            n: table.n,
-            g: table.g(),
+            n: dialogue.n,
+            g: dialogue.g(),
         }
     }
 
     /// With a log as long as can be, which is walked as far as the table leads on.
-    fn with_log(table: &Table, random: &mut Random) -> Case {
-        let walk = logs::random_walk(table, MAX_LOG / 2, random);
+    fn with_log(dialogue: &Dialogue, random: &mut Random) -> Case {
+        let walk = logs::random_walk(&dialogue.table(), MAX_LOG / 2, random);
         let mut log = logs::bytes(&walk);
         log.resize(MAX_LOG, 0);
         Case {
             log,
-            ..Case::of(table)
+            ..Case::of(dialogue)
         }
     }
 }
@@ -134,7 +134,7 @@ struct Buffers {
     path: [u16; MAX_STATES],
     distances: [u16; MAX_STATES],
     store: [u64; STORE_WORDS],
-    file: [u8; blocks::LARGEST],
+    file: [u8; LARGEST],
 }
 
 impl Buffers {
@@ -143,7 +143,7 @@ impl Buffers {
             path: [0; MAX_STATES],
             distances: [0; MAX_STATES],
             store: [0; STORE_WORDS],
-            file: [0; blocks::LARGEST],
+            file: [0; LARGEST],
         }
     }
 }

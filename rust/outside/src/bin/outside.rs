@@ -1,4 +1,4 @@
-//! The outside tests: tables and files at random, those of the specification, and damaged blocks, through the
+//! The outside tests: tables and files at random, those of the specification, damaged blocks, and old files, through the
 //! library's calls, and questions for the next open minute, held to implementations that share nothing with it.
 //!
 //!     outside [--peer] [--seed S] [--count N] [--case I]
@@ -19,6 +19,7 @@ use shuntberry_outside::examine::{self, Outcome, Tally};
 use shuntberry_outside::generate::Random;
 use shuntberry_outside::peer::{Looks, Peer};
 use shuntberry_outside::regroup;
+use shuntberry_outside::rewriting;
 use shuntberry_outside::windows::{self, NextOpen};
 
 const SEED: u64 = 20_260_401;
@@ -148,6 +149,11 @@ fn run(libraries: &[&dyn Calls], options: &Options) -> (Tally, Vec<String>, f64)
         let examined = caught(|| regroup::regrouped_tables(libraries, &mut random, &mut tally));
         if let Err(fault) = examined {
             let fault = format!("groups put another way: {fault}");
+            failures.lock().expect("no thread yet").push(fault);
+        }
+        let examined = caught(|| rewriting::old_files(libraries, &mut random, &mut tally));
+        if let Err(fault) = examined {
+            let fault = format!("old files: {fault}");
             failures.lock().expect("no thread yet").push(fault);
         }
         let examined = caught(|| {

@@ -9,8 +9,7 @@ content-length-spec =
     tie.close
     (tie.spec
     (λ c κs. search needs)
-    (λ c. search needs)
-    (λ c. search needs)
-    (λ c. record { fits = sets-fit (search needs) (search needs) (search needs) })
-    (λ c. record { fits = contents-fit (search needs) (search needs) (search needs) })
-    (λ c. (cc, contents-le (search needs) (search needs) (search needs))))
+    (λ c κs. search needs)
+    (λ c. record { fits = sets-fit (search needs) (search needs) })
+    (λ c. record { fits = contents-fit (search needs) (search needs) })
+    (λ c. (cc, contents-le (search needs) (search needs))))

@@ -1,6 +1,6 @@
--- `place_of`: before the rows, or among them.
+-- `place_of`: before the groups, among them, or among the rows.
 use borrow.Author.Needs.{needs}
-use Rattle.block_file.proofs.Places.{front-place, row-place}
+use Rattle.block_file.proofs.Places.{head-place, group-place, row-place}
 use Rattle.block_file.proofs.blocks.place_of.Statement.{statement}
 use Rattle.block_file.proofs.blocks.place_of.Tie as tie
 
@@ -8,11 +8,15 @@ pub place-of-spec : {M : Type 1} → statement M
 place-of-spec =
     tie.close
     (tie.spec
+    (λ c κs. search needs)
+    (λ c. search needs)
+    (λ c. (head-place _ _ _ (search needs) (search needs), search needs))
+    (λ c. search needs)
+    (λ c. search needs)
+    (λ c. search needs)
+    (λ c. (group-place _ _ _ (search needs) (search needs) (search needs), search needs))
     (λ c. search needs)
     (λ c. search needs)
     (λ c. search needs)
     (λ c. search needs)
-    (λ c. search needs)
-    (λ c. search needs)
-    (λ c. (front-place _ _ (search needs), search needs))
-    (λ c. (row-place _ _ (search needs), search needs)))
+    (λ c. (row-place _ _ _ (search needs) (search needs), search needs)))

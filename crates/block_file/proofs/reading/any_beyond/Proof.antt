@@ -1,10 +1,10 @@
 -- `any_beyond`: no set passed has a state from n up.
-use Prim.Native.Nat.{_+_, _-_, _≤_}
+use Prim.Native.Nat.{_-_, _≤_}
 use mathlib.Core.Path.{_≡_, sym, _∙_}
 use mathlib.Core.Bool.{false}
 use borrow.Author.Needs.{needs}
 use Rattle.model.specs.Sets.{any}
-use Rattle.model.specs.Stores.{headSets, beyond}
+use Rattle.model.specs.Stores.{beyond}
 use Rattle.model.specs.Blocks.{contentsOf}
 use Rattle.model.specs.Contents.{setNumber}
 use Rattle.model.proofs.Bounds.{any-start, any-turn, any-intro, any-end}
@@ -13,10 +13,10 @@ use Rattle.block_file.proofs.reading.any_beyond.Statement.{statement}
 use Rattle.block_file.proofs.reading.any_beyond.Tie as tie
 
 abbrev Inv-loop : tie.InvT-loop
-Inv-loop input n g w k₀ k-end k = (k ≤ headSets + g + n) × (any k (λ i. beyond n (setNumber (contentsOf input) n i)) ≡ false)
+Inv-loop input n g w k₀ k-end k = (k ≤ k-end) × (any k (λ i. beyond n (setNumber (contentsOf input) n i)) ≡ false)
 
 abbrev μ-loop : tie.MeasureT-loop
-μ-loop input n g w k₀ k-end k = headSets + g + n - k
+μ-loop input n g w k₀ k-end k = k-end - k
 
 pub any-beyond-spec : {M : Type 1} → statement M
 any-beyond-spec =
@@ -25,10 +25,9 @@ any-beyond-spec =
     Inv-loop
     μ-loop
     (λ c κs. search needs)
-    (λ c. search needs)
-    (λ c. search needs)
+    (λ c κs. search needs)
     (λ c. (search needs, any-start _))
-    (λ c κs. (set-inside (c .before .before .before .before .pre .0) (c .before .before .set-width .ensures) (search needs), search needs, search needs))
+    (λ c κs. (set-inside (c .before .before .before .before .before .pre .0) (c .before .before .before .set-width .ensures) (search needs), search needs, search needs))
     (λ c.
     let turn = c .before .before in
     sym

@@ -16,4 +16,4 @@ fill-spec =
     (λ c.
     let sets = c .before .before in
     let zeros = sets .before .before .before .before in
-    sets .fill-sets .ensures ∙ ap (fillSets _ _ _ _) (zeros .clear .ensures) ∙ filled _ _ _ (search needs) (search needs) _ (search needs)))
+    sets .fill-sets .ensures ∙ ap (fillSets _ _ _ _ _) (zeros .clear .ensures) ∙ filled _ _ _ _ (search needs) (search needs) _ (search needs)))

@@ -6,8 +6,7 @@ use Rattle.model.specs.Sets.{WORDS, tabulate}
 use Rattle.model.specs.Blocks.{contentsOf}
 use Rattle.model.specs.Contents.{setIn}
 use Rattle.model.proofs.ContentLaws.{setIn-proper}
-use Rattle.block_file.proofs.Overwriting.{Over, over-none, over-next}
-use Rattle.block_file.proofs.reading.Words.{words-all}
+use Rattle.block_file.proofs.Overwriting.{Over, over-none, over-next, over-list}
 use Rattle.block_file.proofs.reading.fill_set.Statement.{statement}
 use Rattle.block_file.proofs.reading.fill_set.Tie as tie
 
@@ -33,4 +32,4 @@ fill-set-spec =
     (λ c. search needs)
     (λ c. (search needs, over-next _ _ _ _ (search needs) (c .word-in .ensures) (c .before .before .loop .inv .1)))
     (λ c. search needs)
-    (λ c. words-all _ (setIn-proper _ _ _) _ (search needs) (search needs) (c .before .loop .inv .1)))
+    (λ c. over-list _ _ WORDS (setIn-proper _ _ _ .long) (search needs) (search needs) (c .before .loop .inv .1)))

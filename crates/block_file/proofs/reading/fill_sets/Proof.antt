@@ -3,18 +3,19 @@ use Prim.Native.Nat.{_+_, _-_, _≤_}
 use native.Mathlib.Omega.{arith}
 use borrow.Author.Needs.{needs}
 use lib.ListN.{length-take, length-drop}
-use Rattle.model.specs.Stores.{headSets}
 use Rattle.model.specs.Blocks.{contentsOf}
+use Rattle.model.specs.Contents.{heads}
+use Rattle.block_file.specs.Places.{formOf}
 use Rattle.block_file.proofs.reading.Words.{set-inside}
 use Rattle.block_file.proofs.reading.Filling.{Filling, filling-none, filling-more, filling-all}
 use Rattle.block_file.proofs.reading.fill_sets.Statement.{statement}
 use Rattle.block_file.proofs.reading.fill_sets.Tie as tie
 
 abbrev Inv-loop : tie.InvT-loop
-Inv-loop input n g store₀ w k₀ k-end store k = (k ≤ headSets + g + n) × Filling (contentsOf input) n g k store₀ store
+Inv-loop form input n g store₀ w k₀ k-end store k = (k ≤ heads (formOf form) + g + n) × Filling (formOf form) (contentsOf input) n g k store₀ store
 
 abbrev μ-loop : tie.MeasureT-loop
-μ-loop input n g store₀ w k₀ k-end store k = headSets + g + n - k
+μ-loop form input n g store₀ w k₀ k-end store k = heads (formOf form) + g + n - k
 
 pub fill-sets-spec : {M : Type 1} → statement M
 fill-sets-spec =
@@ -23,16 +24,15 @@ fill-sets-spec =
     Inv-loop
     μ-loop
     (λ c κs. search needs)
-    (λ c. search needs)
-    (λ c. search needs)
-    (λ c. (search needs, filling-none _ _ _ _))
+    (λ c κs. search needs)
+    (λ c. (search needs, filling-none _ _ _ _ _))
     (λ c κs. search needs)
     (λ c. search needs)
     (λ c. search needs)
     (λ c. search needs)
     (λ c. search needs)
     (λ c κs. (
-      set-inside (c .before .before .before .before .before .before .before .pre .0) (c .before .before .before .before .set-width .ensures) (search needs),
+      set-inside (c .before .before .before .before .before .before .before .before .pre .0) (c .before .before .before .before .before .set-width .ensures) (search needs),
       simp (length-take, length-drop) (omega arith),
     ))
     (λ c. search needs)
@@ -40,8 +40,8 @@ fill-sets-spec =
     (λ c.
     let place = c .before .before .before .before in (
       search needs,
-      filling-more _ _ _ _ _ _ _ (place .before .before .loop .inv .1) (place .before .before .before .set-width .ensures)
+      filling-more _ _ _ _ _ _ _ _ (place .before .before .loop .inv .1) (place .before .before .before .before .set-width .ensures)
           (place .place-of .ensures .0) (c .before .before .fill-set .ensures) (search needs),
     ))
     (λ c. search needs)
-    (λ c. filling-all _ _ _ _ _ _ _ (search needs) (search needs) (c .before .loop .inv .1)))
+    (λ c. filling-all _ _ _ _ _ _ _ _ (search needs) (search needs) (c .before .loop .inv .1)))

@@ -19,21 +19,21 @@ pub refusal-spec : {M : Type 1} → statement M
 refusal-spec =
     tie.close
     (tie.spec
-    (λ c. small-store _ _ _ (c .if1 .taken))
-    (λ c. far-site _ _ _ (c .before .if1 .left) (c .if2 .taken))
-    (λ c. no-input _ _ _ (c .before .before .if1 .left) (c .before .if2 .left) (c .if3 .taken))
+    (λ c. small-store _ _ _ _ (c .if1 .taken))
+    (λ c. far-site _ _ _ _ (c .before .if1 .left) (c .if2 .taken))
+    (λ c. no-input _ _ _ _ (c .before .before .if1 .left) (c .before .if2 .left) (c .if3 .taken))
     (λ c.
-    part-block _ _ _ (c .before .before .before .if1 .left) (c .before .before .if2 .left) (c .before .if3 .left) (c .if4 .taken))
+    part-block _ _ _ _ (c .before .before .before .if1 .left) (c .before .before .if2 .left) (c .before .if3 .left) (c .if4 .taken))
     (λ c.
-    long-input _ _ _ (c .before .before .before .before .if1 .left) (c .before .before .before .if2 .left) (c .before .before .if3 .left)
+    long-input _ _ _ _ (c .before .before .before .before .if1 .left) (c .before .before .before .if2 .left) (c .before .before .if3 .left)
     (c .before .if4 .left) (c .if5 .taken))
     (λ c κs. search needs)
-    (λ c. block-wrong (whole (c .before .before)) (c .before .first-fault .ensures) (c .if6 .taken))
+    (λ c. block-wrong _ (whole (c .before .before)) (c .before .first-fault .ensures) (c .if6 .taken))
     (λ c κs. search needs)
     (λ c. search needs)
     (λ c κs. search needs)
     (λ c κs. search needs)
     (λ c.
     let blocks = c .before .before .before in
-    blocks-right (whole (blocks .before .before)) (blocks .before .first-fault .ensures) (blocks .if6 .left)
+    blocks-right _ (whole (blocks .before .before)) (blocks .before .first-fault .ensures) (blocks .if6 .left)
     (c .before .before .le16-at .ensures) (c .before .le16-at2 .ensures) (c .content-refusal .ensures)))

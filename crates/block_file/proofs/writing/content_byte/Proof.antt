@@ -1,7 +1,7 @@
 -- `content_byte`: in the header, in a set, or past the contents.
 use mathlib.Core.Path.{_∙_}
 use borrow.Author.Needs.{needs}
-use Rattle.block_file.proofs.WriteLaws.{content-n, content-g, content-at, content-past}
+use Rattle.block_file.proofs.WriteLaws.{content-n, content-second, content-at, content-past}
 use Rattle.block_file.proofs.writing.content_byte.Statement.{statement}
 use Rattle.block_file.proofs.writing.content_byte.Tie as tie
 
@@ -12,7 +12,9 @@ content-byte-spec =
     (λ c κs. search needs)
     (λ c. c .le16-byte .ensures ∙ content-n _ _ _ _ (search needs))
     (λ c κs. search needs)
-    (λ c. c .le16-byte2 .ensures ∙ content-g _ _ _ _ (search needs) (search needs))
+    (λ c. search needs)
+    (λ c κs. search needs)
+    (λ c. c .le16-byte2 .ensures ∙ content-second _ _ _ _ (search needs) (search needs) (search needs))
     (λ c κs. search needs)
     (λ c κs. search needs)
     (λ c. c .sets-byte .ensures ∙ content-at _ _ _ _ (search needs))

@@ -1,9 +1,9 @@
 -- `write_content`: the bytes passed are written.
 use Prim.Native.Nat.{_-_, _≤_}
 use borrow.Author.Needs.{needs}
-use Rattle.model.specs.Stores.{tableOf}
+use Rattle.model.specs.Stores.{dialogueOf}
 use Rattle.model.specs.Blocks.{contentBytes}
-use Rattle.model.specs.Contents.{contents}
+use Rattle.model.specs.Contents.{newForm, contents}
 use Rattle.block_file.specs.Writing.{contentFrom}
 use Rattle.block_file.proofs.Overwriting.{Over, over-all}
 use Rattle.block_file.proofs.WriteLaws.{content-none, content-more}
@@ -11,7 +11,7 @@ use Rattle.block_file.proofs.writing.write_content.Statement.{statement
 use Rattle.block_file.proofs.writing.write_content.Tie as tie
 
 abbrev Inv-loop : tie.InvT-loop
-Inv-loop store n g from out₀ i₀ out i = (i ≤ contentBytes) × Over (contentFrom (contents (tableOf store n g)) from i) out₀ out
+Inv-loop store n g from out₀ i₀ out i = (i ≤ contentBytes) × Over (contentFrom (contents newForm (dialogueOf store n g)) from i) out₀ out
 
 abbrev μ-loop : tie.MeasureT-loop
 μ-loop store n g from out₀ i₀ out i = contentBytes - i

@@ -3,9 +3,9 @@ use Prim.Native.Nat.{_-_, _≤_}
 use mathlib.Core.Path.{_≡_}
 use borrow.Author.Needs.{needs}
 use lib.ListN.{length}
-use Rattle.check_file.proofs.Counting.{counts}
-use Rattle.check_file.proofs.read_input.Statement.{statement}
-use Rattle.check_file.proofs.read_input.Tie as tie
+use Rattle.file_input.proofs.Counting.{counts}
+use Rattle.file_input.proofs.read_input.Statement.{statement}
+use Rattle.file_input.proofs.read_input.Tie as tie
 
 abbrev Inv-loop : tie.InvT-loop
 Inv-loop room₀ got₀ room got = (got ≤ length room) × (length room ≡ length room₀)
