@@ -1,6 +1,7 @@
 -- The calls: their refusals, and their answers.
 --
---   refuse-shared, refuse-27, refuse-none    the grounds of an edit, in order
+--   both-states, no-states                   both numbers are states of the table, by the test
+--   refuse-shared, refuse-states, refuse-27, refuse-none     the grounds of an edit, in order
 --   accepted-open                            no ground of opening holds, so the store holds a table
 --   accepted                                 no ground holds, so the store holds a table, and both numbers are states of it
 --   has-step-is, from-initial-is             the step's test; what the initial states reach
@@ -13,7 +14,7 @@ use Prim.Native.Nat.{ℕ, _<_}
 use native.Mathlib.Omega.{arith}
 use mathlib.Core.Path.{_≡_, refl, sym, ap, _∙_, subst}
 use mathlib.Core.Logic.{_⊎_}
-use mathlib.Core.Bool.{Bool, true, false, not, cond, _||_}
+use mathlib.Core.Bool.{Bool, true, false, not, cond}
 use mathlib.Core.List.{List, [], _∷_}
 use borrow.Author.Tests.{eq-eqb, ne-eqb, leb-false, lt-leb}
 use lib.Dec.{eqb, leb}
@@ -22,17 +23,23 @@ use Rattle.model.specs.Stores.{rowAt, setAt, tableOf, refuse, sharedGrounds}
 use Rattle.model.specs.Promises.{IsLeast}
 use Rattle.model.proofs.Bounds.{or-intro, or-false}
 use Rattle.model.proofs.SetLaws.{in-firstStates, single-in, in-subset, In}
-use Rattle.model.proofs.GroundLaws.{refuse-append, refuse-clear, refuse-skip, refuse-take, refuse-none as refuse-end}
+use Rattle.model.proofs.GroundLaws.{refuse-append, refuse-clear}
 use Rattle.model.proofs.Acceptance.{Store, accepted-store, store-accepted, well-formed}
 use Rattle.reach.specs.Reached.{reachBy, reachable}
 use Rattle.reach.proofs.Walks.{reaching}
 use Rattle.edit_session.specs.declared.Session.{Session}
 use Rattle.edit_session.specs.declared.Status.the-variants.{Accepted, Refused}
-use Rattle.edit_session.specs.Edits.{Edit, add, remove, hasStep, changesNothing, edited, opened, lit, Answer, openAnswer, stateGround, editGrounds, editRefusal, editAnswer, editBuffer}
+use Rattle.edit_session.specs.Edits.{Edit, add, remove, hasStep, changesNothing, edited, opened, lit, Answer, openAnswer, noStates, stateGround, editGrounds, editRefusal, editAnswer, editBuffer}
 use Rattle.edit_session.specs.Answers.{numberOf, answerOf, isRefused, CalledOpen, CalledEdit}
 use Rattle.edit_session.proofs.Tables.{edited-store}
 
 -- ---- refusals
+
+pub both-states : {n a b : ℕ} → a < n → b < n → noStates n a b ≡ false
+both-states {n} {a} {b} h k = rw (lt-leb n a h, lt-leb n b k)
+
+pub no-states : {n a b : ℕ} → noStates n a b ≡ false → (a < n) × (b < n)
+no-states {n} {a} {b} q = let neither = or-false (leb n a) (leb n b) q in (leb-false n a (neither .0), leb-false n b (neither .1))
 
 pub refuse-shared : (store : List ℕ) (n g a b : ℕ) {k : ℕ} → k ≡ refuse (sharedGrounds store n g) → (k ≡ 0 → ⊥)
     → k ≡ refuse (editGrounds store n g a b)
@@ -40,17 +47,15 @@ unfolding editGrounds
 refuse-shared store n g a b e f = refuse-append (sharedGrounds store n g) _ e f
 
 module _ (store : List ℕ) (n g a b : ℕ) (e : refuse (sharedGrounds store n g) ≡ 0) where
-  refuse-late : refuse (editGrounds store n g a b) ≡ refuse (stateGround n a b ∷ [])
-  unfolding editGrounds
-  refuse-late = store-accepted store n g (stateGround n a b ∷ []) (accepted-store store n g [] e .0)
+  pub refuse-states : refuse (editGrounds store n g a b) ≡ cond (noStates n a b) 27 0
+  unfolding editGrounds refuse
+  refuse-states = store-accepted store n g (stateGround n a b ∷ []) (accepted-store store n g [] e .0)
 
   pub refuse-27 : (leb n a ≡ true) ⊎ (leb n b ≡ true) → 27 ≡ refuse (editGrounds store n g a b)
-  refuse-27 h = sym (refuse-late ∙ refuse-take (leb n a || leb n b) 27 [] (or-intro (leb n a) (leb n b) h))
+  refuse-27 h = sym (refuse-states ∙ ap (λ (t : Bool). cond t 27 0) (or-intro (leb n a) (leb n b) h))
 
   pub refuse-none : a < n → b < n → 0 ≡ refuse (editGrounds store n g a b)
-  refuse-none h k =
-      let neither : (leb n a || leb n b) ≡ false = rw (lt-leb n a h, lt-leb n b k) in
-      sym (refuse-late ∙ refuse-skip (leb n a || leb n b) 27 [] neither ∙ refuse-end)
+  refuse-none h k = sym (refuse-states ∙ ap (λ (t : Bool). cond t 27 0) (both-states h k))
 
 pub accepted-open : (store : List ℕ) (n g : ℕ) {k : ℕ} → k ≡ refuse (sharedGrounds store n g) → k ≡ 0 → Store store n g
 accepted-open store n g e z = accepted-store store n g [] (sym e ∙ z) .0
@@ -59,8 +64,7 @@ pub accepted : (store : List ℕ) (n g a b : ℕ) {k : ℕ} → k ≡ refuse (ed
 unfolding editGrounds
 accepted store n g a b e z =
     let parts = accepted-store store n g (stateGround n a b ∷ []) (sym e ∙ z) in
-    let neither = or-false (leb n a) (leb n b) (refuse-clear (stateGround n a b ∷ []) [] refl (parts .1) .0 .0) in
-    (parts .0, leb-false n a (neither .0), leb-false n b (neither .1))
+    (parts .0, no-states (refuse-clear (stateGround n a b ∷ []) [] refl (parts .1) .0 .0))
 
 -- ---- what the code works out over the words of a store
 

@@ -3,7 +3,8 @@
 --   nothing-has, rowAfter-target, rowAfter-other     the step of an edit, before and after it
 --   of-edit                          what holds where an edit is declined, changes nothing, and changes the table holds of what the call gives
 --   Kept n g store e X after         after an edit: the set is still the one worked out afresh, and the rest of the table is as it was
---   edit-keeps                       of every edit
+--   edit-keeps                       of every edit between states of the table
+--   edit-leaves                      any other leaves set and store
 use Prim.Native.Nat.{ℕ, _<_}
 use native.Mathlib.Omega.{arith}
 use mathlib.Core.Path.{_≡_, refl, sym, ap, ap₂, _∙_, subst}
@@ -22,11 +23,11 @@ use Rattle.model.proofs.StoreLaws.{row-is}
 use Rattle.model.proofs.Acceptance.{Store, store-accepted, well-formed}
 use Rattle.model.proofs.GroundLaws.{refuse-none as refuse-end}
 use Rattle.reach.specs.Reached.{reachable}
-use Rattle.edit_session.specs.Edits.{Edit, add, remove, source, target, adds, hasStep, changesNothing, rowAfter, edited, opened, lit, Answer, editRefusal, editAnswer, editBuffer}
+use Rattle.edit_session.specs.Edits.{Edit, add, remove, source, target, adds, hasStep, changesNothing, rowAfter, edited, opened, lit, Answer, noStates, editRefusal, editAnswer, editBuffer}
 use Rattle.edit_session.proofs.Rows.{Outside}
 use Rattle.edit_session.proofs.Tables.{edited-long, edited-out, edited-store, initial-same, table-here, table-there, drawn}
 use Rattle.edit_session.proofs.Reaching.{unlit-same, lit-joins}
-use Rattle.edit_session.proofs.Answering.{refuse-none, accepted, answer}
+use Rattle.edit_session.proofs.Answering.{both-states, no-states, refuse-states, accepted, answer}
 
 -- ---- the step of an edit
 
@@ -80,10 +81,8 @@ pub record Kept (n g : ℕ) (store : List ℕ) (e : Edit) (X : Set) (after : Lis
       → member ((tableOf after n g) .row a) b ≡ cond (named e a b) (adds e) (member ((tableOf store n g) .row a) b)
 
 module _ (store : List ℕ) (n g : ℕ) (e : Edit) (held : Store store n g) where
-  -- where nothing changes, and the step of the edit is there already or is no step of the table
-  same : (X : Set) → X ≡ opened (tableOf store n g)
-      → ((a b : ℕ) → a < n → b < n → a ≡ source e → b ≡ target e → member ((tableOf store n g) .row a) b ≡ adds e)
-      → Kept n g store e X store
+  -- where nothing changes: a step to add is there, one to remove is not
+  same : (X : Set) → X ≡ opened (tableOf store n g) → member ((tableOf store n g) .row (source e)) (target e) ≡ adds e → Kept n g store e X store
   same X x f =
       record {
         held = held;
@@ -94,7 +93,8 @@ module _ (store : List ℕ) (n g : ℕ) (e : Edit) (held : Store store n g) wher
             ⊎-elim
             (λ (q : named e a b ≡ true).
             let both = and-true (eqb a (source e)) (eqb b (target e)) q in
-            rw q (f a b ha hb (eqb-true a (source e) (both .0)) (eqb-true b (target e) (both .1))))
+            rw q
+            (ap₂ (λ (u v : ℕ). member ((tableOf store n g) .row u) v) (eqb-true a (source e) (both .0)) (eqb-true b (target e) (both .1)) ∙ f))
             (λ (q : named e a b ≡ false). rw q)
             (decided (named e a b));
       }
@@ -154,21 +154,24 @@ lit-fresh store n g (add a b) held ha hb =
     (λ q. sym (unlit-same d ok ok′ (t .initial) (ok .initial) (λ h. clash (h .is) q)) ∙ start)
 
 pub edit-keeps : (store : List ℕ) (n g : ℕ) (X : Set) (e : Edit) → Store store n g → X ≡ opened (tableOf store n g)
-    → Kept n g store e ((editAnswer store n g X e) .reachable) (editBuffer store n g e)
+    → noStates n (source e) (target e) ≡ false → Kept n g store e ((editAnswer store n g X e) .reachable) (editBuffer store n g e)
 unfolding hasStep
-edit-keeps store n g X e held x =
+edit-keeps store n g X e held x q =
+    let between = no-states q in
     of-edit store n g X e (λ a after. Kept n g store e (a .reachable) after)
-    (λ f. same store n g e held X x (λ a b ha hb p q. absurd (f (sym (refuse-none store n g (source e) (target e) none (subst (λ (y : ℕ). y < n) p ha) (subst (λ (y : ℕ). y < n) q hb))))))
+    (λ f. absurd (f (refuse-states store n g (source e) (target e) none ∙ ap (λ (b : Bool). cond b 27 0) q)))
     (λ z m.
     same store n g e held X x
-    (λ a b ha hb p q.
-    ap₂ (λ (x y : ℕ). member ((tableOf store n g) .row x) y) p q
-    ∙ ap (λ (Y : Set). member Y (target e)) (row-is store n g (source e) (subst (λ (y : ℕ). y < n) p ha))
-    ∙ nothing-has store e m))
+    (ap (λ (Y : Set). member Y (target e)) (row-is store n g (source e) (between .0)) ∙ nothing-has store e m))
     (λ z m.
-    let states = accepted store n g (source e) (target e) refl z in
-    changed store n g e held (states .1) (states .2) _
-    (ap (λ (Y : Set). lit (tableOf (edited store e) n g) Y e) x ∙ lit-fresh store n g e held (states .1) (states .2)))
+    changed store n g e held (between .0) (between .1) _
+    (ap (λ (Y : Set). lit (tableOf (edited store e) n g) Y e) x ∙ lit-fresh store n g e held (between .0) (between .1)))
   where
     none : refuse (sharedGrounds store n g) ≡ 0
     none = store-accepted store n g [] held ∙ refuse-end
+
+pub edit-leaves : (store : List ℕ) (n g : ℕ) (X : Set) (e : Edit) → noStates n (source e) (target e) ≡ true
+    → ((editAnswer store n g X e) .reachable ≡ X) × (editBuffer store n g e ≡ store)
+edit-leaves store n g X e q =
+    of-edit store n g X e (λ a after. (a .reachable ≡ X) × (after ≡ store)) (λ f. (refl, refl)) (λ z m. (refl, refl))
+    (λ z m. let states = accepted store n g (source e) (target e) refl z in absurd (clash q (both-states (states .1) (states .2))))

@@ -1,17 +1,18 @@
 -- The promises of an edit session (specs/Promises), by the contracts of its calls.
 --
 --   outside-row                  a word that no edit names
---   call-keeps, run-keeps        an edit, and a run of edits, of a table whose reachable states are known
+--   call-keeps, call-leaves      an edit of a table whose reachable states are known, and one that is declined
+--   run-keeps                    a run of edits
 --   number-zero, number-other    the number, by the case
 --   word-same                    one word at most changes
 --   promises                     Promises
 use Prim.Native.Nat.{ℕ, _+_, _/_, _^_, _≤_, _<_}
 use native.Mathlib.Omega.{arith}
 use mathlib.Core.Path.{_≡_, refl, sym, ap, _∙_, subst}
-use mathlib.Core.Logic.{_⊎_, inl, inr, ⊎-elim}
-use mathlib.Core.Bool.{Bool, true, false, not}
+use mathlib.Core.Logic.{inl, inr, ⊎-elim}
+use mathlib.Core.Bool.{Bool, true, false, not, cond}
 use mathlib.Core.List.{List, [], _∷_}
-use borrow.Author.Tests.{not-false, eqb-true, eqb-false, leb-false, ltb-false, le-leb}
+use borrow.Author.Tests.{not-false, eqb-true, eqb-false, leb-false, ltb-false}
 use lib.Dec.{eqb, leb}
 use lib.ListN.{getD}
 use lib.Seq.{getD-set-other}
@@ -23,14 +24,14 @@ use Rattle.model.proofs.SetLaws.{in-subset, in-union}
 use Rattle.model.proofs.GroundLaws.{refuse-none as refuse-end}
 use Rattle.model.proofs.Acceptance.{Store, accepted-store, store-accepted, well-formed}
 use Rattle.edit_session.specs.declared.Session.{Session}
-use Rattle.edit_session.specs.Edits.{Edit, add, remove, source, target, changesNothing, edited, opened, lit, Answer, openAnswer, editRefusal, editBuffer}
+use Rattle.edit_session.specs.Edits.{Edit, add, remove, source, target, changesNothing, edited, opened, lit, Answer, openAnswer, noStates, editRefusal, editAnswer, editBuffer}
 use Rattle.edit_session.specs.Answers.{answerOf, isRefused, CalledOpen, CalledEdit}
-use Rattle.edit_session.specs.Promises.{inRow, names, stepAfter, Ran, SessionIs, Promises}
+use Rattle.edit_session.specs.Promises.{inRow, names, stepAfter, counted, Ran, SessionIs, Promises}
 use Rattle.edit_session.proofs.Rows.{Outside}
 use Rattle.edit_session.proofs.Tables.{draw-word, rub-out-word, edited-store, drawn}
 use Rattle.edit_session.proofs.Reaching.{reachable-within, target-same}
-use Rattle.edit_session.proofs.Answering.{refuse-27, accepted, answer}
-use Rattle.edit_session.proofs.Editing.{of-edit, Kept, edit-keeps}
+use Rattle.edit_session.proofs.Answering.{refuse-states, accepted, answer}
+use Rattle.edit_session.proofs.Editing.{of-edit, Kept, edit-keeps, edit-leaves}
 use Rattle.edit_session.proofs.FrontWords.{first-words}
 
 -- ---- runs
@@ -42,14 +43,20 @@ outside-row s i e =
 
 module _ (n g : ℕ) where
   call-keeps : (store : List ℕ) (X : Set) (e : Edit) (r : Session) (after : List ℕ) → CalledEdit store n g X e r after
-      → Store store n g → X ≡ opened (tableOf store n g) → Kept n g store e (r .reachable .words) after
-  call-keeps store X e r after c held x =
+      → Store store n g → X ≡ opened (tableOf store n g) → noStates n (source e) (target e) ≡ false → Kept n g store e (r .reachable .words) after
+  call-keeps store X e r after c held x q =
       subst (λ (xs : List ℕ). Kept n g store e (r .reachable .words) xs) (sym (c .1))
-      (subst (λ (a : Answer). Kept n g store e (a .reachable) (editBuffer store n g e)) (sym (c .0)) (edit-keeps store n g X e held x))
+      (subst (λ (a : Answer). Kept n g store e (a .reachable) (editBuffer store n g e)) (sym (c .0)) (edit-keeps store n g X e held x q))
+
+  call-leaves : (store : List ℕ) (X : Set) (e : Edit) (r : Session) (after : List ℕ) → CalledEdit store n g X e r after
+      → noStates n (source e) (target e) ≡ true → (r .reachable .words ≡ X) × (after ≡ store)
+  call-leaves store X e r after c q =
+      let left = edit-leaves store n g X e q in
+      (ap (λ (a : Answer). a .reachable) (c .0) ∙ left .0, c .1 ∙ left .1)
 
   run-keeps : (es : List Edit) (store : List ℕ) (X : Set) (after : List ℕ) (Y : Set) → Ran n g store X es after Y
-      → Store store n g → X ≡ opened (tableOf store n g) → SessionIs n g store es after Y
-  unfolding names stepAfter
+      → Store store n g → X ≡ opened (tableOf store n g) → SessionIs n g store (counted n es) after Y
+  unfolding names stepAfter counted
   run-keeps [] store X after Y c held x =
       subst (λ (xs : List ℕ). SessionIs n g store [] xs Y) (sym (c .0))
       (record {
@@ -62,17 +69,25 @@ module _ (n g : ℕ) where
   run-keeps (e ∷ es) store X after Y c held x =
       let r = c .0 in
       let next = c .1 in
-      let kept = call-keeps store X e r next (c .2) held x in
+      by-cond (λ (counts : List Edit). SessionIs n g store counts after Y) (noStates n (source e) (target e)) _ _
+      (λ q.
+      let left = call-leaves store X e r next (c .2) q in
+      subst (λ (xs : List ℕ). SessionIs n g xs (counted n es) after Y) (left .1)
+      (run-keeps es next (r .reachable .words) after Y (c .3)
+      (subst (λ (xs : List ℕ). Store xs n g) (sym (left .1)) held)
+      (left .0 ∙ x ∙ ap (λ (xs : List ℕ). opened (tableOf xs n g)) (sym (left .1)))))
+      (λ q.
+      let kept = call-keeps store X e r next (c .2) held x q in
       let rest = run-keeps es next (r .reachable .words) after Y (c .3) (kept .held) (kept .fresh) in
       record {
         fresh = rest .fresh;
-        steps = λ a b ha hb. rest .steps a b ha hb ∙ ap (stepAfter es a b) (kept .steps a b ha hb);
-        rows = λ i q.
-            let apart = or-false (inRow (source e) i) (names es i) q in
+        steps = λ a b ha hb. rest .steps a b ha hb ∙ ap (stepAfter (counted n es) a b) (kept .steps a b ha hb);
+        rows = λ i free.
+            let apart = or-false (inRow (source e) i) (names (counted n es) i) free in
             rest .rows i (apart .1) ∙ kept .rows i (outside-row (source e) i (apart .0));
         long = rest .long ∙ kept .long;
         accepted = rest .accepted;
-      }
+      })
 
 -- ---- a call
 
@@ -81,6 +96,10 @@ number-zero {k = k} c e = eqb-true k 0 (not-false _ (sym c ∙ e))
 
 number-other : {b : Bool} {k : ℕ} → b ≡ not (eqb k 0) → b ≡ true → k ≡ 0 → ⊥
 number-other {k = k} c e = eqb-false k 0 (not-true _ (sym c ∙ e))
+
+told : (b : Bool) → not (eqb (cond b 27 0) 0) ≡ b
+told true = refl
+told false = refl
 
 -- what holds of the answer of an opening that is not declined, and of one that is
 of-open : (store : List ℕ) (n g : ℕ) (P : Answer → Type 0) → (refuse (sharedGrounds store n g) ≡ 0 → P (answer 0 (opened (tableOf store n g))))
@@ -134,11 +153,15 @@ module _ (store : List ℕ) (n g : ℕ) (X : Set) (e : Edit) (r : Session) (afte
       of-call (λ a xs. (a .refusal ≡ 0 → ⊥) → (a ≡ answer (editRefusal store n g e) X) × (xs ≡ store))
       (λ f z. (refl, refl)) (λ k m z. absurd (z refl)) (λ k m z. absurd (z refl)) (other-is q)
 
-  number-27 : AcceptedStore store n g → (n ≤ source e) ⊎ (n ≤ target e) → (answerOf r) .refusal ≡ 27
-  number-27 a h =
-      let is : 27 ≡ editRefusal store n g e =
-      refuse-27 store n g (source e) (target e) a (⊎-elim (λ l. inl (le-leb n (source e) l)) (λ l. inr (le-leb n (target e) l)) h) in
-      of-call (λ b xs. b .refusal ≡ 27) (λ f. sym is) (λ z m. sym z ∙ sym is) (λ z m. sym z ∙ sym is)
+  number-27 : AcceptedStore store n g
+      → (isRefused (r .status) ≡ noStates n (source e) (target e)) × ((answerOf r) .refusal ≡ cond (noStates n (source e) (target e)) 27 0)
+  number-27 a =
+      let is : (answerOf r) .refusal ≡ cond (noStates n (source e) (target e)) 27 0 =
+      of-call (λ b xs. b .refusal ≡ editRefusal store n g e) (λ f. refl) (λ z m. sym z) (λ z m. sym z)
+      ∙ refuse-states store n g (source e) (target e) a in
+      let number : (editAnswer store n g X e) .refusal ≡ cond (noStates n (source e) (target e)) 27 0 =
+      sym (ap (λ (b : Answer). b .refusal) (c .0)) ∙ is in
+      (c .2 ∙ ap (λ (k : ℕ). not (eqb k 0)) number ∙ told (noStates n (source e) (target e)), is)
 
   word-kept : Bounded (2 ^ 64) store → (i : ℕ) → (i ≡ rowAt (source e) + target e / 64 → ⊥) → getD after i 0 ≡ getD store i 0
   word-kept fits i ne =
@@ -173,7 +196,7 @@ promises =
       session = λ store n g r c e es after Y ran. let is = opened-is store n g r c e in run-keeps n g es store _ after Y ran (is .0) (is .1);
       declined-open = open-no;
       declined-edit = edit-no;
-      no-state = number-27;
+      declined-where = number-27;
       one-word = word-kept;
       keeps = set-kept;
       drops = set-within;

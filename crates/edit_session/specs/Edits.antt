@@ -3,12 +3,13 @@
 --   Edit, source e, target e            a step to add or to remove; the states that it leads from and to; adds e: it is one to add
 --   hasStep store a b                   the step a → b exists
 --   changesNothing store e              a step to add that exists, or one to remove that does not
---   withRow store s X                   the store with X for the successors of state s
---   edited store e                      the store after an edit
+--   withRow store s X                   the store with X for the successors of state s, and no other word
+--   edited store e                      the store after an edit: rowAfter is the row of its source
 --   opened t                            the states that can be reached from the initial ones, these included
 --   lit t X e                           the set after an edit that makes t of the table, for any set X that was handed in
 --   Answer                              what each call answers: the set, and why it declines, or 0
 --   openAnswer store n g                opening: the set is empty where the call is declined
+--   noStates n a b                      a or b is no state of a table of n states
 --   editGrounds store n g a b           the grounds of an edit, in order: those of opening come first
 --   editRefusal store n g e             the number of the first that holds, or 0
 --   editAnswer, editBuffer              an edit: the answer, and the store at exit
@@ -82,8 +83,11 @@ openAnswer store n g =
     cond (eqb k 0) (record { refusal = 0; reachable = opened (tableOf store n g) }) (record { refusal = k; reachable = empty })
 
 -- Either state number is n or more.
+abbrev pub noStates : ℕ → ℕ → ℕ → Bool
+noStates n a b = leb n a || leb n b
+
 abbrev pub stateGround : ℕ → ℕ → ℕ → Ground
-stateGround n a b = (leb n a || leb n b, 27)
+stateGround n a b = (noStates n a b, 27)
 
 unfoldable pub editGrounds : List ℕ → ℕ → ℕ → ℕ → ℕ → List Ground
 editGrounds store n g a b = sharedGrounds store n g ++ (stateGround n a b ∷ [])

@@ -3,13 +3,13 @@
 --
 --   inRow s i, names es i        word i is of row s; of a row that an edit of the list names
 --   stepAfter es a b was         whether a → b exists after a list of edits, if it did before or not: the last edit that names it decides
+--   counted n es                 the list without the edits that are declined
 --   Ran                          a run of calls over a list of edits: each is given the store and the set that the one before left
---   SessionIs                    what holds after a run, declined edits among them
+--   SessionIs                    what holds after a run in which the edits es were not declined
 --   FirstWords                   of every call on two stores that are alike in their first words: none after them is read or changed
 --   Promises                     of every session that was opened; of every call that is declined, and of every edit
 use Prim.Native.Nat.{ℕ, _+_, _/_, _^_, _≤_, _<_}
 use mathlib.Core.Path.{_≡_}
-use mathlib.Core.Logic.{_⊎_}
 use mathlib.Core.Bool.{Bool, true, false, cond, _&&_, _||_}
 use mathlib.Core.List.{List, [], _∷_}
 use lib.Dec.{eqb, leb, ltb}
@@ -19,7 +19,7 @@ use Rattle.model.specs.Stores.{storeWords, rowAt, tableOf, refuse, sharedGround
 use Rattle.model.specs.RoundTrip.{Bounded}
 use Rattle.reach.specs.Reached.{reachable}
 use Rattle.edit_session.specs.declared.Session.{Session}
-use Rattle.edit_session.specs.Edits.{Edit, add, remove, source, target, adds, changesNothing, edited, opened, openAnswer, editRefusal, editAnswer, editBuffer}
+use Rattle.edit_session.specs.Edits.{Edit, add, remove, source, target, adds, changesNothing, edited, opened, openAnswer, noStates, editRefusal, editAnswer, editBuffer}
 use Rattle.edit_session.specs.Answers.{answerOf, isRefused, CalledOpen, CalledEdit}
 
 unfoldable pub inRow : ℕ → ℕ → Bool
@@ -33,6 +33,12 @@ unfoldable pub stepAfter : List Edit → ℕ → ℕ → Bool → Bool
 stepAfter [] a b was = was
 stepAfter (e ∷ es) a b was = stepAfter es a b (cond (eqb a (source e) && eqb b (target e)) (adds e) was)
 
+-- A declined edit counts as no edit. In a session that was opened those with a state number of n or more are declined, and no other
+-- (`Promises.declined-where`).
+unfoldable pub counted : ℕ → List Edit → List Edit
+counted n [] = []
+counted n (e ∷ es) = cond (noStates n (source e) (target e)) (counted n es) (e ∷ counted n es)
+
 abbrev pub Ran : ℕ → ℕ → List ℕ → Set → List Edit → List ℕ → Set → Type 0
 Ran n g store X [] after Y = (after ≡ store) × (Y ≡ X)
 Ran n g store X (e ∷ es) after Y =
@@ -41,9 +47,10 @@ Ran n g store X (e ∷ es) after Y =
 pub record SessionIs (n g : ℕ) (store : List ℕ) (es : List Edit) (after : List ℕ) (Y : Set) : Type 0 where
   -- the set is the one worked out afresh from the table as edited
   pub fresh : Y ≡ opened (tableOf after n g)
-  -- whose steps are those that the list leaves; a declined edit names none of them
+  -- whose steps are those that the list leaves
   pub steps : (a b : ℕ) → a < n → b < n → member ((tableOf after n g) .row a) b ≡ stepAfter es a b (member ((tableOf store n g) .row a) b)
-  -- only words of the named rows have changed
+  -- only words of the named rows have changed: the initial, marked and resting states are the same, and the groups, and all other rows. (The
+  -- forbidden states of the table may differ: an edit can give a hang a way out, or make one.)
   pub rows : (i : ℕ) → names es i ≡ false → getD after i 0 ≡ getD store i 0
   pub long : length after ≡ length store
   pub accepted : AcceptedStore after n g
@@ -56,16 +63,17 @@ pub record FirstWords (store other : List ℕ) : Type 0 where
 
 pub record Promises : Type 0 where
   pub session : (store : List ℕ) (n g : ℕ) (r : Session) → CalledOpen store n g r → isRefused (r .status) ≡ false
-      → (es : List Edit) (after : List ℕ) (Y : Set) → Ran n g store (r .reachable .words) es after Y → SessionIs n g store es after Y
+      → (es : List Edit) (after : List ℕ) (Y : Set) → Ran n g store (r .reachable .words) es after Y → SessionIs n g store (counted n es) after Y
   -- a declined opening gives the empty set, a declined edit the set that it was handed, and leaves the store
   pub declined-open : (store : List ℕ) (n g : ℕ) (r : Session) → CalledOpen store n g r → isRefused (r .status) ≡ true
       → answerOf r ≡ record { refusal = refuse (sharedGrounds store n g); reachable = empty }
   pub declined-edit : (store : List ℕ) (n g : ℕ) (X : Set) (e : Edit) (r : Session) (after : List ℕ)
       → CalledEdit store n g X e r after → isRefused (r .status) ≡ true
       → (answerOf r ≡ record { refusal = editRefusal store n g e; reachable = X }) × (after ≡ store)
-  -- where opening would not be declined, either state number of n or more is 27; so every edit of a table without states
-  pub no-state : (store : List ℕ) (n g : ℕ) (X : Set) (e : Edit) (r : Session) (after : List ℕ)
-      → CalledEdit store n g X e r after → AcceptedStore store n g → (n ≤ source e) ⊎ (n ≤ target e) → (answerOf r) .refusal ≡ 27
+  -- where opening would not be declined, an edit is exactly where either state number is n or more, with 27; so every edit of a table without states
+  pub declined-where : (store : List ℕ) (n g : ℕ) (X : Set) (e : Edit) (r : Session) (after : List ℕ)
+      → CalledEdit store n g X e r after → AcceptedStore store n g
+      → (isRefused (r .status) ≡ noStates n (source e) (target e)) × ((answerOf r) .refusal ≡ cond (noStates n (source e) (target e)) 27 0)
   -- one word at most changes: that of the step
   pub one-word : (store : List ℕ) (n g : ℕ) (X : Set) (e : Edit) (r : Session) (after : List ℕ)
       → CalledEdit store n g X e r after → Bounded (2 ^ 64) store

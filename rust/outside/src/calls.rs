@@ -1,7 +1,7 @@
 //! The four calls as a trait, so that one test serves the library as it is linked for C, the safe
 //! wrapper around it, and the peer.
 
-use crate::table::{MAX_STATES, WORDS};
+use crate::table::WORDS;
 
 /// What decide answers; the fields are those of `shuntberry_decision`.
 #[derive(Clone, Copy, Debug, Default, PartialEq, Eq)]
@@ -56,7 +56,7 @@ pub struct Replay {
 }
 
 /// The words of a set.
-pub type Words = [u64; MAX_STATES / 64];
+pub type Words = [u64; WORDS];
 
 /// What the calls of an edit session answer.
 #[derive(Clone, Copy, Debug, Default, PartialEq, Eq)]
@@ -95,6 +95,15 @@ pub trait Calls: Sync {
     fn replay(&self, store: &[u64], n: usize, g: usize, log: &[u8]) -> Replay;
     fn open(&self, store: &[u64], n: usize, g: usize) -> Session;
     fn edit(&self, store: &mut [u64], n: usize, g: usize, lit: Words, edit: Edit) -> Session;
+
+    /// What is lit after a table was opened and a list of edits made.
+    fn session(&self, store: &mut [u64], n: usize, g: usize, edits: &[Edit]) -> Words {
+        let mut lit = self.open(store, n, g).reachable;
+        for &edit in edits {
+            lit = self.edit(store, n, g, lit, edit).reachable;
+        }
+        lit
+    }
 }
 
 #[cfg(feature = "library")]
@@ -383,6 +392,20 @@ mod linked {
                 Edit::Remove(from, to) => shuntberry::remove_step(store, n, g, set, from, to),
             };
             answered(answer, lit)
+        }
+
+        fn session(&self, store: &mut [u64], n: usize, g: usize, edits: &[Edit]) -> Words {
+            let Ok(mut session) = shuntberry::Session::open(store, n, g) else {
+                return Words::default();
+            };
+            for &edit in edits {
+                // one that is refused is no edit
+                let _ = match edit {
+                    Edit::Add(from, to) => session.add_step(from, to),
+                    Edit::Remove(from, to) => session.remove_step(from, to),
+                };
+            }
+            session.reachable().0
         }
     }
 

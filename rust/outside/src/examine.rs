@@ -686,6 +686,7 @@ pub fn named_tables(libraries: &[&dyn Calls], random: &mut Random, tally: &mut T
     sites(libraries, random)?;
     logs::edges(libraries, random)?;
     sessions::edges(libraries, random)?;
+    sessions::long_lists(libraries, random, tally)?;
     edges(libraries, random, tally)
 }
 

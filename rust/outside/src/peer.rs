@@ -704,8 +704,7 @@ impl Calls for Peer {
             Ok(table) if Set(table.rows[from]).has(to) == adding => return lit_now(Set(lit)),
             Ok(_) => {}
         }
-        let width = lit.len();
-        store[STORE_WORDS - width * (MAX_STATES - from) + to / 64] ^= 1 << (to % 64);
+        store[(HEAD_SETS + MAX_GROUPS + from) * WORDS + to / 64] ^= 1 << (to % 64);
         let Ok(table) = Table::accept(store, n, g) else {
             unreachable!("an edit keeps a store accepted");
         };

@@ -5,19 +5,31 @@ use crate::accept;
 use crate::buffer::Lent;
 use crate::calls::{Calls, Edit, Session, Words};
 use crate::examine::{Outcome, Tally};
-use crate::generate::Random;
+use crate::generate::{Random, add_fan_out};
 use crate::named;
-use crate::table::{MAX_GROUPS, MAX_STATES, STORE_WORDS, Set, Table, words};
+use crate::table::{Dialogue, MAX_GROUPS, MAX_STATES, STORE_WORDS, Set, set_where, words};
+
+/// States and edits of the long lists.
+const LONG: [(usize, usize); 8] = [
+    (1, 100),
+    (2, 1000),
+    (7, 1000),
+    (63, 1000),
+    (64, 1000),
+    (65, 1000),
+    (MAX_STATES - 1, 200),
+    (MAX_STATES, 1000),
+];
 
 // ---- What is expected
 
 /// The states that these reach, with these: depth first, with a stack.
-fn reach(table: &Table, start: &Set) -> Set {
+fn reach(dialogue: &Dialogue, start: &Set) -> Set {
     let mut seen = start.clone();
-    let mut stack: Vec<usize> = (0..table.n).filter(|&s| start[s]).collect();
+    let mut stack: Vec<usize> = (0..dialogue.n).filter(|&s| start[s]).collect();
     while let Some(state) = stack.pop() {
-        for next in 0..table.n {
-            if table.rows[state][next] && !seen[next] {
+        for next in 0..dialogue.n {
+            if dialogue.rows[state][next] && !seen[next] {
                 seen[next] = true;
                 stack.push(next);
             }
@@ -26,8 +38,8 @@ fn reach(table: &Table, start: &Set) -> Set {
     seen
 }
 
-fn fresh(table: &Table) -> Words {
-    words(&reach(table, &table.initial))
+fn fresh(dialogue: &Dialogue) -> Words {
+    words(&reach(dialogue, &dialogue.initial))
 }
 
 /// Opening, on any arguments.
@@ -39,7 +51,7 @@ fn opened(store: &[u64], n: usize, g: usize) -> Session {
         },
         Ok(()) => Session {
             refusal: 0,
-            reachable: fresh(&Table::from_store(store, n, g)),
+            reachable: fresh(&Dialogue::from_store(store, n, g)),
         },
     }
 }
@@ -51,19 +63,19 @@ fn edited(store: &[u64], (n, g): (usize, usize), lit: Words, edit: Edit) -> (Ses
     if let Err(refusal) = accept::edit(store, n, g, from, to) {
         return (answer(refusal, lit), Vec::new());
     }
-    let mut table = Table::from_store(store, n, g);
-    if table.rows[from][to] == adding {
+    let mut dialogue = Dialogue::from_store(store, n, g);
+    if dialogue.rows[from][to] == adding {
         return (answer(0, lit), Vec::new());
     }
-    table.rows[from][to] = adding;
+    dialogue.rows[from][to] = adding;
     let is_lit = lit[from / 64] & (1 << (from % 64)) != 0;
-    let target: Set = (0..n).map(|s| s == to).collect();
+    let target = set_where(n, |s| s == to);
     let after = match (adding, is_lit) {
-        (false, _) => fresh(&table),
+        (false, _) => fresh(&dialogue),
         (true, false) => lit,
-        (true, true) => joined(lit, words(&reach(&table, &target))),
+        (true, true) => joined(lit, words(&reach(&dialogue, &target))),
     };
-    (answer(0, after), table.to_store())
+    (answer(0, after), dialogue.to_store())
 }
 
 fn parts(edit: Edit) -> (usize, usize, bool) {
@@ -83,8 +95,8 @@ fn joined(mut lit: Words, more: Words) -> Words {
 // ---- Edits at random
 
 /// A step to add or to remove: one that changes the table or not, to itself, or with a number that is none.
-fn random_edit(table: &Table, random: &mut Random) -> Edit {
-    let n = table.n;
+fn random_edit(dialogue: &Dialogue, random: &mut Random) -> Edit {
+    let n = dialogue.n;
     let state = |random: &mut Random| match random.below(16) {
         0 => random.pick(&[n, n - 1, MAX_STATES - 1, MAX_STATES, usize::MAX]),
         _ => random.below(n),
@@ -94,7 +106,7 @@ fn random_edit(table: &Table, random: &mut Random) -> Edit {
         0 => (from, from),
         // a step that exists, if the state has one
         1..=3 if from < n => {
-            let row = &table.rows[from];
+            let row = &dialogue.rows[from];
             let steps: Vec<usize> = (0..n).filter(|&s| row[s]).collect();
             (
                 from,
@@ -178,43 +190,92 @@ fn each(
     Ok(expected.0)
 }
 
-/// A list of edits from an opened table, with a fresh search after each; then edits with sets of any states.
-pub fn random_edits(
+/// A list of edits from an opened table, with a fresh search after each, of a table that is edited beside the
+/// store; then the whole list once more, by each library with the sets that it gave itself. The table and
+/// the store after it.
+fn edit_list(
     libraries: &[&dyn Calls],
-    table: &Table,
+    dialogue: &Dialogue,
+    edits: usize,
     random: &mut Random,
     tally: &mut Tally,
-) -> Outcome {
-    let (n, g) = (table.n, table.g());
-    let mut store = table.to_store();
+) -> Result<(Dialogue, Vec<u64>), String> {
+    let (n, g) = (dialogue.n, dialogue.g());
     let beyond = random.pick(&[0, 0, 1, 7]);
-    store.extend(random.words(beyond));
-    let first = opened(&store, n, g);
+    let beyond = random.words(beyond);
+    let start = [dialogue.to_store(), beyond.clone()].concat();
+    let first = opened(&start, n, g);
     for library in libraries {
-        open(*library, &store, (n, g), first)?;
+        open(*library, &start, (n, g), first)?;
     }
+    let (mut store, mut dialogue) = (start.clone(), dialogue.clone());
     let mut lit = first.reachable;
-    for _ in 0..random.pick(&[0, 4, 12]) {
-        let change = random_edit(&Table::from_store(&store, n, g), random);
-        let before = lit;
+    let mut list = Vec::new();
+    for _ in 0..edits {
+        let change = random_edit(&dialogue, random);
         let answer = each(libraries, &mut store, (n, g), lit, change)?;
-        tally.count("refusal by an edit", answer.refusal);
-        lit = answer.reachable;
-        let now = fresh(&Table::from_store(&store, n, g));
-        if lit != now {
+        let (from, to, adding) = parts(change);
+        if from < n && to < n {
+            dialogue.rows[from][to] = adding;
+        }
+        let now = fresh(&dialogue);
+        if answer.reachable != now {
+            let lit = answer.reachable;
             return Err(format!(
                 "{change:?} leaves {lit:x?} lit, and {now:x?} can be reached"
             ));
         }
-        tally.count(
-            "the set after an edit",
-            if lit == before { "same" } else { "other" },
-        );
+        let moved = if lit == now { "same" } else { "other" };
+        tally.count("refusal by an edit", answer.refusal);
+        tally.count("the set after an edit", moved);
+        lit = now;
+        list.push(change);
     }
+    let after = [dialogue.to_store(), beyond].concat();
+    if store != after {
+        return Err("the edits leave another table than they name".to_string());
+    }
+    for library in libraries {
+        let what = format!("{}'s session of {edits} edits", library.name());
+        let mut own = Lent::new(&start);
+        let given = library.session(own.mutable(), n, g, &list);
+        if given != lit {
+            return Err(format!("{what} gives {given:x?}, expected {lit:x?}"));
+        }
+        own.holds(&format!("store after {what}"), &after)?;
+    }
+    Ok((dialogue, store))
+}
+
+/// A short list of edits, then edits with sets of any states.
+pub fn random_edits(
+    libraries: &[&dyn Calls],
+    dialogue: &Dialogue,
+    random: &mut Random,
+    tally: &mut Tally,
+) -> Outcome {
+    let edits = random.pick(&[0, 4, 12]);
+    let (dialogue, mut store) = edit_list(libraries, dialogue, edits, random, tally)?;
+    let (n, g) = (dialogue.n, dialogue.g());
     for _ in 0..2 {
         let lit = random_set(n, random);
-        let change = random_edit(&Table::from_store(&store, n, g), random);
+        let change = random_edit(&Dialogue::from_store(&store, n, g), random);
         each(libraries, &mut store, (n, g), lit, change)?;
+    }
+    Ok(())
+}
+
+/// Long lists, on tables with few steps, where what can be reached changes often.
+pub fn long_lists(libraries: &[&dyn Calls], random: &mut Random, tally: &mut Tally) -> Outcome {
+    for (n, edits) in LONG {
+        let mut rows = vec![vec![false; n]; n];
+        add_fan_out(&mut rows, 1, random);
+        let dialogue = Dialogue {
+            rows,
+            ..Dialogue::of(n, &[0], &[n - 1], &[&[n / 2]], &[])
+        };
+        edit_list(libraries, &dialogue, edits, random, tally)
+            .map_err(|fault| format!("{edits} edits of {n} states: {fault}"))?;
     }
     Ok(())
 }
@@ -230,7 +291,10 @@ pub fn spoiled(
     let first = opened(store, n, g);
     tally.count("refusal by open", first.refusal);
     let most = n.clamp(1, MAX_STATES);
-    let state = |random: &mut Random| random.clone().pick(&[random.below(most), most - 1, n]);
+    let state = |random: &mut Random| {
+        let some = random.below(most);
+        random.pick(&[some, most - 1, n])
+    };
     let (from, to) = (state(random), state(random));
     let change = random.pick(&[Edit::Add(from, to), Edit::Remove(from, to)]);
     let lit = random_set(most, random);
@@ -252,11 +316,17 @@ pub fn edges(libraries: &[&dyn Calls], random: &mut Random) -> Outcome {
         }
         set
     };
-    let run = |table: &Table, lit: &[usize], edits: &[(Edit, u32, &[usize])]| -> Outcome {
-        let mut store = table.to_store();
+    let run = |dialogue: &Dialogue, lit: &[usize], edits: &[(Edit, u32, &[usize])]| -> Outcome {
+        let mut store = dialogue.to_store();
         let mut lit = set(lit);
         for &(change, refusal, after) in edits {
-            let answer = each(libraries, &mut store, (table.n, table.g()), lit, change)?;
+            let answer = each(
+                libraries,
+                &mut store,
+                (dialogue.n, dialogue.g()),
+                lit,
+                change,
+            )?;
             if (answer.refusal, answer.reachable) != (refusal, set(after)) {
                 return Err(format!(
                     "{change:?} gives {answer:?}, by hand {refusal} {after:?}"
@@ -269,7 +339,7 @@ pub fn edges(libraries: &[&dyn Calls], random: &mut Random) -> Outcome {
     use Edit::{Add, Remove};
 
     // 0 → 1, 2 → 3 → 2; drawn and rubbed out in turn.
-    let two = Table::of(5, &[0], &[4], &[], &[(0, 1), (2, 3), (3, 2)]);
+    let two = Dialogue::of(5, &[0], &[4], &[], &[(0, 1), (2, 3), (3, 2)]);
     run(
         &two,
         &[0, 1],
@@ -289,7 +359,7 @@ pub fn edges(libraries: &[&dyn Calls], random: &mut Random) -> Outcome {
         ],
     )?;
     // Table B, as the specification tells it.
-    let b = Table::of(5, &[0], &[3], &[], &[(0, 1), (1, 2), (2, 3), (4, 4)]);
+    let b = Dialogue::of(5, &[0], &[3], &[], &[(0, 1), (1, 2), (2, 3), (4, 4)]);
     run(
         &b,
         &[0, 1, 2, 3],
@@ -308,7 +378,7 @@ pub fn edges(libraries: &[&dyn Calls], random: &mut Random) -> Outcome {
     let n = MAX_STATES;
     let all: Vec<usize> = (0..n).collect();
     let row: Vec<(usize, usize)> = (0..n).map(|s| (0, s)).collect();
-    let full = Table::of(n, &[0], &[], &[], &row);
+    let full = Dialogue::of(n, &[0], &[], &[], &row);
     let but_last: Vec<usize> = (0..n - 1).collect();
     run(
         &full,
