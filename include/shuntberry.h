@@ -262,16 +262,16 @@ struct shuntberry_replay shuntberry_replay(const uint64_t *store, size_t store_l
 
 /* ---- Edit sessions: the states that can be reached, while steps are drawn and rubbed out ---- */
 
-/* A set of states, handed in and given back by value. */
+/* A set of states. It is handed in by value and comes back by value: no call keeps or changes the caller's own. */
 struct shuntberry_set {
     uint64_t words[SHUNTBERRY_SET_WORDS];
 };
 
 /* What the three calls of a session answer, by value. */
 struct shuntberry_session {
-    uint64_t reachable[SHUNTBERRY_SET_WORDS]; /* the set after the call; of a refused edit the set that it was handed, of a refused opening the empty one */
-    uint32_t refusal;                         /* 0, or the number of the refusal */
-    uint32_t reserved;                        /* 0 */
+    struct shuntberry_set reachable; /* the set after the call; of a refused edit the set that it was handed, of a refused opening the empty one */
+    uint32_t refusal;                /* 0, or the number of the refusal */
+    uint32_t reserved;               /* 0 */
 };
 
 /*
@@ -279,21 +279,28 @@ struct shuntberry_session {
  * included. Nothing is kept between calls: the session is the store and this set, and its caller keeps both.
  * The store is not changed.
  *
+ *     struct shuntberry_session now = shuntberry_open(store, store_len, n, g);
+ *     now = shuntberry_add_step(store, store_len, n, g, now.reachable, 4, 2);
+ *     now = shuntberry_remove_step(store, store_len, n, g, now.reachable, 0, 1);
+ *
  * Refuses with 10, 14, 15 or 17.
  */
 struct shuntberry_session shuntberry_open(const uint64_t *store, size_t store_len, size_t n, size_t g);
 
 /*
  * Adds the step from `from` to `to` to the table in the store, or removes it: at most one word of the store
- * changes, in the row of `from`. `reachable` goes in by value, as the set comes back; the caller's own is
- * not touched. After every list of edits from an opened table, refused ones included, the set is the one
- * that shuntberry_open gives for the table as edited.
+ * changes, in the row of `from`. `reachable` goes in by value, as the set comes back. After every list of edits
+ * from an opened table, each handed the set that the one before gave, the set is the one that shuntberry_open
+ * gives for the table as edited; a refused edit counts as none.
  *
  * Of any set that is handed in: adding a step that exists, or removing one that does not, changes neither
  * the set nor the store. Else adding a step from a state that is not in the set leaves the set alone, adding
  * one from a state that is in it joins to it all that `to` reaches, and removing one gives what the initial
  * states reach. States from n up in the set are no ground for a refusal: an addition keeps them, a removal
  * that takes a step out drops them.
+ *
+ * Which states are reached does not hang on which are forbidden. But an edit may take the last step of a state,
+ * which makes it a hang unless it rests, or give a hang a way out: ask shuntberry_decide again.
  *
  * Both refuse with 10, 14, 15, 17 or 27; store and set are then as they were before.
  */

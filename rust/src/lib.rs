@@ -519,7 +519,7 @@ pub fn open(store: &[u64], n: usize, g: usize) -> Result<StateSet, Refused> {
     // SAFETY: as in `decide`; nothing is written.
     let session = unsafe { raw::shuntberry_open(store.as_ptr(), store.len(), n, g) };
     accepted(session.refusal)?;
-    Ok(StateSet(session.reachable))
+    Ok(StateSet(session.reachable.words))
 }
 
 /// Adds a step to the table, and gives the set that is lit after it: with a set `reachable` of any states,
@@ -540,7 +540,7 @@ pub fn add_step(
     let session =
         unsafe { raw::shuntberry_add_step(store.as_mut_ptr(), store.len(), n, g, set, from, to) };
     accepted(session.refusal)?;
-    Ok(StateSet(session.reachable))
+    Ok(StateSet(session.reachable.words))
 }
 
 /// Removes a step from the table, and gives the set that is lit after it: `reachable` if there is no such
@@ -561,7 +561,7 @@ pub fn remove_step(
         raw::shuntberry_remove_step(store.as_mut_ptr(), store.len(), n, g, set, from, to)
     };
     accepted(session.refusal)?;
-    Ok(StateSet(session.reachable))
+    Ok(StateSet(session.reachable.words))
 }
 
 /// Steps drawn and rubbed out, with the states that can be reached lit throughout. It owns its set and

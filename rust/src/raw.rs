@@ -58,7 +58,7 @@ pub struct Replay {
     pub remainder: u32,
 }
 
-/// A set that is handed in, by value.
+/// A set that goes in by value and comes back by value.
 #[repr(C)]
 #[derive(Clone, Copy, Debug, PartialEq, Eq)]
 pub struct Set {
@@ -68,7 +68,7 @@ pub struct Set {
 #[repr(C)]
 #[derive(Clone, Copy, Debug, PartialEq, Eq)]
 pub struct Session {
-    pub reachable: [u64; SET_WORDS],
+    pub reachable: Set,
     pub refusal: u32,
     pub reserved: u32,
 }

@@ -269,16 +269,14 @@ static void replays(void)
             "a log that is too long");
 }
 
-static struct shuntberry_set set_of(struct shuntberry_session session)
-{
-    struct shuntberry_set set;
-    memcpy(set.words, session.reachable, sizeof set.words);
-    return set;
-}
-
 static int is_lit(struct shuntberry_session session, unsigned state)
 {
-    return (int)(session.reachable[state / 64] >> (state % 64) & 1);
+    return (int)(session.reachable.words[state / 64] >> (state % 64) & 1);
+}
+
+static int same_set(struct shuntberry_set set, struct shuntberry_set other_set)
+{
+    return memcmp(set.words, other_set.words, sizeof set.words) == 0;
 }
 
 /* Whether the states below a number are lit, and no other. */
@@ -299,21 +297,23 @@ static void sessions(void)
     memcpy(other, store, sizeof store);
     struct shuntberry_session now = shuntberry_open(other, words, STATES, 0);
     require(lit_below(now, STATES), "open");
-    struct shuntberry_set whole = set_of(now);
-    now = shuntberry_remove_step(other, words, STATES, 0, set_of(now), half - 1, half);
+    const struct shuntberry_set whole = now.reachable;
+    now = shuntberry_remove_step(other, words, STATES, 0, now.reachable, half - 1, half);
     require(lit_below(now, half), "a step removed");
-    require(memcmp(whole.words, shuntberry_open(store, words, STATES, 0).reachable, sizeof whole.words) == 0, "a set goes in by value");
-    now = shuntberry_add_step(other, words, STATES, 0, set_of(now), half, half);
+    struct shuntberry_shortest cut = shuntberry_shortest_path(other, words, STATES, 0, path, SHUNTBERRY_PATH_PLACES);
+    require(cut.found == 1 && cut.steps == half - 1, "a state without its last step hangs");
+    require(same_set(whole, shuntberry_open(store, words, STATES, 0).reachable), "a set goes in by value");
+    now = shuntberry_add_step(other, words, STATES, 0, now.reachable, half, half);
     require(lit_below(now, half), "a step to itself from an unlit state");
-    now = shuntberry_add_step(other, words, STATES, 0, set_of(now), half - 1, half);
+    now = shuntberry_add_step(other, words, STATES, 0, now.reachable, half - 1, half);
     require(lit_below(now, STATES), "a step added");
-    now = shuntberry_remove_step(other, words, STATES, 0, set_of(now), half, half);
+    now = shuntberry_remove_step(other, words, STATES, 0, now.reachable, half, half);
     require(lit_below(now, STATES) && memcmp(other, store, sizeof store) == 0, "the store mended");
     for (int k = 0; k < 4; k++) {
         const size_t from = k % 2 ? STATES : 0, to = k % 2 ? 0 : STATES;
         now = k < 2 ? shuntberry_add_step(other, words, STATES, 0, whole, from, to)
                     : shuntberry_remove_step(other, words, STATES, 0, whole, from, to);
-        require(now.refusal == SHUNTBERRY_STEP_STATE && memcmp(now.reachable, whole.words, sizeof whole.words) == 0, "27");
+        require(now.refusal == SHUNTBERRY_STEP_STATE && same_set(now.reachable, whole), "27");
     }
     require(memcmp(other, store, sizeof store) == 0, "a refused edit leaves the store");
     now = shuntberry_open(other, words - 1, STATES, 0);
@@ -353,7 +353,7 @@ static void nothing(void)
     require(shuntberry_open(NULL, 0, STATES, 0).refusal == SHUNTBERRY_STORE_SHORT, "open, nothing");
     const struct shuntberry_set one = { { 1 } };
     require(shuntberry_add_step(NULL, 0, STATES, 0, one, 0, 0).refusal == SHUNTBERRY_STORE_SHORT, "add a step, nothing");
-    require(shuntberry_remove_step(NULL, 0, STATES, 0, one, 0, 0).reachable[0] == 1, "remove a step, nothing");
+    require(shuntberry_remove_step(NULL, 0, STATES, 0, one, 0, 0).reachable.words[0] == 1, "remove a step, nothing");
     require(shuntberry_replay(NULL, 0, STATES, 0, NULL, 0).refusal == SHUNTBERRY_STORE_SHORT, "replay, nothing");
     struct shuntberry_replay walk = shuntberry_replay(store, words, STATES, 0, NULL, 0);
     require(walk.refusal == SHUNTBERRY_ACCEPTED && walk.followed == 0 && walk.seen == 0, "replay, no log");

@@ -64,7 +64,8 @@ pub accepted : (store : List ℕ) (n g a b : ℕ) {k : ℕ} → k ≡ refuse (ed
 unfolding editGrounds
 accepted store n g a b e z =
     let parts = accepted-store store n g (stateGround n a b ∷ []) (sym e ∙ z) in
-    (parts .0, no-states (refuse-clear (stateGround n a b ∷ []) [] refl (parts .1) .0 .0))
+    let states = no-states (refuse-clear (stateGround n a b ∷ []) [] refl (parts .1) .0 .0) in
+    (parts .0, states .0, states .1)
 
 -- ---- what the code works out over the words of a store
 

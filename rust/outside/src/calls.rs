@@ -238,7 +238,7 @@ mod linked {
     fn laid_out(answer: raw::Session) -> Session {
         Session {
             refusal: answer.refusal + answer.reserved.wrapping_mul(1 << 16),
-            reachable: answer.reachable,
+            reachable: answer.reachable.words,
         }
     }
 

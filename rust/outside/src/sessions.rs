@@ -94,34 +94,30 @@ fn joined(mut lit: Words, more: Words) -> Words {
 
 // ---- Edits at random
 
-/// A step to add or to remove: one that changes the table or not, to itself, or with a number that is none.
+/// A step to add or to remove: one that changes the table or not, to itself, or with a number that is none. Steps to
+/// remove mostly exist, so that a long list of edits leaves few steps, and what can be reached changes often.
 fn random_edit(dialogue: &Dialogue, random: &mut Random) -> Edit {
     let n = dialogue.n;
     let state = |random: &mut Random| match random.below(16) {
         0 => random.pick(&[n, n - 1, MAX_STATES - 1, MAX_STATES, usize::MAX]),
         _ => random.below(n),
     };
-    let (from, to) = (state(random), state(random));
-    let (from, to) = match random.below(8) {
-        0 => (from, from),
-        // a step that exists, if the state has one
-        1..=3 if from < n => {
+    let (from, mut to) = (state(random), state(random));
+    let adding = random.once_in(2);
+    match random.below(8) {
+        0 => to = from,
+        draw if from < n && (!adding || draw < 3) => {
             let row = &dialogue.rows[from];
             let steps: Vec<usize> = (0..n).filter(|&s| row[s]).collect();
-            (
-                from,
-                if steps.is_empty() {
-                    to
-                } else {
-                    random.pick(&steps)
-                },
-            )
+            if !steps.is_empty() {
+                to = random.pick(&steps);
+            }
         }
-        _ => (from, to),
-    };
-    match random.below(2) {
-        0 => Edit::Add(from, to),
-        _ => Edit::Remove(from, to),
+        _ => {}
+    }
+    match adding {
+        true => Edit::Add(from, to),
+        false => Edit::Remove(from, to),
     }
 }
 
@@ -270,9 +266,10 @@ pub fn long_lists(libraries: &[&dyn Calls], random: &mut Random, tally: &mut Tal
     for (n, edits) in LONG {
         let mut rows = vec![vec![false; n]; n];
         add_fan_out(&mut rows, 1, random);
+        let initial: Vec<usize> = (0..n).step_by(8).collect();
         let dialogue = Dialogue {
             rows,
-            ..Dialogue::of(n, &[0], &[n - 1], &[&[n / 2]], &[])
+            ..Dialogue::of(n, &initial, &[n - 1], &[&[n / 2]], &[])
         };
         edit_list(libraries, &dialogue, edits, random, tally)
             .map_err(|fault| format!("{edits} edits of {n} states: {fault}"))?;
