@@ -527,6 +527,24 @@ pub fn open(store: &[u64], n: usize, g: usize) -> Result<StateSet, Refused> {
 /// word of the store changes.
 ///
 /// Refused with 10, 14, 15, 17 or 27, as an edit of a [`Session`], which keeps the set.
+///
+/// ```
+/// use shuntberry::{SET_WORDS, STORE_WORDS, StateSet, add_step, remove_step, row};
+///
+/// // A step 1 → 2, and nothing initial. The set is any that the caller likes: here 0 and 1.
+/// let mut store = [0; STORE_WORDS];
+/// store[row(1)] = 1 << 2;
+/// let mut lit = StateSet([0; SET_WORDS]);
+/// lit.0[0] = 1 << 0 | 1 << 1;
+///
+/// // All that 1 reaches is joined, though 1 was lit already.
+/// lit = add_step(&mut store, 3, 0, lit, 0, 1)?;
+/// assert!(lit.states().eq([0, 1, 2]));
+/// // A removal starts from the initial states.
+/// lit = remove_step(&mut store, 3, 0, lit, 0, 1)?;
+/// assert!(lit.states().eq([]));
+/// # Ok::<(), shuntberry::Refused>(())
+/// ```
 pub fn add_step(
     store: &mut [u64],
     n: usize,
@@ -544,7 +562,7 @@ pub fn add_step(
 }
 
 /// Removes a step from the table, and gives the set that is lit after it: `reachable` if there is no such
-/// step, else what the initial states reach. At most one word of the store changes.
+/// step, else what the initial states reach. At most one word of the store changes. ([`add_step`] has an example.)
 ///
 /// Refused with 10, 14, 15, 17 or 27, as an edit of a [`Session`], which keeps the set.
 pub fn remove_step(
@@ -566,7 +584,8 @@ pub fn remove_step(
 
 /// Steps drawn and rubbed out, with the states that can be reached lit throughout. It owns its set and
 /// borrows the store, so that nothing else edits the table meanwhile: after every edit, refused ones
-/// included, the set is the one that [`open`] gives for the table as edited.
+/// included, the set is the one that [`open`] gives for the table as edited. A state that loses its last step
+/// is a hang, unless it rests: [`Session::store`] is the table to [`decide`] again.
 ///
 /// ```
 /// use shuntberry::{INITIAL, Refused, STORE_WORDS, Session, row};

@@ -165,14 +165,22 @@ impl<'s> Table<'s> {
         if !held.inside(Set::below(n)) || !idle.is_empty() {
             return Err(17);
         }
-        Ok(Table {
+        Ok(Table::within(store, n, g))
+    }
+
+    /// The table in a store that was accepted.
+    fn within(store: &'s [u64; STORE_WORDS], n: usize, g: usize) -> Table<'s> {
+        let (sets, _) = store.as_chunks::<WORDS>();
+        let (fixed, rest) = sets.split_at(HEAD_SETS);
+        let (groups, rows) = rest.split_at(MAX_GROUPS);
+        Table {
             n,
             initial: Set(fixed[0]),
             marked: Set(fixed[1]),
             resting: Set(fixed[2]),
-            groups: used,
+            groups: &groups[..g],
             rows: rows.try_into().expect("MAX_STATES rows"),
-        })
+        }
     }
 
     /// The forbidden states of a set of the table's states.
@@ -705,9 +713,8 @@ impl Calls for Peer {
             Ok(_) => {}
         }
         store[(HEAD_SETS + MAX_GROUPS + from) * WORDS + to / 64] ^= 1 << (to % 64);
-        let Ok(table) = Table::accept(store, n, g) else {
-            unreachable!("an edit keeps a store accepted");
-        };
+        let store = store.first_chunk().expect("a store that was accepted");
+        let table = Table::within(store, n, g);
         if !adding {
             return lit_now(reached(&table));
         }

@@ -366,7 +366,9 @@ pub fn edges(libraries: &[&dyn Calls], random: &mut Random) -> Outcome {
             (Add(0, 4), 0, &[0, 1, 2, 3, 4]),
         ],
     )?;
-    // Any set: nothing is pruned at a lit target, an unlit source joins nothing, a removal starts afresh.
+    // Any set: nothing is pruned at a lit target, or on the way from it; an unlit source joins nothing, a removal
+    // starts afresh.
+    run(&b, &[2, 4], &[(Add(4, 1), 0, &[1, 2, 3, 4])])?;
     run(&two, &[1, 2, 9], &[(Add(1, 2), 0, &[1, 2, 3, 9])])?;
     run(&two, &[2, 9], &[(Add(1, 2), 0, &[2, 9])])?;
     run(&two, &[9], &[(Remove(1, 2), 0, &[9])])?;

@@ -4,10 +4,10 @@
 //!     session_bench [--peer]
 //!
 //! In each repetition the runs take turns; a ratio is of two times of one repetition. Printed are the median
-//! times of one edit in microseconds, and the median ratios. `--peer` measures the peer against itself.
+//! times of one edit in microseconds, and the median ratios. The times are the processor's: a run takes some
+//! milliseconds, in which other programs have their turns too. `--peer` measures the peer against itself.
 
 use std::hint::black_box;
-use std::time::Instant;
 
 use shuntberry_outside::calls::{Calls, Edit, Words};
 use shuntberry_outside::families;
@@ -109,6 +109,11 @@ impl Run {
     }
 }
 
+unsafe extern "C" {
+    /// The processor time of this program in microseconds (C's `clock`, as POSIX has it).
+    safe fn clock() -> i64;
+}
+
 fn median(mut values: Vec<f64>) -> f64 {
     values.sort_by(f64::total_cmp);
     values[values.len() / 2]
@@ -132,9 +137,9 @@ fn measure(library: &dyn Calls, name: &str, dialogue: &Dialogue, kind: Kind, ran
             let at = (repetition + turn) % runs.len();
             let (run, library) = runs[at];
             let mut store = dialogue.to_store();
-            let start = Instant::now();
+            let start = clock();
             given[at] = black_box(run.over(library, black_box(&mut store), (n, g), &list));
-            times[at].push(start.elapsed().as_secs_f64() * 1e6 / EDITS as f64);
+            times[at].push((clock() - start) as f64 / EDITS as f64);
         }
         assert_eq!(given[0], given[1], "the peer's session");
         assert_eq!(given[0], given[2], "worked out afresh");
