@@ -70,7 +70,7 @@ pub record Promises : Type 0 where
   pub declined-edit : (store : List ℕ) (n g : ℕ) (X : Set) (e : Edit) (r : Session) (after : List ℕ)
       → CalledEdit store n g X e r after → isRefused (r .status) ≡ true
       → (answerOf r ≡ record { refusal = editRefusal store n g e; reachable = X }) × (after ≡ store)
-  -- where opening would not be declined, an edit is exactly where either state number is n or more, with 27; so every edit of a table without states
+  -- where opening would be accepted, an edit is declined exactly if either state number is n or more, with 27; so every edit of a table without states
   pub declined-where : (store : List ℕ) (n g : ℕ) (X : Set) (e : Edit) (r : Session) (after : List ℕ)
       → CalledEdit store n g X e r after → AcceptedStore store n g
       → (isRefused (r .status) ≡ noStates n (source e) (target e)) × ((answerOf r) .refusal ≡ cond (noStates n (source e) (target e)) 27 0)
