@@ -1,7 +1,8 @@
 /*
  * Shuntberry: is a forbidden state of a dialogue table reachable, and by which steps?
  *
- * The calls are decide, shortest path, distances, within, read, write, generate and replay, and beside them
+ * The calls are decide, shortest path, distances, within, read, write, generate, replay and those of an edit
+ * session (open, add a step, remove a step), and beside them
  * next open minute, which says when a release may be loaded and reads no table. Link
  * target/staticlib/libshuntberry.a, which `rt staticlib shuntberry` makes. Nothing is allocated, nothing is
  * kept between calls, and no call fails other than by a refusal number. Calls may be made from several
@@ -28,7 +29,8 @@
  * it does not accept, it refuses.
  *
  * A REFUSED call has a refusal number in `refusal`, 0 in all other fields, and every buffer is as it
- * was before. (distances and generate return the number itself.) Where several grounds apply, the one that
+ * was before. (distances and generate return the number itself; a refused edit of a session gives back the
+ * set that it was handed.) Where several grounds apply, the one that
  * the call's comment names first is given; for 12 and 13 the blocks are taken in order, 12 before 13 in each.
  */
 #ifndef SHUNTBERRY_H
@@ -110,6 +112,7 @@ extern "C" {
 #define SHUNTBERRY_SITE 24              /* the site is over 65,520 (read, write); given straight after 10 */
 #define SHUNTBERRY_LOG_ODD 25           /* the log's length is odd, also where it is over 32,768 (replay) */
 #define SHUNTBERRY_LOG_LONG 26          /* the log has over 32,768 bytes (replay) */
+#define SHUNTBERRY_STEP_STATE 27        /* a state number of the step is n or more (add a step, remove a step) */
 #define SHUNTBERRY_WINDOW_RANGE 29      /* a window starts past minute 10,079 of the week, or is 0 or over 10,080 minutes long (next open) */
 #define SHUNTBERRY_TOO_MANY 30          /* over 32 windows, or over 64 closed days (next open) */
 #define SHUNTBERRY_TIME 31              /* the time is over 2^31 - 1 (next open) */
@@ -256,6 +259,55 @@ struct shuntberry_replay {
  */
 struct shuntberry_replay shuntberry_replay(const uint64_t *store, size_t store_len, size_t n, size_t g,
                                            const uint8_t *log, size_t log_len);
+
+/* ---- Edit sessions: the states that can be reached, while steps are drawn and rubbed out ---- */
+
+/* A set of states. It is handed in by value and comes back by value: no call keeps or changes the caller's own. */
+struct shuntberry_set {
+    uint64_t words[SHUNTBERRY_SET_WORDS];
+};
+
+/* What the three calls of a session answer, by value. */
+struct shuntberry_session {
+    struct shuntberry_set reachable; /* the set after the call; of a refused edit the set that it was handed, of a refused opening the empty one */
+    uint32_t refusal;                /* 0, or the number of the refusal */
+    uint32_t reserved;               /* 0 */
+};
+
+/*
+ * Opens a table: `reachable` is the set of the states that can be reached from the initial ones, these
+ * included. Nothing is kept between calls: the session is the store and this set, and its caller keeps both.
+ * The store is not changed.
+ *
+ *     struct shuntberry_session now = shuntberry_open(store, store_len, n, g);
+ *     now = shuntberry_add_step(store, store_len, n, g, now.reachable, 4, 2);
+ *     now = shuntberry_remove_step(store, store_len, n, g, now.reachable, 0, 1);
+ *
+ * Refuses with 10, 14, 15 or 17.
+ */
+struct shuntberry_session shuntberry_open(const uint64_t *store, size_t store_len, size_t n, size_t g);
+
+/*
+ * Adds the step from `from` to `to` to the table in the store, or removes it: at most one word of the store
+ * changes, in the row of `from`. `reachable` goes in by value, as the set comes back. After every list of edits
+ * from an opened table, each handed the set that the one before gave, the set is the one that shuntberry_open
+ * gives for the table as edited; a refused edit counts as none.
+ *
+ * Of any set that is handed in: adding a step that exists, or removing one that does not, changes neither
+ * the set nor the store. Else adding a step from a state that is not in the set leaves the set alone, adding
+ * one from a state that is in it joins to it all that `to` reaches, and removing one gives what the initial
+ * states reach. States from n up in the set are no ground for a refusal: an addition keeps them, a removal
+ * that takes a step out drops them.
+ *
+ * Which states are reached does not hang on which are forbidden. But an edit may take the last step of a state,
+ * which makes it a hang unless it rests, or give a hang a way out: ask shuntberry_decide again.
+ *
+ * Both refuse with 10, 14, 15, 17 or 27; store and set are then as they were before.
+ */
+struct shuntberry_session shuntberry_add_step(uint64_t *store, size_t store_len, size_t n, size_t g,
+                                              struct shuntberry_set reachable, size_t from, size_t to);
+struct shuntberry_session shuntberry_remove_step(uint64_t *store, size_t store_len, size_t n, size_t g,
+                                                 struct shuntberry_set reachable, size_t from, size_t to);
 
 /* ---- When a release may be loaded ---- */
 

@@ -1,7 +1,7 @@
 //! Is a forbidden state of a dialogue table reachable, and by which steps?
 //!
 //! A safe wrapper around the proved library: [`decide`], [`shortest_path`], [`distances`], [`within`],
-//! [`read`], [`write()`], [`generate`], [`replay`] and [`next_open`], with slices in and enums out. No input makes a call panic: what the library does not accept, it
+//! [`read`], [`write()`], [`generate`], [`replay`], [`next_open`] and an edit [`Session`], with slices in and enums out. No input makes a call panic: what the library does not accept, it
 //! refuses with a number ([`Refused`]), and every buffer is then as it was before.
 //!
 //! A table has `n` states, numbered 0 to `n` − 1 ([`MAX_STATES`] at most), and `g` groups
@@ -216,6 +216,7 @@ impl Refused {
             24 => "the site is over 65,520",
             25 => "the log's length is odd",
             26 => "the log has over 32,768 bytes",
+            27 => "a state number of an edit is n or more",
             29 => {
                 "a window starts past minute 10,079 of the week, or is 0 or over 10,080 minutes long"
             }
@@ -509,6 +510,143 @@ pub fn replay(store: &[u64], n: usize, g: usize, log: &[u8]) -> Result<Replay, R
         percent: walk.percent as usize,
         remainder: walk.remainder as usize,
     })
+}
+
+/// The states that can be reached from the initial ones, these included: what an edit [`Session`] starts from.
+///
+/// Refused with 10, 14, 15 or 17.
+pub fn open(store: &[u64], n: usize, g: usize) -> Result<StateSet, Refused> {
+    // SAFETY: as in `decide`; nothing is written.
+    let session = unsafe { raw::shuntberry_open(store.as_ptr(), store.len(), n, g) };
+    accepted(session.refusal)?;
+    Ok(StateSet(session.reachable.words))
+}
+
+/// Adds a step to the table, and gives the set that is lit after it: with a set `reachable` of any states,
+/// the same if the step exists or `from` is not in it, else the set with all that `to` reaches. At most one
+/// word of the store changes.
+///
+/// Refused with 10, 14, 15, 17 or 27, as an edit of a [`Session`], which keeps the set.
+///
+/// ```
+/// use shuntberry::{SET_WORDS, STORE_WORDS, StateSet, add_step, remove_step, row};
+///
+/// // A step 1 → 2, and nothing initial. The set is any that the caller likes: here 0 and 1.
+/// let mut store = [0; STORE_WORDS];
+/// store[row(1)] = 1 << 2;
+/// let mut lit = StateSet([0; SET_WORDS]);
+/// lit.0[0] = 1 << 0 | 1 << 1;
+///
+/// // All that 1 reaches is joined, though 1 was lit already.
+/// lit = add_step(&mut store, 3, 0, lit, 0, 1)?;
+/// assert!(lit.states().eq([0, 1, 2]));
+/// // A removal starts from the initial states.
+/// lit = remove_step(&mut store, 3, 0, lit, 0, 1)?;
+/// assert!(lit.states().eq([]));
+/// # Ok::<(), shuntberry::Refused>(())
+/// ```
+pub fn add_step(
+    store: &mut [u64],
+    n: usize,
+    g: usize,
+    reachable: StateSet,
+    from: usize,
+    to: usize,
+) -> Result<StateSet, Refused> {
+    let set = raw::Set { words: reachable.0 };
+    // SAFETY: as in `decide`; the set goes in by value.
+    let session =
+        unsafe { raw::shuntberry_add_step(store.as_mut_ptr(), store.len(), n, g, set, from, to) };
+    accepted(session.refusal)?;
+    Ok(StateSet(session.reachable.words))
+}
+
+/// Removes a step from the table, and gives the set that is lit after it: `reachable` if there is no such
+/// step, else what the initial states reach. At most one word of the store changes. ([`add_step`] has an example.)
+///
+/// Refused with 10, 14, 15, 17 or 27, as an edit of a [`Session`], which keeps the set.
+pub fn remove_step(
+    store: &mut [u64],
+    n: usize,
+    g: usize,
+    reachable: StateSet,
+    from: usize,
+    to: usize,
+) -> Result<StateSet, Refused> {
+    let set = raw::Set { words: reachable.0 };
+    // SAFETY: as in `add_step`.
+    let session = unsafe {
+        raw::shuntberry_remove_step(store.as_mut_ptr(), store.len(), n, g, set, from, to)
+    };
+    accepted(session.refusal)?;
+    Ok(StateSet(session.reachable.words))
+}
+
+/// Steps drawn and rubbed out, with the states that can be reached lit throughout. It owns its set and
+/// borrows the store, so that nothing else edits the table meanwhile: after every edit, refused ones
+/// included, the set is the one that [`open`] gives for the table as edited. A state that loses its last step
+/// is a hang, unless it rests: [`Session::store`] is the table to [`decide`] again.
+///
+/// ```
+/// use shuntberry::{INITIAL, Refused, STORE_WORDS, Session, row};
+///
+/// // 0 is initial; steps 0 → 1 and 2 → 3.
+/// let mut store = [0; STORE_WORDS];
+/// store[INITIAL] = 1 << 0;
+/// store[row(0)] = 1 << 1;
+/// store[row(2)] = 1 << 3;
+///
+/// let mut session = Session::open(&mut store, 4, 0)?;
+/// assert!(session.reachable().states().eq([0, 1]));
+/// session.add_step(1, 2)?;
+/// assert!(session.reachable().states().eq([0, 1, 2, 3]));
+/// session.remove_step(0, 1)?;
+/// assert!(session.reachable().states().eq([0]));
+/// assert_eq!(session.add_step(0, 4), Err(Refused(27)));
+/// assert!(session.reachable().states().eq([0]));
+/// # Ok::<(), shuntberry::Refused>(())
+/// ```
+#[derive(Debug)]
+pub struct Session<'s> {
+    store: &'s mut [u64],
+    n: usize,
+    g: usize,
+    reachable: StateSet,
+}
+
+impl<'s> Session<'s> {
+    /// Opens the table. Refused with 10, 14, 15 or 17.
+    pub fn open(store: &'s mut [u64], n: usize, g: usize) -> Result<Session<'s>, Refused> {
+        let reachable = open(store, n, g)?;
+        Ok(Session {
+            store,
+            n,
+            g,
+            reachable,
+        })
+    }
+
+    /// Adds a step; nothing changes if it exists. Refused with 27.
+    pub fn add_step(&mut self, from: usize, to: usize) -> Result<(), Refused> {
+        self.reachable = add_step(self.store, self.n, self.g, self.reachable, from, to)?;
+        Ok(())
+    }
+
+    /// Removes a step; nothing changes if there is none. Refused with 27.
+    pub fn remove_step(&mut self, from: usize, to: usize) -> Result<(), Refused> {
+        self.reachable = remove_step(self.store, self.n, self.g, self.reachable, from, to)?;
+        Ok(())
+    }
+
+    /// The states that can be reached from the initial ones, these included.
+    pub fn reachable(&self) -> StateSet {
+        self.reachable
+    }
+
+    /// The store, with the table as edited.
+    pub fn store(&self) -> &[u64] {
+        self.store
+    }
 }
 
 /// The first minute at or after `time` that lies in one of the windows, and not on a closed day; `None`,

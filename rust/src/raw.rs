@@ -1,6 +1,6 @@
 //! The calls as the library exports them for C; `include/shuntberry.h` has a comment for each
 //! function and field. A refused call has 0 in every field but `refusal`: a verdict of 0 is *safe* only
-//! where `refusal` is 0.
+//! where `refusal` is 0. (A refused edit of a session gives back the set that it was handed.)
 
 #![allow(missing_docs)]
 
@@ -56,6 +56,21 @@ pub struct Replay {
     pub seen: u32,
     pub percent: u32,
     pub remainder: u32,
+}
+
+/// A set that goes in by value and comes back by value.
+#[repr(C)]
+#[derive(Clone, Copy, Debug, PartialEq, Eq)]
+pub struct Set {
+    pub words: [u64; SET_WORDS],
+}
+
+#[repr(C)]
+#[derive(Clone, Copy, Debug, PartialEq, Eq)]
+pub struct Session {
+    pub reachable: Set,
+    pub refusal: u32,
+    pub reserved: u32,
 }
 
 #[repr(C)]
@@ -137,6 +152,25 @@ unsafe extern "C" {
         log: *const u8,
         log_len: usize,
     ) -> Replay;
+    pub fn shuntberry_open(store: *const u64, store_len: usize, n: usize, g: usize) -> Session;
+    pub fn shuntberry_add_step(
+        store: *mut u64,
+        store_len: usize,
+        n: usize,
+        g: usize,
+        reachable: Set,
+        from: usize,
+        to: usize,
+    ) -> Session;
+    pub fn shuntberry_remove_step(
+        store: *mut u64,
+        store_len: usize,
+        n: usize,
+        g: usize,
+        reachable: Set,
+        from: usize,
+        to: usize,
+    ) -> Session;
 
     pub fn shuntberry_next_open(
         time: usize,

@@ -28,6 +28,10 @@ _Static_assert(sizeof(struct shuntberry_table) == 12, "table");
 _Static_assert(sizeof(struct shuntberry_file) == 8, "file");
 _Static_assert(sizeof(struct shuntberry_replay) == 20, "replay");
 _Static_assert(offsetof(struct shuntberry_replay, remainder) == 16, "replay.remainder");
+_Static_assert(sizeof(struct shuntberry_set) == 8 * SHUNTBERRY_SET_WORDS, "set");
+_Static_assert(sizeof(struct shuntberry_session) == 8 * SHUNTBERRY_SET_WORDS + 8, "session");
+_Static_assert(offsetof(struct shuntberry_session, refusal) == 8 * SHUNTBERRY_SET_WORDS, "session.refusal");
+_Static_assert(offsetof(struct shuntberry_session, reserved) == 8 * SHUNTBERRY_SET_WORDS + 4, "session.reserved");
 _Static_assert(sizeof(struct shuntberry_minute) == 12, "minute");
 _Static_assert(SHUNTBERRY_ROW(SHUNTBERRY_MAX_STATES) == SHUNTBERRY_STORE_WORDS, "rows");
 _Static_assert(SHUNTBERRY_GROUP(SHUNTBERRY_MAX_GROUPS) == SHUNTBERRY_ROW(0), "groups");
@@ -265,6 +269,57 @@ static void replays(void)
             "a log that is too long");
 }
 
+static int is_lit(struct shuntberry_session session, unsigned state)
+{
+    return (int)(session.reachable.words[state / 64] >> (state % 64) & 1);
+}
+
+static int same_set(struct shuntberry_set set, struct shuntberry_set other_set)
+{
+    return memcmp(set.words, other_set.words, sizeof set.words) == 0;
+}
+
+/* Whether the states below a number are lit, and no other. */
+static int lit_below(struct shuntberry_session session, unsigned states)
+{
+    for (unsigned state = 0; state < SHUNTBERRY_MAX_STATES; state++)
+        if (is_lit(session, state) != (state < states))
+            return 0;
+    return session.refusal == SHUNTBERRY_ACCEPTED && session.reserved == 0;
+}
+
+/* The corridor cut in two and mended, a step to itself, and 27, which gives back the set that it was handed. */
+static void sessions(void)
+{
+    const size_t words = SHUNTBERRY_STORE_WORDS;
+    const unsigned half = STATES / 2;
+
+    memcpy(other, store, sizeof store);
+    struct shuntberry_session now = shuntberry_open(other, words, STATES, 0);
+    require(lit_below(now, STATES), "open");
+    const struct shuntberry_set whole = now.reachable;
+    now = shuntberry_remove_step(other, words, STATES, 0, now.reachable, half - 1, half);
+    require(lit_below(now, half), "a step removed");
+    struct shuntberry_shortest cut = shuntberry_shortest_path(other, words, STATES, 0, path, SHUNTBERRY_PATH_PLACES);
+    require(cut.found == 1 && cut.steps == half - 1, "a state without its last step hangs");
+    require(same_set(whole, shuntberry_open(store, words, STATES, 0).reachable), "a set goes in by value");
+    now = shuntberry_add_step(other, words, STATES, 0, now.reachable, half, half);
+    require(lit_below(now, half), "a step to itself from an unlit state");
+    now = shuntberry_add_step(other, words, STATES, 0, now.reachable, half - 1, half);
+    require(lit_below(now, STATES), "a step added");
+    now = shuntberry_remove_step(other, words, STATES, 0, now.reachable, half, half);
+    require(lit_below(now, STATES) && memcmp(other, store, sizeof store) == 0, "the store mended");
+    for (int k = 0; k < 4; k++) {
+        const size_t from = k % 2 ? STATES : 0, to = k % 2 ? 0 : STATES;
+        now = k < 2 ? shuntberry_add_step(other, words, STATES, 0, whole, from, to)
+                    : shuntberry_remove_step(other, words, STATES, 0, whole, from, to);
+        require(now.refusal == SHUNTBERRY_STEP_STATE && same_set(now.reachable, whole), "27");
+    }
+    require(memcmp(other, store, sizeof store) == 0, "a refused edit leaves the store");
+    now = shuntberry_open(other, words - 1, STATES, 0);
+    require(now.refusal == SHUNTBERRY_STORE_SHORT && !is_lit(now, 0), "a refused opening gives the empty set");
+}
+
 static int is_minute(struct shuntberry_minute answer, uint32_t minute)
 {
     return answer.refusal == SHUNTBERRY_ACCEPTED && answer.never == 0 && answer.minute == minute;
@@ -295,6 +350,10 @@ static void nothing(void)
     require(shuntberry_read(NULL, 0, 0, NULL, 0).refusal == SHUNTBERRY_STORE_SHORT, "read, nothing");
     require(shuntberry_write(NULL, 0, STATES, 0, 0, file, sizeof file).refusal == SHUNTBERRY_STORE_SHORT, "write, no store");
     require(shuntberry_write(store, words, STATES, 0, 0, NULL, 0).refusal == SHUNTBERRY_OUTPUT_SHORT, "write, no output");
+    require(shuntberry_open(NULL, 0, STATES, 0).refusal == SHUNTBERRY_STORE_SHORT, "open, nothing");
+    const struct shuntberry_set one = { { 1 } };
+    require(shuntberry_add_step(NULL, 0, STATES, 0, one, 0, 0).refusal == SHUNTBERRY_STORE_SHORT, "add a step, nothing");
+    require(shuntberry_remove_step(NULL, 0, STATES, 0, one, 0, 0).reachable.words[0] == 1, "remove a step, nothing");
     require(shuntberry_replay(NULL, 0, STATES, 0, NULL, 0).refusal == SHUNTBERRY_STORE_SHORT, "replay, nothing");
     struct shuntberry_replay walk = shuntberry_replay(store, words, STATES, 0, NULL, 0);
     require(walk.refusal == SHUNTBERRY_ACCEPTED && walk.followed == 0 && walk.seen == 0, "replay, no log");
@@ -369,6 +428,7 @@ static void *on_painted_stack(void *unused)
     old_file();
     refusals();
     replays();
+    sessions();
     nothing();
     sites();
     release_windows();

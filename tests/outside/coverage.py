@@ -28,6 +28,15 @@ def table_in(path):
     return n, states(sets[0]), [states(bits) for bits in sets[HEAD_SETS + g :]]
 
 
+def reached_from(initial, rows):
+    reached, waiting = set(initial), list(initial)
+    while waiting:
+        for state in rows[waiting.pop()] - reached:
+            reached.add(state)
+            waiting.append(state)
+    return reached
+
+
 def printed(table, log):
     """What must be printed, and the status."""
     n, initial, rows = table
@@ -42,11 +51,7 @@ def printed(table, log):
             break
         followed.append(entry)
         may_come = rows[entry]
-    reached, waiting = set(initial), list(initial)
-    while waiting:
-        for state in rows[waiting.pop()] - reached:
-            reached.add(state)
-            waiting.append(state)
+    reached = reached_from(initial, rows)
     percent, remainder = divmod(100 * len(set(followed)), len(reached)) if reached else (0, 0)
     broken = f", broken by {entries[len(followed)]}" if len(followed) < len(entries) else ""
     return (
@@ -99,4 +104,5 @@ def main():
     print(f"the C example of coverage: {count} logs on the files of tables/ printed as expected")
 
 
-main()
+if __name__ == "__main__":
+    main()

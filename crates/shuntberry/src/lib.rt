@@ -19,12 +19,19 @@ ghost use Rattle.generator.specs.Answers.{generatedOf};
 ghost use Rattle.replay.specs.Logs.{replayAnswer};
 ghost use Rattle.replay.specs.Answers.{replayedOf};
 ghost use Rattle.replay.proofs.Ranges.{ReplayRange};
+ghost use Rattle.edit_session.specs.Edits.{add, remove, openAnswer, editAnswer, editBuffer};
+ghost use Rattle.edit_session.specs.Answers.{answerOf as sessionOf};
 ghost use Rattle.release_windows.specs.Answers.{nextOpenAnswer, numbersOf};
-ghost use Rattle.shuntberry.specs.Fields.{decisionFields, shortestFields, withinFields, tableFields, fileFields, replayFields, minuteFields};
+ghost use Rattle.shuntberry.specs.Fields.{decisionFields, shortestFields, withinFields, tableFields, fileFields, replayFields, sessionFields, minuteFields};
 use block_file::TableRead;
 use block_file::Written;
 use block_file::read;
 use block_file::write;
+use edit_session::Session;
+use edit_session::Status;
+use edit_session::add_step;
+use edit_session::open;
+use edit_session::remove_step;
 use generator::Generated;
 use generator::generate;
 use paths::DistancesAnswer;
@@ -40,6 +47,7 @@ use replay::replay;
 use rounds::Decision;
 use rounds::Verdict;
 use rounds::decide;
+use state_set::StateSet;
 use state_set::WORDS;
 
 // ---- decide
@@ -349,6 +357,79 @@ pub extern "C" fn shuntberry_replay(store: &[u64], n: usize, g: usize, log: &[u8
     ensures { λ r. ⌜ replayFields r ≡ replayAnswer (now (store .entry)) n g (now (log .entry)) ⌝ }
 {
     lay_out_replay(replay(store, n, g, log))
+}
+
+// ---- edit sessions
+
+// The set that is handed in, by value.
+#[repr(C)]
+pub struct SetFields {
+    pub words: [u64; WORDS],
+}
+
+#[repr(C)]
+pub struct SessionFields {
+    pub reachable: [u64; WORDS],
+    pub refusal: u32,
+    pub reserved: u32,
+}
+
+fn lay_out_session(answer: Session) -> SessionFields
+    ensures { λ r. ⌜ (sessionFields r ≡ sessionOf answer) × (r .reserved ≡ 0) ⌝ }
+{
+    let status = answer.status;
+    let reachable = answer.reachable.words;
+    match status {
+        Status::Accepted => SessionFields {
+            reachable,
+            refusal: 0,
+            reserved: 0,
+        },
+        Status::Refused(refusal) => SessionFields {
+            reachable,
+            refusal: refusal as u32,
+            reserved: 0,
+        },
+    }
+}
+
+#[no_mangle]
+pub extern "C" fn shuntberry_open(store: &[u64], n: usize, g: usize) -> SessionFields
+    ensures { λ r. ⌜ (sessionFields r ≡ openAnswer (now (store .entry)) n g) × (r .reserved ≡ 0) ⌝ }
+{
+    lay_out_session(open(store, n, g))
+}
+
+#[no_mangle]
+pub extern "C" fn shuntberry_add_step(
+    store: &mut [u64],
+    n: usize,
+    g: usize,
+    reachable: SetFields,
+    from: usize,
+    to: usize,
+) -> SessionFields
+    ensures { λ r. ⌜ (sessionFields r ≡ editAnswer (now (store .entry)) n g (reachable .words) (add from to))
+        × ((r .reserved ≡ 0) × (now (store .exit) ≡ editBuffer (now (store .entry)) n g (add from to))) ⌝ }
+{
+    let words = reachable.words;
+    lay_out_session(add_step(store, n, g, StateSet { words }, from, to))
+}
+
+#[no_mangle]
+pub extern "C" fn shuntberry_remove_step(
+    store: &mut [u64],
+    n: usize,
+    g: usize,
+    reachable: SetFields,
+    from: usize,
+    to: usize,
+) -> SessionFields
+    ensures { λ r. ⌜ (sessionFields r ≡ editAnswer (now (store .entry)) n g (reachable .words) (remove from to))
+        × ((r .reserved ≡ 0) × (now (store .exit) ≡ editBuffer (now (store .entry)) n g (remove from to))) ⌝ }
+{
+    let words = reachable.words;
+    lay_out_session(remove_step(store, n, g, StateSet { words }, from, to))
 }
 
 // ---- next open minute

@@ -8,9 +8,9 @@
 --   Wordwise f op              f acts on words as op does on their bits: or-wise, and-wise, and-not-wise
 --   Combining op X Y w xs      xs is X with its first w words combined with those of Y, by an operation that is wordwise op
 --   combining-none, combining-more, combining-all     before the first turn; one turn; after the last, the states that pass op
---   with-bit, with-past        the union with one state
+--   with-bit, with-past        the union with one state; without-bit: the difference with one
 use Prim.Native.Nat.{ℕ, zero, suc, _+_, _-_, _*_, _/_, _%_, _^_, min, _≤_, _<_}
-use native.Mathlib.Nat.{pow-suc, zero-min}
+use native.Mathlib.Nat.{pow-suc, zero-min, mod-eq-of-lt}
 use native.Mathlib.Numerals.{add-one}
 use native.Mathlib.Omega.{arith}
 use mathlib.Core.Path.{_≡_, refl, sym, ap, ap₂, _∙_, subst}
@@ -25,7 +25,7 @@ use lib.ListN.{length, getD, set, take, drop, length-set, drop-of-length-le}
 use lib.Seq.{take-suc, take-all, length-take-le, drop-cons, set-at, getD-at, append-snoc, getD-set-same, getD-set-other, ext-getD}
 use mir.Syntax.{w64}
 use mir.Val.{Fits}
-use Rattle.model.specs.Sets.{WORDS, maxStates, Set, bit, member, number, setOf, single, union, states, firstStates}
+use Rattle.model.specs.Sets.{WORDS, maxStates, Set, bit, member, number, setOf, single, union, difference, states, firstStates}
 use Rattle.model.proofs.Bounds.{decided, same-test, getD-tabulate}
 use Rattle.model.proofs.SetLaws.{Proper, setOf-proper, bits-eq, bit-number, number-lt, member-at, in-bound, in-union, union-in, single-in, same-set}
 use Rattle.state_set.proofs.Bits.{bit-and, bit-or, bit-not, one-shl, bit-zero, bit-power}
@@ -170,7 +170,7 @@ combining-more {f} {op} wise {X} {Y} {w} {xs} so h =
 pub combining-all : {op : Bool → Bool → Bool} {X Y : Set} {w : ℕ} {xs : Set} → Combining op X Y w xs → WORDS ≤ w → xs ≡ setOf (both op X Y)
 combining-all {op} {X} {Y} {w} {xs} so h = filling-all _ X w xs (so .filling) h
 
--- ---- one state more
+-- ---- one state more, or fewer
 
 -- of {s}, the word that s / 64 names has one bit, and the others have none
 module _ (s w : ℕ) (h : w < WORDS) where
@@ -191,29 +191,39 @@ module _ (s w : ℕ) (h : w < WORDS) where
   single-other ne =
       word-is (λ t. eqb t s) w h 0 (omega arith) (λ i l. bit-zero i ∙ sym (ne-eqb (64 * w + i) s (λ e. ne (omega (arith, e)))))
 
-module _ (X : Set) (s : ℕ) (x : Proper X) where
-  -- a word of the union with {s}
-  joined-word : (w : ℕ) → w < WORDS → bitOr (getD X w 0) (getD (single s) w 0) ≡ getD (union X (single s)) w 0
-  unfolding union single
-  joined-word w h = wordwise-word or-wise X (single s) x (setOf-proper _) w h
+-- an operation that keeps a word beside 0, at the word that s / 64 names: it makes the set that passes op beside {s}
+module _ {f : ℕ → ℕ → ℕ} {op : Bool → Bool → Bool} (wise : Wordwise f op) (keeps : (x : ℕ) → x < 2 ^ 64 → f x 0 ≡ x)
+    (X : Set) (s : ℕ) (x : Proper X) where
+  made-word : (w : ℕ) → w < WORDS → f (getD X w 0) (getD (single s) w 0) ≡ getD (setOf (both op X (single s))) w 0
+  unfolding single
+  made-word w h = wordwise-word wise X (single s) x (setOf-proper _) w h
 
-  pub with-bit : s / 64 < WORDS → set X (s / 64) (bitOr (getD X (s / 64) 0) (1 * 2 ^ (s % 64) % 2 ^ 64)) ≡ union X (single s)
-  unfolding union
-  with-bit h =
+  at-bit : s / 64 < WORDS → set X (s / 64) (f (getD X (s / 64) 0) (1 * 2 ^ (s % 64) % 2 ^ 64)) ≡ setOf (both op X (single s))
+  at-bit h =
       let w = s / 64 in
-      let y = bitOr (getD X w 0) (1 * 2 ^ (s % 64) % 2 ^ 64) in
+      let y = f (getD X w 0) (1 * 2 ^ (s % 64) % 2 ^ 64) in
       let long : length (set X w y) ≡ WORDS = length-set X w y ∙ x .long in
-      ext-getD 0 (set X w y) (union X (single s)) (long ∙ sym (setOf-proper _ .long))
+      ext-getD 0 (set X w y) _ (long ∙ sym (setOf-proper _ .long))
       (λ v k.
       let below : v < WORDS = omega (arith, long) in
       ⊎-elim
       (λ e.
-      subst (λ (u : ℕ). getD (set X w y) u 0 ≡ getD (union X (single s)) u 0) (sym (eqb-true v w e))
-      (getD-set-same X w y 0 (omega (arith, x .long)) ∙ ap (bitOr (getD X w 0)) (single-here s w h refl) ∙ joined-word w h))
+      subst (λ (u : ℕ). getD (set X w y) u 0 ≡ getD (setOf (both op X (single s))) u 0) (sym (eqb-true v w e))
+      (getD-set-same X w y 0 (omega (arith, x .long)) ∙ ap (f (getD X w 0)) (single-here s w h refl) ∙ made-word w h))
       (λ e.
       getD-set-other X w v y 0 (eqb-false v w e)
-      ∙ sym (or-zero-r (getD X v 0)) ∙ ap (bitOr (getD X v 0)) (single-other s v below (eqb-false v w e)) ∙ joined-word v below)
+      ∙ sym (keeps (getD X v 0) (x .fits v below)) ∙ ap (f (getD X v 0)) (single-other s v below (eqb-false v w e)) ∙ made-word v below)
       (decided (eqb v w)))
+
+module _ (X : Set) (s : ℕ) (x : Proper X) where
+  pub with-bit : s / 64 < WORDS → set X (s / 64) (bitOr (getD X (s / 64) 0) (1 * 2 ^ (s % 64) % 2 ^ 64)) ≡ union X (single s)
+  unfolding union
+  with-bit = at-bit or-wise (λ y h. or-zero-r y) X s x
+
+  pub without-bit : s / 64 < WORDS
+      → set X (s / 64) (bitAnd (getD X (s / 64) 0) ((2 ^ 64 - 1) - 1 * 2 ^ (s % 64) % 2 ^ 64)) ≡ difference X (single s)
+  unfolding difference
+  without-bit = at-bit and-not-wise (λ y h. and-mask y 64 ∙ mod-eq-of-lt h) X s x
 
   pub with-past : WORDS ≤ s / 64 → X ≡ union X (single s)
   unfolding union

@@ -47,6 +47,15 @@ pub fn replay(store: &[u64], n: usize, g: usize, log_len: usize) -> Result<(), u
     refuse_if(log_len > MAX_LOG, 26)
 }
 
+pub fn open(store: &[u64], n: usize, g: usize) -> Result<(), u32> {
+    table(store, n, g)
+}
+
+pub fn edit(store: &[u64], n: usize, g: usize, from: usize, to: usize) -> Result<(), u32> {
+    open(store, n, g)?;
+    refuse_if(from >= n || to >= n, 27)
+}
+
 /// What read asks before it looks at the input: a store to fill, and a site.
 pub fn read(store_len: usize, site: usize) -> Result<(), u32> {
     refuse_if(store_len < STORE_WORDS, 10)?;

@@ -55,6 +55,23 @@ pub struct Replay {
     pub remainder: u32,
 }
 
+/// The words of a set.
+pub type Words = [u64; WORDS];
+
+/// What the calls of an edit session answer.
+#[derive(Clone, Copy, Debug, Default, PartialEq, Eq)]
+pub struct Session {
+    pub refusal: u32,
+    pub reachable: Words,
+}
+
+/// A step to add or to remove.
+#[derive(Clone, Copy, Debug, PartialEq, Eq)]
+pub enum Edit {
+    Add(usize, usize),
+    Remove(usize, usize),
+}
+
 pub const SAFE: u32 = 0;
 pub const UNSAFE: u32 = 1;
 pub const UNDECIDED: u32 = 2;
@@ -76,6 +93,17 @@ pub trait Calls: Sync {
     fn read(&self, input: &[u8], site: usize, store: &mut [u64]) -> TableRead;
     fn write(&self, store: &[u64], n: usize, g: usize, site: usize, output: &mut [u8]) -> Written;
     fn replay(&self, store: &[u64], n: usize, g: usize, log: &[u8]) -> Replay;
+    fn open(&self, store: &[u64], n: usize, g: usize) -> Session;
+    fn edit(&self, store: &mut [u64], n: usize, g: usize, lit: Words, edit: Edit) -> Session;
+
+    /// What is lit after a table was opened and a list of edits made.
+    fn session(&self, store: &mut [u64], n: usize, g: usize, edits: &[Edit]) -> Words {
+        let mut lit = self.open(store, n, g).reachable;
+        for &edit in edits {
+            lit = self.edit(store, n, g, lit, edit).reachable;
+        }
+        lit
+    }
 }
 
 #[cfg(feature = "library")]
@@ -84,9 +112,10 @@ pub use linked::{Linked, Wrapped};
 #[cfg(feature = "library")]
 mod linked {
     use super::{
-        Calls, Decision, Replay, SAFE, Shortest, TableRead, UNDECIDED, UNSAFE, Within, Written,
+        Calls, Decision, Edit, Replay, SAFE, Session, Shortest, TableRead, UNDECIDED, UNSAFE,
+        Within, Words, Written,
     };
-    use shuntberry::{Refused, Verdict, raw};
+    use shuntberry::{Refused, StateSet, Verdict, raw};
 
     /// The library, by its exports for C.
     pub struct Linked;
@@ -185,6 +214,31 @@ mod linked {
                 percent: answer.percent,
                 remainder: answer.remainder,
             }
+        }
+
+        fn open(&self, store: &[u64], n: usize, g: usize) -> Session {
+            laid_out(unsafe { raw::shuntberry_open(store.as_ptr(), store.len(), n, g) })
+        }
+
+        fn edit(&self, store: &mut [u64], n: usize, g: usize, lit: Words, edit: Edit) -> Session {
+            let (words, length) = (store.as_mut_ptr(), store.len());
+            let lit = raw::Set { words: lit };
+            laid_out(match edit {
+                Edit::Add(from, to) => unsafe {
+                    raw::shuntberry_add_step(words, length, n, g, lit, from, to)
+                },
+                Edit::Remove(from, to) => unsafe {
+                    raw::shuntberry_remove_step(words, length, n, g, lit, from, to)
+                },
+            })
+        }
+    }
+
+    /// The session's fields; an answer that no test expects where the last one is not 0.
+    fn laid_out(answer: raw::Session) -> Session {
+        Session {
+            refusal: answer.refusal + answer.reserved.wrapping_mul(1 << 16),
+            reachable: answer.reachable.words,
         }
     }
 
@@ -325,6 +379,47 @@ mod linked {
                     remainder: walk.remainder as u32,
                 },
             }
+        }
+
+        fn open(&self, store: &[u64], n: usize, g: usize) -> Session {
+            answered(shuntberry::open(store, n, g), Words::default())
+        }
+
+        fn edit(&self, store: &mut [u64], n: usize, g: usize, lit: Words, edit: Edit) -> Session {
+            let set = StateSet(lit);
+            let answer = match edit {
+                Edit::Add(from, to) => shuntberry::add_step(store, n, g, set, from, to),
+                Edit::Remove(from, to) => shuntberry::remove_step(store, n, g, set, from, to),
+            };
+            answered(answer, lit)
+        }
+
+        fn session(&self, store: &mut [u64], n: usize, g: usize, edits: &[Edit]) -> Words {
+            let Ok(mut session) = shuntberry::Session::open(store, n, g) else {
+                return Words::default();
+            };
+            for &edit in edits {
+                // one that is refused is no edit
+                let _ = match edit {
+                    Edit::Add(from, to) => session.add_step(from, to),
+                    Edit::Remove(from, to) => session.remove_step(from, to),
+                };
+            }
+            session.reachable().0
+        }
+    }
+
+    /// The wrapper's answer, with the set that a refused call gives.
+    fn answered(answer: Result<StateSet, Refused>, refused: Words) -> Session {
+        match answer {
+            Ok(StateSet(reachable)) => Session {
+                refusal: 0,
+                reachable,
+            },
+            Err(Refused(refusal)) => Session {
+                refusal,
+                reachable: refused,
+            },
         }
     }
 }

@@ -19,6 +19,7 @@ use crate::logs;
 use crate::named;
 use crate::rounds::{self, Rounds};
 use crate::search;
+use crate::sessions;
 use crate::table::{
     Dialogue, HEAD_SETS, MAX_GROUPS, MAX_STATES, STORE_WORDS, Table, WORDS, group_at, row_at,
     set_where,
@@ -164,6 +165,7 @@ pub fn random_table(libraries: &[&dyn Calls], random: &mut Random, tally: &mut T
     accepted_table(libraries, &dialogue, random, tally)
         .and_then(|()| spoiled_arguments(libraries, &dialogue, random, tally))
         .and_then(|()| logs::random_logs(libraries, &dialogue, random, tally))
+        .and_then(|()| sessions::random_edits(libraries, &dialogue, random, tally))
         .map_err(|fault| format!("{kind:?}: {fault}"))
 }
 
@@ -594,6 +596,7 @@ fn spoiled_arguments(
             .map_err(|fault| format!("{faults:?}: {fault}"))?;
     }
     logs::spoiled(libraries, &store, (n, g), random, tally)
+        .and_then(|()| sessions::spoiled(libraries, &store, (n, g), random, tally))
         .map_err(|fault| format!("{faults:?}: {fault}"))
 }
 
@@ -682,6 +685,8 @@ pub fn named_tables(libraries: &[&dyn Calls], random: &mut Random, tally: &mut T
     drafts(libraries, random, tally)?;
     sites(libraries, random)?;
     logs::edges(libraries, random)?;
+    sessions::edges(libraries, random)?;
+    sessions::long_lists(libraries, random, tally)?;
     edges(libraries, random, tally)
 }
 

@@ -9,7 +9,8 @@
 //!   relaxation for the distances, and all sequences of states in order, for small tables;
 //! - `blocks`: block files of both forms, to and from bytes;
 //! - `accept`: refusals of a store and of the other arguments, in order;
-//! - `logs`: pump logs, walked as the text says, drawn at random, and the tests of the call replay.
+//! - `logs`: pump logs, walked as the text says, drawn at random, and the tests of the call replay;
+//! - `sessions`: lists of edits, with a fresh search after each, and the tests of an edit session.
 //!
 //! `peer` is an optimised implementation of the calls on sets of words: what the library is
 //! measured against, and a library that the tests themselves can be tested with.
@@ -38,5 +39,6 @@ pub mod regroup;
 pub mod rewriting;
 pub mod rounds;
 pub mod search;
+pub mod sessions;
 pub mod table;
 pub mod windows;

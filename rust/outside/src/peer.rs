@@ -6,7 +6,8 @@
 //! - `Looks::New` looks again only at what can have changed.
 
 use crate::calls::{
-    Calls, Decision, Replay, SAFE, Shortest, TableRead, UNDECIDED, UNSAFE, Within, Written,
+    Calls, Decision, Edit, Replay, SAFE, Session, Shortest, TableRead, UNDECIDED, UNSAFE, Within,
+    Written,
 };
 
 #[derive(Clone, Copy, Debug, PartialEq, Eq)]
@@ -76,6 +77,10 @@ impl Set {
 
     fn size(self) -> u32 {
         self.0.iter().map(|word| word.count_ones()).sum()
+    }
+
+    fn has(self, state: usize) -> bool {
+        self.0[state / 64] >> (state % 64) & 1 == 1
     }
 
     fn insert(&mut self, state: usize) {
@@ -160,14 +165,22 @@ impl<'s> Table<'s> {
         if !held.inside(Set::below(n)) || !idle.is_empty() {
             return Err(17);
         }
-        Ok(Table {
+        Ok(Table::within(store, n, g))
+    }
+
+    /// The table in a store that was accepted.
+    fn within(store: &'s [u64; STORE_WORDS], n: usize, g: usize) -> Table<'s> {
+        let (sets, _) = store.as_chunks::<WORDS>();
+        let (fixed, rest) = sets.split_at(HEAD_SETS);
+        let (groups, rows) = rest.split_at(MAX_GROUPS);
+        Table {
             n,
             initial: Set(fixed[0]),
             marked: Set(fixed[1]),
             resting: Set(fixed[2]),
-            groups: used,
+            groups: &groups[..g],
             rows: rows.try_into().expect("MAX_STATES rows"),
-        })
+        }
     }
 
     /// The forbidden states of a set of the table's states.
@@ -462,7 +475,12 @@ fn follow(table: &Table, log: &[u8]) -> (u32, Set) {
 
 /// The states that can be reached from the initial ones.
 fn reached(table: &Table) -> Set {
-    let mut reached = table.initial;
+    reached_from(table, table.initial)
+}
+
+/// The states that a set reaches, itself included.
+fn reached_from(table: &Table, start: Set) -> Set {
+    let mut reached = start;
     let mut new = reached;
     while !new.is_empty() {
         new = table.post(new).minus(reached);
@@ -667,5 +685,51 @@ impl Calls for Peer {
             percent: (100 * seen).checked_div(reached).unwrap_or(0),
             remainder: (100 * seen).checked_rem(reached).unwrap_or(0),
         }
+    }
+
+    fn open(&self, store: &[u64], n: usize, g: usize) -> Session {
+        match Table::accept(store, n, g) {
+            Err(refusal) => Session {
+                refusal,
+                reachable: Set::EMPTY.0,
+            },
+            Ok(table) => lit_now(reached(&table)),
+        }
+    }
+
+    fn edit(&self, store: &mut [u64], n: usize, g: usize, lit: Words, edit: Edit) -> Session {
+        let (from, to, adding) = match edit {
+            Edit::Add(from, to) => (from, to, true),
+            Edit::Remove(from, to) => (from, to, false),
+        };
+        let refused = |refusal| Session {
+            refusal,
+            reachable: lit,
+        };
+        match Table::accept(store, n, g) {
+            Err(refusal) => return refused(refusal),
+            Ok(_) if from >= n || to >= n => return refused(27),
+            Ok(table) if Set(table.rows[from]).has(to) == adding => return lit_now(Set(lit)),
+            Ok(_) => {}
+        }
+        store[(HEAD_SETS + MAX_GROUPS + from) * WORDS + to / 64] ^= 1 << (to % 64);
+        let store = store.first_chunk().expect("a store that was accepted");
+        let table = Table::within(store, n, g);
+        if !adding {
+            return lit_now(reached(&table));
+        }
+        if !Set(lit).has(from) {
+            return lit_now(Set(lit));
+        }
+        let mut start = Set::EMPTY;
+        start.insert(to);
+        lit_now(Set(lit).union(reached_from(&table, start)))
+    }
+}
+
+fn lit_now(set: Set) -> Session {
+    Session {
+        refusal: 0,
+        reachable: set.0,
     }
 }

@@ -1,0 +1,191 @@
+-- The calls: their refusals, and their answers.
+--
+--   both-states, no-states                   both numbers are states of the table, by the test
+--   refuse-shared, refuse-states, refuse-27, refuse-none     the grounds of an edit, in order
+--   accepted-open                            no ground of opening holds, so the store holds a table
+--   accepted                                 no ground holds, so the store holds a table, and both numbers are states of it
+--   has-step-is, from-initial-is             the step's test; what the initial states reach
+--   reached-opened, reached-target           what the code works out over the words of a store
+--   lit-added, lit-removed, lit-unlit        the set after an edit
+--   added-nothing, added-changes, removed-nothing, removed-changes     whether an edit changes nothing, by the step's test
+--   open-declined, open-accepted             what opening answers
+--   edit-declined, edit-nothing, edit-changes     what an edit answers
+use Prim.Native.Nat.{ℕ, _<_}
+use native.Mathlib.Omega.{arith}
+use mathlib.Core.Path.{_≡_, refl, sym, ap, _∙_, subst}
+use mathlib.Core.Logic.{_⊎_}
+use mathlib.Core.Bool.{Bool, true, false, not, cond}
+use mathlib.Core.List.{List, [], _∷_}
+use borrow.Author.Tests.{eq-eqb, ne-eqb, leb-false, lt-leb}
+use lib.Dec.{eqb, leb}
+use Rattle.model.specs.Sets.{Set, member, empty, single, union, firstStates}
+use Rattle.model.specs.Stores.{rowAt, setAt, tableOf, refuse, sharedGrounds}
+use Rattle.model.specs.Promises.{IsLeast}
+use Rattle.model.proofs.Bounds.{or-intro, or-false}
+use Rattle.model.proofs.SetLaws.{in-firstStates, single-in, in-subset, In}
+use Rattle.model.proofs.GroundLaws.{refuse-append, refuse-clear}
+use Rattle.model.proofs.Acceptance.{Store, accepted-store, store-accepted, well-formed}
+use Rattle.reach.specs.Reached.{reachBy, reachable}
+use Rattle.reach.proofs.Walks.{reaching}
+use Rattle.edit_session.specs.declared.Session.{Session}
+use Rattle.edit_session.specs.declared.Status.the-variants.{Accepted, Refused}
+use Rattle.edit_session.specs.Edits.{Edit, add, remove, hasStep, changesNothing, edited, opened, lit, Answer, openAnswer, noStates, stateGround, editGrounds, editRefusal, editAnswer, editBuffer}
+use Rattle.edit_session.specs.Answers.{numberOf, answerOf, isRefused, CalledOpen, CalledEdit}
+use Rattle.edit_session.proofs.Tables.{edited-store}
+
+-- ---- refusals
+
+pub both-states : {n a b : ℕ} → a < n → b < n → noStates n a b ≡ false
+both-states {n} {a} {b} h k = rw (lt-leb n a h, lt-leb n b k)
+
+pub no-states : {n a b : ℕ} → noStates n a b ≡ false → (a < n) × (b < n)
+no-states {n} {a} {b} q = let neither = or-false (leb n a) (leb n b) q in (leb-false n a (neither .0), leb-false n b (neither .1))
+
+pub refuse-shared : (store : List ℕ) (n g a b : ℕ) {k : ℕ} → k ≡ refuse (sharedGrounds store n g) → (k ≡ 0 → ⊥)
+    → k ≡ refuse (editGrounds store n g a b)
+unfolding editGrounds
+refuse-shared store n g a b e f = refuse-append (sharedGrounds store n g) _ e f
+
+module _ (store : List ℕ) (n g a b : ℕ) (e : refuse (sharedGrounds store n g) ≡ 0) where
+  pub refuse-states : refuse (editGrounds store n g a b) ≡ cond (noStates n a b) 27 0
+  unfolding editGrounds refuse
+  refuse-states = store-accepted store n g (stateGround n a b ∷ []) (accepted-store store n g [] e .0)
+
+  pub refuse-27 : (leb n a ≡ true) ⊎ (leb n b ≡ true) → 27 ≡ refuse (editGrounds store n g a b)
+  refuse-27 h = sym (refuse-states ∙ ap (λ (t : Bool). cond t 27 0) (or-intro (leb n a) (leb n b) h))
+
+  pub refuse-none : a < n → b < n → 0 ≡ refuse (editGrounds store n g a b)
+  refuse-none h k = sym (refuse-states ∙ ap (λ (t : Bool). cond t 27 0) (both-states h k))
+
+pub accepted-open : (store : List ℕ) (n g : ℕ) {k : ℕ} → k ≡ refuse (sharedGrounds store n g) → k ≡ 0 → Store store n g
+accepted-open store n g e z = accepted-store store n g [] (sym e ∙ z) .0
+
+pub accepted : (store : List ℕ) (n g a b : ℕ) {k : ℕ} → k ≡ refuse (editGrounds store n g a b) → k ≡ 0 → Store store n g × (a < n) × (b < n)
+unfolding editGrounds
+accepted store n g a b e z =
+    let parts = accepted-store store n g (stateGround n a b ∷ []) (sym e ∙ z) in
+    let states = no-states (refuse-clear (stateGround n a b ∷ []) [] refl (parts .1) .0 .0) in
+    (parts .0, states .0, states .1)
+
+-- ---- what the code works out over the words of a store
+
+pub has-step-is : (store : List ℕ) (a b : ℕ) {X : Set} {t : Bool} → t ≡ member X b → X ≡ setAt store (rowAt a) → t ≡ hasStep store a b
+unfolding hasStep
+has-step-is store a b e q = e ∙ ap (λ (X : Set). member X b) q
+
+pub from-initial-is : (store : List ℕ) {S Y : Set} → S ≡ setAt store 0 → IsLeast (reachBy store S) Y → IsLeast (reachBy store (setAt store 0)) Y
+from-initial-is store {Y = Y} q y = subst (λ (X : Set). IsLeast (reachBy store X) Y) q y
+
+module _ (store : List ℕ) (n g : ℕ) (held : Store store n g) where
+  pub reached-opened : {Y : Set} → IsLeast (reachBy store (setAt store 0)) Y → Y ≡ opened (tableOf store n g)
+  unfolding opened tableOf
+  reached-opened {Y} y =
+      let ok = well-formed store n g held in
+      reaching .reached-is store n g (setAt store 0) Y ok (in-subset (ok .initial)) y
+
+  pub reached-target : {b : ℕ} {X Y : Set} → b < n → X ≡ single b → IsLeast (reachBy store X) Y → Y ≡ reachable (tableOf store n g) (single b)
+  unfolding tableOf
+  reached-target {b} {X} {Y} h e y =
+      let inside : (s : ℕ) → In (single b) s → In (firstStates n) s =
+      λ s i. subst (λ (v : ℕ). In (firstStates n) v) (sym (single-in i)) (in-firstStates (omega (arith, held .small)) h) in
+      reaching .reached-is store n g (single b) Y (well-formed store n g held) (in-subset inside) (subst (λ (Z : Set). IsLeast (reachBy store Z) Y) e y)
+
+module _ (store : List ℕ) (n g a b : ℕ) (X : Set) (held : Store store n g) (ha : a < n) (hb : b < n) {after : List ℕ} where
+  pub lit-added : after ≡ edited store (add a b) → member X a ≡ true → {S Y Z : Set} → S ≡ single b → IsLeast (reachBy after S) Y → Z ≡ union X Y
+      → Z ≡ lit (tableOf (edited store (add a b)) n g) X (add a b)
+  unfolding lit
+  lit-added q m {S} {Y} p y z =
+      let least = subst (λ (xs : List ℕ). IsLeast (reachBy xs S) Y) q y in
+      rw m (z ∙ ap (union X) (reached-target (edited store (add a b)) n g (edited-store store n g (add a b) held ha hb) hb p least))
+
+  pub lit-removed : after ≡ edited store (remove a b) → {Y : Set} → IsLeast (reachBy after (setAt after 0)) Y
+      → Y ≡ lit (tableOf (edited store (remove a b)) n g) X (remove a b)
+  unfolding lit
+  lit-removed q {Y} y =
+      reached-opened (edited store (remove a b)) n g (edited-store store n g (remove a b) held ha hb)
+      (subst (λ (xs : List ℕ). IsLeast (reachBy xs (setAt xs 0)) Y) q y)
+
+pub lit-unlit : (store : List ℕ) (n g a b : ℕ) (X : Set) → member X a ≡ false → X ≡ lit (tableOf (edited store (add a b)) n g) X (add a b)
+unfolding lit
+lit-unlit store n g a b X m = rw m
+
+module _ (store : List ℕ) (a b : ℕ) {t : Bool} (e : t ≡ hasStep store a b) where
+  pub added-nothing : t ≡ true → changesNothing store (add a b) ≡ true
+  unfolding changesNothing
+  added-nothing q = sym e ∙ q
+
+  pub added-changes : t ≡ false → changesNothing store (add a b) ≡ false
+  unfolding changesNothing
+  added-changes q = sym e ∙ q
+
+  pub removed-nothing : t ≡ false → changesNothing store (remove a b) ≡ true
+  unfolding changesNothing
+  removed-nothing q = ap not (sym e ∙ q)
+
+  pub removed-changes : t ≡ true → changesNothing store (remove a b) ≡ false
+  unfolding changesNothing
+  removed-changes q = ap not (sym e ∙ q)
+
+-- ---- answers
+
+abbrev pub answer : ℕ → Set → Answer
+answer k X = record { refusal = k; reachable = X }
+
+-- the case follows from the numbers
+numbered : (r : Session) {a : Answer} → answerOf r ≡ a → isRefused (r .status) ≡ not (eqb (numberOf (r .status)) 0)
+    → (answerOf r ≡ a) × (isRefused (r .status) ≡ not (eqb (a .refusal) 0))
+numbered r e c = (e, c ∙ ap (λ (a : Answer). not (eqb (a .refusal) 0)) e)
+
+declines : (r : Session) {k : ℕ} {X : Set} {a : Answer} → (k ≡ 0 → ⊥) → r .status ≡ Refused k → r .reachable .words ≡ X → answer k X ≡ a
+    → (answerOf r ≡ a) × (isRefused (r .status) ≡ not (eqb (a .refusal) 0))
+declines r {k} f s x e =
+    numbered r ((λ i. answer (numberOf (s i)) (x i)) ∙ e)
+    (ap isRefused s ∙ sym (ap not (ap (λ v. eqb (numberOf v) 0) s ∙ ne-eqb k 0 f)))
+
+accepts : (r : Session) {X : Set} {a : Answer} → r .status ≡ Accepted → r .reachable .words ≡ X → answer 0 X ≡ a
+    → (answerOf r ≡ a) × (isRefused (r .status) ≡ not (eqb (a .refusal) 0))
+accepts r s x e = numbered r ((λ i. answer (numberOf (s i)) (x i)) ∙ e) (ap isRefused s ∙ sym (ap (λ v. not (eqb (numberOf v) 0)) s))
+
+module _ (store : List ℕ) (n g : ℕ) (r : Session) {k : ℕ} (e : k ≡ refuse (sharedGrounds store n g)) where
+  open-is : cond (eqb k 0) (answer 0 (opened (tableOf store n g))) (answer k empty) ≡ openAnswer store n g
+  unfolding openAnswer
+  open-is = ap (λ (j : ℕ). cond (eqb j 0) (answer 0 (opened (tableOf store n g))) (answer j empty)) e
+
+  pub open-declined : (k ≡ 0 → ⊥) → r .status ≡ Refused k → r .reachable .words ≡ empty → CalledOpen store n g r
+  open-declined f s x = declines r f s x (rw (ne-eqb k 0 f) at open-is)
+
+  pub open-accepted : k ≡ 0 → r .status ≡ Accepted → r .reachable .words ≡ opened (tableOf store n g) → CalledOpen store n g r
+  open-accepted z s x = accepts r s x (rw (eq-eqb k 0 z) at open-is)
+
+module _ (store : List ℕ) (n g : ℕ) (X : Set) (d : Edit) (r : Session) (after : List ℕ) {k : ℕ} (e : k ≡ editRefusal store n g d) where
+  abbrev set-after : Set
+  set-after = cond (changesNothing store d) X (lit (tableOf (edited store d) n g) X d)
+
+  abbrev store-after : List ℕ
+  store-after = cond (changesNothing store d) store (edited store d)
+
+  answer-is : cond (eqb k 0) (answer 0 set-after) (answer k X) ≡ editAnswer store n g X d
+  unfolding editAnswer
+  answer-is = ap (λ (j : ℕ). cond (eqb j 0) (answer 0 set-after) (answer j X)) e
+
+  buffer-is : cond (eqb k 0) store-after store ≡ editBuffer store n g d
+  unfolding editBuffer
+  buffer-is = ap (λ (j : ℕ). cond (eqb j 0) store-after store) e
+
+  together : {a : Answer} → a ≡ editAnswer store n g X d → (answerOf r ≡ a) × (isRefused (r .status) ≡ not (eqb (a .refusal) 0))
+      → after ≡ editBuffer store n g d → CalledEdit store n g X d r after
+  together q c b = (c .0 ∙ q, b, c .1 ∙ ap (λ (a : Answer). not (eqb (a .refusal) 0)) q)
+
+  pub edit-declined : (k ≡ 0 → ⊥) → r .status ≡ Refused k → r .reachable .words ≡ X → after ≡ store → CalledEdit store n g X d r after
+  edit-declined f s x b =
+      together (rw (ne-eqb k 0 f) at answer-is) (declines r f s x refl) (b ∙ (rw (ne-eqb k 0 f) at buffer-is))
+
+  module _ (z : k ≡ 0) (s : r .status ≡ Accepted) where
+    pub edit-nothing : changesNothing store d ≡ true → r .reachable .words ≡ X → after ≡ store → CalledEdit store n g X d r after
+    edit-nothing c x b =
+        together (rw (eq-eqb k 0 z, c) at answer-is) (accepts r s x refl) (b ∙ (rw (eq-eqb k 0 z, c) at buffer-is))
+
+    pub edit-changes : changesNothing store d ≡ false → r .reachable .words ≡ lit (tableOf (edited store d) n g) X d → after ≡ edited store d
+        → CalledEdit store n g X d r after
+    edit-changes c x b =
+        together (rw (eq-eqb k 0 z, c) at answer-is) (accepts r s x refl) (b ∙ (rw (eq-eqb k 0 z, c) at buffer-is))

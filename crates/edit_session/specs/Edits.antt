@@ -1,0 +1,107 @@
+-- Steps drawn and rubbed out (the specification, "Edit sessions").
+--
+--   Edit, source e, target e            a step to add or to remove; the states that it leads from and to; adds e: it is one to add
+--   hasStep store a b                   the step a → b exists
+--   changesNothing store e              a step to add that exists, or one to remove that does not
+--   withRow store s X                   the store with X for the successors of state s, and no other word
+--   edited store e                      the store after an edit: rowAfter is the row of its source
+--   opened t                            the states that can be reached from the initial ones, these included
+--   lit t X e                           the set after an edit that makes t of the table, for any set X that was handed in
+--   Answer                              what each call answers: the set, and why it declines, or 0
+--   openAnswer store n g                opening: the set is empty where the call is declined
+--   noStates n a b                      a or b is no state of a table of n states
+--   editGrounds store n g a b           the grounds of an edit, in order: those of opening come first
+--   editRefusal store n g e             the number of the first that holds, or 0
+--   editAnswer, editBuffer              an edit: the answer, and the store at exit
+use Prim.Native.Nat.{ℕ}
+use mathlib.Core.Bool.{Bool, true, false, cond, not, _||_}
+use mathlib.Core.List.{List, [], _∷_, _++_}
+use lib.Dec.{eqb, leb}
+use lib.ListN.{take, drop}
+use Rattle.model.specs.Sets.{Set, member, empty, single, union, difference}
+use Rattle.model.specs.Tables.{Table}
+use Rattle.model.specs.Stores.{rowAt, setAt, tableOf, Ground, refuse, sharedGrounds}
+use Rattle.model.specs.Calls.{overwrite}
+use Rattle.reach.specs.Reached.{reachable}
+
+pub data Edit : Type 0 where
+  add : ℕ → ℕ → Edit
+  remove : ℕ → ℕ → Edit
+
+abbrev pub source : Edit → ℕ
+source (add a b) = a
+source (remove a b) = a
+
+abbrev pub target : Edit → ℕ
+target (add a b) = b
+target (remove a b) = b
+
+abbrev pub adds : Edit → Bool
+adds (add a b) = true
+adds (remove a b) = false
+
+-- ---- the table
+
+unfoldable pub hasStep : List ℕ → ℕ → ℕ → Bool
+hasStep store a b = member (setAt store (rowAt a)) b
+
+unfoldable pub changesNothing : List ℕ → Edit → Bool
+changesNothing store (add a b) = hasStep store a b
+changesNothing store (remove a b) = not (hasStep store a b)
+
+-- The successors X of an edit's source, after it.
+unfoldable pub rowAfter : Set → Edit → Set
+rowAfter X (add a b) = union X (single b)
+rowAfter X (remove a b) = difference X (single b)
+
+unfoldable pub withRow : List ℕ → ℕ → Set → List ℕ
+withRow store s X = take (rowAt s) store ++ overwrite X (drop (rowAt s) store)
+
+unfoldable pub edited : List ℕ → Edit → List ℕ
+edited store e = withRow store (source e) (rowAfter (setAt store (rowAt (source e))) e)
+
+-- ---- the set
+
+unfoldable pub opened : Table → Set
+opened t = reachable t (t .initial)
+
+-- From an unlit state the set is left alone; from a lit one all that the target reaches is joined to it; a step less, and it is worked out from
+-- the initial states.
+unfoldable pub lit : Table → Set → Edit → Set
+lit t X (add a b) = cond (member X a) (union X (reachable t (single b))) X
+lit t X (remove a b) = opened t
+
+-- ---- the calls
+
+pub record Answer : Type 0 where
+  pub refusal : ℕ
+  pub reachable : Set
+
+unfoldable pub openAnswer : List ℕ → ℕ → ℕ → Answer
+openAnswer store n g =
+    let k = refuse (sharedGrounds store n g) in
+    cond (eqb k 0) (record { refusal = 0; reachable = opened (tableOf store n g) }) (record { refusal = k; reachable = empty })
+
+-- Either state number is n or more.
+abbrev pub noStates : ℕ → ℕ → ℕ → Bool
+noStates n a b = leb n a || leb n b
+
+abbrev pub stateGround : ℕ → ℕ → ℕ → Ground
+stateGround n a b = (noStates n a b, 27)
+
+unfoldable pub editGrounds : List ℕ → ℕ → ℕ → ℕ → ℕ → List Ground
+editGrounds store n g a b = sharedGrounds store n g ++ (stateGround n a b ∷ [])
+
+abbrev pub editRefusal : List ℕ → ℕ → ℕ → Edit → ℕ
+editRefusal store n g e = refuse (editGrounds store n g (source e) (target e))
+
+unfoldable pub editBuffer : List ℕ → ℕ → ℕ → Edit → List ℕ
+editBuffer store n g e =
+    let after = cond (changesNothing store e) store (edited store e) in
+    cond (eqb (editRefusal store n g e) 0) after store
+
+unfoldable pub editAnswer : List ℕ → ℕ → ℕ → Set → Edit → Answer
+editAnswer store n g X e =
+    let k = editRefusal store n g e in
+    let after = cond (changesNothing store e) X (lit (tableOf (edited store e) n g) X e) in
+    cond (eqb k 0) (record { refusal = 0; reachable = after }) (record { refusal = k; reachable = X })

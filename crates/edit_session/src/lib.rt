@@ -1,0 +1,168 @@
+// Edit sessions (docs/SPECIFICATION.md, "Edit sessions"): the states that can be reached, kept while steps are drawn and rubbed out. The
+// table is in the lent store; the set goes in by value and comes back by value.
+//
+//   has_step, draw, rub_out      a step of the store: whether it exists, drawn, rubbed out
+//   from_initial                 what the initial states reach
+//   edit_refusal                 the first of the grounds 10, 14, 15, 17 and 27 that holds, or 0
+//   Status, Session              what a call answers
+//   open, add_step, remove_step  the calls
+ghost use mathlib.Core.Path.{_≡_};
+ghost use Prim.Native.Nat.{_≤_, _<_};
+ghost use lib.ListN.{length};
+ghost use Rattle.model.specs.Sets.{maxStates};
+ghost use Rattle.model.specs.Stores.{storeWords, setAt, refuse};
+ghost use Rattle.model.specs.Promises.{IsLeast};
+ghost use Rattle.reach.specs.Reached.{reachBy};
+ghost use Rattle.edit_session.specs.Edits.{add, remove, hasStep, edited, editGrounds};
+ghost use Rattle.edit_session.specs.Answers.{CalledOpen, CalledEdit};
+use reach::reached;
+use state_set::StateSet;
+use state_set::WORDS;
+use table::ROWS_AT;
+use table::refusal;
+use table::row_at;
+use table::set_at;
+
+fn has_step(store: &[u64], from: usize, to: usize) -> bool
+    requires { ⌜ (from < maxStates) × (storeWords ≤ length (now store)) ⌝ }
+    ensures { λ r. ⌜ r ≡ hasStep (now (store .entry)) from to ⌝ }
+{
+    row_at(store, from).contains(to)
+}
+
+// The bit of the step, in its one word.
+fn draw(store: &mut [u64], from: usize, to: usize)
+    requires { ⌜ (from < maxStates) × (to < maxStates) × (storeWords ≤ length (now store)) ⌝ }
+    ensures { λ r. ⌜ now (store .exit) ≡ edited (now (store .entry)) (add from to) ⌝ }
+{
+    store[ROWS_AT + WORDS * from + to / 64] |= 1 << (to % 64);
+}
+
+fn rub_out(store: &mut [u64], from: usize, to: usize)
+    requires { ⌜ (from < maxStates) × (to < maxStates) × (storeWords ≤ length (now store)) ⌝ }
+    ensures { λ r. ⌜ now (store .exit) ≡ edited (now (store .entry)) (remove from to) ⌝ }
+{
+    store[ROWS_AT + WORDS * from + to / 64] &= !(1 << (to % 64));
+}
+
+// What the initial states reach.
+fn from_initial(store: &[u64]) -> StateSet
+    requires { ⌜ storeWords ≤ length (now store) ⌝ }
+    ensures { λ r. ⌜ IsLeast (reachBy (now (store .entry)) (setAt (now (store .entry)) 0)) (r .words) ⌝ }
+{
+    reached(store, set_at(store, 0))
+}
+
+// Why an edit is declined, or 0.
+fn edit_refusal(store: &[u64], n: usize, g: usize, from: usize, to: usize) -> u8
+    ensures { λ r. ⌜ r ≡ refuse (editGrounds (now (store .entry)) n g from to) ⌝ }
+{
+    let shared = refusal(store, n, g);
+    if shared != 0 {
+        return shared;
+    }
+    if n <= from {
+        return 27;
+    }
+    if n <= to {
+        return 27;
+    }
+    0
+}
+
+pub enum Status {
+    Accepted,
+    Refused(u8),
+}
+
+// What a call answers. Where it is declined the set is the one that was handed in, and of an opening the empty one.
+pub struct Session {
+    pub reachable: StateSet,
+    pub status: Status,
+}
+
+pub fn open(store: &[u64], n: usize, g: usize) -> Session
+    ensures { λ r. ⌜ CalledOpen (now (store .entry)) n g r ⌝ }
+{
+    let refused = refusal(store, n, g);
+    if refused != 0 {
+        return Session {
+            reachable: StateSet::empty(),
+            status: Status::Refused(refused),
+        };
+    }
+    let reachable = from_initial(store);
+    Session {
+        reachable,
+        status: Status::Accepted,
+    }
+}
+
+// Nothing is pruned at states of the set that was handed in: it need not have the steps out of them.
+pub fn add_step(
+    store: &mut [u64],
+    n: usize,
+    g: usize,
+    reachable: StateSet,
+    from: usize,
+    to: usize,
+) -> Session
+    ensures { λ r. ⌜ CalledEdit (now (store .entry)) n g (reachable .words) (add from to) r (now (store .exit)) ⌝ }
+{
+    let refused = edit_refusal(store, n, g, from, to);
+    if refused != 0 {
+        return Session {
+            reachable,
+            status: Status::Refused(refused),
+        };
+    }
+    if has_step(store, from, to) {
+        return Session {
+            reachable,
+            status: Status::Accepted,
+        };
+    }
+    draw(store, from, to);
+    if !reachable.contains(from) {
+        return Session {
+            reachable,
+            status: Status::Accepted,
+        };
+    }
+    let found = reached(store, StateSet::single(to));
+    Session {
+        reachable: reachable.union(found),
+        status: Status::Accepted,
+    }
+}
+
+pub fn remove_step(
+    store: &mut [u64],
+    n: usize,
+    g: usize,
+    reachable: StateSet,
+    from: usize,
+    to: usize,
+) -> Session
+    ensures { λ r. ⌜ CalledEdit (now (store .entry)) n g (reachable .words) (remove from to) r (now (store .exit)) ⌝ }
+{
+    let refused = edit_refusal(store, n, g, from, to);
+    if refused != 0 {
+        return Session {
+            reachable,
+            status: Status::Refused(refused),
+        };
+    }
+    if !has_step(store, from, to) {
+        return Session {
+            reachable,
+            status: Status::Accepted,
+        };
+    }
+    rub_out(store, from, to);
+    let lit = from_initial(store);
+    Session {
+        reachable: lit,
+        status: Status::Accepted,
+    }
+}
