@@ -60,6 +60,16 @@ pub struct Replay {
 
 #[repr(C)]
 #[derive(Clone, Copy, Debug, PartialEq, Eq)]
+pub struct Modal {
+    pub invariant: [u64; SET_WORDS],
+    pub refusal: u32,
+    pub verdict: u32,
+    pub size: u32,
+    pub steps: u32,
+}
+
+#[repr(C)]
+#[derive(Clone, Copy, Debug, PartialEq, Eq)]
 pub struct Minute {
     pub refusal: u32,
     pub never: u32,
@@ -137,6 +147,17 @@ unsafe extern "C" {
         log: *const u8,
         log_len: usize,
     ) -> Replay;
+
+    pub fn shuntberry_decide_modal(
+        store: *const u64,
+        store_len: usize,
+        n: usize,
+        g: usize,
+        possible: *const u64,
+        possible_len: usize,
+        path: *mut u16,
+        path_len: usize,
+    ) -> Modal;
 
     pub fn shuntberry_next_open(
         time: usize,

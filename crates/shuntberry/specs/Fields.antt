@@ -1,10 +1,11 @@
 -- The structs of the calls for C, as the model's answers: field by field, under the same names.
 --
 --   decisionFields, shortestFields, withinFields, tableFields, fileFields     what decide, shortest path, within, read and write return
---   replayFields, minuteFields                                                what replay and next open minute return
+--   replayFields, modalFields, minuteFields                                   what replay, decide with possible steps and next open minute return
 use Rattle.model.specs.Calls.{Decision, Shortest, TableRead, Written}
 use Rattle.paths.specs.Within.{Answer}
 use Rattle.replay.specs.Logs.{Replay}
+use Rattle.modal.specs.Modal.{ModalAnswer}
 use Rattle.release_windows.specs.Answers.{Answer as MinuteAnswer}
 use Rattle.shuntberry.specs.declared.DecisionFields.{DecisionFields}
 use Rattle.shuntberry.specs.declared.ShortestFields.{ShortestFields}
@@ -12,6 +13,7 @@ use Rattle.shuntberry.specs.declared.WithinFields.{WithinFields}
 use Rattle.shuntberry.specs.declared.TableFields.{TableFields}
 use Rattle.shuntberry.specs.declared.FileFields.{FileFields}
 use Rattle.shuntberry.specs.declared.ReplayFields.{ReplayFields}
+use Rattle.shuntberry.specs.declared.ModalFields.{ModalFields}
 use Rattle.shuntberry.specs.declared.MinuteFields.{MinuteFields}
 
 -- all but `reserved`
@@ -33,6 +35,9 @@ fileFields r = record { refusal = r .refusal; length = r .length }
 
 abbrev pub replayFields : ReplayFields → Replay
 replayFields r = record { refusal = r .refusal; followed = r .followed; seen = r .seen; percent = r .percent; remainder = r .remainder }
+
+abbrev pub modalFields : ModalFields → ModalAnswer
+modalFields r = record { refusal = r .refusal; verdict = r .verdict; invariant = r .invariant; size = r .size; steps = r .steps }
 
 abbrev pub minuteFields : MinuteFields → MinuteAnswer
 minuteFields r = record { refusal = r .refusal; never = r .never; minute = r .minute }

@@ -1,4 +1,4 @@
-//! The four calls as a trait, so that one test serves the library as it is linked for C, the safe
+//! The calls as a trait, so that one test serves the library as it is linked for C, the safe
 //! wrapper around it, and the peer.
 
 use crate::table::WORDS;
@@ -55,9 +55,20 @@ pub struct Replay {
     pub remainder: u32,
 }
 
+/// What decide modal answers.
+#[derive(Clone, Copy, Debug, Default, PartialEq, Eq)]
+pub struct Modal {
+    pub invariant: [u64; WORDS],
+    pub refusal: u32,
+    pub verdict: u32,
+    pub size: u32,
+    pub steps: u32,
+}
+
 pub const SAFE: u32 = 0;
 pub const UNSAFE: u32 = 1;
 pub const UNDECIDED: u32 = 2;
+pub const DEPENDS: u32 = 3;
 
 pub trait Calls: Sync {
     fn name(&self) -> &'static str;
@@ -76,6 +87,14 @@ pub trait Calls: Sync {
     fn read(&self, input: &[u8], site: usize, store: &mut [u64]) -> TableRead;
     fn write(&self, store: &[u64], n: usize, g: usize, site: usize, output: &mut [u8]) -> Written;
     fn replay(&self, store: &[u64], n: usize, g: usize, log: &[u8]) -> Replay;
+    fn decide_modal(
+        &self,
+        store: &[u64],
+        n: usize,
+        g: usize,
+        possible: &[u64],
+        path: &mut [u16],
+    ) -> Modal;
 }
 
 #[cfg(feature = "library")]
@@ -84,9 +103,10 @@ pub use linked::{Linked, Wrapped};
 #[cfg(feature = "library")]
 mod linked {
     use super::{
-        Calls, Decision, Replay, SAFE, Shortest, TableRead, UNDECIDED, UNSAFE, Within, Written,
+        Calls, DEPENDS, Decision, Modal, Replay, SAFE, Shortest, TableRead, UNDECIDED, UNSAFE,
+        Within, Written,
     };
-    use shuntberry::{Refused, Verdict, raw};
+    use shuntberry::{ModalVerdict, Refused, StateSet, Verdict, raw};
 
     /// The library, by its exports for C.
     pub struct Linked;
@@ -184,6 +204,29 @@ mod linked {
                 seen: answer.seen,
                 percent: answer.percent,
                 remainder: answer.remainder,
+            }
+        }
+
+        fn decide_modal(
+            &self,
+            store: &[u64],
+            n: usize,
+            g: usize,
+            possible: &[u64],
+            path: &mut [u16],
+        ) -> Modal {
+            let (words, length) = (store.as_ptr(), store.len());
+            let (rows, more) = (possible.as_ptr(), possible.len());
+            let (places, room) = (path.as_mut_ptr(), path.len());
+            let answer = unsafe {
+                raw::shuntberry_decide_modal(words, length, n, g, rows, more, places, room)
+            };
+            Modal {
+                invariant: answer.invariant,
+                refusal: answer.refusal,
+                verdict: answer.verdict,
+                size: answer.size,
+                steps: answer.steps,
             }
         }
     }
@@ -324,6 +367,39 @@ mod linked {
                     percent: walk.percent as u32,
                     remainder: walk.remainder as u32,
                 },
+            }
+        }
+
+        fn decide_modal(
+            &self,
+            store: &[u64],
+            n: usize,
+            g: usize,
+            possible: &[u64],
+            path: &mut [u16],
+        ) -> Modal {
+            let (verdict, invariant, states) =
+                match shuntberry::decide_modal(store, n, g, possible, path) {
+                    Err(Refused(refusal)) => {
+                        return Modal {
+                            refusal,
+                            ..Modal::default()
+                        };
+                    }
+                    Ok(ModalVerdict::Safe { invariant }) => (SAFE, invariant, None),
+                    Ok(ModalVerdict::Unsafe { path }) => {
+                        (UNSAFE, StateSet::default(), Some(path.to_vec()))
+                    }
+                    Ok(ModalVerdict::Depends { invariant, path }) => {
+                        (DEPENDS, invariant, Some(path.to_vec()))
+                    }
+                };
+            Modal {
+                invariant: invariant.0,
+                refusal: 0,
+                verdict,
+                size: invariant.states().count() as u32,
+                steps: states.map_or(0, |states| length_of_front(path, &states).wrapping_sub(1)),
             }
         }
     }

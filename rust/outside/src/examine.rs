@@ -6,7 +6,7 @@
 use std::collections::BTreeMap;
 use std::fmt::Debug;
 
-use crate::accept::{MAX_ALLOWANCE, PATH_PLACES};
+use crate::accept::{MAX_ALLOWANCE, PATH_PLACES, POSSIBLE_WORDS};
 use crate::blocks::{self, BLOCK, Form, MAX_SITE};
 use crate::buffer::Lent;
 use crate::calls::{
@@ -16,6 +16,7 @@ use crate::damage::{self, DAMAGES, Damage};
 use crate::expected::{self, Expected, Judged};
 use crate::generate::{Kind, Random};
 use crate::logs;
+use crate::modal;
 use crate::named;
 use crate::rounds::{self, Rounds};
 use crate::search;
@@ -164,6 +165,7 @@ pub fn random_table(libraries: &[&dyn Calls], random: &mut Random, tally: &mut T
     accepted_table(libraries, &dialogue, random, tally)
         .and_then(|()| spoiled_arguments(libraries, &dialogue, random, tally))
         .and_then(|()| logs::random_logs(libraries, &dialogue, random, tally))
+        .and_then(|()| modal::random_options(libraries, &dialogue, random, tally))
         .map_err(|fault| format!("{kind:?}: {fault}"))
 }
 
@@ -594,6 +596,7 @@ fn spoiled_arguments(
             .map_err(|fault| format!("{faults:?}: {fault}"))?;
     }
     logs::spoiled(libraries, &store, (n, g), random, tally)
+        .and_then(|()| modal::spoiled(libraries, dialogue, &store, (n, g, path_len), random, tally))
         .map_err(|fault| format!("{faults:?}: {fault}"))
 }
 
@@ -682,6 +685,7 @@ pub fn named_tables(libraries: &[&dyn Calls], random: &mut Random, tally: &mut T
     drafts(libraries, random, tally)?;
     sites(libraries, random)?;
     logs::edges(libraries, random)?;
+    modal::edges(libraries, random, tally)?;
     edges(libraries, random, tally)
 }
 
@@ -713,6 +717,14 @@ fn drafts(libraries: &[&dyn Calls], random: &mut Random, tally: &mut Tally) -> O
             let walk = logs::expected(store, 0, g, log);
             let shared = [far.answer, walk.refusal];
             same("the plain acceptance of n = 0", shared, [refusals[2]; 2])?;
+            // Without possible steps, decide modal has the grounds of shortest path.
+            let none = vec![0; POSSIBLE_WORDS];
+            let modal = modal::expected(store, 0, g, &none, room);
+            same(
+                "the plain acceptance of n = 0",
+                modal.answer.refusal,
+                refusals[1],
+            )?;
             for (_, answer) in near.clone() {
                 same("the plain within of n = 0", answer.refusal, refusals[2])?;
             }
@@ -722,7 +734,8 @@ fn drafts(libraries: &[&dyn Calls], random: &mut Random, tally: &mut Tally) -> O
                 write(*library, store, (0, g, 0), &output, &written)?;
                 distances(*library, store, (0, g), &out, &far)?;
                 within(*library, store, (0, g), near.clone())?;
-                logs::replay(*library, store, (0, g), log, walk)
+                logs::replay(*library, store, (0, g), log, walk)?;
+                modal::decide_modal(*library, store, (0, g), &none, &path, &modal)
             })
         };
     let (most, over) = (MAX_ALLOWANCE, MAX_ALLOWANCE + 1);

@@ -9,7 +9,8 @@
 //!   relaxation for the distances, and all sequences of states in order, for small tables;
 //! - `blocks`: block files of both forms, to and from bytes;
 //! - `accept`: refusals of a store and of the other arguments, in order;
-//! - `logs`: pump logs, walked as the text says, drawn at random, and the tests of the call replay.
+//! - `logs`: pump logs, walked as the text says, drawn at random, and the tests of the call replay;
+//! - `modal`: the choices between certain and possible steps, and the tests of the call decide modal.
 //!
 //! `peer` is an optimised implementation of the calls on sets of words: what the library is
 //! measured against, and a library that the tests themselves can be tested with.
@@ -32,6 +33,7 @@ pub mod expected;
 pub mod families;
 pub mod generate;
 pub mod logs;
+pub mod modal;
 pub mod named;
 pub mod peer;
 pub mod regroup;
