@@ -68,6 +68,25 @@ impl Optional {
         }
     }
 
+    /// The table with the certain steps, and with the possible ones, as dialogues that decide reads so: the forbidden
+    /// states marked, and every state resting.
+    pub fn least(&self) -> Dialogue {
+        self.as_dialogue(&self.dialogue.rows)
+    }
+
+    pub fn most(&self) -> Dialogue {
+        self.as_dialogue(&self.possible)
+    }
+
+    fn as_dialogue(&self, rows: &[Set]) -> Dialogue {
+        Dialogue {
+            marked: self.table(rows).forbidden,
+            resting: vec![true; self.dialogue.n],
+            rows: rows.to_vec(),
+            ..self.dialogue.clone()
+        }
+    }
+
     /// The steps that are possible and not certain.
     fn options(&self) -> Vec<(usize, usize)> {
         let all = (0..self.dialogue.n).flat_map(|s| (0..self.dialogue.n).map(move |t| (s, t)));
@@ -312,23 +331,14 @@ fn of_choices(
     Ok(())
 }
 
-/// Two release checks by the library itself: the store with the forbidden states marked and every state resting, and
-/// the rows of either kind in it. Where both rows of each state are equal, the store as it is.
+/// Two release checks by the library itself. Where both rows of each state are equal, one of the store as it is.
 fn release_checks(library: &dyn Calls, optional: &Optional, answer: &Modal) -> Outcome {
     let (n, g) = (optional.dialogue.n, optional.dialogue.g());
     let check = |dialogue: &Dialogue| {
         let mut path = [0; PATH_PLACES];
         library.decide(&dialogue.to_store(), n, g, MAX_ALLOWANCE, &mut path)
     };
-    let on = |rows: &[Set]| {
-        check(&Dialogue {
-            marked: optional.table(rows).forbidden,
-            resting: vec![true; n],
-            rows: rows.to_vec(),
-            ..optional.dialogue.clone()
-        })
-    };
-    let (least, most) = (on(&optional.dialogue.rows), on(&optional.possible));
+    let (least, most) = (check(&optional.least()), check(&optional.most()));
     let same = match answer.verdict {
         SAFE => {
             most.verdict == SAFE && (answer.invariant, answer.size) == (most.invariant, most.size)
