@@ -11,7 +11,7 @@ use Rattle.model.specs.Stores.{refuse}
 use Rattle.model.specs.Calls.{release, Decision}
 use Rattle.model.proofs.Bounds.{by-cond}
 use Rattle.model.proofs.Ranges.{DecisionRange, run-range}
-use Rattle.modal.specs.Modal.{certainRow, possibleRow, modalTable, certainTable, possibleTable, releaseCheck, modalGrounds, ModalAnswer, modalOf, modalDeclined, modalAnswer}
+use Rattle.modal.specs.Modal.{certainRow, possibleRow, modalTable, releaseCheck, modalGrounds, ModalAnswer, modalOf, modalDeclined, modalAnswer}
 use Rattle.modal.proofs.Grounds.{ModalHeld, accepted}
 use Rattle.modal.proofs.Deciding.{small-for}
 
