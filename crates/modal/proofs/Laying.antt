@@ -1,7 +1,9 @@
 -- Laws of a table laid out by the call.
 --
---   word-initial, .., word-row       a word of it, by its place
---   Laying, laying-*                 `laid_out`: the words passed
+--   head-initial, .., word-row       a word of it, by its place
+--   laid-none, laid-turn             words laid one after the other
+--   laid-heads-end                   `laid_heads`: the words before the rows
+--   rows-none, rows-turn, rows-all   `laid_out`: the words of the rows
 --   laid-set                         a set of it is a set of the buffer that its words come from
 --   laid-dialogue                    the dialogue that it holds
 --   rested-forbidden                 where every state rests, the marked states alone are forbidden
@@ -12,7 +14,7 @@ use mathlib.Core.Path.{_≡_, sym, ap, _∙_, subst, fun-ext}
 use mathlib.Core.Logic.{⊎-elim}
 use mathlib.Core.Bool.{cond}
 use mathlib.Core.List.{List}
-use borrow.Author.Count.{below-more}
+use borrow.Author.Count.{below-none, below-more}
 use borrow.Author.Tests.{lt-ltb, le-ltb, ltb-true}
 use lib.Dec.{ltb, lit≤}
 use lib.ListN.{length, getD, set, length-set}
@@ -25,62 +27,95 @@ use Rattle.model.proofs.SetLaws.{Proper, setOf-proper, in-bound, in-firstStates
 use Rattle.model.proofs.ImageLaws.{union-empty}
 use Rattle.model.proofs.HangLaws.{hangs-in}
 use Rattle.model.proofs.StoreLaws.{length-setAt, getD-setAt, empty-proper}
-use Rattle.modal.specs.Modal.{rowsFrom, tableWith}
-use Rattle.modal.specs.Laid.{laidWord, laidOut, RowsIn}
+use Rattle.modal.specs.Modal.{possibleWords, rowsFrom, tableWith}
+use Rattle.modal.specs.Laid.{headWord, laidWord, laidOut, LaidTo, RowsIn}
 
 -- ---- a word
 
-module _ (store : List ℕ) (marked resting : Set) (rows : List ℕ) (at i : ℕ) where
-  pub word-initial : i < markedAt → getD store i 0 ≡ laidWord store marked resting rows at i
-  unfolding laidWord
-  word-initial h = rw (lt-ltb i markedAt h)
+module _ (store : List ℕ) (marked resting : Set) (i : ℕ) where
+  pub head-initial : i < markedAt → getD store i 0 ≡ headWord store marked resting i
+  unfolding headWord
+  head-initial h = rw (lt-ltb i markedAt h)
 
-  pub word-marked : markedAt ≤ i → i < restingAt → getD marked (i - markedAt) 0 ≡ laidWord store marked resting rows at i
-  unfolding laidWord
-  word-marked h l = rw (le-ltb i markedAt h, lt-ltb i restingAt l)
+  pub head-marked : markedAt ≤ i → i < restingAt → getD marked (i - markedAt) 0 ≡ headWord store marked resting i
+  unfolding headWord
+  head-marked h l = rw (le-ltb i markedAt h, lt-ltb i restingAt l)
 
-  pub word-resting : restingAt ≤ i → i < groupAt 0 → getD resting (i - restingAt) 0 ≡ laidWord store marked resting rows at i
-  unfolding laidWord
-  word-resting h l = rw (le-ltb i markedAt (omega arith), le-ltb i restingAt h, lt-ltb i (groupAt 0) l)
+  pub head-resting : restingAt ≤ i → i < groupAt 0 → getD resting (i - restingAt) 0 ≡ headWord store marked resting i
+  unfolding headWord
+  head-resting h l = rw (le-ltb i markedAt (omega arith), le-ltb i restingAt h, lt-ltb i (groupAt 0) l)
 
-  pub word-group : groupAt 0 ≤ i → i < rowAt 0 → getD store i 0 ≡ laidWord store marked resting rows at i
-  unfolding laidWord
-  word-group h l = rw (le-ltb i markedAt (omega arith), le-ltb i restingAt (omega arith), le-ltb i (groupAt 0) h, lt-ltb i (rowAt 0) l)
+  pub head-group : groupAt 0 ≤ i → getD store i 0 ≡ headWord store marked resting i
+  unfolding headWord
+  head-group h = rw (le-ltb i markedAt (omega arith), le-ltb i restingAt (omega arith), le-ltb i (groupAt 0) h)
 
-  pub word-row : rowAt 0 ≤ i → getD rows (at + (i - rowAt 0)) 0 ≡ laidWord store marked resting rows at i
-  unfolding laidWord
-  word-row h = rw (le-ltb i markedAt (omega arith), le-ltb i restingAt (omega arith), le-ltb i (groupAt 0) (omega arith), le-ltb i (rowAt 0) h)
+  module _ (rows : List ℕ) (at : ℕ) where
+    word-head : i < rowAt 0 → headWord store marked resting i ≡ laidWord store marked resting rows at i
+    unfolding laidWord
+    word-head h = rw (lt-ltb i (rowAt 0) h)
+
+    word-row : rowAt 0 ≤ i → getD rows (at + (i - rowAt 0)) 0 ≡ laidWord store marked resting rows at i
+    unfolding laidWord
+    word-row h = rw (le-ltb i (rowAt 0) h)
 
 -- ---- all words
 
-pub record Laying (f : ℕ → ℕ) (laid : List ℕ) (i : ℕ) : Type 0 where
-  pub within : i ≤ storeWords
-  pub long : length laid ≡ storeWords
-  pub is : (k : ℕ) → k < i → getD laid k 0 ≡ f k
+pub laid-none : (f : ℕ → ℕ) (laid : List ℕ) → length laid ≡ storeWords → LaidTo f laid 0
+laid-none f laid e = record { within = omega arith; long = e; is = below-none _ }
 
-module _ (f : ℕ → ℕ) where
-  pub laying-turn : {laid : List ℕ} {x : ℕ} (i : ℕ) → i < storeWords → x ≡ f i → Laying f laid i → Laying f (set laid i x) (i + 1)
-  laying-turn {laid} {x} i h e so =
-      record {
-        within = omega arith;
-        long = length-set laid i x ∙ so .long;
-        is =
-            below-more (λ k. getD (set laid i x) k 0 ≡ f k) i
-            (λ k l. getD-set-other laid i k x 0 (λ q. omega arith) ∙ so .is k l)
-            (getD-set-same laid i x 0 (subst (λ (m : ℕ). i < m) (sym (so .long)) h) ∙ e);
-      }
+pub laid-turn : (f : ℕ → ℕ) {laid : List ℕ} {x : ℕ} (i : ℕ) → i < storeWords → x ≡ f i → LaidTo f laid i → LaidTo f (set laid i x) (i + 1)
+laid-turn f {laid} {x} i h e so =
+    record {
+      within = omega arith;
+      long = length-set laid i x ∙ so .long;
+      is =
+          below-more (λ k. getD (set laid i x) k 0 ≡ f k) i
+          (λ k l. getD-set-other laid i k x 0 (λ q. omega arith) ∙ so .is k l)
+          (getD-set-same laid i x 0 (subst (λ (m : ℕ). i < m) (sym (so .long)) h) ∙ e);
+    }
 
-  pub laying-end : {laid : List ℕ} {i : ℕ} → storeWords ≤ i → Laying f laid i → laid ≡ tabulate storeWords f
-  laying-end {laid} {i} h so =
-      ext-getD 0 laid (tabulate storeWords f) (so .long ∙ sym (length-tabulate f storeWords))
+-- the loop's counter has passed the words before the rows
+pub laid-heads-end : (f : ℕ → ℕ) {laid : List ℕ} {i : ℕ} → rowAt 0 ≤ i → i ≤ rowAt 0 → LaidTo f laid i → LaidTo f laid (rowAt 0)
+laid-heads-end f {laid} {i} h l so = subst (LaidTo f laid) (same h l) so
+  where
+    same : rowAt 0 ≤ i → i ≤ rowAt 0 → i ≡ rowAt 0
+    same a b = omega arith
+
+-- the rows of `rows` over the words of `heads`
+unfoldable pub rowed : List ℕ → ℕ → List ℕ → ℕ → ℕ
+rowed rows at heads k = cond (ltb k (rowAt 0)) (getD heads k 0) (getD rows (at + (k - rowAt 0)) 0)
+
+module _ (rows : List ℕ) (at : ℕ) (heads : List ℕ) where
+  pub rows-none : length heads ≡ storeWords → LaidTo (rowed rows at heads) heads (rowAt 0 + 0)
+  unfolding rowed
+  rows-none e = record { within = lit≤ tt; long = e; is = λ k h. rw (lt-ltb k (rowAt 0) (omega arith)) }
+
+  pub rows-turn : {laid : List ℕ} {x : ℕ} (i : ℕ) → i < possibleWords → x ≡ getD rows (at + i) 0 → LaidTo (rowed rows at heads) laid (rowAt 0 + i)
+      → LaidTo (rowed rows at heads) (set laid (rowAt 0 + i) x) (rowAt 0 + (i + 1))
+  unfolding rowed
+  rows-turn {laid} {x} i h e so =
+      subst (LaidTo (rowed rows at heads) (set laid (rowAt 0 + i) x)) next
+      (laid-turn (rowed rows at heads) (rowAt 0 + i) (omega arith)
+      (e ∙ ap (λ (j : ℕ). getD rows j 0) place ∙ rw (le-ltb (rowAt 0 + i) (rowAt 0) (omega arith))) so)
+    where
+      next : rowAt 0 + i + 1 ≡ rowAt 0 + (i + 1)
+      next = omega arith
+
+      place : at + i ≡ at + (rowAt 0 + i - rowAt 0)
+      place = omega arith
+
+  pub rows-all : (store : List ℕ) (marked resting : Set) {laid : List ℕ} {i : ℕ} → possibleWords ≤ i
+      → LaidTo (headWord store marked resting) heads (rowAt 0) → LaidTo (rowed rows at heads) laid (rowAt 0 + i) → laid ≡ laidOut store marked resting rows at
+  unfolding rowed laidOut laidWord
+  rows-all store marked resting {laid} {i} h head so =
+      ext-getD 0 laid (tabulate storeWords (laidWord store marked resting rows at))
+      (so .long ∙ sym (length-tabulate (laidWord store marked resting rows at) storeWords))
       (λ k l.
       let b : k < storeWords = subst (λ (m : ℕ). k < m) (so .long) l in
-      so .is k (omega arith) ∙ sym (getD-tabulate f storeWords k 0 b))
-
-pub laying-all : (store : List ℕ) (marked resting : Set) (rows : List ℕ) (at : ℕ) {laid : List ℕ} {i : ℕ} → storeWords ≤ i
-    → Laying (laidWord store marked resting rows at) laid i → laid ≡ laidOut store marked resting rows at
-unfolding laidOut
-laying-all store marked resting rows at h so = laying-end (laidWord store marked resting rows at) h so
+      so .is k (omega arith) ∙ word k ∙ sym (getD-tabulate (laidWord store marked resting rows at) storeWords k 0 b))
+    where
+      word : (k : ℕ) → rowed rows at heads k ≡ laidWord store marked resting rows at k
+      word k = ⊎-elim (λ q. rw q (head .is k (ltb-true k (rowAt 0) q))) (λ q. rw q) (decided (ltb k (rowAt 0)))
 
 -- ---- its sets
 
@@ -111,12 +146,15 @@ module _ (store : List ℕ) (marked resting : Set) (rows : List ℕ) (at : ℕ) 
 
   module _ (long : storeWords ≤ length store) (m : length marked ≡ WORDS) (r : length resting ≡ WORDS) (fits : RowsIn rows at) where
     laid-initial : setAt laid 0 ≡ setAt store 0
-    laid-initial = laid-set 0 0 store (lit≤ tt) (omega arith) (λ w h. word-initial store marked resting rows at (0 + w) (omega arith))
+    laid-initial = laid-set 0 0 store (lit≤ tt) (omega arith) (λ w h. head-initial store marked resting (0 + w) (omega arith) ∙ word-head store marked resting (0 + w) rows at (omega arith))
 
     laid-marked : setAt laid markedAt ≡ marked
     laid-marked =
         laid-set markedAt 0 marked (lit≤ tt) (omega arith)
-        (λ w h. ap (λ (j : ℕ). getD marked j 0) (place w) ∙ word-marked store marked resting rows at (markedAt + w) (omega arith) (omega arith))
+        (λ w h.
+        ap (λ (j : ℕ). getD marked j 0) (place w)
+        ∙ head-marked store marked resting (markedAt + w) (omega arith) (omega arith)
+        ∙ word-head store marked resting (markedAt + w) rows at (omega arith))
         ∙ whole marked m
       where
         place : (w : ℕ) → 0 + w ≡ markedAt + w - markedAt
@@ -125,7 +163,10 @@ module _ (store : List ℕ) (marked resting : Set) (rows : List ℕ) (at : ℕ) 
     laid-resting : setAt laid restingAt ≡ resting
     laid-resting =
         laid-set restingAt 0 resting (lit≤ tt) (omega arith)
-        (λ w h. ap (λ (j : ℕ). getD resting j 0) (place w) ∙ word-resting store marked resting rows at (restingAt + w) (omega arith) (omega arith))
+        (λ w h.
+        ap (λ (j : ℕ). getD resting j 0) (place w)
+        ∙ head-resting store marked resting (restingAt + w) (omega arith) (omega arith)
+        ∙ word-head store marked resting (restingAt + w) rows at (omega arith))
         ∙ whole resting r
       where
         place : (w : ℕ) → 0 + w ≡ restingAt + w - restingAt
@@ -134,12 +175,12 @@ module _ (store : List ℕ) (marked resting : Set) (rows : List ℕ) (at : ℕ) 
     laid-group : (j : ℕ) → j < maxGroups → setAt laid (groupAt j) ≡ setAt store (groupAt j)
     laid-group j l =
         laid-set (groupAt j) (groupAt j) store (omega arith) (omega arith)
-        (λ w h. word-group store marked resting rows at (groupAt j + w) (omega arith) (omega arith))
+        (λ w h. head-group store marked resting (groupAt j + w) (omega arith) ∙ word-head store marked resting (groupAt j + w) rows at (omega arith))
 
     laid-row : (s : ℕ) → s < maxStates → setAt laid (rowAt s) ≡ setAt rows (at + WORDS * s)
     laid-row s l =
         laid-set (rowAt s) (at + WORDS * s) rows (omega arith) (omega arith)
-        (λ w h. ap (λ (j : ℕ). getD rows j 0) (place w) ∙ word-row store marked resting rows at (rowAt s + w) (omega arith))
+        (λ w h. ap (λ (j : ℕ). getD rows j 0) (place w) ∙ word-row store marked resting (rowAt s + w) rows at (omega arith))
       where
         place : (w : ℕ) → at + WORDS * s + w ≡ at + (rowAt s + w - rowAt 0)
         place w = omega arith

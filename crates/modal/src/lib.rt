@@ -1,9 +1,11 @@
 // Tables some of whose steps are only possible (the specification, "Possible steps"): the call `decide_modal`.
 //
-//   laid_word, laid_out            a table laid out by the call: the store's, with other marked and resting states and other rows
+//   head_word, laid_heads          a table laid out by the call: the store's, with other marked and resting states
+//   laid_out                       and with other rows
 //   forbidden_by                   the forbidden states, the same for every choice
 //   check_on, path_on              a release check, and the path, on given rows
-//   is_uncertain, refusal_of       ground 28; the grounds in order
+//   is_malformed, is_uncertain     grounds 17 and 28 of the possible steps
+//   refusal_of                     the grounds in order
 //   decide_modal                   the call
 //
 // A table is laid out for each check and for the path, so that one store of STORE_WORDS words stands on the stack at a time.
@@ -11,12 +13,12 @@ ghost use mathlib.Core.Path.{_≡_};
 ghost use Prim.Native.Nat.{_+_, _*_, _≤_, _<_};
 ghost use lib.ListN.{length};
 ghost use Rattle.model.specs.Sets.{maxStates};
-ghost use Rattle.model.specs.Stores.{storeWords, maxGroups, refuse};
+ghost use Rattle.model.specs.Stores.{storeWords, maxGroups, rowAt, refuse};
 ghost use Rattle.model.proofs.WellFormed.{WellFormed};
 ghost use Rattle.paths.specs.Answers.{foundIn, pathWritten};
 ghost use Rattle.rounds.specs.Answers.{stepsIn};
 ghost use Rattle.modal.specs.Modal.{rowsFrom, tableWith, modalForbidden, malformedRows, uncertain, modalGrounds};
-ghost use Rattle.modal.specs.Laid.{laidWord, laidOut, RowsIn};
+ghost use Rattle.modal.specs.Laid.{headWord, laidOut, LaidTo, RowsIn};
 ghost use Rattle.modal.specs.Answers.{endsSafe, ChecksOut, CalledModal};
 use paths::find_path;
 use rounds::Ending;
@@ -43,17 +45,10 @@ pub const POSSIBLE_WORDS: usize = WORDS * MAX_STATES;
 
 // ---- a table laid out
 
-// Word i of the store's table with other marked and resting states, and the rows of `rows` that begin at `at`.
-fn laid_word(
-    store: &[u64],
-    marked: StateSet,
-    resting: StateSet,
-    rows: &[u64],
-    at: usize,
-    i: usize,
-) -> u64
-    requires { ⌜ (i < storeWords) × (storeWords ≤ length (now store)) × RowsIn (now rows) at ⌝ }
-    ensures { λ r. ⌜ r ≡ laidWord (now (store .entry)) (marked .words) (resting .words) (now (rows .entry)) at i ⌝ }
+// Word i of the store's table with other marked and resting states, before its rows.
+fn head_word(store: &[u64], marked: StateSet, resting: StateSet, i: usize) -> u64
+    requires { ⌜ (i < rowAt 0) × (storeWords ≤ length (now store)) ⌝ }
+    ensures { λ r. ⌜ r ≡ headWord (now (store .entry)) (marked .words) (resting .words) i ⌝ }
 {
     if i < MARKED_AT {
         return store[i];
@@ -64,21 +59,31 @@ fn laid_word(
     if i < GROUPS_AT {
         return resting.words[i - RESTING_AT];
     }
-    if i < ROWS_AT {
-        return store[i];
-    }
-    rows[at + (i - ROWS_AT)]
+    store[i]
 }
 
 pub type Laid = [u64; STORE_WORDS];
 
+// Those words, with no rows yet.
+fn laid_heads(store: &[u64], marked: StateSet, resting: StateSet) -> Laid
+    requires { ⌜ storeWords ≤ length (now store) ⌝ }
+    ensures { λ r. ⌜ LaidTo (headWord (now (store .entry)) (marked .words) (resting .words)) r (rowAt 0) ⌝ }
+{
+    let mut laid = [0; STORE_WORDS];
+    for i in 0..ROWS_AT {
+        laid[i] = head_word(store, marked, resting, i);
+    }
+    laid
+}
+
+// And the rows of `rows` that begin at `at`.
 fn laid_out(store: &[u64], marked: StateSet, resting: StateSet, rows: &[u64], at: usize) -> Laid
     requires { ⌜ (storeWords ≤ length (now store)) × RowsIn (now rows) at ⌝ }
     ensures { λ r. ⌜ r ≡ laidOut (now (store .entry)) (marked .words) (resting .words) (now (rows .entry)) at ⌝ }
 {
-    let mut laid = [0; STORE_WORDS];
-    for i in 0..STORE_WORDS {
-        laid[i] = laid_word(store, marked, resting, rows, at, i);
+    let mut laid = laid_heads(store, marked, resting);
+    for i in 0..POSSIBLE_WORDS {
+        laid[ROWS_AT + i] = rows[at + i];
     }
     laid
 }

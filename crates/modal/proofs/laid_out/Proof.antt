@@ -1,19 +1,19 @@
--- `laid_out`: the words passed are those of the table.
-use Prim.Native.Nat.{_-_}
+-- `laid_out`: the words before the rows, then those of the rows.
+use Prim.Native.Nat.{_+_, _-_}
 use mathlib.Core.Path.{refl}
-use borrow.Author.Count.{below-none}
 use borrow.Author.Needs.{needs}
-use Rattle.model.specs.Stores.{storeWords}
-use Rattle.modal.specs.Laid.{laidWord}
-use Rattle.modal.proofs.Laying.{Laying, laying-turn, laying-all}
+use Rattle.model.specs.Stores.{rowAt}
+use Rattle.modal.specs.Modal.{possibleWords}
+use Rattle.modal.specs.Laid.{LaidTo}
+use Rattle.modal.proofs.Laying.{rowed, rows-none, rows-turn, rows-all}
 use Rattle.modal.proofs.laid_out.Statement.{statement}
 use Rattle.modal.proofs.laid_out.Tie as tie
 
 abbrev Inv-loop : tie.InvT-loop
-Inv-loop store marked resting rows at laid₀ i₀ laid i = Laying (laidWord store (marked .words) (resting .words) rows at) laid i
+Inv-loop store rows at laid₀ i₀ laid i = LaidTo (rowed rows at laid₀) laid (rowAt 0 + i)
 
 abbrev μ-loop : tie.MeasureT-loop
-μ-loop store marked resting rows at laid₀ i₀ laid i = storeWords - i
+μ-loop store rows at laid₀ i₀ laid i = possibleWords - i
 
 pub laid-out-spec : {M : Type 1} → statement M
 laid-out-spec =
@@ -21,11 +21,15 @@ laid-out-spec =
     (tie.spec
     Inv-loop
     μ-loop
-    (λ c. record { within = search needs; long = refl; is = below-none _ })
     (λ c κs. search needs)
+    (λ c. rows-none _ _ _ (c .laid-heads .ensures .long))
     (λ c. search needs)
     (λ c. search needs)
     (λ c. search needs)
     (λ c. search needs)
-    (λ c. laying-turn _ _ (c .before .loop-test .taken) (c .laid-word .ensures) (c .before .before .loop .inv))
-    (λ c. laying-all _ _ _ _ _ (search needs) (c .before .loop .inv)))
+    (λ c. search needs)
+    (λ c. search needs)
+    (λ c. search needs)
+    (λ c. search needs)
+    (λ c. rows-turn _ _ _ _ (c .before .loop-test .taken) refl (c .before .before .loop .inv))
+    (λ c. rows-all _ _ _ _ _ _ (search needs) (c .before .before .laid-heads .ensures) (c .before .loop .inv)))
