@@ -1,9 +1,9 @@
 /*
  * Shuntberry: is a forbidden state of a dialogue table reachable, and by which steps?
  *
- * The calls are decide, shortest path, distances, within, read, write, generate, replay and those of an edit
- * session (open, add a step, remove a step), and beside them
- * next open minute, which says when a release may be loaded and reads no table. Link
+ * The calls are decide, shortest path, distances, within, read, write, generate, replay, those of an edit
+ * session (open, add a step, remove a step) and decide modal (for tables with steps that are only possible), and
+ * beside them next open minute, which says when a release may be loaded and reads no table. Link
  * target/staticlib/libshuntberry.a, which `rt staticlib shuntberry` makes. Nothing is allocated, nothing is
  * kept between calls, and no call fails other than by a refusal number. Calls may be made from several
  * threads at once, as long as no buffer that one of them writes is lent to another. A call takes less than
@@ -20,7 +20,8 @@
  *
  * A state is FORBIDDEN if it is marked, or if it has no successor and is not resting (a hang, a screen with no
  * way out). A marked state is forbidden whether it rests or not; for a state with a successor resting means
- * nothing. In every call below a forbidden state is one of these.
+ * nothing. In every call below a forbidden state is one of these; shuntberry_decide_modal takes the possible
+ * steps of a state for its successors there.
  *
  * Each buffer is a pointer and the number of its elements. As with any C buffer, the pointer must be
  * valid for that many elements and aligned for its type, and a buffer that a call writes must not
@@ -80,6 +81,7 @@ extern "C" {
 #define SHUNTBERRY_MAX_SITE 65520    /* the greatest site number */
 #define SHUNTBERRY_MAX_FAN_OUT 16    /* the greatest fan-out of a generated table */
 #define SHUNTBERRY_MAX_LOG 32768     /* the greatest length of a pump's log, in bytes: 16,384 entries */
+#define SHUNTBERRY_POSSIBLE_WORDS 4096 /* the least length of a buffer of possible steps, in words */
 #define SHUNTBERRY_MAX_TIME 2147483647 /* the greatest time, in minutes: 2^31 - 1 */
 #define SHUNTBERRY_MAX_WINDOWS 32    /* the greatest number of windows */
 #define SHUNTBERRY_MAX_DAYS 64       /* the greatest number of closed days */
@@ -92,36 +94,41 @@ extern "C" {
 #define SHUNTBERRY_GROUP(j) (SHUNTBERRY_SET_WORDS * (SHUNTBERRY_HEAD_SETS + (j))) /* group j */
 #define SHUNTBERRY_ROW(s) SHUNTBERRY_GROUP(SHUNTBERRY_MAX_GROUPS + (s))           /* the successors of state s */
 
+/* Where the possible steps of state s begin in their buffer. */
+#define SHUNTBERRY_POSSIBLE_ROW(s) (SHUNTBERRY_SET_WORDS * (s))
+
 /* ---- Refusal numbers ---- */
 
 #define SHUNTBERRY_ACCEPTED 0           /* the call was not refused */
-#define SHUNTBERRY_STORE_SHORT 10       /* the store has under SHUNTBERRY_STORE_WORDS words (all calls but next open) */
+#define SHUNTBERRY_STORE_SHORT 10       /* the store has under SHUNTBERRY_STORE_WORDS words (all calls but next open), or the possible steps under SHUNTBERRY_POSSIBLE_WORDS (decide modal) */
 #define SHUNTBERRY_INPUT_LENGTH 11      /* the input's length is no multiple of 512, or over SHUNTBERRY_FILE_BYTES (read) */
 #define SHUNTBERRY_BLOCK_NUMBER 12      /* block k does not hold the number k (read) */
 #define SHUNTBERRY_BLOCK_CHECK 13       /* a block's stored check is not its check for the site (read) */
 #define SHUNTBERRY_STATES 14            /* n is over SHUNTBERRY_MAX_STATES, or 0 with g above 0, in a block or in generate (all calls but next open) */
 #define SHUNTBERRY_GROUPS 15            /* g is over SHUNTBERRY_MAX_GROUPS; in read, the file's second number is below 32,768 (as in files of version 3 and before) or over 32,832 (all calls but generate and next open) */
 #define SHUNTBERRY_BLOCK_COUNT 16       /* the file has too few or too many blocks for its n and g (read) */
-#define SHUNTBERRY_STRAY_BIT 17         /* a set, the resting one included, holds a state from n up, or a word of an unused group or row is not 0 (all calls but generate and next open) */
+#define SHUNTBERRY_STRAY_BIT 17         /* a set, the resting one included, holds a state from n up, or a word of an unused group or row is not 0 (all calls but generate and next open); in decide modal also of the possible steps */
 #define SHUNTBERRY_FILLER 18            /* a byte past the contents is not 0 (read) */
 #define SHUNTBERRY_OUTPUT_SHORT 19      /* the output is shorter than the file (write) */
 #define SHUNTBERRY_ALLOWANCE 20         /* the allowance is over SHUNTBERRY_MAX_ALLOWANCE (decide) */
-#define SHUNTBERRY_PATH_SHORT 21        /* the path buffer has under SHUNTBERRY_PATH_PLACES places (decide, shortest path) */
+#define SHUNTBERRY_PATH_SHORT 21        /* the path buffer has under SHUNTBERRY_PATH_PLACES places (decide, shortest path, decide modal) */
 #define SHUNTBERRY_FAN_OUT 22           /* the fan-out is over 16 (generate) */
 #define SHUNTBERRY_DISTANCES_SHORT 23   /* the distance buffer has fewer than n places (distances) */
 #define SHUNTBERRY_SITE 24              /* the site is over 65,520 (read, write); given straight after 10 */
 #define SHUNTBERRY_LOG_ODD 25           /* the log's length is odd, also where it is over 32,768 (replay) */
 #define SHUNTBERRY_LOG_LONG 26          /* the log has over 32,768 bytes (replay) */
 #define SHUNTBERRY_STEP_STATE 27        /* a state number of the step is n or more (add a step, remove a step) */
+#define SHUNTBERRY_NOT_POSSIBLE 28      /* a certain step is not possible (decide modal); given straight before 21 */
 #define SHUNTBERRY_WINDOW_RANGE 29      /* a window starts past minute 10,079 of the week, or is 0 or over 10,080 minutes long (next open) */
 #define SHUNTBERRY_TOO_MANY 30          /* over 32 windows, or over 64 closed days (next open) */
 #define SHUNTBERRY_TIME 31              /* the time is over 2^31 - 1 (next open) */
 
 /* ---- Verdicts: only where `refusal` is 0. A refused call has 0 here too, so test `refusal` first. ---- */
 
-#define SHUNTBERRY_SAFE 0      /* no forbidden state can be reached from an initial one */
-#define SHUNTBERRY_UNSAFE 1    /* one can: the path buffer holds how */
-#define SHUNTBERRY_UNDECIDED 2 /* the allowance was used up before either was known */
+#define SHUNTBERRY_SAFE 0      /* no forbidden state can be reached from an initial one (decide modal: in no choice) */
+#define SHUNTBERRY_UNSAFE 1    /* one can: the path buffer holds how (decide modal: in every choice) */
+#define SHUNTBERRY_UNDECIDED 2 /* the allowance was used up before either was known (decide) */
+#define SHUNTBERRY_DEPENDS 3   /* with the certain steps alone none can, with all possible steps one can (decide modal) */
 
 /* ---- The calls ---- */
 
@@ -308,6 +315,42 @@ struct shuntberry_session shuntberry_add_step(uint64_t *store, size_t store_len,
                                               struct shuntberry_set reachable, size_t from, size_t to);
 struct shuntberry_session shuntberry_remove_step(uint64_t *store, size_t store_len, size_t n, size_t g,
                                                  struct shuntberry_set reachable, size_t from, size_t to);
+
+/* What shuntberry_decide_modal answers. */
+struct shuntberry_modal {
+    uint64_t invariant[SHUNTBERRY_SET_WORDS]; /* if safe, that of a release check on the possible steps, which is one of every choice; if it depends, that on the certain steps; else empty */
+    uint32_t refusal; /* 0, or the number of the refusal */
+    uint32_t verdict; /* where refusal is 0: SHUNTBERRY_SAFE, SHUNTBERRY_UNSAFE or SHUNTBERRY_DEPENDS; else 0, which is no verdict */
+    uint32_t size;    /* the number of states in the invariant */
+    uint32_t steps;   /* if unsafe or if it depends, the number of steps of the path; else 0 */
+};
+
+/*
+ * Decides for all pumps of a family at once, where some steps exist only with an option bought. The rows in
+ * `store` are the CERTAIN steps; `possible` has a second row for each state (SHUNTBERRY_POSSIBLE_ROW), its
+ * POSSIBLE steps, with each certain one among them. The words of rows from n up are 0; those past the first
+ * SHUNTBERRY_POSSIBLE_WORDS are not read. (The field's term is a modal transition system: its must steps and
+ * its may steps.)
+ *
+ * A CHOICE has, for each state, all of its certain steps and any of the possible ones beside them. The verdict
+ * is safe if every choice is safe, unsafe if every choice is unsafe, and else SHUNTBERRY_DEPENDS: the certain
+ * steps alone are then a safe choice, and all possible steps an unsafe one. It is never undecided.
+ *
+ * A state is forbidden if it is marked, or if it has no POSSIBLE step and is not resting: the same states for
+ * every choice. So a state that has possible steps only is no hang here, even in a choice that leaves it none.
+ * For shuntberry_decide, which is given the certain steps alone, it is one: of one and the same store that call
+ * may say unsafe, and this one safe or that it depends.
+ *
+ * If unsafe, steps + 1 places at the front of `path` are the path that a release check gives on the certain
+ * steps, which is one of every choice; if it depends, the path that it gives on the possible steps. No other
+ * place is touched, and if safe none is. Where both rows of each state are equal, all fields and the path are
+ * those of shuntberry_decide with SHUNTBERRY_MAX_ALLOWANCE. Neither the store nor `possible` is changed.
+ *
+ * Refuses with 10 (either buffer), 14, 15, 17 (either buffer), 28 or 21.
+ */
+struct shuntberry_modal shuntberry_decide_modal(const uint64_t *store, size_t store_len, size_t n, size_t g,
+                                                const uint64_t *possible, size_t possible_len, uint16_t *path,
+                                                size_t path_len);
 
 /* ---- When a release may be loaded ---- */
 

@@ -1,7 +1,7 @@
 //! Is a forbidden state of a dialogue table reachable, and by which steps?
 //!
 //! A safe wrapper around the proved library: [`decide`], [`shortest_path`], [`distances`], [`within`],
-//! [`read`], [`write()`], [`generate`], [`replay`], [`next_open`] and an edit [`Session`], with slices in and enums out. No input makes a call panic: what the library does not accept, it
+//! [`read`], [`write()`], [`generate`], [`replay`], [`decide_modal`], [`next_open`] and an edit [`Session`], with slices in and enums out. No input makes a call panic: what the library does not accept, it
 //! refuses with a number ([`Refused`]), and every buffer is then as it was before.
 //!
 //! A table has `n` states, numbered 0 to `n` − 1 ([`MAX_STATES`] at most), and `g` groups
@@ -50,6 +50,8 @@
 //! # Ok::<(), shuntberry::Refused>(())
 //! ```
 //!
+//! Where some steps exist only on pumps with an option bought, [`decide_modal`] answers for all of them at once.
+//!
 //! When a release may be loaded is a question of its own, about weekly windows and closed days:
 //! [`next_open`].
 
@@ -80,6 +82,8 @@ pub const MAX_SITE: usize = 65_520;
 pub const MAX_FAN_OUT: usize = 16;
 /// The greatest length of a pump's log, in bytes.
 pub const MAX_LOG: usize = 32_768;
+/// The least length of a buffer of possible steps, in words.
+pub const POSSIBLE_WORDS: usize = possible_row(MAX_STATES);
 /// The greatest time, in minutes.
 pub const MAX_TIME: usize = 2_147_483_647;
 /// The greatest number of windows.
@@ -105,6 +109,11 @@ pub const fn group(j: usize) -> usize {
 /// Where the successors of state `s` begin in a store, for `s` below [`MAX_STATES`].
 pub const fn row(s: usize) -> usize {
     group(s.saturating_add(MAX_GROUPS))
+}
+
+/// Where the possible steps of state `s` begin in their buffer, for `s` below [`MAX_STATES`].
+pub const fn possible_row(s: usize) -> usize {
+    s.saturating_mul(SET_WORDS)
 }
 
 /// A set of states: state s is the bit of value 2^(s mod 64) in word s / 64.
@@ -197,7 +206,7 @@ impl Refused {
     /// The ground on which the call was refused.
     pub fn message(self) -> &'static str {
         match self.0 {
-            10 => "the store has under 4,632 words",
+            10 => "the store has under 4,632 words, or the possible steps under 4,096",
             11 => "the input's length is no multiple of 512, or over 37,376",
             12 => "a block does not hold its own number",
             13 => "a block's stored check is not its check for the site",
@@ -217,6 +226,7 @@ impl Refused {
             25 => "the log's length is odd",
             26 => "the log has over 32,768 bytes",
             27 => "a state number of an edit is n or more",
+            28 => "a certain step is not possible",
             29 => {
                 "a window starts past minute 10,079 of the week, or is 0 or over 10,080 minutes long"
             }
@@ -647,6 +657,109 @@ impl<'s> Session<'s> {
     pub fn store(&self) -> &[u64] {
         self.store
     }
+}
+
+/// What [`decide_modal`] found of the choices between the certain and the possible steps.
+#[derive(Clone, Copy, Debug, PartialEq, Eq)]
+pub enum ModalVerdict<'p> {
+    /// Every choice is safe.
+    Safe {
+        /// What a release check gives on the possible steps: an invariant of every choice.
+        invariant: StateSet,
+    },
+    /// Every choice is unsafe.
+    Unsafe {
+        /// The smallest of the shortest paths on the certain steps, so a path of every choice: the front of the path
+        /// buffer.
+        path: &'p [u16],
+    },
+    /// The certain steps alone are a safe choice, all possible steps an unsafe one.
+    Depends {
+        /// What a release check gives on the certain steps: an invariant of that choice.
+        invariant: StateSet,
+        /// The smallest of the shortest paths on the possible steps: the front of the path buffer.
+        path: &'p [u16],
+    },
+}
+
+/// Decides a table some of whose steps exist only on pumps with an option bought: its certain steps are the rows of
+/// `store`, and the possible steps of state s, the certain ones included, stand at [`possible_row`]`(s)` of `possible`. A choice
+/// has every certain step of each state, and any of the possible ones beside them.
+///
+/// Forbidden is the same for every choice: a state that is marked, or that has no *possible* step and does not rest. So a
+/// state with possible steps only is not forbidden here, also in a choice that leaves it none; [`decide`], which sees the certain
+/// steps alone, takes it for a hang.
+///
+/// The path stands at the front of `path`, and no other place of it is touched; if safe, none is. Words of `possible` past the
+/// first [`POSSIBLE_WORDS`] are not read. Refused with 10 (either buffer), 14, 15, 17 (either buffer), 28 or 21.
+///
+/// ```
+/// use shuntberry::{INITIAL, MARKED, ModalVerdict, PATH_PLACES, POSSIBLE_WORDS, STORE_WORDS};
+/// use shuntberry::{decide_modal, possible_row, row};
+///
+/// // 0 is initial, 2 is marked; 0 → 0 and 1 → 2 are certain, and with an option bought there is a step 0 → 1.
+/// let mut store = [0; STORE_WORDS];
+/// store[INITIAL] = 1 << 0;
+/// store[MARKED] = 1 << 2;
+/// store[row(0)] = 1 << 0;
+/// store[row(1)] = 1 << 2;
+/// let mut possible = [0; POSSIBLE_WORDS];
+/// possible[possible_row(0)] = 1 << 0 | 1 << 1;
+/// possible[possible_row(1)] = 1 << 2;
+///
+/// let mut path = [0; PATH_PLACES];
+/// let ModalVerdict::Depends { invariant, path: states } = decide_modal(&store, 3, 0, &possible, &mut path)? else {
+///     panic!("2 can be reached with the option alone");
+/// };
+/// assert!(invariant.states().eq([0]));
+/// assert_eq!(states, [0, 1, 2]);
+///
+/// // Where the step is certain, every choice is unsafe; where it is not even possible, every one is safe.
+/// store[row(0)] |= 1 << 1;
+/// let verdict = decide_modal(&store, 3, 0, &possible, &mut path)?;
+/// assert_eq!(verdict, ModalVerdict::Unsafe { path: &[0, 1, 2] });
+/// store[row(0)] = 1 << 0;
+/// possible[possible_row(0)] = 1 << 0;
+/// let verdict = decide_modal(&store, 3, 0, &possible, &mut path)?;
+/// assert!(matches!(verdict, ModalVerdict::Safe { invariant } if invariant.states().eq([0])));
+///
+/// // Every certain step must be possible.
+/// possible[possible_row(1)] = 0;
+/// assert_eq!(decide_modal(&store, 3, 0, &possible, &mut path).unwrap_err().0, 28);
+/// # Ok::<(), shuntberry::Refused>(())
+/// ```
+pub fn decide_modal<'p>(
+    store: &[u64],
+    n: usize,
+    g: usize,
+    possible: &[u64],
+    path: &'p mut [u16],
+) -> Result<ModalVerdict<'p>, Refused> {
+    // SAFETY: as in `decide`.
+    let decision = unsafe {
+        raw::shuntberry_decide_modal(
+            store.as_ptr(),
+            store.len(),
+            n,
+            g,
+            possible.as_ptr(),
+            possible.len(),
+            path.as_mut_ptr(),
+            path.len(),
+        )
+    };
+    accepted(decision.refusal)?;
+    let invariant = StateSet(decision.invariant);
+    Ok(match decision.verdict {
+        0 => ModalVerdict::Safe { invariant },
+        1 => ModalVerdict::Unsafe {
+            path: states_of_path(path, decision.steps),
+        },
+        _ => ModalVerdict::Depends {
+            invariant,
+            path: states_of_path(path, decision.steps),
+        },
+    })
 }
 
 /// The first minute at or after `time` that lies in one of the windows, and not on a closed day; `None`,

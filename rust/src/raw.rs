@@ -75,6 +75,16 @@ pub struct Session {
 
 #[repr(C)]
 #[derive(Clone, Copy, Debug, PartialEq, Eq)]
+pub struct Modal {
+    pub invariant: [u64; SET_WORDS],
+    pub refusal: u32,
+    pub verdict: u32,
+    pub size: u32,
+    pub steps: u32,
+}
+
+#[repr(C)]
+#[derive(Clone, Copy, Debug, PartialEq, Eq)]
 pub struct Minute {
     pub refusal: u32,
     pub never: u32,
@@ -171,6 +181,17 @@ unsafe extern "C" {
         from: usize,
         to: usize,
     ) -> Session;
+
+    pub fn shuntberry_decide_modal(
+        store: *const u64,
+        store_len: usize,
+        n: usize,
+        g: usize,
+        possible: *const u64,
+        possible_len: usize,
+        path: *mut u16,
+        path_len: usize,
+    ) -> Modal;
 
     pub fn shuntberry_next_open(
         time: usize,

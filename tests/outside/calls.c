@@ -1,8 +1,9 @@
 /*
  * The calls from C by the header alone: a corridor of as many states as there can be is laid out with the header's
  * offsets, written, read back, and asked for its path, which is every state in turn; the largest load
- * is generated; then the corridor's end as a hang and at rest, some of the refusals, logs of the corridor, and next
- * open minute. The calls run on a painted stack, to see how much of it they take.
+ * is generated; then the corridor's end as a hang and at rest, some of the refusals, logs of the corridor, the corridor
+ * with a step that is only possible, and next open minute. The calls run on a painted stack, to see how much of it they
+ * take.
  *
  * Without groups all states of Z have one cover, Z itself, so that each round loses the one state that
  * steps out: Z is all but the last state in round 0 and state 0 alone in round STATES - 2, where S is empty. That
@@ -32,6 +33,10 @@ _Static_assert(sizeof(struct shuntberry_set) == 8 * SHUNTBERRY_SET_WORDS, "set")
 _Static_assert(sizeof(struct shuntberry_session) == 8 * SHUNTBERRY_SET_WORDS + 8, "session");
 _Static_assert(offsetof(struct shuntberry_session, refusal) == 8 * SHUNTBERRY_SET_WORDS, "session.refusal");
 _Static_assert(offsetof(struct shuntberry_session, reserved) == 8 * SHUNTBERRY_SET_WORDS + 4, "session.reserved");
+_Static_assert(sizeof(struct shuntberry_modal) == SET_BYTES + 16, "modal");
+_Static_assert(offsetof(struct shuntberry_modal, refusal) == SET_BYTES, "modal.refusal");
+_Static_assert(offsetof(struct shuntberry_modal, steps) == SET_BYTES + 12, "modal.steps");
+_Static_assert(SHUNTBERRY_POSSIBLE_ROW(SHUNTBERRY_MAX_STATES) == SHUNTBERRY_POSSIBLE_WORDS, "possible rows");
 _Static_assert(sizeof(struct shuntberry_minute) == 12, "minute");
 _Static_assert(SHUNTBERRY_ROW(SHUNTBERRY_MAX_STATES) == SHUNTBERRY_STORE_WORDS, "rows");
 _Static_assert(SHUNTBERRY_GROUP(SHUNTBERRY_MAX_GROUPS) == SHUNTBERRY_ROW(0), "groups");
@@ -41,6 +46,7 @@ _Static_assert(64 * SHUNTBERRY_SET_WORDS == SHUNTBERRY_MAX_STATES, "words of a s
 enum { STATES = SHUNTBERRY_MAX_STATES, STACK = 1 << 20, PAINT = 0xa5, STACK_LIMIT = 256 * 1024 };
 
 static uint64_t store[SHUNTBERRY_STORE_WORDS], other[SHUNTBERRY_STORE_WORDS];
+static uint64_t possible[SHUNTBERRY_POSSIBLE_WORDS];
 static uint8_t file[SHUNTBERRY_FILE_BYTES];
 static uint16_t path[SHUNTBERRY_PATH_PLACES];
 static uint16_t distances[SHUNTBERRY_MAX_STATES + 1]; /* one place past the states */
@@ -320,6 +326,79 @@ static void sessions(void)
     require(now.refusal == SHUNTBERRY_STORE_SHORT && !is_lit(now, 0), "a refused opening gives the empty set");
 }
 
+static struct shuntberry_modal decide_modal(void)
+{
+    memset(path, PAINT, sizeof path);
+    return shuntberry_decide_modal(store, SHUNTBERRY_STORE_WORDS, STATES, 0, possible, SHUNTBERRY_POSSIBLE_WORDS, path,
+                                   SHUNTBERRY_PATH_PLACES);
+}
+
+/* Whether the invariant is every state but the last. */
+static int all_but_last(struct shuntberry_modal answer)
+{
+    for (unsigned word = 0; word + 1 < SHUNTBERRY_SET_WORDS; word++)
+        if (answer.invariant[word] != UINT64_MAX)
+            return 0;
+    return answer.invariant[SHUNTBERRY_SET_WORDS - 1] == UINT64_MAX >> 1 && answer.size == STATES - 1;
+}
+
+static int is_untouched(void)
+{
+    const uint8_t *bytes = (const uint8_t *)path;
+    for (size_t i = 0; i < sizeof path; i++)
+        if (bytes[i] != PAINT)
+            return 0;
+    return 1;
+}
+
+/*
+ * The corridor's last step certain, possible only, and neither. Without it the last state but one has no certain step:
+ * for decide it is a hang, and here it is one only where the step is not possible either. Z0 is then all states but the
+ * last, and so is R: safe in round 0.
+ */
+static void options(void)
+{
+    const size_t last = SHUNTBERRY_ROW(STATES - 2), words = SHUNTBERRY_STORE_WORDS, more = SHUNTBERRY_POSSIBLE_WORDS,
+                 room = SHUNTBERRY_PATH_PLACES;
+    uint64_t step[SHUNTBERRY_SET_WORDS];
+
+    memcpy(possible, store + SHUNTBERRY_ROW(0), sizeof possible);
+    memcpy(step, store + last, sizeof step);
+    struct shuntberry_modal answer = decide_modal();
+    require(answer.refusal == SHUNTBERRY_ACCEPTED && answer.verdict == SHUNTBERRY_UNSAFE && answer.size == 0 &&
+                is_corridor(answer.steps),
+            "every choice unsafe");
+    require(shuntberry_decide_modal(store, words, STATES, 0, possible, more, path, room - 1).refusal == SHUNTBERRY_PATH_SHORT,
+            "decide modal, a short path buffer");
+
+    memset(possible + SHUNTBERRY_POSSIBLE_ROW(STATES - 2), 0, sizeof step);
+    require(shuntberry_decide_modal(store, words, STATES, 0, possible, more, path, 0).refusal == SHUNTBERRY_NOT_POSSIBLE,
+            "a certain step that is not possible");
+    require(shuntberry_decide_modal(store, words, STATES, 0, possible, more - 1, path, 0).refusal == SHUNTBERRY_STORE_SHORT,
+            "possible steps of too few words");
+
+    memset(store + last, 0, sizeof step);
+    answer = decide_modal();
+    require(answer.refusal == SHUNTBERRY_ACCEPTED && answer.verdict == SHUNTBERRY_UNSAFE && answer.steps == STATES - 2 &&
+                path[STATES - 2] == STATES - 2,
+            "a hang in every choice");
+    add(SHUNTBERRY_RESTING, STATES - 2);
+    answer = decide_modal();
+    require(answer.refusal == SHUNTBERRY_ACCEPTED && answer.verdict == SHUNTBERRY_SAFE && all_but_last(answer) &&
+                answer.steps == 0 && is_untouched(),
+            "every choice safe");
+    memset(store + SHUNTBERRY_RESTING, 0, sizeof step);
+
+    memcpy(possible + SHUNTBERRY_POSSIBLE_ROW(STATES - 2), step, sizeof step);
+    answer = decide_modal();
+    require(answer.refusal == SHUNTBERRY_ACCEPTED && answer.verdict == SHUNTBERRY_DEPENDS && all_but_last(answer) &&
+                is_corridor(answer.steps),
+            "a step that is only possible");
+    struct shuntberry_decision decision = shuntberry_decide(store, words, STATES, 0, SHUNTBERRY_MAX_ALLOWANCE, path, room);
+    require(decision.verdict == SHUNTBERRY_UNSAFE && decision.steps == STATES - 2, "a hang for decide, and not here");
+    memcpy(store + last, step, sizeof step);
+}
+
 static int is_minute(struct shuntberry_minute answer, uint32_t minute)
 {
     return answer.refusal == SHUNTBERRY_ACCEPTED && answer.never == 0 && answer.minute == minute;
@@ -357,6 +436,17 @@ static void nothing(void)
     require(shuntberry_replay(NULL, 0, STATES, 0, NULL, 0).refusal == SHUNTBERRY_STORE_SHORT, "replay, nothing");
     struct shuntberry_replay walk = shuntberry_replay(store, words, STATES, 0, NULL, 0);
     require(walk.refusal == SHUNTBERRY_ACCEPTED && walk.followed == 0 && walk.seen == 0, "replay, no log");
+
+    require(shuntberry_decide_modal(NULL, 0, STATES, 0, possible, SHUNTBERRY_POSSIBLE_WORDS, path, room).refusal ==
+                SHUNTBERRY_STORE_SHORT,
+            "decide modal, no store");
+    require(shuntberry_decide_modal(store, words, STATES, 0, NULL, 0, path, room).refusal == SHUNTBERRY_STORE_SHORT,
+            "decide modal, no possible steps");
+    require(shuntberry_decide_modal(store, words, STATES, 0, possible, SHUNTBERRY_POSSIBLE_WORDS, NULL, 0).refusal ==
+                SHUNTBERRY_PATH_SHORT,
+            "decide modal, no path");
+    require(shuntberry_decide_modal(NULL, 0, 0, 0, NULL, 0, NULL, 0).refusal == SHUNTBERRY_STORE_SHORT,
+            "decide modal, nothing");
 
     memset(other, PAINT, sizeof other);
     struct shuntberry_table table = shuntberry_read(NULL, 0, SHUNTBERRY_MAX_SITE, other, words);
@@ -429,6 +519,7 @@ static void *on_painted_stack(void *unused)
     refusals();
     replays();
     sessions();
+    options();
     nothing();
     sites();
     release_windows();

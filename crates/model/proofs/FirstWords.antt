@@ -1,6 +1,7 @@
 -- The calls read the first words of a store and no other.
 --
---   same-word, .., table-words              words, sets, the dialogue and the table of two stores that are alike in their first words
+--   same-word, same-part                    words and sets of two buffers that are alike in their first words
+--   dialogue-words, table-words             the dialogue and the table of two such stores
 --   malformed-same, grounds-same            ground 17, and the shared grounds, of both
 --   same-dialogue, same-call                what is made of the grounds and, where none holds, of the dialogue or of the table, is the same
 --   same-write                              the same of write
@@ -30,29 +31,33 @@ use Rattle.model.proofs.ListLaws.{part-front}
 use Rattle.model.proofs.Acceptance.{accepted-store}
 use Rattle.model.proofs.CallLaws.{write-over, write-behind}
 
-nonZero-cong : (xs ys : List ℕ) (from to : ℕ) → ((i : ℕ) → i < to → getD xs i 0 ≡ getD ys i 0) → nonZero xs from to ≡ nonZero ys from to
+pub nonZero-cong : (xs ys : List ℕ) (from to : ℕ) → ((i : ℕ) → i < to → getD xs i 0 ≡ getD ys i 0) → nonZero xs from to ≡ nonZero ys from to
 unfolding nonZero
 nonZero-cong xs ys from to e = any-cong _ _ to (λ i h. ap (λ (x : ℕ). leb from i && not (eqb x 0)) (e i h))
 
-states-le : (n g : ℕ) → badStates n g ≡ false → n ≤ maxStates
+pub states-le : (n g : ℕ) → badStates n g ≡ false → n ≤ maxStates
 unfolding badStates
 states-le n g e = ltb-false maxStates n (or-false (eqb n 0 && not (eqb g 0)) (ltb maxStates n) e .1)
 
-module _ (store other : List ℕ) (long : storeWords ≤ length store) (long′ : storeWords ≤ length other) (e : take storeWords store ≡ take storeWords other) where
-  same-word : (i : ℕ) → i < storeWords → getD store i 0 ≡ getD other i 0
-  same-word i h =
-      sym (getD-take storeWords store i 0 h) ∙ ap (λ (xs : List ℕ). getD xs i 0) e ∙ getD-take storeWords other i 0 h
+-- two buffers that are alike in their first k words
+module _ (k : ℕ) (xs ys : List ℕ) (long : k ≤ length xs) (long′ : k ≤ length ys) (e : take k xs ≡ take k ys) where
+  pub same-word : (i : ℕ) → i < k → getD xs i 0 ≡ getD ys i 0
+  same-word i h = sym (getD-take k xs i 0 h) ∙ ap (λ (zs : List ℕ). getD zs i 0) e ∙ getD-take k ys i 0 h
 
-  front-part : (xs : List ℕ) (at : ℕ) → storeWords ≤ length xs → at + WORDS ≤ storeWords → setAt xs at ≡ setAt (take storeWords xs) at
+  front-part : (zs : List ℕ) (at : ℕ) → k ≤ length zs → at + WORDS ≤ k → setAt zs at ≡ setAt (take k zs) at
   unfolding setAt
-  front-part xs at l h =
-      ap (λ (ys : List ℕ). take WORDS (drop at ys)) (sym (take-append-drop storeWords xs))
-      ∙ part-front (take storeWords xs) (drop storeWords xs) at WORDS (omega (arith, length-take-le storeWords xs l))
+  front-part zs at l h =
+      ap (λ (ws : List ℕ). take WORDS (drop at ws)) (sym (take-append-drop k zs))
+      ∙ part-front (take k zs) (drop k zs) at WORDS (omega (arith, length-take-le k zs l))
 
+  pub same-part : (at : ℕ) → at + WORDS ≤ k → setAt xs at ≡ setAt ys at
+  same-part at h = front-part xs at long h ∙ ap (λ (zs : List ℕ). setAt zs at) e ∙ sym (front-part ys at long′ h)
+
+module _ (store other : List ℕ) (long : storeWords ≤ length store) (long′ : storeWords ≤ length other) (e : take storeWords store ≡ take storeWords other) where
   same-set-at : (at : ℕ) → at + WORDS ≤ storeWords → setAt store at ≡ setAt other at
-  same-set-at at h = front-part store at long h ∙ ap (λ (xs : List ℕ). setAt xs at) e ∙ sym (front-part other at long′ h)
+  same-set-at = same-part storeWords store other long long′ e
 
-  dialogue-words : (n g : ℕ) → n ≤ maxStates → g ≤ maxGroups → dialogueOf store n g ≡ dialogueOf other n g
+  pub dialogue-words : (n g : ℕ) → n ≤ maxStates → g ≤ maxGroups → dialogueOf store n g ≡ dialogueOf other n g
   unfolding dialogueOf
   dialogue-words n g small few = λ i.
       record {
@@ -71,7 +76,7 @@ module _ (store other : List ℕ) (long : storeWords ≤ length store) (long′ 
   unfolding tableOf
   table-words n g small few = ap tableFrom (dialogue-words n g small few)
 
-  malformed-same : (n g : ℕ) → n ≤ maxStates → g ≤ maxGroups → malformed store n g ≡ malformed other n g
+  pub malformed-same : (n g : ℕ) → n ≤ maxStates → g ≤ maxGroups → malformed store n g ≡ malformed other n g
   unfolding malformed
   malformed-same n g small few =
       ap₂ _||_
@@ -87,7 +92,7 @@ module _ (store other : List ℕ) (long : storeWords ≤ length store) (long′ 
       (zero-same (rowAt n) storeWords (lit≤ tt))
     where
       zero-same : (from to : ℕ) → to ≤ storeWords → nonZero store from to ≡ nonZero other from to
-      zero-same from to l = nonZero-cong store other from to (λ i h. same-word i (omega arith))
+      zero-same from to l = nonZero-cong store other from to (λ i h. same-word storeWords store other long long′ e i (omega arith))
 
   grounds-same : (n g : ℕ) (later : List Ground) → refuse (sharedGrounds store n g ++ later) ≡ refuse (sharedGrounds other n g ++ later)
   unfolding refuse

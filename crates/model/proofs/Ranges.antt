@@ -1,6 +1,6 @@
 -- How large the numbers in an answer can be, refused or not: for the casts of the calls exported to C, and for the text of a report.
 --
---   DecisionRange, decide-range      decide's count, size and d
+--   DecisionRange, run-range         the count, size and d of a check of a table; decide-range: of decide
 --   shortest-range          shortest path's d
 --   ReadRange, read-range   read's n and g
 --   write-range             write's length
@@ -44,14 +44,17 @@ outcome-range t h (safe i X) c = record { count = c; size = size-most X; steps =
 outcome-range t h (unsafe i) c = record { count = c; size = omega arith; steps = shortest-le t h }
 outcome-range t h (undecided i) c = record { count = c; size = omega arith; steps = omega arith }
 
+pub run-range : (t : Table) → t .n ≤ maxStates → (allowance : ℕ) → DecisionRange (decisionOf t (run t allowance))
+run-range t small allowance =
+    outcome-range t small (run t allowance) (omega (arith, count-backward t allowance, backward-is t .bounded, small))
+
 pub decide-range : (store : List ℕ) (n g allowance room : ℕ) → DecisionRange (decideAnswer store n g allowance room)
 unfolding decideAnswer decideGrounds declined tableOf
 decide-range store n g allowance room =
     by-cond DecisionRange (eqb (refuse (decideGrounds store n g allowance room)) 0) _ _
     (λ q.
-    let t = tableOf store n g in
     let held = accepted-store store n g _ (eqb-true (refuse (decideGrounds store n g allowance room)) 0 q) .0 in
-    outcome-range t (held .small) (run t allowance) (omega (arith, count-backward t allowance, backward-is t .bounded, held .small)))
+    run-range (tableOf store n g) (held .small) allowance)
     (λ q. record { count = omega arith; size = omega arith; steps = omega arith })
 
 pub shortest-range : (store : List ℕ) (n g room : ℕ) → (shortestAnswer store n g room) .steps ≤ maxStates

@@ -261,7 +261,7 @@ fn conclude(store: &[u64], rows: &Rows, initial: StateSet, z: StateSet) -> Concl
 
 // The rounds, from 0 on, till one of them says safe or unsafe or the allowance is used. Each turn of the outer loop adds a set to the list and
 // narrows the cover by it: first the groups, from the last to the first, then Z0 and the Z of each later round, with which that round begins.
-fn run(store: &[u64], n: usize, g: usize, allowance: usize) -> Ended
+pub fn run(store: &[u64], n: usize, g: usize, allowance: usize) -> Ended
     requires { ⌜ (n ≤ maxStates) × (g ≤ maxGroups) × (storeWords ≤ length (now store)) ⌝ }
     ensures { λ r. ⌜ (outcomeOf r ≡ run·model (tableOf (now (store .entry)) n g) allowance) × (r .invariant .words ≡ invariantOf (outcomeOf r)) ⌝ }
 {
@@ -429,7 +429,7 @@ pub struct Decision {
 }
 
 // The steps of the path that was found, or 0.
-fn steps_of(found: Found) -> usize
+pub fn steps_of(found: Found) -> usize
     ensures { λ d. ⌜ d ≡ stepsIn found ⌝ }
 {
     match found {

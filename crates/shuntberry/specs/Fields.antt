@@ -1,11 +1,13 @@
 -- The structs of the calls for C, as the model's answers: field by field, under the same names.
 --
 --   decisionFields, shortestFields, withinFields, tableFields, fileFields     what decide, shortest path, within, read and write return
---   replayFields, sessionFields, minuteFields                                 what replay, the calls of an edit session and next open minute return
+--   replayFields, sessionFields, modalFields, minuteFields                    what replay, the calls of an edit session, decide with possible steps and next
+--                                                                             open minute return
 use Rattle.model.specs.Calls.{Decision, Shortest, TableRead, Written}
 use Rattle.paths.specs.Within.{Answer}
 use Rattle.replay.specs.Logs.{Replay}
 use Rattle.edit_session.specs.Edits.{Answer as SessionAnswer}
+use Rattle.modal.specs.Modal.{ModalAnswer}
 use Rattle.release_windows.specs.Answers.{Answer as MinuteAnswer}
 use Rattle.shuntberry.specs.declared.DecisionFields.{DecisionFields}
 use Rattle.shuntberry.specs.declared.ShortestFields.{ShortestFields}
@@ -14,6 +16,7 @@ use Rattle.shuntberry.specs.declared.TableFields.{TableFields}
 use Rattle.shuntberry.specs.declared.FileFields.{FileFields}
 use Rattle.shuntberry.specs.declared.ReplayFields.{ReplayFields}
 use Rattle.shuntberry.specs.declared.SessionFields.{SessionFields}
+use Rattle.shuntberry.specs.declared.ModalFields.{ModalFields}
 use Rattle.shuntberry.specs.declared.MinuteFields.{MinuteFields}
 
 -- all but `reserved`
@@ -39,6 +42,9 @@ replayFields r = record { refusal = r .refusal; followed = r .followed; seen = r
 -- all but `reserved`
 abbrev pub sessionFields : SessionFields → SessionAnswer
 sessionFields r = record { refusal = r .refusal; reachable = r .reachable }
+
+abbrev pub modalFields : ModalFields → ModalAnswer
+modalFields r = record { refusal = r .refusal; verdict = r .verdict; invariant = r .invariant; size = r .size; steps = r .steps }
 
 abbrev pub minuteFields : MinuteFields → MinuteAnswer
 minuteFields r = record { refusal = r .refusal; never = r .never; minute = r .minute }

@@ -21,8 +21,11 @@ ghost use Rattle.replay.specs.Answers.{replayedOf};
 ghost use Rattle.replay.proofs.Ranges.{ReplayRange};
 ghost use Rattle.edit_session.specs.Edits.{add, remove, openAnswer, editAnswer, editBuffer};
 ghost use Rattle.edit_session.specs.Answers.{answerOf as sessionOf};
+ghost use Rattle.modal.specs.Modal.{modalAnswer, modalBuffer};
+ghost use Rattle.modal.specs.Answers.{answerOf as modalOf};
+ghost use Rattle.modal.proofs.Ranges.{ModalRange};
 ghost use Rattle.release_windows.specs.Answers.{nextOpenAnswer, numbersOf};
-ghost use Rattle.shuntberry.specs.Fields.{decisionFields, shortestFields, withinFields, tableFields, fileFields, replayFields, sessionFields, minuteFields};
+ghost use Rattle.shuntberry.specs.Fields.{decisionFields, shortestFields, withinFields, tableFields, fileFields, replayFields, sessionFields, modalFields, minuteFields};
 use block_file::TableRead;
 use block_file::Written;
 use block_file::read;
@@ -34,6 +37,9 @@ use edit_session::open;
 use edit_session::remove_step;
 use generator::Generated;
 use generator::generate;
+use modal::ModalDecision;
+use modal::ModalVerdict;
+use modal::decide_modal;
 use paths::DistancesAnswer;
 use paths::Shortest;
 use paths::WithinAnswer;
@@ -430,6 +436,69 @@ pub extern "C" fn shuntberry_remove_step(
 {
     let words = reachable.words;
     lay_out_session(remove_step(store, n, g, StateSet { words }, from, to))
+}
+
+// ---- decide, with possible steps
+
+#[repr(C)]
+pub struct ModalFields {
+    pub invariant: [u64; WORDS],
+    pub refusal: u32,
+    pub verdict: u32,
+    pub size: u32,
+    pub steps: u32,
+}
+
+fn lay_out_modal(answer: ModalDecision) -> ModalFields
+    requires { ⌜ ModalRange (modalOf answer) ⌝ }
+    ensures { λ r. ⌜ modalFields r ≡ modalOf answer ⌝ }
+{
+    let verdict = answer.verdict;
+    let invariant = answer.invariant.words;
+    match verdict {
+        ModalVerdict::Safe { size } => ModalFields {
+            invariant,
+            refusal: 0,
+            verdict: 0,
+            size: size as u32,
+            steps: 0,
+        },
+        ModalVerdict::Unsafe { steps } => ModalFields {
+            invariant,
+            refusal: 0,
+            verdict: 1,
+            size: 0,
+            steps: steps as u32,
+        },
+        ModalVerdict::Depends { size, steps } => ModalFields {
+            invariant,
+            refusal: 0,
+            verdict: 3,
+            size: size as u32,
+            steps: steps as u32,
+        },
+        ModalVerdict::Refused(refusal) => ModalFields {
+            invariant,
+            refusal: refusal as u32,
+            verdict: 0,
+            size: 0,
+            steps: 0,
+        },
+    }
+}
+
+#[no_mangle]
+pub extern "C" fn shuntberry_decide_modal(
+    store: &[u64],
+    n: usize,
+    g: usize,
+    possible: &[u64],
+    path: &mut [u16],
+) -> ModalFields
+    ensures { λ r. ⌜ (modalFields r ≡ modalAnswer (now (store .entry)) n g (now (possible .entry)) (length (now (path .entry))))
+        × (now (path .exit) ≡ modalBuffer (now (store .entry)) n g (now (possible .entry)) (now (path .entry))) ⌝ }
+{
+    lay_out_modal(decide_modal(store, n, g, possible, path))
 }
 
 // ---- next open minute

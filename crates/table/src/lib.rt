@@ -199,7 +199,7 @@ fn is_beyond(x: StateSet, n: usize) -> bool
 }
 
 // One of the `count` sets that begin at `at` has a state from n up. The sets are joined and tested once.
-fn any_beyond(store: &[u64], at: usize, count: usize, n: usize) -> bool
+pub fn any_beyond(store: &[u64], at: usize, count: usize, n: usize) -> bool
     requires { ⌜ at + WORDS * count ≤ length (now store) ⌝ }
     ensures { λ r. ⌜ r ≡ any count (λ j. beyond n (setAt (now (store .entry)) (at + WORDS * j))) ⌝ }
 {
@@ -211,7 +211,7 @@ fn any_beyond(store: &[u64], at: usize, count: usize, n: usize) -> bool
 }
 
 // Some word from `from` on and before `to` is not 0.
-fn non_zero(store: &[u64], from: usize, to: usize) -> bool
+pub fn non_zero(store: &[u64], from: usize, to: usize) -> bool
     requires { ⌜ (from ≤ to) × (to ≤ length (now store)) ⌝ }
     ensures { λ r. ⌜ r ≡ nonZero (now (store .entry)) from to ⌝ }
 {

@@ -8,6 +8,12 @@ use crate::table::{
 pub const PATH_PLACES: usize = MAX_STATES;
 pub const MAX_ALLOWANCE: usize = MAX_STATES;
 pub const MAX_LOG: usize = 32_768;
+pub const POSSIBLE_WORDS: usize = possible_at(MAX_STATES);
+
+/// Where the possible steps of a state begin in their buffer.
+pub const fn possible_at(s: usize) -> usize {
+    WORDS * s
+}
 
 pub fn decide(
     store: &[u64],
@@ -56,6 +62,25 @@ pub fn edit(store: &[u64], n: usize, g: usize, from: usize, to: usize) -> Result
     refuse_if(from >= n || to >= n, 27)
 }
 
+pub fn decide_modal(
+    store: &[u64],
+    n: usize,
+    g: usize,
+    possible: &[u64],
+    path_len: usize,
+) -> Result<(), u32> {
+    refuse_if(possible.len() < POSSIBLE_WORDS, 10)?;
+    table(store, n, g)?;
+    let rows = (0..MAX_STATES).map(|s| (s < n, possible_at(s)));
+    refuse_if(has_stray(possible, n, rows), 17)?;
+    let certain_only = |from: usize, to: usize| {
+        has(store, row_at(from), to) && !has(possible, possible_at(from), to)
+    };
+    let uncertain = (0..n).any(|from| (0..n).any(|to| certain_only(from, to)));
+    refuse_if(uncertain, 28)?;
+    refuse_if(path_len < PATH_PLACES, 21)
+}
+
 /// What read asks before it looks at the input: a store to fill, and a site.
 pub fn read(store_len: usize, site: usize) -> Result<(), u32> {
     refuse_if(store_len < STORE_WORDS, 10)?;
@@ -67,18 +92,22 @@ fn table(store: &[u64], n: usize, g: usize) -> Result<(), u32> {
     refuse_if(store.len() < STORE_WORDS, 10)?;
     refuse_if(n == 0 && g > 0 || n > MAX_STATES, 14)?;
     refuse_if(g > MAX_GROUPS, 15)?;
-    let has = |at: usize, state: usize| store[at + state / 64] & (1 << (state % 64)) != 0;
-    let past_n = |at: usize| (n..MAX_STATES).any(|state| has(at, state));
-    let not_empty = |at: usize| store[at..at + WORDS].iter().any(|&word| word != 0);
     let groups = (0..MAX_GROUPS).map(|j| (j < g, group_at(j)));
     let rows = (0..MAX_STATES).map(|s| (s < n, row_at(s)));
-    let stray = [INITIAL_AT, MARKED_AT, RESTING_AT]
-        .map(|at| (true, at))
-        .into_iter()
-        .chain(groups)
-        .chain(rows)
-        .any(|(used, at)| if used { past_n(at) } else { not_empty(at) });
-    refuse_if(stray, 17)
+    let heads = [INITIAL_AT, MARKED_AT, RESTING_AT].map(|at| (true, at));
+    let sets = heads.into_iter().chain(groups).chain(rows);
+    refuse_if(has_stray(store, n, sets), 17)
+}
+
+fn has(buffer: &[u64], at: usize, state: usize) -> bool {
+    buffer[at + state / 64] & (1 << (state % 64)) != 0
+}
+
+/// Whether one of these sets, each in use or not, has a state that it may not have.
+fn has_stray(buffer: &[u64], n: usize, mut sets: impl Iterator<Item = (bool, usize)>) -> bool {
+    let past_n = |at: usize| (n..MAX_STATES).any(|state| has(buffer, at, state));
+    let not_empty = |at: usize| buffer[at..at + WORDS].iter().any(|&word| word != 0);
+    sets.any(|(used, at)| if used { past_n(at) } else { not_empty(at) })
 }
 
 fn refuse_if(ground: bool, number: u32) -> Result<(), u32> {

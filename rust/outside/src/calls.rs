@@ -1,4 +1,4 @@
-//! The four calls as a trait, so that one test serves the library as it is linked for C, the safe
+//! The calls as a trait, so that one test serves the library as it is linked for C, the safe
 //! wrapper around it, and the peer.
 
 use crate::table::WORDS;
@@ -72,9 +72,20 @@ pub enum Edit {
     Remove(usize, usize),
 }
 
+/// What decide modal answers.
+#[derive(Clone, Copy, Debug, Default, PartialEq, Eq)]
+pub struct Modal {
+    pub invariant: [u64; WORDS],
+    pub refusal: u32,
+    pub verdict: u32,
+    pub size: u32,
+    pub steps: u32,
+}
+
 pub const SAFE: u32 = 0;
 pub const UNSAFE: u32 = 1;
 pub const UNDECIDED: u32 = 2;
+pub const DEPENDS: u32 = 3;
 
 pub trait Calls: Sync {
     fn name(&self) -> &'static str;
@@ -104,6 +115,14 @@ pub trait Calls: Sync {
         }
         lit
     }
+    fn decide_modal(
+        &self,
+        store: &[u64],
+        n: usize,
+        g: usize,
+        possible: &[u64],
+        path: &mut [u16],
+    ) -> Modal;
 }
 
 #[cfg(feature = "library")]
@@ -112,10 +131,10 @@ pub use linked::{Linked, Wrapped};
 #[cfg(feature = "library")]
 mod linked {
     use super::{
-        Calls, Decision, Edit, Replay, SAFE, Session, Shortest, TableRead, UNDECIDED, UNSAFE,
-        Within, Words, Written,
+        Calls, DEPENDS, Decision, Edit, Modal, Replay, SAFE, Session, Shortest, TableRead, UNDECIDED,
+        UNSAFE, Within, Words, Written,
     };
-    use shuntberry::{Refused, StateSet, Verdict, raw};
+    use shuntberry::{ModalVerdict, Refused, StateSet, Verdict, raw};
 
     /// The library, by its exports for C.
     pub struct Linked;
@@ -239,6 +258,29 @@ mod linked {
         Session {
             refusal: answer.refusal + answer.reserved.wrapping_mul(1 << 16),
             reachable: answer.reachable.words,
+        }
+
+        fn decide_modal(
+            &self,
+            store: &[u64],
+            n: usize,
+            g: usize,
+            possible: &[u64],
+            path: &mut [u16],
+        ) -> Modal {
+            let (words, length) = (store.as_ptr(), store.len());
+            let (rows, more) = (possible.as_ptr(), possible.len());
+            let (places, room) = (path.as_mut_ptr(), path.len());
+            let answer = unsafe {
+                raw::shuntberry_decide_modal(words, length, n, g, rows, more, places, room)
+            };
+            Modal {
+                invariant: answer.invariant,
+                refusal: answer.refusal,
+                verdict: answer.verdict,
+                size: answer.size,
+                steps: answer.steps,
+            }
         }
     }
 
@@ -420,6 +462,39 @@ mod linked {
                 refusal,
                 reachable: refused,
             },
+        }
+
+        fn decide_modal(
+            &self,
+            store: &[u64],
+            n: usize,
+            g: usize,
+            possible: &[u64],
+            path: &mut [u16],
+        ) -> Modal {
+            let (verdict, invariant, states) =
+                match shuntberry::decide_modal(store, n, g, possible, path) {
+                    Err(Refused(refusal)) => {
+                        return Modal {
+                            refusal,
+                            ..Modal::default()
+                        };
+                    }
+                    Ok(ModalVerdict::Safe { invariant }) => (SAFE, invariant, None),
+                    Ok(ModalVerdict::Unsafe { path }) => {
+                        (UNSAFE, StateSet::default(), Some(path.to_vec()))
+                    }
+                    Ok(ModalVerdict::Depends { invariant, path }) => {
+                        (DEPENDS, invariant, Some(path.to_vec()))
+                    }
+                };
+            Modal {
+                invariant: invariant.0,
+                refusal: 0,
+                verdict,
+                size: invariant.states().count() as u32,
+                steps: states.map_or(0, |states| length_of_front(path, &states).wrapping_sub(1)),
+            }
         }
     }
 }

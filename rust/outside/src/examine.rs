@@ -6,7 +6,7 @@
 use std::collections::BTreeMap;
 use std::fmt::Debug;
 
-use crate::accept::{MAX_ALLOWANCE, PATH_PLACES};
+use crate::accept::{MAX_ALLOWANCE, PATH_PLACES, POSSIBLE_WORDS};
 use crate::blocks::{self, BLOCK, Form, MAX_SITE};
 use crate::buffer::Lent;
 use crate::calls::{
@@ -16,6 +16,7 @@ use crate::damage::{self, DAMAGES, Damage};
 use crate::expected::{self, Expected, Judged};
 use crate::generate::{Kind, Random};
 use crate::logs;
+use crate::modal;
 use crate::named;
 use crate::rounds::{self, Rounds};
 use crate::search;
@@ -166,6 +167,7 @@ pub fn random_table(libraries: &[&dyn Calls], random: &mut Random, tally: &mut T
         .and_then(|()| spoiled_arguments(libraries, &dialogue, random, tally))
         .and_then(|()| logs::random_logs(libraries, &dialogue, random, tally))
         .and_then(|()| sessions::random_edits(libraries, &dialogue, random, tally))
+        .and_then(|()| modal::random_options(libraries, &dialogue, random, tally))
         .map_err(|fault| format!("{kind:?}: {fault}"))
 }
 
@@ -597,6 +599,7 @@ fn spoiled_arguments(
     }
     logs::spoiled(libraries, &store, (n, g), random, tally)
         .and_then(|()| sessions::spoiled(libraries, &store, (n, g), random, tally))
+        .and_then(|()| modal::spoiled(libraries, dialogue, &store, (n, g, path_len), random, tally))
         .map_err(|fault| format!("{faults:?}: {fault}"))
 }
 
@@ -687,6 +690,7 @@ pub fn named_tables(libraries: &[&dyn Calls], random: &mut Random, tally: &mut T
     logs::edges(libraries, random)?;
     sessions::edges(libraries, random)?;
     sessions::long_lists(libraries, random, tally)?;
+    modal::edges(libraries, random, tally)?;
     edges(libraries, random, tally)
 }
 
@@ -718,6 +722,14 @@ fn drafts(libraries: &[&dyn Calls], random: &mut Random, tally: &mut Tally) -> O
             let walk = logs::expected(store, 0, g, log);
             let shared = [far.answer, walk.refusal];
             same("the plain acceptance of n = 0", shared, [refusals[2]; 2])?;
+            // Without possible steps, decide modal has the grounds of shortest path.
+            let none = vec![0; POSSIBLE_WORDS];
+            let modal = modal::expected(store, 0, g, &none, room);
+            same(
+                "the plain acceptance of n = 0",
+                modal.answer.refusal,
+                refusals[1],
+            )?;
             for (_, answer) in near.clone() {
                 same("the plain within of n = 0", answer.refusal, refusals[2])?;
             }
@@ -727,7 +739,8 @@ fn drafts(libraries: &[&dyn Calls], random: &mut Random, tally: &mut Tally) -> O
                 write(*library, store, (0, g, 0), &output, &written)?;
                 distances(*library, store, (0, g), &out, &far)?;
                 within(*library, store, (0, g), near.clone())?;
-                logs::replay(*library, store, (0, g), log, walk)
+                logs::replay(*library, store, (0, g), log, walk)?;
+                modal::decide_modal(*library, store, (0, g), &none, &path, &modal)
             })
         };
     let (most, over) = (MAX_ALLOWANCE, MAX_ALLOWANCE + 1);

@@ -2,6 +2,7 @@
 //! just the marked states are forbidden.
 
 use crate::generate::{Random, Steps, add_fan_out, rows};
+use crate::modal::Optional;
 use crate::table::{Dialogue, MAX_GROUPS, MAX_STATES, Set, set_where};
 
 pub struct Family {
@@ -95,6 +96,53 @@ pub fn for_logs(random: &mut Random) -> Vec<Family> {
         ),
         family("16,384 entries, corridor", vec![corridor(MAX_STATES)]),
     ]
+}
+
+/// For decide modal: no step that is only possible, one at the end of a corridor, and half of the steps.
+pub fn for_options(random: &mut Random) -> Vec<(String, Vec<Optional>)> {
+    let n = MAX_STATES;
+    let last_off = |mut table: Dialogue| {
+        let possible = table.rows.clone();
+        table.rows[n - 2].fill(false);
+        Optional {
+            dialogue: table,
+            possible,
+        }
+    };
+    let mut half_off = |mut table: Dialogue| {
+        let possible = table.rows.clone();
+        let steps = table.rows.iter_mut().flatten();
+        steps.for_each(|step| *step &= random.once_in(2));
+        Optional {
+            dialogue: table,
+            possible,
+        }
+    };
+    let equal = |table: Dialogue| Optional {
+        possible: table.rows.clone(),
+        dialogue: table,
+    };
+    // Drawn apart from the steps that are off.
+    let mut own = Random::new(2);
+    let corridor = || family("corridor of 512", vec![corridor(n)]);
+    let fan = family("fan-out 4", some(|| fan_out(n, 4, 0, &mut own)));
+    let grouped = family(
+        "64 random groups",
+        some(|| fan_out(n, 4, MAX_GROUPS, &mut own)),
+    );
+    let dense = family("dense rows", some(|| dense(n, &mut own)));
+    let safe = family("no path", some(|| no_path(n, &mut own)));
+    let mut rows = Vec::new();
+    let mut row = |family: Family, what: &str, options: &mut dyn FnMut(Dialogue) -> Optional| {
+        let tables = family.tables.into_iter().map(options).collect();
+        rows.push((format!("{}, {what}", family.name), tables));
+    };
+    row(corridor(), "every step certain", &mut { equal });
+    row(corridor(), "the last step possible", &mut { last_off });
+    for family in [fan, grouped, dense, safe] {
+        row(family, "half of the steps certain", &mut half_off);
+    }
+    rows
 }
 
 fn some(mut table: impl FnMut() -> Dialogue) -> Vec<Dialogue> {

@@ -10,7 +10,8 @@
 //! - `blocks`: block files of both forms, to and from bytes;
 //! - `accept`: refusals of a store and of the other arguments, in order;
 //! - `logs`: pump logs, walked as the text says, drawn at random, and the tests of the call replay;
-//! - `sessions`: lists of edits, with a fresh search after each, and the tests of an edit session.
+//! - `sessions`: lists of edits, with a fresh search after each, and the tests of an edit session;
+//! - `modal`: the choices between certain and possible steps, and the tests of the call decide modal.
 //!
 //! `peer` is an optimised implementation of the calls on sets of words: what the library is
 //! measured against, and a library that the tests themselves can be tested with.
@@ -33,6 +34,7 @@ pub mod expected;
 pub mod families;
 pub mod generate;
 pub mod logs;
+pub mod modal;
 pub mod named;
 pub mod peer;
 pub mod regroup;

@@ -157,7 +157,8 @@ pub fn words(set: &Set) -> [u64; WORDS] {
     words
 }
 
-fn put_words(words: &mut [u64], at: usize, set: &Set) {
+/// Puts the words of a set into a buffer.
+pub fn put_words(words: &mut [u64], at: usize, set: &Set) {
     for s in 0..set.len() {
         if set[s] {
             words[at + s / 64] |= 1 << (s % 64);

@@ -1,5 +1,5 @@
-//! The benchmark: the library's calls beside the optimised peer, and next open minute beside a search
-//! minute by minute, in one run.
+//! The benchmark: the library's calls beside the optimised peer, decide modal beside two calls of decide too, and next
+//! open minute beside a search minute by minute, in one run.
 //!
 //!     bench [--peer] [--repetitions R] [--only WORDS] [--runs N]
 //!
@@ -16,10 +16,11 @@ use std::time::Instant;
 
 use shuntberry_outside::accept::{MAX_ALLOWANCE, MAX_LOG};
 use shuntberry_outside::blocks::{Form, LARGEST};
-use shuntberry_outside::calls::Calls;
+use shuntberry_outside::calls::{Calls, DEPENDS, Decision, Modal, SAFE, UNSAFE};
 use shuntberry_outside::families;
 use shuntberry_outside::generate::Random;
 use shuntberry_outside::logs;
+use shuntberry_outside::modal::Optional;
 use shuntberry_outside::peer::{Looks, Peer};
 use shuntberry_outside::table::{Dialogue, MAX_STATES, STORE_WORDS};
 use shuntberry_outside::windows::{self, NextOpen};
@@ -158,15 +159,17 @@ fn main() -> ExitCode {
         return ExitCode::from(2);
     };
     let rows = rows(&options.only);
+    let choices = choices(&options.only);
     let questions = questions(&options.only);
-    if rows.is_empty() && questions.is_empty() {
+    if rows.is_empty() && choices.is_empty() && questions.is_empty() {
         eprintln!("bench: no row has '{}' in it", options.only);
         return ExitCode::from(2);
     }
     if let Some(runs) = options.runs {
-        watch(subject, &rows, runs);
+        watch(subject, &rows, &choices, runs);
     } else if let Err(fault) = print_table(subject, &rows, options.repetitions)
         .and_then(|()| print_questions(options.peer, &questions, options.repetitions))
+        .and_then(|()| print_choices(subject, &choices, options.repetitions))
     {
         eprintln!("bench: {fault}");
         return ExitCode::FAILURE;
@@ -221,8 +224,17 @@ fn rows(only: &str) -> Vec<Row> {
 }
 
 /// Goes through the tables of each row, for a profiler to watch.
-fn watch(subject: &dyn Calls, rows: &[Row], runs: usize) {
+fn watch(subject: &dyn Calls, rows: &[Row], choices: &[Choices], runs: usize) {
     let mut buffers = Buffers::new();
+    for Choices { name, cases } in choices {
+        for _ in 0..runs {
+            cases.iter().for_each(|case| {
+                black_box(case.decide_modal(subject, &mut buffers.path));
+            });
+        }
+        let count = runs * cases.len();
+        println!("{}: {name}: {count} calls", subject.name());
+    }
     for Row { call, name, cases } in rows {
         for _ in 0..runs {
             call.run(subject, cases, &mut buffers);
@@ -354,6 +366,101 @@ fn figures(
         "|".to_string()
     };
     format!("{:.2} | {} | {quick}", per_call(0), beside(1))
+}
+
+// ---- Decide modal
+
+/// A table with options, and the two stores that release checks are made on.
+struct Choice {
+    store: Vec<u64>,
+    possible: Vec<u64>,
+    checked: [Vec<u64>; 2],
+    n: usize,
+    g: usize,
+}
+
+impl Choice {
+    fn of(optional: &Optional) -> Choice {
+        Choice {
+            store: optional.dialogue.to_store(),
+            possible: optional.possible_words(),
+            checked: [optional.least(), optional.most()].map(|dialogue| dialogue.to_store()),
+            n: optional.dialogue.n,
+            g: optional.dialogue.g(),
+        }
+    }
+
+    fn decide_modal(&self, library: &dyn Calls, path: &mut [u16]) -> Modal {
+        library.decide_modal(&self.store, self.n, self.g, &self.possible, path)
+    }
+
+    fn decide_twice(&self, library: &dyn Calls, path: &mut [u16]) -> [Decision; 2] {
+        let decide = |store: &Vec<u64>| library.decide(store, self.n, self.g, MAX_ALLOWANCE, path);
+        self.checked.each_ref().map(decide)
+    }
+}
+
+struct Choices {
+    name: String,
+    cases: Vec<Choice>,
+}
+
+/// The rows that have the words in their names.
+fn choices(only: &str) -> Vec<Choices> {
+    families::for_options(&mut Random::new(SEED))
+        .into_iter()
+        .map(|(family, tables)| Choices {
+            name: format!("decide modal | {family}"),
+            cases: tables.iter().map(Choice::of).collect(),
+        })
+        .filter(|row| row.name.contains(only))
+        .collect()
+}
+
+/// Decide modal beside two calls of decide, which are given their stores laid out, and beside the quick peer.
+fn print_choices(subject: &dyn Calls, rows: &[Choices], repetitions: usize) -> Result<(), String> {
+    let quick = &Peer(Looks::New);
+    if rows.is_empty() {
+        return Ok(());
+    }
+    println!(
+        "\n| call | family | {} | two calls of decide | ratio | quick peer | ratio |",
+        subject.name()
+    );
+    println!("|---|---|--:|--:|--:|--:|--:|");
+    for Choices { name, cases } in rows {
+        let mut path = [0; MAX_STATES];
+        for case in cases {
+            let answers = [subject, quick].map(|library| case.decide_modal(library, &mut path));
+            let verdicts = case.decide_twice(subject, &mut path).map(|d| d.verdict);
+            let told = match verdicts {
+                [_, SAFE] => SAFE,
+                [UNSAFE, _] => UNSAFE,
+                _ => DEPENDS,
+            };
+            if answers[0] != answers[1] || answers[0].verdict != told {
+                return Err(format!("{name}: answers differ: {answers:?}, {verdicts:?}"));
+            }
+        }
+        let time = |which: usize, rounds: usize| {
+            let start = Instant::now();
+            for _ in 0..rounds {
+                for case in cases {
+                    match which {
+                        0 => drop(black_box(black_box(case).decide_modal(subject, &mut path))),
+                        1 => drop(black_box(black_box(case).decide_twice(subject, &mut path))),
+                        _ => drop(black_box(black_box(case).decide_modal(quick, &mut path))),
+                    }
+                }
+            }
+            start.elapsed().as_nanos() as f64 / rounds as f64
+        };
+        println!(
+            "| {name} | {} |",
+            figures(3, cases.len(), repetitions, time)
+        );
+    }
+    Ok(())
 }
 
 // ---- Next open minute

@@ -261,7 +261,7 @@ fn earned_each_refusal(tally: &Tally, count: u64) -> bool {
 
 /// Refusals of the calls that no case earned.
 fn unearned_refusals(tally: &Tally) -> Vec<String> {
-    let table: [(&str, &[u32]); 10] = [
+    let table: [(&str, &[u32]); 11] = [
         ("refusal by decide", &[10, 14, 15, 17, 20, 21]),
         ("refusal by shortest path", &[10, 14, 15, 17, 21]),
         ("refusal by read", &[10, 24, 11, 12, 13, 14, 15, 16, 17, 18]),
@@ -271,6 +271,7 @@ fn unearned_refusals(tally: &Tally) -> Vec<String> {
         ("refusal by replay", &[10, 14, 15, 17, 25, 26]),
         ("refusal by open", &[10, 14, 15, 17]),
         ("refusal by an edit", &[10, 14, 15, 17, 27]),
+        ("refusal by decide modal", &[10, 14, 15, 17, 28, 21]),
         ("refusal by next open", &[29, 30, 31]),
     ];
     let mut unearned = Vec::new();

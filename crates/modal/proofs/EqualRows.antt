@@ -1,0 +1,142 @@
+-- Both rows of each state equal: the answer is decide's.
+--
+--   one-table                  two release checks of one table
+--   same-row, same-certain, same-possible     the rows, and both tables, are the store's
+--   as-decide                  the answer, and the path buffer
+use Prim.Native.Nat.{ℕ, _*_, _≤_, _<_}
+use native.Mathlib.Nat.{zero-add}
+use native.Mathlib.Omega.{arith}
+use mathlib.Core.Path.{_≡_, sym, ap, _∙_, subst, fun-ext}
+use mathlib.Core.Logic.{_⊎_, inl, inr, ⊎-elim}
+use mathlib.Core.Bool.{true, false, cond}
+use mathlib.Core.List.{List}
+use borrow.Author.Tests.{eq-eqb, ne-eqb, ltb-true, le-ltb}
+use lib.Dec.{eqb, ltb}
+use lib.ListN.{length}
+use Rattle.model.specs.Sets.{WORDS, maxStates, Set, union}
+use Rattle.model.specs.Tables.{Table, hangs}
+use Rattle.model.specs.Rounds.{run}
+use Rattle.model.specs.Paths.{smallestPath}
+use Rattle.model.specs.Stores.{markedAt, restingAt, rowAt, setAt, dialogueOf, tableOf, refuse}
+use Rattle.model.specs.Calls.{overwrite, release, Decision, decideGrounds, decideAnswer, decideBuffer, decideLimits}
+use Rattle.model.proofs.Bounds.{decided}
+use Rattle.model.proofs.GroundLaws.{refuse-skip, refuse-none}
+use Rattle.model.proofs.Acceptance.{store-accepted}
+use Rattle.model.proofs.Kept.{not-refused}
+use Rattle.modal.specs.Modal.{rowsFrom, certainRow, possibleRow, tableWith, modalForbidden, modalTable, certainTable, possibleTable, releaseCheck, ModalAnswer, modalOf, modalWritten}
+use Rattle.modal.specs.ModalPromises.{AsDecide}
+use Rattle.modal.proofs.Grounds.{ModalHeld, accepted}
+use Rattle.modal.proofs.Choosing.{SaysSafe, SaysUnsafe}
+use Rattle.modal.proofs.Deciding.{safe-of, unsafe-of}
+use Rattle.modal.proofs.Verdicts.{says-certain}
+
+-- ---- two checks of one table
+
+module _ (t : Table) (before : List ℕ) where
+  abbrev one : ModalAnswer
+  one = modalOf (releaseCheck t) (releaseCheck t)
+
+  same-written : (v : ℕ) → (v ≡ 0) ⊎ (v ≡ 1) → modalWritten t t v before ≡ cond (eqb v 1) (overwrite (smallestPath t) before) before
+  unfolding modalWritten
+  same-written v = ⊎-elim (λ e. rw e) (λ e. rw e)
+
+  one-table : SaysSafe t (releaseCheck t) ⊎ SaysUnsafe t (releaseCheck t)
+      → AsDecide (releaseCheck t) (cond (eqb ((releaseCheck t) .verdict) 1) (overwrite (smallestPath t) before) before) one (modalWritten t t (one .verdict) before)
+  unfolding releaseCheck
+  one-table =
+      ⊎-elim
+      (λ w.
+      let q = safe-of (releaseCheck t) (releaseCheck t) (eq-eqb ((releaseCheck t) .verdict) 0 (w .0)) in
+      let v : one .verdict ≡ (releaseCheck t) .verdict = ap (λ (a : ModalAnswer). a .verdict) q ∙ sym (w .0) in
+      record {
+        accepted = not-refused t (run t release);
+        verdict = v;
+        invariant = ap (λ (a : ModalAnswer). a .invariant) q;
+        size = ap (λ (a : ModalAnswer). a .size) q;
+        steps = ap (λ (a : ModalAnswer). a .steps) q ∙ sym (w .4);
+        buffer = ap (λ (k : ℕ). modalWritten t t k before) v ∙ same-written ((releaseCheck t) .verdict) (inl (w .0));
+      })
+      (λ w.
+      let q =
+      unsafe-of (releaseCheck t) (releaseCheck t) (ne-eqb ((releaseCheck t) .verdict) 0 (λ e. omega (arith, w .0, e)))
+      (eq-eqb ((releaseCheck t) .verdict) 1 (w .0)) in
+      let v : one .verdict ≡ (releaseCheck t) .verdict = ap (λ (a : ModalAnswer). a .verdict) q ∙ sym (w .0) in
+      record {
+        accepted = not-refused t (run t release);
+        verdict = v;
+        invariant = ap (λ (a : ModalAnswer). a .invariant) q ∙ sym (w .3);
+        size = ap (λ (a : ModalAnswer). a .size) q ∙ sym (w .4);
+        steps = ap (λ (a : ModalAnswer). a .steps) q;
+        buffer = ap (λ (k : ℕ). modalWritten t t k before) v ∙ same-written ((releaseCheck t) .verdict) (inr (w .0));
+      })
+
+-- ---- a call that is not declined
+
+module _ (store : List ℕ) (n g : ℕ) (possible : List ℕ) (ok : ModalHeld store n g possible) where
+  abbrev C : Table
+  C = certainTable store n g possible
+
+  abbrev P : Table
+  P = possibleTable store n g possible
+
+  abbrev both : ModalAnswer
+  both = modalOf (releaseCheck C) (releaseCheck P)
+
+  abbrev left : List ℕ → List ℕ
+  left before = modalWritten C P (both .verdict) before
+
+  module _ (equal : (s : ℕ) → s < n → setAt possible (WORDS * s) ≡ setAt store (rowAt s)) where
+    same-row : possibleRow possible n ≡ certainRow store n
+    unfolding rowsFrom
+    same-row =
+        fun-ext
+        (λ s.
+        ⊎-elim
+        (λ (q : ltb s n ≡ true). rw (q, zero-add (WORDS * s)) (equal s (ltb-true s n q)))
+        (λ (q : ltb s n ≡ false). rw q)
+        (decided (ltb s n)))
+
+    same-certain : C ≡ tableOf store n g
+    unfolding tableWith modalForbidden tableOf rowsFrom
+    same-certain = λ i.
+        record {
+          n = n;
+          initial = setAt store 0;
+          forbidden = union (setAt store markedAt) (hangs n (same-row i) (setAt store restingAt));
+          groups = (dialogueOf store n g) .groups;
+          row = certainRow store n;
+        }
+
+    same-possible : P ≡ tableOf store n g
+    same-possible = ap (λ (row : ℕ → Set). modalTable store n g possible row) same-row ∙ same-certain
+
+    module _ (before : List ℕ) (roomy : maxStates ≤ length before) where
+      decide-accepts : refuse (decideGrounds store n g release (length before)) ≡ 0
+      unfolding decideGrounds
+      decide-accepts =
+          store-accepted store n g (decideLimits release (length before)) (ok .held)
+          ∙ refuse-skip _ 20 _ (le-ltb release release (omega arith))
+          ∙ refuse-skip _ 21 _ (le-ltb (length before) maxStates roomy)
+          ∙ refuse-none
+
+      decide-answers : decideAnswer store n g release (length before) ≡ releaseCheck (tableOf store n g)
+      unfolding decideAnswer releaseCheck
+      decide-answers = rw decide-accepts
+
+      pub as-decide : AsDecide (decideAnswer store n g release (length before)) (decideBuffer store n g release before) both (left before)
+      unfolding decideBuffer
+      as-decide =
+          let T = tableOf store n g in
+          let says-T = subst (λ (u : Table). SaysSafe u (releaseCheck u) ⊎ SaysUnsafe u (releaseCheck u)) same-certain (says-certain store n g possible ok) in
+          subst (λ (d : Decision). AsDecide d (cond (eqb (d .verdict) 1) (overwrite (smallestPath T) before) before) both (left before))
+          (sym decide-answers)
+          (subst
+          (λ (u : Table).
+          AsDecide (releaseCheck T) (cond (eqb ((releaseCheck T) .verdict) 1) (overwrite (smallestPath T) before) before)
+          (modalOf (releaseCheck C) (releaseCheck u)) (modalWritten C u ((modalOf (releaseCheck C) (releaseCheck u)) .verdict) before))
+          (sym same-possible)
+          (subst
+          (λ (u : Table).
+          AsDecide (releaseCheck T) (cond (eqb ((releaseCheck T) .verdict) 1) (overwrite (smallestPath T) before) before)
+          (modalOf (releaseCheck u) (releaseCheck T)) (modalWritten u T ((modalOf (releaseCheck u) (releaseCheck T)) .verdict) before))
+          (sym same-certain) (one-table T before says-T)))

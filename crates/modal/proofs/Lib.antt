@@ -1,0 +1,10 @@
+pub mod Laying
+pub mod Grounds
+pub mod Checking
+pub mod Choosing
+pub mod Deciding
+pub mod Ranges
+pub mod WordsRead
+pub mod Verdicts
+pub mod EqualRows
+pub mod ModalKept

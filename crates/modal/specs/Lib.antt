@@ -1,0 +1,4 @@
+pub mod Modal
+pub mod Laid
+pub mod Answers
+pub mod ModalPromises
