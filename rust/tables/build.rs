@@ -6,6 +6,7 @@ use std::{env, fs};
 fn main() {
     let file = Path::new("../../VERSION");
     println!("cargo::rerun-if-changed={}", file.display());
-    let number = fs::read_to_string(file).unwrap_or_else(|_| env::var("CARGO_PKG_VERSION").unwrap_or_default());
+    let number = fs::read_to_string(file)
+        .unwrap_or_else(|_| env::var("CARGO_PKG_VERSION").unwrap_or_default());
     println!("cargo::rustc-env=SHUNTBERRY_RELEASE={}", number.trim());
 }

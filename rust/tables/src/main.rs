@@ -61,7 +61,10 @@ fn run(words: &[OsString]) -> Result<(), Failure> {
     let call = Call::of(words)?;
     match call.command {
         Action::Help => put(None, HELP.as_bytes()),
-        Action::Version => put(None, concat!("tables (Shuntberry) ", env!("SHUNTBERRY_RELEASE"), "\n").as_bytes()),
+        Action::Version => put(
+            None,
+            concat!("tables (Shuntberry) ", env!("SHUNTBERRY_RELEASE"), "\n").as_bytes(),
+        ),
         Action::Decode => put(call.output(), text::print(&call.table()?).as_bytes()),
         Action::Encode => encode(&call),
         Action::Picture => draw(&call),
@@ -120,28 +123,45 @@ impl Call {
         while let Some(word) = rest.next() {
             match word.to_str() {
                 Some("--") if options => options = false,
-                Some(option) if options && option.starts_with('-') => call.option(option, &mut rest)?,
-                _ if call.input.is_some() => return Err(wrongly(&format!("one file at a time, and '{}' is another", word.display()))),
+                Some(option) if options && option.starts_with('-') => {
+                    call.option(option, &mut rest)?
+                }
+                _ if call.input.is_some() => {
+                    return Err(wrongly(&format!(
+                        "one file at a time, and '{}' is another",
+                        word.display()
+                    )));
+                }
                 _ => call.input = Some(word.into()),
             }
         }
         if matches!(call.command, Action::Help | Action::Version) {
-            return if words.len() == 1 || call.input.is_none() { Ok(call) } else { Err(wrongly("no file goes with it")) };
+            return if words.len() == 1 || call.input.is_none() {
+                Ok(call)
+            } else {
+                Err(wrongly("no file goes with it"))
+            };
         }
         Ok(call)
     }
 
-    fn option<'w>(&mut self, option: &str, rest: &mut impl Iterator<Item = &'w OsString>) -> Result<(), Failure> {
+    fn option<'w>(
+        &mut self,
+        option: &str,
+        rest: &mut impl Iterator<Item = &'w OsString>,
+    ) -> Result<(), Failure> {
         let pictures = self.command == Action::Picture;
-        let mut value = || rest.next().ok_or_else(|| wrongly(&format!("{option} wants a word behind it")));
+        let mut value = || {
+            rest.next()
+                .ok_or_else(|| wrongly(&format!("{option} wants a word behind it")))
+        };
         match option {
             "--help" | "-h" => self.command = Action::Help,
             "--site" => {
                 let word = value()?;
-                self.site = word
-                    .to_str()
-                    .and_then(text::number)
-                    .ok_or_else(|| wrongly(&format!("'{}' is no number of a site", word.display())))?;
+                self.site = word.to_str().and_then(text::number).ok_or_else(|| {
+                    wrongly(&format!("'{}' is no number of a site", word.display()))
+                })?;
             }
             "-o" | "--output" => self.output = Some(value()?.into()),
             "--svg" if pictures => self.svg = true,
@@ -160,7 +180,13 @@ impl Call {
     fn table(&self) -> Result<Table, Failure> {
         let input = self.input.as_deref();
         let file = take(input, FILE_BYTES + 1)?;
-        Table::read(&file, self.site).map_err(|refused| Declined(format!("tables: {}: {}", shown(input), ground(refused, &file))))
+        Table::read(&file, self.site).map_err(|refused| {
+            Declined(format!(
+                "tables: {}: {}",
+                shown(input),
+                ground(refused, &file)
+            ))
+        })
     }
 }
 
@@ -169,7 +195,9 @@ fn ground(refused: Refused, file: &[u8]) -> String {
     let more = match (refused.0, file) {
         (13, _) => "; --site N reads the file of another site",
         // The high byte of the second number, behind the block's number and n: the old form's is below 32,768.
-        (15, [_, _, _, _, _, high, ..]) if *high < 0x80 => "; this file is of the old form, and the command rewrite makes a new one of it",
+        (15, [_, _, _, _, _, high, ..]) if *high < 0x80 => {
+            "; this file is of the old form, and the command rewrite makes a new one of it"
+        }
         _ => "",
     };
     format!("{refused}{more}")
@@ -179,9 +207,14 @@ fn ground(refused: Refused, file: &[u8]) -> String {
 
 fn encode(call: &Call) -> Result<(), Failure> {
     let text = parsed(call.input.as_deref(), "nothing was encoded")?;
-    let file = text.table.write(call.site).map_err(|refused| Declined(format!("tables: {refused}")))?;
+    let file = text
+        .table
+        .write(call.site)
+        .map_err(|refused| Declined(format!("tables: {refused}")))?;
     if call.output.is_none() && io::stdout().is_terminal() {
-        return Err(Failed("tables: a file is bytes and not for a terminal: -o OUT".to_string()));
+        return Err(Failed(
+            "tables: a file is bytes and not for a terminal: -o OUT".to_string(),
+        ));
     }
     put(call.output(), &file)
 }
@@ -191,12 +224,20 @@ fn parsed(input: Option<&Path>, so: &str) -> Result<Text, Failure> {
     let name = shown(input);
     let bytes = take(input, TEXT_BYTES + 1)?;
     if bytes.len() > TEXT_BYTES {
-        return Err(Failed(format!("tables: {name} is longer than {TEXT_BYTES} bytes, and no text of a table")));
+        return Err(Failed(format!(
+            "tables: {name} is longer than {TEXT_BYTES} bytes, and no text of a table"
+        )));
     }
     text::parse(&bytes).map_err(|mistakes| {
-        let mut said: Vec<String> = mistakes.iter().map(|Mistake { line, reason }| format!("{name}:{line}: {reason}")).collect();
+        let mut said: Vec<String> = mistakes
+            .iter()
+            .map(|Mistake { line, reason }| format!("{name}:{line}: {reason}"))
+            .collect();
         let count = mistakes.len();
-        said.push(format!("tables: {name}: {count} mistake{}, {so}", if count == 1 { "" } else { "s" }));
+        said.push(format!(
+            "tables: {name}: {count} mistake{}, {so}",
+            if count == 1 { "" } else { "s" }
+        ));
         Declined(said.join("\n"))
     })
 }
@@ -208,12 +249,16 @@ fn draw(call: &Call) -> Result<(), Failure> {
         Some(path) => {
             let text = parsed(Some(path), "nothing was drawn")?;
             if text.table != table {
-                return Err(Declined(format!("tables: {} is the text of another table, so its names say nothing here", path.display())));
+                return Err(Declined(format!(
+                    "tables: {} is the text of another table, so its names say nothing here",
+                    path.display()
+                )));
             }
             text.names
         }
     };
-    let graph = picture::dot(&table, &names, &shown(call.input.as_deref()), call.options).map_err(|refused| Declined(format!("tables: {refused}")))?;
+    let graph = picture::dot(&table, &names, &shown(call.input.as_deref()), call.options)
+        .map_err(|refused| Declined(format!("tables: {refused}")))?;
     if call.svg {
         put(call.output(), &svg(graph.as_bytes())?)
     } else {
@@ -223,7 +268,9 @@ fn draw(call: &Call) -> Result<(), Failure> {
 
 /// What `dot` draws of a graph.
 fn svg(graph: &[u8]) -> Result<Vec<u8>, Failure> {
-    let failed = |why: &dyn std::fmt::Display| Failed(format!("tables: dot could not draw the graph: {why}"));
+    let failed = |why: &dyn std::fmt::Display| {
+        Failed(format!("tables: dot could not draw the graph: {why}"))
+    };
     let mut dot = Command::new("dot")
         .arg("-Tsvg")
         .stdin(Stdio::piped())
@@ -255,20 +302,31 @@ fn svg(graph: &[u8]) -> Result<Vec<u8>, Failure> {
 // theirs are not used.
 
 fn shown(input: Option<&Path>) -> String {
-    input.map_or("standard input".to_string(), |path| path.display().to_string())
+    input.map_or("standard input".to_string(), |path| {
+        path.display().to_string()
+    })
 }
 
 /// The input's first bytes. An empty standard input is none: mostly it is what a command that failed left, and a file of no bytes would be
 /// an untouched draft, which is safe.
 fn take(input: Option<&Path>, most: usize) -> Result<Vec<u8>, Failure> {
-    let failed = |error: io::Error| Failed(format!("tables: {} could not be read: {error}", shown(input)));
+    let failed = |error: io::Error| {
+        Failed(format!(
+            "tables: {} could not be read: {error}",
+            shown(input)
+        ))
+    };
     let file = match input {
         Some(path) => File::open(path).map_err(failed)?,
-        None if io::stdin().is_terminal() => return Err(wrongly("no file, and standard input is a terminal")),
+        None if io::stdin().is_terminal() => {
+            return Err(wrongly("no file, and standard input is a terminal"));
+        }
         None => File::from(io::stdin().as_fd().try_clone_to_owned().map_err(failed)?),
     };
     let mut bytes = Vec::new();
-    file.take(most as u64).read_to_end(&mut bytes).map_err(failed)?;
+    file.take(most as u64)
+        .read_to_end(&mut bytes)
+        .map_err(failed)?;
     if input.is_none() && bytes.is_empty() {
         return Err(Failed("tables: standard input is empty; an untouched draft, which has no bytes, is read by its name".to_string()));
     }
@@ -284,7 +342,9 @@ fn put(output: Option<&Path>, bytes: &[u8]) -> Result<(), Failure> {
             .and_then(|out| File::from(out).write_all(bytes)),
         Some(path) => replace(path, bytes),
     };
-    let name = output.map_or("standard output".to_string(), |path| path.display().to_string());
+    let name = output.map_or("standard output".to_string(), |path| {
+        path.display().to_string()
+    });
     written.map_err(|error| Failed(format!("tables: {name} could not be written: {error}")))
 }
 

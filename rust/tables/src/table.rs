@@ -1,7 +1,8 @@
 //! A table in its store. Files go in and out by the proved `read` and `write` alone.
 
 use shuntberry::{
-    FILE_BYTES, INITIAL, MARKED, RESTING, Refused, SET_WORDS, STORE_WORDS, StateSet, group, read, row, write,
+    FILE_BYTES, INITIAL, MARKED, RESTING, Refused, SET_WORDS, STORE_WORDS, StateSet, group, read,
+    row, write,
 };
 
 /// A table: its sizes, and the store that holds its sets.

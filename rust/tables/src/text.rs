@@ -106,7 +106,11 @@ pub fn parse(text: &[u8]) -> Result<Text, Vec<Mistake>> {
         }
     }
     let last = text.split(|&byte| byte == b'\n').count();
-    reader.finish(if text.ends_with(b"\n") { last - 1 } else { last })
+    reader.finish(if text.ends_with(b"\n") {
+        last - 1
+    } else {
+        last
+    })
 }
 
 /// A line that says something: its first word and the others.
@@ -151,7 +155,10 @@ impl Reader {
     fn line(&mut self, number: usize, bytes: &[u8]) -> Option<Line> {
         let bytes = bytes.strip_suffix(b"\r").unwrap_or(bytes);
         let Ok(text) = std::str::from_utf8(bytes) else {
-            self.mistake(number, "this is no text: there are bytes that are not UTF-8");
+            self.mistake(
+                number,
+                "this is no text: there are bytes that are not UTF-8",
+            );
             return None;
         };
         if text.contains(|c: char| c.is_control() && c != '\t') {
@@ -172,24 +179,42 @@ impl Reader {
     /// `states N`
     fn states(&mut self, line: &Line) {
         if let Some(first) = self.states_line {
-            self.mistake(line.number, format!("the number of states stands on line {first} already"));
+            self.mistake(
+                line.number,
+                format!("the number of states stands on line {first} already"),
+            );
             return;
         }
         self.states_line = Some(line.number);
         match &line.words[..] {
             [word] => match number(word) {
                 Some(n) if n <= MAX_STATES => self.n = Some(n),
-                Some(_) => self.mistake(line.number, format!("{} states are too many: a table has at most {MAX_STATES}", cut(word))),
-                None => self.mistake(line.number, format!("{} is no number of states", quoted(word))),
+                Some(_) => self.mistake(
+                    line.number,
+                    format!(
+                        "{} states are too many: a table has at most {MAX_STATES}",
+                        cut(word)
+                    ),
+                ),
+                None => self.mistake(
+                    line.number,
+                    format!("{} is no number of states", quoted(word)),
+                ),
             },
-            _ => self.mistake(line.number, "this line is written states N, with one number"),
+            _ => self.mistake(
+                line.number,
+                "this line is written states N, with one number",
+            ),
         }
     }
 
     /// `state N NAME`
     fn name(&mut self, line: &Line) {
         let [word, name] = &line.words[..] else {
-            self.mistake(line.number, "a name is given by state N NAME, with a name of one word");
+            self.mistake(
+                line.number,
+                "a name is given by state N NAME, with a name of one word",
+            );
             return;
         };
         if !is_name(name) {
@@ -199,7 +224,10 @@ impl Reader {
             );
             return;
         }
-        let state = match number(word).ok_or(format!("{} is no number", quoted(word))).and_then(|state| self.in_range(state, word)) {
+        let state = match number(word)
+            .ok_or(format!("{} is no number", quoted(word)))
+            .and_then(|state| self.in_range(state, word))
+        {
             Ok(state) => state,
             Err(reason) => {
                 self.mistake(line.number, reason);
@@ -211,7 +239,10 @@ impl Reader {
             self.mistake(line.number, reason);
         } else if let Some(other) = self.names.get(&state) {
             let first = self.named[other].1;
-            self.mistake(line.number, format!("state {state} has the name {other}, by line {first} already"));
+            self.mistake(
+                line.number,
+                format!("state {state} has the name {other}, by line {first} already"),
+            );
         } else {
             self.named.insert(name.clone(), (state, line.number));
             self.names.insert(state, name.clone());
@@ -222,7 +253,11 @@ impl Reader {
     fn set(&mut self, line: &Line) {
         let (at, fact) = (line.number, &line.fact);
         let none = line.words == [NONE];
-        let states = if none { Vec::new() } else { self.listed(line, &line.words) };
+        let states = if none {
+            Vec::new()
+        } else {
+            self.listed(line, &line.words)
+        };
         let said = self.sets.entry(fact.clone()).or_insert(Said {
             first: (at, none),
             states: BTreeMap::new(),
@@ -230,7 +265,9 @@ impl Reader {
         let (first, first_none) = said.first;
         let mut reasons = Vec::new();
         if first != at && (none || first_none) {
-            reasons.push(format!("{fact} {NONE} goes with no other line of {fact}, and line {first} is one"));
+            reasons.push(format!(
+                "{fact} {NONE} goes with no other line of {fact}, and line {first} is one"
+            ));
         }
         for state in states {
             if let Some(other) = said.states.insert(state, at) {
@@ -245,11 +282,18 @@ impl Reader {
     /// `group STATE..`
     fn group(&mut self, line: &Line) {
         if self.groups.len() == MAX_GROUPS {
-            self.mistake(line.number, format!("this group is one too many: a table has at most {MAX_GROUPS}"));
+            self.mistake(
+                line.number,
+                format!("this group is one too many: a table has at most {MAX_GROUPS}"),
+            );
         } else if self.n == Some(0) {
             self.mistake(line.number, "a table without states has no groups");
         }
-        let states = if line.words == [NONE] { Vec::new() } else { self.listed(line, &line.words) };
+        let states = if line.words == [NONE] {
+            Vec::new()
+        } else {
+            self.listed(line, &line.words)
+        };
         self.groups.push(states);
     }
 
@@ -267,7 +311,10 @@ impl Reader {
         for b in self.listed(line, to) {
             for &a in &from {
                 if let Some(other) = self.steps.insert((a, b), line.number) {
-                    self.mistake(line.number, format!("the step {a} {ARROW} {b} stands on line {other} already"));
+                    self.mistake(
+                        line.number,
+                        format!("the step {a} {ARROW} {b} stands on line {other} already"),
+                    );
                 }
             }
         }
@@ -276,13 +323,22 @@ impl Reader {
     /// The states that words stand for; a mistake for each word that stands for none, or for one once more.
     fn listed(&mut self, line: &Line, words: &[String]) -> Vec<usize> {
         if words.is_empty() {
-            self.mistake(line.number, format!("no state stands behind {0}: an empty one is written {0} {NONE}", line.fact));
+            self.mistake(
+                line.number,
+                format!(
+                    "no state stands behind {0}: an empty one is written {0} {NONE}",
+                    line.fact
+                ),
+            );
         }
         let mut states = Vec::new();
         for word in words {
             match self.state(word) {
                 Ok(state) if states.contains(&state) => {
-                    self.mistake(line.number, format!("state {state} stands on this line already"));
+                    self.mistake(
+                        line.number,
+                        format!("state {state} stands on this line already"),
+                    );
                 }
                 Ok(state) => states.push(state),
                 Err(reason) => self.mistake(line.number, reason),
@@ -296,8 +352,13 @@ impl Reader {
         match (number(word), self.named.get(word)) {
             (Some(state), _) => self.in_range(state, word),
             (None, Some(&(state, _))) => Ok(state),
-            (None, None) if word == NONE => Err(format!("{NONE} stands alone behind initial, forbidden, resting or group")),
-            (None, None) => Err(format!("{} is no number, and no line gives a state this name", quoted(word))),
+            (None, None) if word == NONE => Err(format!(
+                "{NONE} stands alone behind initial, forbidden, resting or group"
+            )),
+            (None, None) => Err(format!(
+                "{} is no number, and no line gives a state this name",
+                quoted(word)
+            )),
         }
     }
 
@@ -312,7 +373,10 @@ impl Reader {
     /// The table, if there is no mistake: then each state is one that it has.
     fn finish(mut self, last: usize) -> Result<Text, Vec<Mistake>> {
         if self.states_line.is_none() {
-            self.mistake(last, "the text ends, and no line says how many states there are: states N");
+            self.mistake(
+                last,
+                "the text ends, and no line says how many states there are: states N",
+            );
         }
         for fact in ["initial", "forbidden"] {
             if self.n != Some(0) && !self.sets.contains_key(fact) {
@@ -324,8 +388,17 @@ impl Reader {
             return Err(self.mistakes);
         };
         let mut table = Table::new(n, self.groups.len());
-        for (fact, set) in [("initial", Set::Initial), ("forbidden", Set::Marked), ("resting", Set::Resting)] {
-            for &state in self.sets.get(fact).iter().flat_map(|said| said.states.keys()) {
+        for (fact, set) in [
+            ("initial", Set::Initial),
+            ("forbidden", Set::Marked),
+            ("resting", Set::Resting),
+        ] {
+            for &state in self
+                .sets
+                .get(fact)
+                .iter()
+                .flat_map(|said| said.states.keys())
+            {
                 table.insert(set, state);
             }
         }
@@ -362,7 +435,11 @@ pub fn number(word: &str) -> Option<usize> {
 }
 
 fn is_name(word: &str) -> bool {
-    word != NONE && word.starts_with(char::is_alphabetic) && word.chars().all(|c| c.is_alphanumeric() || "-_.".contains(c))
+    word != NONE
+        && word.starts_with(char::is_alphabetic)
+        && word
+            .chars()
+            .all(|c| c.is_alphanumeric() || "-_.".contains(c))
 }
 
 /// The longest part of a word that a mistake repeats, in characters.
