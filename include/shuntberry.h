@@ -2,11 +2,12 @@
  * Shuntberry: is a forbidden state of a dialogue table reachable, and by which steps?
  *
  * The calls are decide, shortest path, distances, within, read, write, generate and replay, and beside them
- * next open minute, which says when a release may be loaded and reads no table. Link
- * target/staticlib/libshuntberry.a, which `rt staticlib shuntberry` makes. Nothing is allocated, nothing is
- * kept between calls, and no call fails other than by a refusal number. Calls may be made from several
- * threads at once, as long as no buffer that one of them writes is lent to another. A call takes less than
- * 256 KiB of stack (tests/outside measures it on the longest path).
+ * next open minute, which says when a release may be loaded and reads no table. Link libshuntberry.a: where
+ * ./dist installed it, pkg-config has the flags (shuntberry); in the repository, `rt staticlib shuntberry`
+ * makes it in target/staticlib. Nothing is allocated, nothing is kept between calls, and no call fails other
+ * than by a refusal number. Calls may be made from several threads at once, as long as no buffer that one of
+ * them writes is lent to another. A call takes less than 256 KiB of stack (tests/outside measures it on the
+ * longest path).
  *
  * A TABLE has n states, numbered 0 to n - 1, with n from 0 to SHUNTBERRY_MAX_STATES, and g
  * groups, with g from 0 to SHUNTBERRY_MAX_GROUPS;
@@ -44,8 +45,8 @@ extern "C" {
 /* ---- Version ---- */
 
 /*
- * Goes up by one with each change for which a program must be changed or compiled again; what changed is
- * in docs/changes. 1 is the header that had no such macro. From 2 on shuntberry_read and shuntberry_write
+ * Goes up by one with each change for which a program must be changed or compiled again; CHANGELOG.md has
+ * what changed. 1 is the header that had no such macro. From 2 on shuntberry_read and shuntberry_write
  * are given the site of the file, behind the input and behind g: their signatures changed. Site 0 gives
  * the files of version 1. From 3 on a table has up to 512 states: a set is 8 words, a store 4,624, a path
  * 16-bit numbers in a buffer of at least 512 places (SHUNTBERRY_PATH_PLACES, where SHUNTBERRY_PATH_BYTES
@@ -62,6 +63,7 @@ extern "C" {
  *    site 0 `./rewrite` makes a new one, in which its dead ends rest, so that decide answers as it did.
  */
 #define SHUNTBERRY_VERSION 4
+#define SHUNTBERRY_VERSION_TEXT "4.0.0" /* all of it: that number, then one for what is new, and one for the rest */
 
 /* ---- Sizes ---- */
 
