@@ -75,14 +75,18 @@ fn listing(states: StateSet) -> String {
 
 /// What a text says, or all of its mistakes, by their lines.
 pub fn parse(text: &[u8]) -> Result<Text, Vec<Mistake>> {
+    let text = text.strip_prefix("\u{feff}".as_bytes()).unwrap_or(text);
+    let text = text.strip_suffix(b"\n").unwrap_or(text);
     let mut reader = Reader::default();
-    let lines: Vec<Line> = text
-        .strip_prefix("\u{feff}".as_bytes())
-        .unwrap_or(text)
-        .split(|&byte| byte == b'\n')
-        .enumerate()
-        .filter_map(|(k, bytes)| reader.line(k + 1, bytes))
-        .collect();
+    let mut lines = Vec::new();
+    for bytes in text.split(|&byte| byte == b'\n') {
+        reader.at += 1;
+        match line(reader.at, bytes) {
+            Ok(said) => lines.extend(said),
+            Err(reason) => reader.mistake(reason),
+        }
+    }
+    let last = reader.at;
     // The number of states and the names first: a line may stand before the one that says them.
     for line in lines.iter().filter(|line| line.fact == "states") {
         reader.states(line);
@@ -91,26 +95,10 @@ pub fn parse(text: &[u8]) -> Result<Text, Vec<Mistake>> {
         reader.name(line);
     }
     for line in &lines {
-        match line.fact.as_str() {
-            "states" | "state" => {}
-            "initial" | "forbidden" | "resting" => reader.set(line),
-            "group" => reader.group(line),
-            "step" => reader.step(line),
-            word => reader.mistake(
-                line.number,
-                format!(
-                    "a line begins with states, state, initial, forbidden, resting, group or step, and not with {}",
-                    quoted(word)
-                ),
-            ),
-        }
+        reader.fact(line);
     }
-    let last = text.split(|&byte| byte == b'\n').count();
-    reader.finish(if text.ends_with(b"\n") {
-        last - 1
-    } else {
-        last
-    })
+    reader.at = last;
+    reader.finish()
 }
 
 /// A line that says something: its first word and the others.
@@ -118,6 +106,23 @@ struct Line {
     number: usize,
     fact: String,
     words: Vec<String>,
+}
+
+/// The words of a line, without its comment; nothing where there are none.
+fn line(number: usize, bytes: &[u8]) -> Result<Option<Line>, &'static str> {
+    let text = std::str::from_utf8(bytes.strip_suffix(b"\r").unwrap_or(bytes))
+        .map_err(|_| "this is no text: there are bytes that are not UTF-8")?;
+    if text.contains(|c: char| c.is_control() && c != '\t') {
+        return Err("this is no text: there is a control character");
+    }
+    let said = text.split('#').next().unwrap_or_default();
+    let said = said.replace(ARROW, &format!(" {ARROW} "));
+    let mut words = said.split_whitespace().map(str::to_string);
+    Ok(words.next().map(|fact| Line {
+        number,
+        fact,
+        words: words.collect(),
+    }))
 }
 
 /// The set `initial`, `forbidden` or `resting` as far as it was said.
@@ -131,12 +136,13 @@ struct Said {
 /// What was read so far.
 #[derive(Default)]
 struct Reader {
+    /// The line that is read.
+    at: usize,
     mistakes: Vec<Mistake>,
-    /// The number of states, where a line gives a good one.
+    /// The number of states, where a line gives a good one, and the first line that was to give it.
     n: Option<usize>,
-    /// The first line that was to give it.
-    states_line: Option<usize>,
-    /// What a name stands for, and the line that says so.
+    n_line: Option<usize>,
+    /// What a name stands for, and the line that says so; the name of a state.
     named: HashMap<String, (usize, usize)>,
     names: BTreeMap<usize, String>,
     sets: HashMap<String, Said>,
@@ -146,202 +152,175 @@ struct Reader {
 }
 
 impl Reader {
-    fn mistake(&mut self, line: usize, reason: impl Into<String>) {
-        let reason = reason.into();
-        self.mistakes.push(Mistake { line, reason });
-    }
-
-    /// The words of a line, without its comment; none where there are none.
-    fn line(&mut self, number: usize, bytes: &[u8]) -> Option<Line> {
-        let bytes = bytes.strip_suffix(b"\r").unwrap_or(bytes);
-        let Ok(text) = std::str::from_utf8(bytes) else {
-            self.mistake(
-                number,
-                "this is no text: there are bytes that are not UTF-8",
-            );
-            return None;
-        };
-        if text.contains(|c: char| c.is_control() && c != '\t') {
-            self.mistake(number, "this is no text: there is a control character");
-            return None;
-        }
-        let said = text.split('#').next().unwrap_or_default();
-        let said = said.replace(ARROW, &format!(" {ARROW} "));
-        let mut words = said.split_whitespace().map(str::to_string);
-        let fact = words.next()?;
-        Some(Line {
-            number,
-            fact,
-            words: words.collect(),
-        })
+    /// There is a mistake on the line that is read.
+    fn mistake(&mut self, reason: impl Into<String>) {
+        self.mistakes.push(Mistake {
+            line: self.at,
+            reason: reason.into(),
+        });
     }
 
     /// `states N`
     fn states(&mut self, line: &Line) {
-        if let Some(first) = self.states_line {
-            self.mistake(
-                line.number,
-                format!("the number of states stands on line {first} already"),
-            );
-            return;
+        self.at = line.number;
+        if let Some(first) = self.n_line {
+            return self.mistake(format!(
+                "the number of states stands on line {first} already"
+            ));
         }
-        self.states_line = Some(line.number);
-        match &line.words[..] {
-            [word] => match number(word) {
-                Some(n) if n <= MAX_STATES => self.n = Some(n),
-                Some(_) => self.mistake(
-                    line.number,
-                    format!(
-                        "{} states are too many: a table has at most {MAX_STATES}",
-                        cut(word)
-                    ),
-                ),
-                None => self.mistake(
-                    line.number,
-                    format!("{} is no number of states", quoted(word)),
-                ),
-            },
-            _ => self.mistake(
-                line.number,
-                "this line is written states N, with one number",
-            ),
+        self.n_line = Some(self.at);
+        let [word] = &line.words[..] else {
+            return self.mistake("this line is written states N, with one number");
+        };
+        match number(word) {
+            Some(n) if n <= MAX_STATES => self.n = Some(n),
+            Some(_) => self.mistake(format!(
+                "{} states are too many: a table has at most {MAX_STATES}",
+                cut(word)
+            )),
+            None => self.mistake(format!("{} is no number of states", quoted(word))),
         }
     }
 
     /// `state N NAME`
     fn name(&mut self, line: &Line) {
+        self.at = line.number;
         let [word, name] = &line.words[..] else {
-            self.mistake(
-                line.number,
-                "a name is given by state N NAME, with a name of one word",
-            );
-            return;
+            return self.mistake("a name is given by state N NAME, with a name of one word");
         };
         if !is_name(name) {
-            self.mistake(
-                line.number,
-                format!("{} is no name: a name has letters, digits, - _ and ., begins with a letter, and is not {NONE}", quoted(name)),
-            );
-            return;
+            return self.mistake(format!(
+                "{} is no name: a name has letters, digits, - _ and ., begins with a letter, and is not {NONE}",
+                quoted(name)
+            ));
         }
-        let state = match number(word)
-            .ok_or(format!("{} is no number", quoted(word)))
-            .and_then(|state| self.in_range(state, word))
-        {
-            Ok(state) => state,
-            Err(reason) => {
-                self.mistake(line.number, reason);
-                return;
-            }
+        let state = match number(word) {
+            Some(state) => self.in_range(state, word),
+            None => Err(format!("{} is no number", quoted(word))),
         };
-        if let Some((other, first)) = self.named.get(name) {
-            let reason = format!("state {other} has the name {name}, by line {first} already");
-            self.mistake(line.number, reason);
-        } else if let Some(other) = self.names.get(&state) {
-            let first = self.named[other].1;
-            self.mistake(
-                line.number,
-                format!("state {state} has the name {other}, by line {first} already"),
-            );
-        } else {
-            self.named.insert(name.clone(), (state, line.number));
-            self.names.insert(state, name.clone());
+        let known = |state| match (self.named.get(name), self.names.get(&state)) {
+            (Some(&(other, first)), _) => Err(format!(
+                "state {other} has the name {name}, by line {first} already"
+            )),
+            (None, Some(other)) => Err(format!(
+                "state {state} has the name {other}, by line {} already",
+                self.named[other].1
+            )),
+            (None, None) => Ok(state),
+        };
+        match state.and_then(known) {
+            Ok(state) => {
+                self.named.insert(name.clone(), (state, self.at));
+                self.names.insert(state, name.clone());
+            }
+            Err(reason) => self.mistake(reason),
+        }
+    }
+
+    /// Every other line.
+    fn fact(&mut self, line: &Line) {
+        self.at = line.number;
+        match line.fact.as_str() {
+            "states" | "state" => {}
+            "initial" | "forbidden" | "resting" => self.set(line),
+            "group" => self.group(line),
+            "step" => self.step(line),
+            word => self.mistake(format!(
+                "a line begins with states, state, initial, forbidden, resting, group or step, and not with {}",
+                quoted(word)
+            )),
         }
     }
 
     /// `initial STATE..`, and `forbidden` and `resting` likewise
     fn set(&mut self, line: &Line) {
-        let (at, fact) = (line.number, &line.fact);
+        let (at, fact) = (self.at, &line.fact);
         let none = line.words == [NONE];
-        let states = if none {
-            Vec::new()
-        } else {
-            self.listed(line, &line.words)
-        };
+        let states = self.states_or_none(line);
         let said = self.sets.entry(fact.clone()).or_insert(Said {
             first: (at, none),
             states: BTreeMap::new(),
         });
         let (first, first_none) = said.first;
-        let mut reasons = Vec::new();
+        let twice: Vec<(usize, usize)> = states
+            .iter()
+            .filter_map(|&state| Some((state, said.states.insert(state, at)?)))
+            .collect();
         if first != at && (none || first_none) {
-            reasons.push(format!(
+            self.mistake(format!(
                 "{fact} {NONE} goes with no other line of {fact}, and line {first} is one"
             ));
         }
-        for state in states {
-            if let Some(other) = said.states.insert(state, at) {
-                reasons.push(format!("state {state} is {fact} by line {other} already"));
-            }
-        }
-        for reason in reasons {
-            self.mistake(at, reason);
+        for (state, other) in twice {
+            self.mistake(format!("state {state} is {fact} by line {other} already"));
         }
     }
 
     /// `group STATE..`
     fn group(&mut self, line: &Line) {
         if self.groups.len() == MAX_GROUPS {
-            self.mistake(
-                line.number,
-                format!("this group is one too many: a table has at most {MAX_GROUPS}"),
-            );
+            self.mistake(format!(
+                "this group is one too many: a table has at most {MAX_GROUPS}"
+            ));
         } else if self.n == Some(0) {
-            self.mistake(line.number, "a table without states has no groups");
+            self.mistake("a table without states has no groups");
         }
-        let states = if line.words == [NONE] {
-            Vec::new()
-        } else {
-            self.listed(line, &line.words)
-        };
+        let states = self.states_or_none(line);
         self.groups.push(states);
     }
 
     /// `step STATE -> STATE..`
     fn step(&mut self, line: &Line) {
-        let [from, arrow, to @ ..] = &line.words[..] else {
-            self.mistake(line.number, STEP);
-            return;
+        let (from, to) = match &line.words[..] {
+            [from, arrow, to @ ..]
+                if arrow == ARROW && !to.is_empty() && !to.iter().any(|word| word == ARROW) =>
+            {
+                (from, to)
+            }
+            _ => {
+                return self.mistake(
+                    "a step is written step STATE -> STATE.., with one state before the arrow",
+                );
+            }
         };
-        if arrow != ARROW || to.is_empty() || to.iter().any(|word| word == ARROW) {
-            self.mistake(line.number, STEP);
-            return;
-        }
-        let from = self.listed(line, std::slice::from_ref(from));
-        for b in self.listed(line, to) {
-            for &a in &from {
-                if let Some(other) = self.steps.insert((a, b), line.number) {
-                    self.mistake(
-                        line.number,
-                        format!("the step {a} {ARROW} {b} stands on line {other} already"),
-                    );
+        let from = self.listed(std::slice::from_ref(from));
+        let to = self.listed(to);
+        for a in from {
+            for &b in &to {
+                if let Some(other) = self.steps.insert((a, b), self.at) {
+                    self.mistake(format!(
+                        "the step {a} {ARROW} {b} stands on line {other} already"
+                    ));
                 }
             }
         }
     }
 
-    /// The states that words stand for; a mistake for each word that stands for none, or for one once more.
-    fn listed(&mut self, line: &Line, words: &[String]) -> Vec<usize> {
-        if words.is_empty() {
-            self.mistake(
-                line.number,
-                format!(
-                    "no state stands behind {0}: an empty one is written {0} {NONE}",
-                    line.fact
-                ),
-            );
+    /// The states of a line that may say `none`, and must say something.
+    fn states_or_none(&mut self, line: &Line) -> Vec<usize> {
+        if line.words.is_empty() {
+            self.mistake(format!(
+                "no state stands behind {0}: an empty one is written {0} {NONE}",
+                line.fact
+            ));
         }
+        if line.words == [NONE] {
+            Vec::new()
+        } else {
+            self.listed(&line.words)
+        }
+    }
+
+    /// The states that words stand for; a mistake for each word that stands for none, or for one once more.
+    fn listed(&mut self, words: &[String]) -> Vec<usize> {
         let mut states = Vec::new();
         for word in words {
             match self.state(word) {
                 Ok(state) if states.contains(&state) => {
-                    self.mistake(
-                        line.number,
-                        format!("state {state} stands on this line already"),
-                    );
+                    self.mistake(format!("state {state} stands on this line already"))
                 }
                 Ok(state) => states.push(state),
-                Err(reason) => self.mistake(line.number, reason),
+                Err(reason) => self.mistake(reason),
             }
         }
         states
@@ -370,23 +349,28 @@ impl Reader {
         }
     }
 
-    /// The table, if there is no mistake: then each state is one that it has.
-    fn finish(mut self, last: usize) -> Result<Text, Vec<Mistake>> {
-        if self.states_line.is_none() {
-            self.mistake(
-                last,
-                "the text ends, and no line says how many states there are: states N",
-            );
+    /// What the text says, if there is no mistake: then each state is one that the table has.
+    fn finish(mut self) -> Result<Text, Vec<Mistake>> {
+        if self.n_line.is_none() {
+            self.mistake("the text ends, and no line says how many states there are: states N");
         }
         for fact in ["initial", "forbidden"] {
             if self.n != Some(0) && !self.sets.contains_key(fact) {
-                self.mistake(last, format!("the text ends, and no line says which states are {fact}: {fact} {NONE} if there is none"));
+                self.mistake(format!(
+                    "the text ends, and no line says which states are {fact}: {fact} {NONE} if there is none"
+                ));
             }
         }
-        let (Some(n), true) = (self.n, self.mistakes.is_empty()) else {
-            self.mistakes.sort_by_key(|mistake| mistake.line);
-            return Err(self.mistakes);
-        };
+        match self.n {
+            Some(n) if self.mistakes.is_empty() => Ok(self.text(n)),
+            _ => {
+                self.mistakes.sort_by_key(|mistake| mistake.line);
+                Err(self.mistakes)
+            }
+        }
+    }
+
+    fn text(self, n: usize) -> Text {
         let mut table = Table::new(n, self.groups.len());
         for (fact, set) in [
             ("initial", Set::Initial),
@@ -410,14 +394,14 @@ impl Reader {
         for &(a, b) in self.steps.keys() {
             table.insert(Set::Successors(a), b);
         }
-        Ok(Text {
+        Text {
             table,
             names: self.names,
-        })
+        }
     }
 }
 
-const STEP: &str = "a step is written step STATE -> STATE.., with one state before the arrow";
+// ---- Words
 
 /// Which states a table of n has, in words.
 fn range(n: usize) -> String {
@@ -435,11 +419,8 @@ pub fn number(word: &str) -> Option<usize> {
 }
 
 fn is_name(word: &str) -> bool {
-    word != NONE
-        && word.starts_with(char::is_alphabetic)
-        && word
-            .chars()
-            .all(|c| c.is_alphanumeric() || "-_.".contains(c))
+    let fits = |c: char| c.is_alphanumeric() || "-_.".contains(c);
+    word != NONE && word.starts_with(char::is_alphabetic) && word.chars().all(fits)
 }
 
 /// The longest part of a word that a mistake repeats, in characters.

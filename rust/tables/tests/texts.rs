@@ -133,11 +133,14 @@ fn ways_to_write_it() {
     );
 }
 
+/// Lines with what must be said of them.
+type Said = [(usize, &'static str)];
+
 /// A text with a mistake on each line but the first three; what is said of a line is typed here from what a reader should be told.
 #[test]
 fn mistakes() {
     let head = "states 5\ninitial 0\nforbidden none\n";
-    let cases: &[(&str, &[(usize, &str)])] = &[
+    let cases: &[(&str, &Said)] = &[
         ("initail 1", &[(4, "not with 'initail'")]),
         ("0 -> 1", &[(4, "not with '0'")]),
         ("INITIAL 1", &[(4, "not with 'INITIAL'")]),
@@ -243,7 +246,7 @@ fn missing_facts() {
         "which states are initial",
         "which states are forbidden",
     );
-    let cases: &[(&[u8], &[(usize, &str)])] = &[
+    let cases: &[(&[u8], &Said)] = &[
         (b"", &[(1, states), (1, initial), (1, forbidden)]),
         (b"\n", &[(1, states), (1, initial), (1, forbidden)]),
         (b"states 3\nstep 0 -> 1\n", &[(2, initial), (2, forbidden)]),
@@ -289,7 +292,7 @@ fn missing_facts() {
 }
 
 /// The mistakes of a text are these and no others, in the order of their lines.
-fn holds(text: &[u8], expected: &[(usize, &str)]) {
+fn holds(text: &[u8], expected: &Said) {
     let shown = String::from_utf8_lossy(text);
     let mistakes = parse(text)
         .err()
