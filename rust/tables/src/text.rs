@@ -11,8 +11,8 @@
 //! ```
 //!
 //! Lines stand in any order; those of one set add to it, and each `group` is a group more. `initial` and `forbidden` must not be
-//! forgotten, since a table without either is safe: it has to say `none`. [`print`] writes the one text of a table that has each
-//! fact in its place, by numbers; a file holds no names.
+//! forgotten, since for want of one a table could be safe that should not be: it has to say `none`. [`print`] writes the one text of
+//! a table that has each fact in its place, by numbers; a file holds no names.
 
 use crate::table::{Set, Table};
 use shuntberry::{MAX_GROUPS, MAX_STATES, StateSet};
