@@ -2,12 +2,13 @@
  * Shuntberry: is a forbidden state of a dialogue table reachable, and by which steps?
  *
  * The calls are decide, shortest path, distances, within, read, write, generate and replay, and beside them
- * next open minute, which says when a release may be loaded and reads no table. Link libshuntberry.a: where
- * ./dist installed it, pkg-config has the flags (shuntberry); in the repository, `rt staticlib shuntberry`
- * makes it in target/staticlib. Nothing is allocated, nothing is kept between calls, and no call fails other
- * than by a refusal number. Calls may be made from several threads at once, as long as no buffer that one of
- * them writes is lent to another. A call takes less than 256 KiB of stack (tests/outside measures it on the
- * longest path).
+ * next open minute, which says when a release may be loaded and reads no table. Link
+ * target/staticlib/libshuntberry.a, which `rt staticlib shuntberry` makes. Nothing is allocated, nothing is
+ * kept between calls, and no call fails other than by a refusal number. Calls may be made from several
+ * threads at once, as long as no buffer that one of them writes is lent to another. A call takes less than
+ * 256 KiB of stack (tests/outside measures it on the longest path).
+ *
+ * Where ./dist has put the library, pkg-config has the flags to compile and link with it, as shuntberry.
  *
  * A TABLE has n states, numbered 0 to n - 1, with n from 0 to SHUNTBERRY_MAX_STATES, and g
  * groups, with g from 0 to SHUNTBERRY_MAX_GROUPS;

@@ -1,7 +1,7 @@
 //! The command `tables`: a table as text, as a file and as a picture. `man/man1/tables.1` is its page.
 //!
-//! It ends with 0 only where the whole output was written; with 2 where the library refused the file, or the text has mistakes; with
-//! 3 for anything else. Nothing is written before all of it is known.
+//! It ends with 0 only where the text, file or picture was written whole; with 2 where the library refused the file, or the text has
+//! mistakes; with 3 for anything else. Nothing is written before all of it is known.
 
 use shuntberry::{FILE_BYTES, Refused};
 use shuntberry_tables::picture::{self, Options};
@@ -31,7 +31,7 @@ Without FILE or TEXT standard input is read, without -o standard output written.
   --groups       says in each state which groups it is in
   --names TEXT   takes the names of the states from TEXT, the text of the same table
 
-status: 0 all was written, 2 the file is refused or the text has mistakes, 3 anything else
+status: 0 all was written, 2 the file is refused or the text has mistakes, 3 anything else, --help and --version too
 ";
 
 /// The longest text that is read, in bytes: every list full, and names of 60 bytes.
@@ -49,7 +49,7 @@ use Failure::{Failed, Refused as Declined};
 fn main() -> ExitCode {
     let words: Vec<OsString> = std::env::args_os().skip(1).collect();
     let (why, status) = match run(&words) {
-        Ok(()) => return ExitCode::SUCCESS,
+        Ok(status) => return ExitCode::from(status),
         Err(Declined(why)) => (why, 2),
         Err(Failed(why)) => (why, 3),
     };
@@ -57,18 +57,18 @@ fn main() -> ExitCode {
     ExitCode::from(status)
 }
 
-fn run(words: &[OsString]) -> Result<(), Failure> {
+fn run(words: &[OsString]) -> Result<u8, Failure> {
     let call = Call::of(words)?;
+    let version = concat!("tables (Shuntberry) ", env!("SHUNTBERRY_RELEASE"), "\n");
     match call.command {
-        Action::Help => put(None, HELP.as_bytes()),
-        Action::Version => put(
-            None,
-            concat!("tables (Shuntberry) ", env!("SHUNTBERRY_RELEASE"), "\n").as_bytes(),
-        ),
+        // With 3, as each command: a 0 says that something was made.
+        Action::Help => return put(None, HELP.as_bytes()).map(|()| 3),
+        Action::Version => return put(None, version.as_bytes()).map(|()| 3),
         Action::Decode => put(call.output(), text::print(&call.table()?).as_bytes()),
         Action::Encode => encode(&call),
         Action::Picture => draw(&call),
     }
+    .map(|()| 0)
 }
 
 // ---- The words of a call
