@@ -40,11 +40,11 @@ const TEXT_BYTES: usize = 16 << 20;
 /// Why nothing was written.
 enum Failure {
     /// The file or the text is at fault.
-    Refused(String),
+    Declined(String),
     /// Something else.
     Failed(String),
 }
-use Failure::{Failed, Refused as Declined};
+use Failure::{Declined, Failed};
 
 fn main() -> ExitCode {
     let words: Vec<OsString> = std::env::args_os().skip(1).collect();
@@ -92,8 +92,10 @@ struct Call {
     options: Options,
 }
 
+/// The command was called wrongly: the reason, and the first lines of the help.
 fn wrongly(why: &str) -> Failure {
-    Failed(format!("tables: {why}\n\n{}", HELP.trim_end()))
+    let usage = HELP.split("\n\n").next().unwrap_or_default();
+    Failed(format!("tables: {why}\n{usage}"))
 }
 
 impl Call {
@@ -105,7 +107,7 @@ impl Call {
             Some("decode") => Action::Decode,
             Some("encode") => Action::Encode,
             Some("picture") => Action::Picture,
-            Some("--help" | "-h" | "help") => Action::Help,
+            Some("--help") => Action::Help,
             Some("--version") => Action::Version,
             _ => return Err(wrongly(&format!("'{}' is no command", first.display()))),
         };
@@ -135,14 +137,10 @@ impl Call {
                 _ => call.input = Some(word.into()),
             }
         }
-        if matches!(call.command, Action::Help | Action::Version) {
-            return if words.len() == 1 || call.input.is_none() {
-                Ok(call)
-            } else {
-                Err(wrongly("no file goes with it"))
-            };
+        match (call.command, &call.input) {
+            (Action::Help | Action::Version, Some(_)) => Err(wrongly("it goes with no file")),
+            _ => Ok(call),
         }
-        Ok(call)
     }
 
     fn option<'w>(
@@ -156,7 +154,7 @@ impl Call {
                 .ok_or_else(|| wrongly(&format!("{option} wants a word behind it")))
         };
         match option {
-            "--help" | "-h" => self.command = Action::Help,
+            "--help" => self.command = Action::Help,
             "--site" => {
                 let word = value()?;
                 self.site = word.to_str().and_then(text::number).ok_or_else(|| {

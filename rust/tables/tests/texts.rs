@@ -217,6 +217,15 @@ fn mistakes() {
         ),
         ("group \u{1}", &[(4, "control character")]),
         (
+            "initial 9\nstate 5 late\nstates 5\nup",
+            &[
+                (4, "no state 9"),
+                (5, "no state 5"),
+                (6, "stands on line 1 already"),
+                (7, "not with 'up'"),
+            ],
+        ),
+        (
             "resting a\n\n# a comment\nresting b",
             &[(4, "'a' is no number"), (7, "'b' is no number")],
         ),
