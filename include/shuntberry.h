@@ -9,6 +9,8 @@
  * threads at once, as long as no buffer that one of them writes is lent to another. A call takes less than
  * 256 KiB of stack (tests/outside measures it on the longest path).
  *
+ * Where ./dist has put the library, pkg-config has the flags to compile and link with it, as shuntberry.
+ *
  * A TABLE has n states, numbered 0 to n - 1, with n from 0 to SHUNTBERRY_MAX_STATES, and g
  * groups, with g from 0 to SHUNTBERRY_MAX_GROUPS;
  * a table without states, an untouched draft, has no groups either, and its file has no bytes.
@@ -47,8 +49,8 @@ extern "C" {
 /* ---- Version ---- */
 
 /*
- * Goes up by one with each change for which a program must be changed or compiled again; what changed is
- * in docs/changes. 1 is the header that had no such macro. From 2 on shuntberry_read and shuntberry_write
+ * Goes up by one with each change for which a program must be changed or compiled again; CHANGELOG.md has
+ * what changed. 1 is the header that had no such macro. From 2 on shuntberry_read and shuntberry_write
  * are given the site of the file, behind the input and behind g: their signatures changed. Site 0 gives
  * the files of version 1. From 3 on a table has up to 512 states: a set is 8 words, a store 4,624, a path
  * 16-bit numbers in a buffer of at least 512 places (SHUNTBERRY_PATH_PLACES, where SHUNTBERRY_PATH_BYTES
@@ -65,6 +67,7 @@ extern "C" {
  *    site 0 `./rewrite` makes a new one, in which its dead ends rest, so that decide answers as it did.
  */
 #define SHUNTBERRY_VERSION 4
+#define SHUNTBERRY_VERSION_TEXT "4.0.0" /* all of it: that number, then one for what is new, and one for the rest */
 
 /* ---- Sizes ---- */
 

@@ -1,12 +1,19 @@
-//! Links `target/staticlib/libshuntberry.a` of the repository that this package stands in.
+//! Links `libshuntberry.a`: the one in this package's folder, where `./dist` puts it, else that of the repository that the package stands in.
 
 use std::env;
 use std::path::Path;
 
+const ARCHIVE: &str = "libshuntberry.a";
+
 fn main() {
     let manifest = env::var("CARGO_MANIFEST_DIR").expect("cargo names the package's folder");
-    let folder = Path::new(&manifest).join("../target/staticlib");
-    let archive = folder.join("libshuntberry.a");
+    let package = Path::new(&manifest);
+    let folder = if package.join(ARCHIVE).is_file() {
+        package.to_path_buf()
+    } else {
+        package.join("../target/staticlib")
+    };
+    let archive = folder.join(ARCHIVE);
     println!("cargo::rerun-if-changed={}", archive.display());
     if !archive.is_file() {
         println!(

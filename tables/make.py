@@ -1,7 +1,8 @@
 #!/usr/bin/env python3
 """Makes the files of this folder from the specification's text alone; shares no code with the library.
 
-NAME.table is a block file, NAME.expected what `check` prints for it. The answers are worked out by the
+NAME.table is a block file, NAME.expected what `check` prints for it, NAME.txt, where the file is accepted, its text as
+`tables decode` prints it. The answers are worked out by the
 rounds as the specification writes them, on Python's numbers and sets; for tables A to G they are held to the figures typed below.
 old-NAME.table is a file of the old form, and rewritten-NAME.table what it is rewritten as, for which `check` prints what the old table's rounds
 give; where there is none, rewritten-NAME.expected is the refusal of the rewriting.
@@ -173,11 +174,21 @@ def encode(table):
     return b"".join(blocks(contents(table))) if table.n else b""
 
 
-# ---- What `check` prints
+# ---- Texts
 
 def listing(states):
     return " ".join(map(str, states)) or "none"
 
+
+def text(table):
+    """One fact a line, in the one order that `tables decode` has. The draft has one line; a state without successors has none."""
+    head = [("initial", table.initial), ("forbidden", table.marked), ("resting", table.resting)]
+    rows = [(f"step {s} ->", table.row(s)) for s in sorted({a for a, _ in table.steps})]
+    facts = [*head, *(("group", group) for group in table.groups), *rows] if table.n else []
+    return f"states {table.n}\n" + "".join(f"{fact} {listing(sorted(states))}\n" for fact, states in facts)
+
+
+# ---- What `check` prints
 
 def printed(table):
     verdict, i, invariant = decide(table)
@@ -348,22 +359,36 @@ def checked_figures():
     assert len(encode(LARGEST)) == 73 * BLOCK == MAX_FILE == len(encode(old(LARGEST)))
 
 
+def checked_text():
+    """A text typed by hand: the ninth table."""
+    assert text(TYPED["ninth"][0]) == (
+        "states 4\ninitial 0\nforbidden 2\nresting none\ngroup 0\n"
+        "step 0 -> 0 1\nstep 1 -> 3\nstep 2 -> 3\nstep 3 -> 0 2\n"
+    )
+
+
+def accepted(name, table):
+    """The file of a table that `read` accepts, and its text."""
+    yield f"{name}.table", encode(table)
+    yield f"{name}.txt", text(table).encode()
+
+
 def refusal(number):
     return f"refused {number}\n".encode()
 
 
 def files():
-    for name, (table, text) in TYPED.items():
-        assert printed(table) == text, name
-        yield f"{name}.table", encode(table)
-        yield f"{name}.expected", text.encode()
+    for name, (table, typed) in TYPED.items():
+        assert printed(table) == typed, name
+        yield from accepted(name, table)
+        yield f"{name}.expected", typed.encode()
     for name, table in COMPUTED.items():
-        yield f"{name}.table", encode(table)
+        yield from accepted(name, table)
         yield f"{name}.expected", printed(table).encode()
     for name, table in OLD.items():
         yield f"old-{name}.table", encode(old(table))
         yield f"old-{name}.expected", refusal(15)
-        yield f"rewritten-{name}.table", encode(rewritten(old(table)))
+        yield from accepted(f"rewritten-{name}", rewritten(old(table)))
         yield f"rewritten-{name}.expected", printed(old(table)).encode()
     for name, (data, number) in refused().items():
         yield f"{name}.table", data
@@ -376,10 +401,11 @@ def files():
 
 def main():
     checked_figures()
+    checked_text()
     folder = Path(__file__).parent
     made = dict(files())
     if "--check" in sys.argv[1:]:
-        kept = {p.name: p.read_bytes() for p in folder.iterdir() if p.suffix in (".table", ".expected")}
+        kept = {p.name: p.read_bytes() for p in folder.iterdir() if p.suffix in (".table", ".expected", ".txt")}
         wrong = sorted(name for name in made | kept if made.get(name) != kept.get(name))
         if wrong:
             sys.exit(f"tables: DIFFER: {' '.join(wrong)}")

@@ -63,7 +63,7 @@ fn main() {
 fn usage() {
     io::write_all(
         STDERR_FILENO,
-        b"usage: ./generate SEED STATES FANOUT > FILE, where SEED is below 4294967296\n",
+        b"usage: generate SEED STATES FANOUT > FILE, where SEED is below 4294967296\n",
     );
 }
 
