@@ -35,11 +35,11 @@ module _ {i x : ℕ} (h : i < checkAt) (l : x < 256) where
       let byte : x ≤ 256 = omega arith in
       mul-le-mul place byte
 
-  pub term-fits : (i + 1) * x < 2 ^ 64
+  pub term-fits : (i + 1) * x < 2 ^ 32
   term-fits = omega (arith, term-low)
 
   module _ {site : ℕ} {block : List ℕ} {sum : ℕ} (s : Summing site block sum i) where
-    pub sum-fits : sum + (i + 1) * x < 2 ^ 64
+    pub sum-fits : sum + (i + 1) * x < 2 ^ 32
     sum-fits = omega (arith, term-low)
 
     pub sum-more : x ≡ getD block i 0 → Summing site block (sum + (i + 1) * x) (i + 1)

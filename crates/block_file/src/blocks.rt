@@ -77,16 +77,16 @@ pub fn le16_at(bytes: &[u8], i: usize) -> usize
     (wide(bytes[i]) + 256 * wide(bytes[i + 1])) as usize
 }
 
-// The sum starts from the site. It stays below 2^64 by far, so it is reduced once, at the end.
+// The sum starts from the site. It stays below 2^32, so it is reduced once, at the end.
 pub fn check_of(block: &[u8], site: usize) -> u64
     requires { ⌜ (checkAt ≤ length (now block)) × (site ≤ maxSite) ⌝ }
     ensures { λ r. ⌜ r ≡ checkOf site (now (block .entry)) ⌝ }
 {
-    let mut sum: u64 = site as u64;
+    let mut sum: u32 = site as u32;
     for i in 0..CHECK_AT {
-        sum += (i as u64 + 1) * wide(block[i]);
+        sum += (i as u32 + 1) * (wide(block[i]) as u32);
     }
-    sum % 65521
+    (sum % 65521) as u64
 }
 
 pub fn set_width(n: usize) -> usize
