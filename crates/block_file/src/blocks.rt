@@ -5,6 +5,7 @@
 //   Form, head_sets, added                   the form of a file; its sets before the groups, how many; what its second number has more than g
 //   wide                                     a byte as a 64-bit number
 //   le16_at                                  the number whose two bytes stand at a place, low byte first
+//   copy_content                             the content of a block, copied
 //   MAX_SITE, check_of                       the greatest site number; the check of a block for a site
 //   set_width, set_count                     the bytes of a set, and how many sets there are
 //   content_length, blocks_for               the bytes of the contents (L), and the blocks that hold so many
@@ -14,9 +15,11 @@ ghost use mathlib.Core.Path.{_≡_};
 ghost use lib.ListN.{length};
 ghost use Rattle.model.specs.Sets.{WORDS, maxStates};
 ghost use Rattle.model.specs.Stores.{headSets, maxGroups, storeWords};
-ghost use Rattle.model.specs.Blocks.{checkAt, maxSite, le16At, blocksFor, checkOf};
+ghost use Rattle.model.specs.Blocks.{contentBytes, checkAt, maxSite, le16At, blocksFor, checkOf};
 ghost use Rattle.model.specs.Contents.{newForm, heads, added, setWidth, contentLength};
+ghost use Rattle.model.specs.Calls.{overwrite};
 ghost use Rattle.block_file.specs.Places.{formOf, placeOf};
+ghost use Rattle.block_file.specs.Writing.{contentFrom};
 use state_set::WORDS;
 use table::GROUPS_AT;
 use table::HEAD_SETS;
@@ -75,6 +78,16 @@ pub fn le16_at(bytes: &[u8], i: usize) -> usize
     ensures { λ r. ⌜ r ≡ le16At (now (bytes .entry)) i ⌝ }
 {
     (wide(bytes[i]) + 256 * wide(bytes[i + 1])) as usize
+}
+
+// The content of a block, from byte `from` of some bytes on, to the front of what is lent.
+pub fn copy_content(bytes: &[u8], from: usize, out: &mut [u8])
+    requires { ⌜ (from + contentBytes ≤ length (now bytes)) × (contentBytes ≤ length (now out)) ⌝ }
+    ensures { λ r. ⌜ now (out .exit) ≡ overwrite (contentFrom (now (bytes .entry)) from contentBytes) (now (out .entry)) ⌝ }
+{
+    for i in 0..CONTENT {
+        out[i] = bytes[from + i];
+    }
 }
 
 // The sum starts from the site. It stays below 2^32, so it is reduced once, at the end.
