@@ -1,127 +1,76 @@
+-- `read_as`: the store is cleared or filled where nothing is refused.
+use Prim.Native.Nat.{ℕ, _-_, _≤_}
+use native.Mathlib.Omega.{arith}
+use mathlib.Core.Path.{_≡_, refl, sym, ap₂}
 use borrow.Author.Needs.{needs}
+use lib.ListN.{length}
+use Rattle.model.specs.Stores.{refuse}
+use Rattle.model.specs.Blocks.{blockBytes}
+use Rattle.model.specs.Calls.{readGroundsAs}
+use Rattle.block_file.specs.Places.{formOf}
+use Rattle.block_file.proofs.reading.Grounds.{joined-long, outer-declines, room-enough, draft-accepted, short-input, some-block, content-decides, second-least, table-inside, declined, draft-read, table-read}
+use Rattle.block_file.proofs.reading.Joining.{contentsRoom, joined-room, joined-fits, joined}
 use Rattle.block_file.proofs.reading.read_as.Statement.{statement}
 use Rattle.block_file.proofs.reading.read_as.Tie as tie
-use Rattle.block_file.proofs.reading.read_as.Reads as reads
-use Rattle.block_file.proofs.reading.read_as.Lts as lts
-use Rattle.block_file.proofs.blocks.added.Reads as added-reads
-use Rattle.block_file.proofs.blocks.le16_at.Reads as le16-at-reads
-use Rattle.block_file.proofs.reading.clear.Reads as clear-reads
-use Rattle.block_file.proofs.reading.content_refusal.Reads as content-refusal-reads
-use Rattle.block_file.proofs.reading.fill.Reads as fill-reads
-use Rattle.block_file.proofs.reading.join.Reads as join-reads
-use Rattle.block_file.proofs.reading.outer_refusal.Reads as outer-refusal-reads
 
--- src/reading.rt:77:9
-outer-refusal-requires : tie.Need-outer-refusal-requires
-outer-refusal-requires c κs = search needs
+-- there is a block, and so a header
+block : (c : tie.Else2) → blockBytes ≤ length (c .before .before .before .before .before .args .input .now)
+block c = some-block _ _ _ (c .before .before .outer-refusal .ensures) (c .before .if1 .left) (c .if2 .left)
 
--- src/reading.rt:79:9
-returns : tie.Need-returns
-returns c = ?
-
--- src/reading.rt:82:9
-clear-requires : tie.Need-clear-requires
-clear-requires c κs = ?
-
--- src/reading.rt:83:9
-same-length : tie.Need-same-length
-same-length c = search needs
-
--- src/reading.rt:83:9
-returns-2 : tie.Need-returns-2
-returns-2 c = ?
-
--- src/reading.rt:86:17
-slice-aggregate-join : tie.Need-slice-aggregate-join
-slice-aggregate-join c = search needs
-
--- src/reading.rt:86:5
-join-requires : tie.Need-join-requires
-join-requires c κs = ?
-
--- src/reading.rt:87:13
-mul-l : tie.Need-mul-l
-mul-l c = search needs
-
--- src/reading.rt:88:9
-le16-at-requires : tie.Need-le16-at-requires
-le16-at-requires c κs = ?
-
--- src/reading.rt:89:33
-add-le16-at : tie.Need-add-le16-at
-add-le16-at c = search needs
-
--- src/reading.rt:89:9
-le16-at-requires-2 : tie.Need-le16-at-requires-2
-le16-at-requires-2 c κs = ?
-
--- src/reading.rt:90:46
-array-share-prefix-joined : tie.Need-array-share-prefix-joined
-array-share-prefix-joined c = ?
-
--- src/reading.rt:90:46
-slice-aggregate-content-refusal : tie.Need-slice-aggregate-content-refusal
-slice-aggregate-content-refusal c = ?
-
--- src/reading.rt:90:9
-content-refusal-requires : tie.Need-content-refusal-requires
-content-refusal-requires c κs = ?
-
--- src/reading.rt:92:9
-returns-3 : tie.Need-returns-3
-returns-3 c = ?
-
--- src/reading.rt:94:22
-added-requires : tie.Need-added-requires
-added-requires c κs = search needs
-
--- src/reading.rt:94:13
-sub-g : tie.Need-sub-g
-sub-g c = ?
-
--- src/reading.rt:95:16
-array-share-prefix-joined-2 : tie.Need-array-share-prefix-joined-2
-array-share-prefix-joined-2 c = ?
-
--- src/reading.rt:95:16
-slice-aggregate-fill : tie.Need-slice-aggregate-fill
-slice-aggregate-fill c = ?
-
--- src/reading.rt:95:5
-fill-requires : tie.Need-fill-requires
-fill-requires c κs = ?
-
--- src/reading.rt:74:1
-same-length-2 : tie.Need-same-length-2
-same-length-2 c = search needs
-
--- src/reading.rt:74:1
-returns-4 : tie.Need-returns-4
-returns-4 c = ?
+-- the grounds of the contents decide
+ground : (c : tie.After-content-refusal) → let args = c .before .before .before .before .before .before .before .before .before .before .before .before .args in
+    c .content-refusal .result ≡ refuse (readGroundsAs (formOf (args .form)) (args .input .now) (args .site) (length (args .store .now)))
+ground c =
+    let second = c .before .before in
+    let file = second .before .before .before .before .before in
+    content-decides _ _ _ (file .before .before .outer-refusal .ensures) (file .before .if1 .left) (file .if2 .left) _ (second .before .le16-at .ensures)
+    (second .le16-at2 .ensures) (c .content-refusal .ensures)
 
 pub read-as-spec : {M : Type 1} → statement M
 read-as-spec =
     tie.close
     (tie.spec
-    outer-refusal-requires
-    returns
-    clear-requires
-    same-length
-    returns-2
-    slice-aggregate-join
-    join-requires
-    mul-l
-    le16-at-requires
-    add-le16-at
-    le16-at-requires-2
-    array-share-prefix-joined
-    slice-aggregate-content-refusal
-    content-refusal-requires
-    returns-3
-    added-requires
-    sub-g
-    array-share-prefix-joined-2
-    slice-aggregate-fill
-    fill-requires
-    same-length-2
-    returns-4)
+    (λ c κs. search needs)
+    (λ c. declined _ _ _ _ (outer-declines _ _ _ (c .before .outer-refusal .ensures) _ (c .if1 .taken)) (c .if1 .taken))
+    (λ c κs. room-enough _ _ _ (c .before .before .before .outer-refusal .ensures) (c .before .before .if1 .left))
+    (λ c. search needs)
+    (λ c.
+    let draft = c .before .before .before .before in
+    draft-read _ _ _ _ (draft-accepted _ _ _ (draft .before .before .outer-refusal .ensures) (draft .before .if1 .left) _ (draft .if2 .taken)) refl (draft .if2 .taken)
+    (c .before .before .clear .ensures))
+    (λ c. search needs)
+    (λ c κs.
+    let file = c .before in
+    joined-room (file .before .before .before .before .before .args .input .now) contentsRoom (short-input _ _ _ (file .before .before .outer-refusal .ensures) (file .before .if1 .left) (file .if2 .left)) (omega arith))
+    (λ c. search needs)
+    (λ c κs. omega (arith, block (c .before .before .before)))
+    (λ c. search needs)
+    (λ c κs. omega (arith, block (c .before .before .before .before)))
+    (λ c. joined-fits _ contentsRoom (c .before .before .before .join .ensures))
+    (λ c. sym (joined-long _ (joined _ contentsRoom (c .before .before .before .before .join .ensures))))
+    (λ c κs. joined _ contentsRoom (c .before .before .before .before .join .ensures))
+    (λ c. declined _ _ _ _ (ground (c .before)) (c .if3 .taken))
+    (λ c κs. search needs)
+    (λ c.
+    let none = c .before in
+    let second = none .before .before .before in
+    omega (arith, second-least _ _ _ _ (ground (none .before)) (none .if3 .left) (second .before .before .before .before .before .if2 .left) (second .le16-at2 .ensures) (c .added .ensures .0)))
+    (λ c. joined-fits _ contentsRoom (c .before .before .before .before .before .before .before .join .ensures))
+    (λ c. sym (joined-long _ (joined _ contentsRoom (c .before .before .before .before .before .before .before .before .join .ensures))))
+    (λ c κs.
+    let added = c .before .before in
+    let none = added .before in
+    let second = none .before .before .before in
+    let file = second .before .before .before .before .before in (
+      table-inside _ _ _ _ (ground (none .before)) (none .if3 .left) (file .if2 .left) (second .before .le16-at .ensures)
+          (ap₂ (λ (a b : ℕ). a - b) (second .le16-at2 .ensures) (added .added .ensures .0)) (joined _ contentsRoom (second .before .before .before .join .ensures)),
+      room-enough _ _ _ (file .before .before .outer-refusal .ensures) (file .before .if1 .left),
+    ))
+    (λ c. search needs)
+    (λ c.
+    let added = c .before .before .before .before .before in
+    let none = added .before in
+    let second = none .before .before .before in
+    table-read _ _ _ _ (ground (none .before)) (none .if3 .left) (second .before .before .before .before .before .if2 .left) (second .before .le16-at .ensures)
+    (ap₂ (λ (a b : ℕ). a - b) (second .le16-at2 .ensures) (added .added .ensures .0)) (joined _ contentsRoom (second .before .before .before .join .ensures))
+    (c .before .before .fill .ensures)))
