@@ -1,9 +1,8 @@
 -- `write_content`: the bytes passed are written.
 use Prim.Native.Nat.{_-_, _≤_}
+use mathlib.Core.Path.{refl}
 use borrow.Author.Needs.{needs}
-use Rattle.model.specs.Stores.{dialogueOf}
 use Rattle.model.specs.Blocks.{contentBytes}
-use Rattle.model.specs.Contents.{newForm, contents}
 use Rattle.block_file.specs.Writing.{contentFrom}
 use Rattle.block_file.proofs.Overwriting.{Over, over-all}
 use Rattle.block_file.proofs.WriteLaws.{content-none, content-more}
@@ -11,10 +10,10 @@ use Rattle.block_file.proofs.writing.write_content.Statement.{statement
 use Rattle.block_file.proofs.writing.write_content.Tie as tie
 
 abbrev Inv-loop : tie.InvT-loop
-Inv-loop store n g from out₀ i₀ out i = (i ≤ contentBytes) × Over (contentFrom (contents newForm (dialogueOf store n g)) from i) out₀ out
+Inv-loop bytes from out₀ i₀ out i = (i ≤ contentBytes) × Over (contentFrom bytes from i) out₀ out
 
 abbrev μ-loop : tie.MeasureT-loop
-μ-loop store n g from out₀ i₀ out i = contentBytes - i
+μ-loop bytes from out₀ i₀ out i = contentBytes - i
 
 pub write-content-spec : {M : Type 1} → statement M
 write-content-spec =
@@ -24,10 +23,10 @@ write-content-spec =
     μ-loop
     (λ c. (search needs, content-none _ _ _))
     (λ c. search needs)
-    (λ c κs. search needs)
     (λ c. search needs)
     (λ c. search needs)
     (λ c. search needs)
-    (λ c. (search needs, content-more _ _ _ _ _ (search needs) (c .content-byte .ensures) (c .before .before .loop .inv .1)))
+    (λ c. search needs)
+    (λ c. (search needs, content-more _ _ _ _ _ (search needs) (search needs) (c .before .before .loop .inv .1)))
     (λ c. search needs)
     (λ c. over-all (contentFrom _ _) _ _ _ _ (search needs) (search needs) (c .before .loop .inv .1)))
