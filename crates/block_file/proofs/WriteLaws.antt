@@ -8,7 +8,6 @@
 --   sets-more, sets-all, set-room        a loop that joins the sets from their places; each has room behind those before it
 --   contents-written                     the contents written: the header, then the sets from their places
 --   le16-written                         two bytes stored
---   content-none, content-more           a loop that writes content, byte by byte
 --   blockFront, block-written            a block up to its check, and with it
 --   contents-room, length-joined         contents joined in a buffer of zeros, that has room for those of every table
 --   blocks-joined                        their blocks
@@ -40,9 +39,9 @@ use Rattle.model.proofs.CallLaws.{Writable, write-over, write-behind, write-ans
 use Rattle.model.proofs.Acceptance.{Store, accepted-store, store-accepted}
 use Rattle.block_file.specs.declared.writing.Written.the-variants.{File, Refused}
 use Rattle.block_file.specs.WriteAnswers.{CalledWrite}
-use Rattle.block_file.specs.Places.{placeOf}
-use Rattle.block_file.specs.Writing.{LongEnough, wordBytes, wordsBytes, placedSet, contentFrom}
-use Rattle.block_file.proofs.BlockLaws.{contents-le}
+use Rattle.block_file.specs.Places.{placeOf, contentFrom}
+use Rattle.block_file.specs.Writing.{LongEnough, wordBytes, wordsBytes, placedSet}
+use Rattle.block_file.proofs.BlockLaws.{length-contentFrom, contents-le}
 use Rattle.block_file.proofs.Places.{head-place, group-place, row-place}
 use Rattle.block_file.proofs.Overwriting.{Over, over-none, over-next, lent, back, overwrite-lent, parts-more, parts-all}
 
@@ -165,33 +164,19 @@ le16-written old x h =
     ap (λ ys. set ys 1 (x / 256 % 256)) (overwrite-set [] old (x % 256) 0 refl (omega arith))
     ∙ overwrite-set (x % 256 ∷ []) old (x / 256 % 256) 1 refl h
 
-module _ (bytes : List ℕ) (from : ℕ) (old : List ℕ) where
-  pub content-none : Over (contentFrom bytes from 0) old old
-  unfolding contentFrom
-  content-none = over-none _ old
-
-  pub content-more : (out : List ℕ) (i : ℕ) {x : ℕ} → i < length old → x ≡ getD bytes (from + i) 0 → Over (contentFrom bytes from i) old out
-      → Over (contentFrom bytes from (i + 1)) old (set out i x)
-  unfolding contentFrom
-  content-more out i = over-next _ old out i
-
 -- ---- a block
 
 module _ (bytes : List ℕ) (k : ℕ) where
   abbrev pub blockFront : List ℕ
   blockFront = le16 k ++ contentFrom bytes (contentBytes * k) contentBytes
 
-  content-long : length (contentFrom bytes (contentBytes * k) contentBytes) ≡ contentBytes
-  unfolding contentFrom
-  content-long = length-tabulate _ contentBytes
-
   pub length-blockFront : length blockFront ≡ checkAt
-  length-blockFront = omega (arith, content-long)
+  length-blockFront = omega (arith, length-contentFrom bytes (contentBytes * k) contentBytes)
 
   blockFront-is : (site : ℕ) → blockFront ++ le16 (checkOf site blockFront) ≡ blockOf site bytes k
   unfolding contentFrom
   blockFront-is site =
-      block-unique (framed-is site bytes k (contentFrom bytes (contentBytes * k) contentBytes) content-long (λ i h. getD-tabulate _ contentBytes i 0 h)) (blockOf-is site bytes k)
+      block-unique (framed-is site bytes k (contentFrom bytes (contentBytes * k) contentBytes) (length-contentFrom bytes (contentBytes * k) contentBytes) (λ i h. getD-tabulate _ contentBytes i 0 h)) (blockOf-is site bytes k)
 
   -- with the check taken of the buffer
   pub block-written : (site : ℕ) (old out : List ℕ) (check : ℕ) → out ≡ overwrite blockFront old → check ≡ checkOf site out
@@ -210,10 +195,6 @@ zeros : (m i : ℕ) → getD (none m) i 0 ≡ 0
 zeros zero i = refl
 zeros (suc m) zero = refl
 zeros (suc m) (suc i) = zeros m i
-
--- the content bytes of the largest file, which is the room that the contents are joined in
-abbrev pub contentsRoom : ℕ
-contentsRoom = contentBytes * blocksFor (contentLength newForm maxStates maxGroups)
 
 -- over a variable, since the zeros would be written out
 module _ {store : List ℕ} {n g : ℕ} (held : LongEnough store n g) (m : ℕ) (most : contentLength newForm maxStates maxGroups ≤ m) where

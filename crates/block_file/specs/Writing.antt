@@ -3,8 +3,7 @@
 --   LongEnough store n g         a store long enough, with n and g in bounds
 --   wordBytes x count            the lowest so many bytes of a word, lowest first; wordsBytes words v: all eight of word v
 --   placedSet store w g k        the w bytes of set k of a file with g groups, from its place in the store
---   contentFrom bytes from count so many bytes of the contents from a place on, with 0 for filler
-use Prim.Native.Nat.{ℕ, _+_, _*_, _/_, _%_, _^_, _≤_}
+use Prim.Native.Nat.{ℕ, _*_, _/_, _%_, _^_, _≤_}
 use mathlib.Core.List.{List}
 use lib.ListN.{length, getD}
 use Rattle.model.specs.Sets.{maxStates, tabulate}
@@ -25,6 +24,3 @@ wordsBytes words v = wordBytes (getD words v 0) 8
 
 unfoldable pub placedSet : List ℕ → ℕ → ℕ → ℕ → List ℕ
 placedSet store w g k = setBytes w (setAt store (placeOf newForm g k))
-
-unfoldable pub contentFrom : List ℕ → ℕ → ℕ → List ℕ
-contentFrom bytes from count = tabulate count (λ i. getD bytes (from + i) 0)

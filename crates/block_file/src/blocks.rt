@@ -2,6 +2,7 @@
 //
 //   BLOCK, CONTENT, CONTENT_AT, CHECK_AT     a block's bytes, those of its content, and where its content and its check begin
 //   HEADER                                   the content bytes of n and of the second number, before the sets
+//   MAX_FILE, CONTENTS                       the length of the largest file, and its content bytes
 //   Form, head_sets, added                   the form of a file; its sets before the groups, how many; what its second number has more than g
 //   wide                                     a byte as a 64-bit number
 //   le16_at                                  the number whose two bytes stand at a place, low byte first
@@ -18,11 +19,12 @@ ghost use Rattle.model.specs.Stores.{headSets, maxGroups, storeWords};
 ghost use Rattle.model.specs.Blocks.{contentBytes, checkAt, maxSite, le16At, blocksFor, checkOf};
 ghost use Rattle.model.specs.Contents.{newForm, heads, added, setWidth, contentLength};
 ghost use Rattle.model.specs.Calls.{overwrite};
-ghost use Rattle.block_file.specs.Places.{formOf, placeOf};
-ghost use Rattle.block_file.specs.Writing.{contentFrom};
+ghost use Rattle.block_file.specs.Places.{formOf, placeOf, contentFrom};
 use state_set::WORDS;
 use table::GROUPS_AT;
 use table::HEAD_SETS;
+use table::MAX_GROUPS;
+use table::MAX_STATES;
 use table::ROWS_AT;
 
 pub const BLOCK: usize = 512;
@@ -34,6 +36,14 @@ pub const CONTENT_AT: usize = 2;
 pub const CHECK_AT: usize = 510;
 
 pub const HEADER: usize = 4;
+
+// The length of the largest file, of either form.
+pub const MAX_FILE: usize = BLOCK
+    * ((HEADER + (MAX_STATES + 7) / 8 * (HEAD_SETS + MAX_GROUPS + MAX_STATES) + CONTENT - 1)
+        / CONTENT);
+
+// The content bytes of the largest file.
+pub const CONTENTS: usize = CONTENT * (MAX_FILE / BLOCK);
 
 // The sets before the groups of a file of the old form: initial and marked.
 const OLD_HEAD_SETS: usize = 2;

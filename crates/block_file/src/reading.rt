@@ -25,8 +25,10 @@ use crate::blocks::BLOCK;
 use crate::blocks::CHECK_AT;
 use crate::blocks::CONTENT;
 use crate::blocks::CONTENT_AT;
+use crate::blocks::CONTENTS;
 use crate::blocks::Form;
 use crate::blocks::HEADER;
+use crate::blocks::MAX_FILE;
 use crate::blocks::MAX_SITE;
 use crate::blocks::added;
 use crate::blocks::blocks_for;
@@ -39,18 +41,9 @@ use crate::blocks::set_count;
 use crate::blocks::set_width;
 use crate::blocks::wide;
 use state_set::WORDS;
-use table::HEAD_SETS;
 use table::MAX_GROUPS;
 use table::MAX_STATES;
 use table::STORE_WORDS;
-
-// The length of the largest file, of either form.
-pub const MAX_FILE: usize = BLOCK
-    * ((HEADER + (MAX_STATES + 7) / 8 * (HEAD_SETS + MAX_GROUPS + MAX_STATES) + CONTENT - 1)
-        / CONTENT);
-
-// The content bytes of the largest file.
-const CONTENTS: usize = CONTENT * (MAX_FILE / BLOCK);
 
 pub enum TableRead {
     // n and g of the table.

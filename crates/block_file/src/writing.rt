@@ -5,7 +5,7 @@
 //   join, join_sets                the contents; the sets, which stand behind the header
 //   put_set, put_words, put_bytes  the bytes of a set; of its first words; the lowest of a word
 //   write_blocks, write_block      the first so many blocks; one block: its number, its content, its check
-//   write_content, write_le16      the content of a block; a two-byte number, low byte first
+//   write_le16                     a two-byte number, low byte first
 //
 // What is written is said with the model's `overwrite`: at the front of what was lent, the rest of it untouched.
 ghost use Prim.Native.Nat.{_+_, _*_, _≤_, _<_};
@@ -17,11 +17,12 @@ ghost use Rattle.model.specs.Blocks.{blockBytes, contentBytes, maxSite, le16, b
 ghost use Rattle.model.specs.Contents.{newForm, setWidth, setBytes, contents, contentLength};
 ghost use Rattle.model.specs.Calls.{overwrite};
 ghost use Rattle.block_file.specs.WriteAnswers.{CalledWrite};
-ghost use Rattle.block_file.specs.Writing.{LongEnough, contentFrom, wordBytes, wordsBytes, placedSet};
+ghost use Rattle.block_file.specs.Writing.{LongEnough, wordBytes, wordsBytes, placedSet};
 use crate::blocks::BLOCK;
 use crate::blocks::CHECK_AT;
 use crate::blocks::CONTENT;
 use crate::blocks::CONTENT_AT;
+use crate::blocks::CONTENTS;
 use crate::blocks::Form;
 use crate::blocks::HEADER;
 use crate::blocks::MAX_SITE;
@@ -29,16 +30,13 @@ use crate::blocks::added;
 use crate::blocks::blocks_for;
 use crate::blocks::check_of;
 use crate::blocks::content_length;
+use crate::blocks::copy_content;
 use crate::blocks::place_of;
 use crate::blocks::set_count;
 use crate::blocks::set_width;
-use crate::reading::MAX_FILE;
 use state_set::WORDS;
 use table::STORE_WORDS;
 use table::refusal;
-
-// The content bytes of the largest file.
-const CONTENTS: usize = CONTENT * (MAX_FILE / BLOCK);
 
 pub enum Written {
     // The length of the file.
@@ -159,19 +157,9 @@ fn write_block(bytes: &[u8], site: usize, k: usize, out: &mut [u8])
     ensures { λ r. ⌜ now (out .exit) ≡ overwrite (blockOf site (now (bytes .entry)) k) (now (out .entry)) ⌝ }
 {
     write_le16(k, out);
-    write_content(bytes, CONTENT * k, &mut out[CONTENT_AT..]);
+    copy_content(bytes, CONTENT * k, &mut out[CONTENT_AT..]);
     let check = check_of(out, site) as usize;
     write_le16(check, &mut out[CHECK_AT..]);
-}
-
-// The content of a block, from byte `from` of the contents on.
-fn write_content(bytes: &[u8], from: usize, out: &mut [u8])
-    requires { ⌜ (from + contentBytes ≤ length (now bytes)) × (contentBytes ≤ length (now out)) ⌝ }
-    ensures { λ r. ⌜ now (out .exit) ≡ overwrite (contentFrom (now (bytes .entry)) from contentBytes) (now (out .entry)) ⌝ }
-{
-    for i in 0..CONTENT {
-        out[i] = bytes[from + i];
-    }
 }
 
 fn write_le16(x: usize, out: &mut [u8])

@@ -2,9 +2,9 @@
 use Prim.Native.Nat.{_-_, _≤_}
 use borrow.Author.Needs.{needs}
 use Rattle.model.specs.Blocks.{contentBytes}
-use Rattle.block_file.specs.Writing.{contentFrom}
+use Rattle.block_file.specs.Places.{contentFrom}
 use Rattle.block_file.proofs.Overwriting.{Over, over-all}
-use Rattle.block_file.proofs.WriteLaws.{content-none, content-more}
+use Rattle.block_file.proofs.BlockLaws.{content-none, content-more}
 use Rattle.block_file.proofs.blocks.copy_content.Statement.{statement}
 use Rattle.block_file.proofs.blocks.copy_content.Tie as tie
 

@@ -4,8 +4,9 @@ use borrow.Author.Needs.{needs}
 use lib.ListN.{length}
 use Rattle.model.specs.Stores.{concat}
 use Rattle.model.specs.Blocks.{blockBytes, contentBytes}
+use Rattle.block_file.proofs.BlockLaws.{length-contentFrom}
 use Rattle.block_file.proofs.Overwriting.{Over, parts-none, parts-more}
-use Rattle.block_file.proofs.reading.Joining.{blockContent, content-long, joining-all}
+use Rattle.block_file.proofs.reading.Joining.{blockContent, joining-all}
 use Rattle.block_file.proofs.reading.join.Statement.{statement}
 use Rattle.block_file.proofs.reading.join.Tie as tie
 
@@ -31,6 +32,6 @@ join-spec =
     (λ c κs. search needs)
     (λ c. search needs)
     (λ c. search needs)
-    (λ c. (search needs, parts-more _ _ contentBytes (content-long _) _ _ _ (c .before .before .before .before .before .loop .inv .1) (c .before .before .copy-content .ensures) (search needs)))
+    (λ c. (search needs, parts-more _ _ contentBytes (λ j. length-contentFrom _ _ contentBytes) _ _ _ (c .before .before .before .before .before .loop .inv .1) (c .before .before .copy-content .ensures) (search needs)))
     (λ c. search needs)
     (λ c. joining-all _ _ _ (search needs) (search needs) (c .before .loop .inv .1)))

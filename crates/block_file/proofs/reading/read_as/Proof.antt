@@ -8,8 +8,9 @@ use Rattle.model.specs.Stores.{refuse}
 use Rattle.model.specs.Blocks.{blockBytes}
 use Rattle.model.specs.Calls.{readGroundsAs}
 use Rattle.block_file.specs.Places.{formOf}
+use Rattle.block_file.proofs.BlockLaws.{contentsRoom}
 use Rattle.block_file.proofs.reading.Grounds.{joined-long, outer-declines, room-enough, draft-accepted, short-input, some-block, content-decides, second-least, table-inside, declined, draft-read, table-read}
-use Rattle.block_file.proofs.reading.Joining.{contentsRoom, joined-room, joined-fits, joined}
+use Rattle.block_file.proofs.reading.Joining.{joined-room, joined-fits, joined}
 use Rattle.block_file.proofs.reading.read_as.Statement.{statement}
 use Rattle.block_file.proofs.reading.read_as.Tie as tie
 
