@@ -3,17 +3,22 @@
 --   Summing, sum-none, sum-more, sum-all    the loop of `check_of`: the weighted sum of the bytes passed, and a bound on it
 --   term-fits, sum-fits                     what the loop multiplies and adds fits a word
 --   sets-fit, contents-fit, contents-le     so does the length of the contents, which is at most that of the largest table
+--   contentsRoom                            the content bytes of the largest file, which is the room that contents are joined in
+--   length-contentFrom                      how many bytes are copied; content-none, content-more: the loop of `copy_content`
 use Prim.Native.Nat.{ℕ, _+_, _*_, _%_, _^_, _≤_, _<_}
 use native.Mathlib.Nat.{add-assoc, mul-le-mul}
 use native.Mathlib.Numerals.{add-one}
 use native.Mathlib.Omega.{arith}
 use mathlib.Core.Path.{_≡_, sym, ap, ap₂, _∙_}
 use mathlib.Core.List.{List}
-use lib.ListN.{getD}
+use lib.ListN.{length, getD, set}
 use Rattle.model.specs.Sets.{WORDS, maxStates}
 use Rattle.model.specs.Stores.{headSets, maxGroups}
-use Rattle.model.specs.Blocks.{checkAt, modulus, maxSite, weighted, checkOf}
+use Rattle.model.specs.Blocks.{contentBytes, checkAt, modulus, maxSite, blocksFor, weighted, checkOf}
 use Rattle.model.specs.Contents.{newForm, headerBytes, contentLength}
+use Rattle.model.proofs.Bounds.{length-tabulate}
+use Rattle.block_file.specs.Places.{contentFrom}
+use Rattle.block_file.proofs.Overwriting.{Over, over-none, over-next}
 
 -- ---- the check
 
@@ -35,11 +40,11 @@ module _ {i x : ℕ} (h : i < checkAt) (l : x < 256) where
       let byte : x ≤ 256 = omega arith in
       mul-le-mul place byte
 
-  pub term-fits : (i + 1) * x < 2 ^ 64
+  pub term-fits : (i + 1) * x < 2 ^ 32
   term-fits = omega (arith, term-low)
 
   module _ {site : ℕ} {block : List ℕ} {sum : ℕ} (s : Summing site block sum i) where
-    pub sum-fits : sum + (i + 1) * x < 2 ^ 64
+    pub sum-fits : sum + (i + 1) * x < 2 ^ 32
     sum-fits = omega (arith, term-low)
 
     pub sum-more : x ≡ getD block i 0 → Summing site block (sum + (i + 1) * x) (i + 1)
@@ -60,7 +65,26 @@ sum-all {site} {block} {sum} {i} s h =
     let done : i ≡ checkAt = omega arith in
     ap (λ (x : ℕ). x % modulus) (s .is ∙ ap (λ (j : ℕ). site + weighted block j) done)
 
+-- ---- content copied
+
+pub length-contentFrom : (bytes : List ℕ) (from count : ℕ) → length (contentFrom bytes from count) ≡ count
+unfolding contentFrom
+length-contentFrom bytes from count = length-tabulate _ count
+
+module _ (bytes : List ℕ) (from : ℕ) (old : List ℕ) where
+  pub content-none : Over (contentFrom bytes from 0) old old
+  unfolding contentFrom
+  content-none = over-none _ old
+
+  pub content-more : (out : List ℕ) (i : ℕ) {x : ℕ} → i < length old → x ≡ getD bytes (from + i) 0 → Over (contentFrom bytes from i) old out
+      → Over (contentFrom bytes from (i + 1)) old (set out i x)
+  unfolding contentFrom
+  content-more out i = over-next _ old out i
+
 -- ---- lengths
+
+abbrev pub contentsRoom : ℕ
+contentsRoom = contentBytes * blocksFor (contentLength newForm maxStates maxGroups)
 
 -- w bytes for each of so many sets
 module _ {w count : ℕ} (width : w ≤ 8 * WORDS) (many : count ≤ headSets + maxGroups + maxStates) where

@@ -3,11 +3,13 @@
 --   Over xs old out                  out is old with xs written over its front
 --   over-none, over-next, over-all   a loop that writes f 0, f 1, ..: before its first turn; a turn; when it is done
 --   over-list                        one that writes the elements of a list has written the list
+--   lent, back                       the rest of a buffer from a place on, which is lent; the buffer, with what came back in its place
 --   lent-back                        a buffer whose rest was lent and written over
 --   overwrite-lent                   so more is written behind what stands at the front
+--   parts-none, parts-more, parts-all   a loop that lends the rest and writes the lists f 0, f 1, .. of w elements there, each behind those before it
 --   put-long, put-own, put-other     a list put into a buffer from a place on: the length; its own places; any other place
 --   put-apart                        a set of a store that it was put into elsewhere
-use Prim.Native.Nat.{ℕ, _+_, _-_, _≤_, _<_}
+use Prim.Native.Nat.{ℕ, _+_, _*_, _-_, _≤_, _<_}
 use native.Mathlib.Nat.{le-antisymm}
 use native.Mathlib.Omega.{arith}
 use mathlib.Core.Path.{_≡_, refl, sym, ap, ap₂, _∙_, subst}
@@ -17,10 +19,10 @@ use borrow.Rule.Slice.PartMut.{putMid}
 use lib.ListN.{length, getD, set, take, drop, length-set, length-append, length-drop, drop-of-length-le, List·getD-append}
 use lib.Seq.{ext-getD, length-take-le, take-all, take-at, drop-at, getD-take, getD-drop, getD-append-add}
 use Rattle.model.specs.Sets.{WORDS, tabulate}
-use Rattle.model.specs.Stores.{setAt}
+use Rattle.model.specs.Stores.{setAt, concat}
 use Rattle.model.specs.Calls.{overwrite}
 use Rattle.model.proofs.Bounds.{length-tabulate, getD-tabulate}
-use Rattle.model.proofs.ListLaws.{getD-behind, tabulate-next, length-overwrite, overwrite-more, overwrite-set}
+use Rattle.model.proofs.ListLaws.{getD-behind, tabulate-next, length-concat, concat-next, length-overwrite, overwrite-more, overwrite-set}
 use Rattle.model.proofs.StoreLaws.{length-setAt, getD-setAt}
 use Rattle.block_file.specs.Reading.{overwriteFrom}
 
@@ -56,7 +58,13 @@ over-list xs {old} {out} i m long l h so =
 
 -- ---- the rest of a buffer, lent
 
-pub lent-back : (at : ℕ) (out rest xs : List ℕ) → rest ≡ overwrite xs (take (length out - at) (drop at out))
+abbrev pub lent : ℕ → List ℕ → List ℕ
+lent at out = take (length out - at) (drop at out)
+
+abbrev pub back : ℕ → List ℕ → List ℕ → List ℕ
+back at out rest = take at out ++ (rest ++ drop (length out - at) (drop at out))
+
+pub lent-back : (at : ℕ) (out rest xs : List ℕ) → rest ≡ overwrite xs (lent at out)
     → putMid at (length out - at) out rest ≡ overwriteFrom at xs out
 unfolding overwriteFrom
 lent-back at out rest xs e =
@@ -68,11 +76,29 @@ lent-back at out rest xs e =
     ∙ append-nil (overwrite xs (drop at out)))
 
 -- ys written behind xs
-pub overwrite-lent : (xs ys old out rest : List ℕ) (n : ℕ) → length xs ≡ n → out ≡ overwrite xs old → rest ≡ overwrite ys (take (length out - n) (drop n out))
-    → take n out ++ (rest ++ drop (length out - n) (drop n out)) ≡ overwrite (xs ++ ys) old
+pub overwrite-lent : (xs ys old out rest : List ℕ) (n : ℕ) → length xs ≡ n → out ≡ overwrite xs old → rest ≡ overwrite ys (lent n out) → back n out rest ≡ overwrite (xs ++ ys) old
 unfolding overwriteFrom
 overwrite-lent xs ys old out rest n long e f =
     lent-back n out rest ys f ∙ ap (λ zs. take n zs ++ overwrite ys (drop n zs)) e ∙ overwrite-more xs old ys n long
+
+-- lists of w elements, each written behind those before it
+module _ (f : ℕ → List ℕ) (old : List ℕ) where
+  pub parts-none : Over (concat 0 f) old old
+  unfolding concat overwrite
+  parts-none = record { long = refl; is = refl }
+
+  pub parts-more : (w : ℕ) → ((k : ℕ) → length (f k) ≡ w) → (out rest : List ℕ) (k : ℕ) → Over (concat k f) old out → rest ≡ overwrite (f k) (lent (w * k) out)
+      → length (back (w * k) out rest) ≡ length out → Over (concat (k + 1) f) old (back (w * k) out rest)
+  parts-more w wide out rest k so e long =
+      record {
+        long = long ∙ so .long;
+        is =
+            overwrite-lent (concat k f) (f k) old out rest (w * k) (length-concat f w k (λ j h. wide j)) (so .is) e
+            ∙ ap (λ xs. overwrite xs old) (sym (concat-next f k));
+      }
+
+  pub parts-all : (out : List ℕ) (k m : ℕ) → k ≤ m → m ≤ k → Over (concat k f) old out → out ≡ overwrite (concat m f) old
+  parts-all = over-all (λ k. concat k f) old
 
 -- ---- a list put into a buffer
 

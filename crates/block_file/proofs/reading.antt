@@ -1,4 +1,5 @@
 pub mod Grounds
+pub mod Joining
 pub mod Words
 pub mod Filling
 pub mod LastByte

@@ -1,11 +1,15 @@
--- The form of a file as code has it, and where its sets stand in the store.
+-- What reading and writing share: the form of a file as code has it, where its sets stand in the store, and bytes of it.
 --
 --   formOf form           the model's form
 --   placeOf form g k      where set k of a file with g groups begins: before the groups, among them, or among the rows
+--   contentFrom bytes from count
+--                         so many bytes from a place on, with 0 past the last
 use Prim.Native.Nat.{ℕ, _+_, _*_, _-_}
 use mathlib.Core.Bool.{cond}
+use mathlib.Core.List.{List}
 use lib.Dec.{ltb}
-use Rattle.model.specs.Sets.{WORDS}
+use lib.ListN.{getD}
+use Rattle.model.specs.Sets.{WORDS, tabulate}
 use Rattle.model.specs.Stores.{groupAt, rowAt}
 use Rattle.model.specs.Contents.{Form as FileForm, oldForm, newForm, heads}
 use Rattle.block_file.specs.declared.blocks.Form.{Form}
@@ -18,3 +22,6 @@ formOf New = newForm
 unfoldable pub placeOf : FileForm → ℕ → ℕ → ℕ
 placeOf form g k =
     cond (ltb k (heads form)) (WORDS * k) (cond (ltb k (heads form + g)) (groupAt (k - heads form)) (rowAt (k - (heads form + g))))
+
+unfoldable pub contentFrom : List ℕ → ℕ → ℕ → List ℕ
+contentFrom bytes from count = tabulate count (λ i. getD bytes (from + i) 0)

@@ -1,29 +1,37 @@
--- What the functions below `read` ask of an input, and their parts of what `read` does.
+-- What the functions below `read` ask of the contents, and their parts of what `read` does.
 --
---   SetInside input w at        w bytes of a set stand in the contents from `at` on
---   TableInside form input n g  n and g are in bounds, and their table stands in the contents
+--   SetInside bytes w at        w bytes of a set stand in the contents from `at` on
+--   TableInside form bytes n g  n and g are in bounds, and their table stands in the contents
+--   outerGrounds input site room
+--                               the grounds that are looked at before the contents
 --   cleared store               a store whose words of a table are 0
 --   overwriteFrom at xs old     xs written from `at` on over a buffer that held old, the rest of it untouched
 --   fillSets form bytes n g k store
 --                               the first k sets of the contents, each put into its own words of a store
-use Prim.Native.Nat.{ℕ, zero, suc, _+_, _*_, _/_, _≤_}
-use mathlib.Core.List.{List, _++_}
+use Prim.Native.Nat.{ℕ, zero, suc, _+_, _*_, _≤_}
+use mathlib.Core.Bool.{cond}
+use mathlib.Core.List.{List, [], _∷_, _++_}
+use lib.Dec.{eqb}
 use lib.ListN.{length, take, drop}
 use Rattle.model.specs.Sets.{maxStates, tabulate}
-use Rattle.model.specs.Stores.{maxGroups, storeWords}
-use Rattle.model.specs.Blocks.{blockBytes, contentBytes}
+use Rattle.model.specs.Stores.{maxGroups, storeWords, Ground, storeGround}
+use Rattle.model.specs.Blocks.{siteGround}
 use Rattle.model.specs.Contents.{Form, contentLength, setNumber}
-use Rattle.model.specs.Calls.{overwrite}
+use Rattle.model.specs.Calls.{overwrite, badLength, blocksGrounds}
 use Rattle.block_file.specs.Places.{placeOf}
 
-pub record SetInside (input : List ℕ) (w at : ℕ) : Type 0 where
+pub record SetInside (bytes : List ℕ) (w at : ℕ) : Type 0 where
   pub narrow : 8 * w ≤ maxStates
-  pub inside : at + w ≤ contentBytes * (length input / blockBytes)
+  pub inside : at + w ≤ length bytes
 
-pub record TableInside (form : Form) (input : List ℕ) (n g : ℕ) : Type 0 where
+pub record TableInside (form : Form) (bytes : List ℕ) (n g : ℕ) : Type 0 where
   pub small : n ≤ maxStates
   pub few : g ≤ maxGroups
-  pub inside : contentLength form n g ≤ contentBytes * (length input / blockBytes)
+  pub inside : contentLength form n g ≤ length bytes
+
+-- Those of the store, the site and the length, and of the blocks.
+unfoldable pub outerGrounds : List ℕ → ℕ → ℕ → List Ground
+outerGrounds input site room = storeGround room ∷ siteGround site ∷ cond (eqb (length input) 0) [] ((badLength input, 11) ∷ blocksGrounds input site)
 
 unfoldable pub cleared : List ℕ → List ℕ
 cleared store = overwrite (tabulate storeWords (λ i. 0)) store

@@ -2,9 +2,11 @@
 //
 //   BLOCK, CONTENT, CONTENT_AT, CHECK_AT     a block's bytes, those of its content, and where its content and its check begin
 //   HEADER                                   the content bytes of n and of the second number, before the sets
+//   MAX_FILE, CONTENTS                       the length of the largest file, and its content bytes
 //   Form, head_sets, added                   the form of a file; its sets before the groups, how many; what its second number has more than g
 //   wide                                     a byte as a 64-bit number
 //   le16_at                                  the number whose two bytes stand at a place, low byte first
+//   copy_content                             the content of a block, copied
 //   MAX_SITE, check_of                       the greatest site number; the check of a block for a site
 //   set_width, set_count                     the bytes of a set, and how many sets there are
 //   content_length, blocks_for               the bytes of the contents (L), and the blocks that hold so many
@@ -14,12 +16,15 @@ ghost use mathlib.Core.Path.{_≡_};
 ghost use lib.ListN.{length};
 ghost use Rattle.model.specs.Sets.{WORDS, maxStates};
 ghost use Rattle.model.specs.Stores.{headSets, maxGroups, storeWords};
-ghost use Rattle.model.specs.Blocks.{checkAt, maxSite, le16At, blocksFor, checkOf};
+ghost use Rattle.model.specs.Blocks.{contentBytes, checkAt, maxSite, le16At, blocksFor, checkOf};
 ghost use Rattle.model.specs.Contents.{newForm, heads, added, setWidth, contentLength};
-ghost use Rattle.block_file.specs.Places.{formOf, placeOf};
+ghost use Rattle.model.specs.Calls.{overwrite};
+ghost use Rattle.block_file.specs.Places.{formOf, placeOf, contentFrom};
 use state_set::WORDS;
 use table::GROUPS_AT;
 use table::HEAD_SETS;
+use table::MAX_GROUPS;
+use table::MAX_STATES;
 use table::ROWS_AT;
 
 pub const BLOCK: usize = 512;
@@ -31,6 +36,14 @@ pub const CONTENT_AT: usize = 2;
 pub const CHECK_AT: usize = 510;
 
 pub const HEADER: usize = 4;
+
+// The length of the largest file, of either form.
+pub const MAX_FILE: usize = BLOCK
+    * ((HEADER + (MAX_STATES + 7) / 8 * (HEAD_SETS + MAX_GROUPS + MAX_STATES) + CONTENT - 1)
+        / CONTENT);
+
+// The content bytes of the largest file.
+pub const CONTENTS: usize = CONTENT * (MAX_FILE / BLOCK);
 
 // The sets before the groups of a file of the old form: initial and marked.
 const OLD_HEAD_SETS: usize = 2;
@@ -77,16 +90,26 @@ pub fn le16_at(bytes: &[u8], i: usize) -> usize
     (wide(bytes[i]) + 256 * wide(bytes[i + 1])) as usize
 }
 
-// The sum starts from the site. It stays below 2^64 by far, so it is reduced once, at the end.
+// The content of a block, from byte `from` of some bytes on, to the front of what is lent.
+pub fn copy_content(bytes: &[u8], from: usize, out: &mut [u8])
+    requires { ⌜ (from + contentBytes ≤ length (now bytes)) × (contentBytes ≤ length (now out)) ⌝ }
+    ensures { λ r. ⌜ now (out .exit) ≡ overwrite (contentFrom (now (bytes .entry)) from contentBytes) (now (out .entry)) ⌝ }
+{
+    for i in 0..CONTENT {
+        out[i] = bytes[from + i];
+    }
+}
+
+// The sum starts from the site. It stays below 2^32, so it is reduced once, at the end.
 pub fn check_of(block: &[u8], site: usize) -> u64
     requires { ⌜ (checkAt ≤ length (now block)) × (site ≤ maxSite) ⌝ }
     ensures { λ r. ⌜ r ≡ checkOf site (now (block .entry)) ⌝ }
 {
-    let mut sum: u64 = site as u64;
+    let mut sum: u32 = site as u32;
     for i in 0..CHECK_AT {
-        sum += (i as u64 + 1) * wide(block[i]);
+        sum += (i as u32 + 1) * (wide(block[i]) as u32);
     }
-    sum % 65521
+    (sum % 65521) as u64
 }
 
 pub fn set_width(n: usize) -> usize

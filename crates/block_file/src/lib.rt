@@ -4,7 +4,7 @@ mod blocks;
 mod reading;
 mod writing;
 
-pub use reading::MAX_FILE;
+pub use blocks::MAX_FILE;
 pub use reading::TableRead;
 pub use reading::read;
 pub use reading::read_old;

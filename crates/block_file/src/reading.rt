@@ -2,14 +2,14 @@
 //
 //   TableRead, read                  n and g of the table that is now in the store, or why the file is declined
 //   read_old, read_as                the same of a file of the old form, and of either
-//   refusal                          the first ground that holds, or 0
+//   outer_refusal                    the first ground that holds before the contents are looked at, or 0
 //   first_fault, block_fault         the grounds of the blocks; those of one block, on its own 512 bytes
+//   join                             the contents of the blocks joined, so that no byte's block is worked out any more
 //   content_refusal                  the grounds behind them, those of the contents
 //   any_beyond, is_set_beyond        ground 17, which concerns the sets, of all and of one
 //   non_zero                         ground 18, which concerns the filler
-//   content                          one byte of the contents
-//   byte_in, word_in                 a byte and a word of a set in the contents
 //   fill, clear, fill_sets, fill_set the table put into the store: all its words 0, then each set into its own
+//   word_in, low_bytes               a word of a set in the contents, and its lowest bytes
 ghost use mathlib.Core.Path.{_≡_};
 ghost use Prim.Native.Nat.{_+_, _*_, _/_, _≤_, _<_};
 ghost use lib.ListN.{length, getD};
@@ -17,36 +17,33 @@ ghost use Rattle.model.specs.Sets.{WORDS, member, number, any};
 ghost use Rattle.model.specs.Stores.{storeWords, layout, refuse, beyond, nonZero};
 ghost use Rattle.model.specs.Blocks.{blockBytes, contentBytes, maxSite, contentsOf, blockGrounds};
 ghost use Rattle.model.specs.Contents.{heads, setWidth, headerBytes, setIn, setNumber, dialogueIn};
-ghost use Rattle.model.specs.Calls.{overwrite, blocksGrounds, contentGrounds, readGroundsAs};
+ghost use Rattle.model.specs.Calls.{overwrite, blocksGrounds, contentGrounds};
 ghost use Rattle.block_file.specs.Places.{formOf};
-ghost use Rattle.block_file.specs.Reading.{SetInside, TableInside, cleared, fillSets};
+ghost use Rattle.block_file.specs.Reading.{SetInside, TableInside, outerGrounds, cleared, fillSets};
 ghost use Rattle.block_file.specs.ReadAnswers.{CalledReadAs, CalledRead, CalledReadOld};
 use crate::blocks::BLOCK;
 use crate::blocks::CHECK_AT;
 use crate::blocks::CONTENT;
 use crate::blocks::CONTENT_AT;
+use crate::blocks::CONTENTS;
 use crate::blocks::Form;
 use crate::blocks::HEADER;
+use crate::blocks::MAX_FILE;
 use crate::blocks::MAX_SITE;
 use crate::blocks::added;
 use crate::blocks::blocks_for;
 use crate::blocks::check_of;
 use crate::blocks::content_length;
+use crate::blocks::copy_content;
 use crate::blocks::le16_at;
 use crate::blocks::place_of;
 use crate::blocks::set_count;
 use crate::blocks::set_width;
 use crate::blocks::wide;
 use state_set::WORDS;
-use table::HEAD_SETS;
 use table::MAX_GROUPS;
 use table::MAX_STATES;
 use table::STORE_WORDS;
-
-// The length of the largest file, of either form.
-pub const MAX_FILE: usize = BLOCK
-    * ((HEADER + (MAX_STATES + 7) / 8 * (HEAD_SETS + MAX_GROUPS + MAX_STATES) + CONTENT - 1)
-        / CONTENT);
 
 pub enum TableRead {
     // n and g of the table.
@@ -70,26 +67,34 @@ pub fn read_old(input: &[u8], site: usize, store: &mut [u64]) -> TableRead
 fn read_as(form: Form, input: &[u8], site: usize, store: &mut [u64]) -> TableRead
     ensures { λ r. ⌜ CalledReadAs (formOf form) (now (input .entry)) site (now (store .entry)) r (now (store .exit)) ⌝ }
 {
-    let fault = refusal(form, input, site, store.len());
-    if fault != 0 {
-        return TableRead::Refused(fault);
+    let outer = outer_refusal(input, site, store.len());
+    if outer != 0 {
+        return TableRead::Refused(outer);
     }
     if input.len() == 0 {
         clear(store);
         return TableRead::Table { n: 0, g: 0 };
     }
+    let mut joined = [0u8; CONTENTS];
+    join(input, &mut joined);
+    let l = CONTENT * (input.len() / BLOCK);
     let n = le16_at(input, CONTENT_AT);
     let second = le16_at(input, CONTENT_AT + 2);
+    let fault = content_refusal(form, input, &joined[..l], n, second);
+    if fault != 0 {
+        return TableRead::Refused(fault);
+    }
     let g = second - added(form);
-    fill(form, input, n, g, store);
+    fill(form, &joined[..l], n, g, store);
     TableRead::Table { n, g }
 }
 
-// ---- grounds
+// ---- grounds of the blocks
 
-// Why an input is declined where the store has `room` words, or 0. One of no bytes has no ground but 10 and 24.
-fn refusal(form: Form, input: &[u8], site: usize, room: usize) -> u8
-    ensures { λ r. ⌜ r ≡ refuse (readGroundsAs (formOf form) (now (input .entry)) site room) ⌝ }
+// Why an input is declined before its contents are looked at, where the store has `room` words, or 0. One of no bytes has no ground
+// but 10 and 24.
+fn outer_refusal(input: &[u8], site: usize, room: usize) -> u8
+    ensures { λ r. ⌜ r ≡ refuse (outerGrounds (now (input .entry)) site room) ⌝ }
 {
     if room < STORE_WORDS {
         return 10;
@@ -106,13 +111,7 @@ fn refusal(form: Form, input: &[u8], site: usize, room: usize) -> u8
     if MAX_FILE < input.len() {
         return 11;
     }
-    let fault = first_fault(input, site);
-    if fault != 0 {
-        return fault;
-    }
-    let n = le16_at(input, CONTENT_AT);
-    let second = le16_at(input, CONTENT_AT + 2);
-    content_refusal(form, input, n, second)
+    first_fault(input, site)
 }
 
 // What is wrong with the first block that has a fault, or 0.
@@ -148,8 +147,24 @@ fn block_fault(block: &[u8], site: usize, k: usize) -> u8
     0
 }
 
-// What is wrong with the contents of a file that says n and a second number, or 0.
-fn content_refusal(form: Form, input: &[u8], n: usize, second: usize) -> u8
+// ---- contents
+
+// The contents of the blocks, one behind the other at the front of what is lent.
+fn join(input: &[u8], out: &mut [u8])
+    requires { ⌜ contentBytes * (length (now input) / blockBytes) ≤ length (now out) ⌝ }
+    ensures { λ r. ⌜ now (out .exit) ≡ overwrite (contentsOf (now (input .entry))) (now (out .entry)) ⌝ }
+{
+    for k in 0..input.len() / BLOCK {
+        let at = CONTENT * k;
+        copy_content(input, BLOCK * k + CONTENT_AT, &mut out[at..]);
+    }
+}
+
+// ---- grounds of the contents
+
+// What is wrong with `bytes`, the contents of the input, which say n and a second number, or 0.
+fn content_refusal(form: Form, input: &[u8], bytes: &[u8], n: usize, second: usize) -> u8
+    requires { ⌜ now bytes ≡ contentsOf (now input) ⌝ }
     ensures { λ r. ⌜ r ≡ refuse (contentGrounds (formOf form) (now (input .entry)) n second) ⌝ }
 {
     if n == 0 {
@@ -171,23 +186,23 @@ fn content_refusal(form: Form, input: &[u8], n: usize, second: usize) -> u8
     if blocks != blocks_for(size) {
         return 16;
     }
-    if any_beyond(form, input, n, g) {
+    if any_beyond(form, bytes, n, g) {
         return 17;
     }
-    if non_zero(input, size, CONTENT * blocks) {
+    if non_zero(bytes, size, CONTENT * blocks) {
         return 18;
     }
     0
 }
 
 // A set of the table has a state from n up.
-fn any_beyond(form: Form, input: &[u8], n: usize, g: usize) -> bool
-    requires { ⌜ TableInside (formOf form) (now input) n g × (0 < n) ⌝ }
-    ensures { λ r. ⌜ r ≡ any (heads (formOf form) + g + n) (λ k. beyond n (setNumber (contentsOf (now (input .entry))) n k)) ⌝ }
+fn any_beyond(form: Form, bytes: &[u8], n: usize, g: usize) -> bool
+    requires { ⌜ TableInside (formOf form) (now bytes) n g × (0 < n) ⌝ }
+    ensures { λ r. ⌜ r ≡ any (heads (formOf form) + g + n) (λ k. beyond n (setNumber (now (bytes .entry)) n k)) ⌝ }
 {
     let w = set_width(n);
     for k in 0..set_count(form, n, g) {
-        if is_set_beyond(input, n, w, k) {
+        if is_set_beyond(bytes, n, w, k) {
             return true;
         }
     }
@@ -195,71 +210,35 @@ fn any_beyond(form: Form, input: &[u8], n: usize, g: usize) -> bool
 }
 
 // Set k of the contents has a state from n up: those are in the last of its w bytes.
-fn is_set_beyond(input: &[u8], n: usize, w: usize, k: usize) -> bool
-    requires { ⌜ SetInside (now input) w (headerBytes + w * k) × (0 < n) × (w ≡ setWidth n) ⌝ }
-    ensures { λ r. ⌜ r ≡ beyond n (setNumber (contentsOf (now (input .entry))) n k) ⌝ }
+fn is_set_beyond(bytes: &[u8], n: usize, w: usize, k: usize) -> bool
+    requires { ⌜ SetInside (now bytes) w (headerBytes + w * k) × (0 < n) × (w ≡ setWidth n) ⌝ }
+    ensures { λ r. ⌜ r ≡ beyond n (setNumber (now (bytes .entry)) n k) ⌝ }
 {
-    let last = wide(content(input, HEADER + w * k + (w - 1)));
+    let last = wide(bytes[HEADER + w * k + (w - 1)]);
     last >> (n - 8 * (w - 1)) != 0
 }
 
-// Some byte of the contents from `from` on and before `to` is not 0.
-fn non_zero(input: &[u8], from: usize, to: usize) -> bool
-    requires { ⌜ (from ≤ to) × (to ≤ contentBytes * (length (now input) / blockBytes)) ⌝ }
-    ensures { λ r. ⌜ r ≡ nonZero (contentsOf (now (input .entry))) from to ⌝ }
+// Some byte from `from` on and before `to` is not 0.
+fn non_zero(bytes: &[u8], from: usize, to: usize) -> bool
+    requires { ⌜ (from ≤ to) × (to ≤ length (now bytes)) ⌝ }
+    ensures { λ r. ⌜ r ≡ nonZero (now (bytes .entry)) from to ⌝ }
 {
     for i in from..to {
-        if content(input, i) != 0 {
+        if bytes[i] != 0 {
             return true;
         }
     }
     false
 }
 
-// ---- contents
-
-// Byte i of the contents joined.
-fn content(input: &[u8], i: usize) -> u8
-    requires { ⌜ i < contentBytes * (length (now input) / blockBytes) ⌝ }
-    ensures { λ r. ⌜ r ≡ getD (contentsOf (now (input .entry))) i 0 ⌝ }
-{
-    input[BLOCK * (i / CONTENT) + (CONTENT_AT + i % CONTENT)]
-}
-
-// Byte j of the set whose w bytes begin at `at`: 0 past them.
-fn byte_in(input: &[u8], w: usize, at: usize, j: usize) -> u64
-    requires { ⌜ SetInside (now input) w at ⌝ }
-    ensures { λ r. ⌜ r ≡ number (member (setIn (contentsOf (now (input .entry))) w at)) (8 * j) 8 ⌝ }
-{
-    if w <= j {
-        return 0;
-    }
-    wide(content(input, at + j))
-}
-
-// Word v of that set: 0 past its bytes, of which unused groups and rows have none.
-fn word_in(input: &[u8], w: usize, at: usize, v: usize) -> u64
-    requires { ⌜ SetInside (now input) w at × (v < WORDS) ⌝ }
-    ensures { λ r. ⌜ r ≡ getD (setIn (contentsOf (now (input .entry))) w at) v 0 ⌝ }
-{
-    if w <= 8 * v {
-        return 0;
-    }
-    let mut word: u64 = 0;
-    for b in 0..8 {
-        word |= byte_in(input, w, at, 8 * v + b) << (8 * b);
-    }
-    word
-}
-
 // ---- filling
 
-fn fill(form: Form, input: &[u8], n: usize, g: usize, store: &mut [u64])
-    requires { ⌜ TableInside (formOf form) (now input) n g × (storeWords ≤ length (now store)) ⌝ }
-    ensures { λ r. ⌜ now (store .exit) ≡ overwrite (layout (dialogueIn (formOf form) (contentsOf (now (input .entry))) n g)) (now (store .entry)) ⌝ }
+fn fill(form: Form, bytes: &[u8], n: usize, g: usize, store: &mut [u64])
+    requires { ⌜ TableInside (formOf form) (now bytes) n g × (storeWords ≤ length (now store)) ⌝ }
+    ensures { λ r. ⌜ now (store .exit) ≡ overwrite (layout (dialogueIn (formOf form) (now (bytes .entry)) n g)) (now (store .entry)) ⌝ }
 {
     clear(store);
-    fill_sets(form, input, n, g, store);
+    fill_sets(form, bytes, n, g, store);
 }
 
 // Words of unused groups and rows stay 0.
@@ -274,24 +253,50 @@ fn clear(store: &mut [u64])
 
 // Each set into its own words: the part of the store from there on is lent, from ROWS_AT + WORDS * s on for the row of state s, to be
 // filled from the set's bytes.
-fn fill_sets(form: Form, input: &[u8], n: usize, g: usize, store: &mut [u64])
-    requires { ⌜ TableInside (formOf form) (now input) n g × (storeWords ≤ length (now store)) ⌝ }
-    ensures { λ r. ⌜ now (store .exit) ≡ fillSets (formOf form) (contentsOf (now (input .entry))) n g (heads (formOf form) + g + n) (now (store .entry)) ⌝ }
+fn fill_sets(form: Form, bytes: &[u8], n: usize, g: usize, store: &mut [u64])
+    requires { ⌜ TableInside (formOf form) (now bytes) n g × (storeWords ≤ length (now store)) ⌝ }
+    ensures { λ r. ⌜ now (store .exit) ≡ fillSets (formOf form) (now (bytes .entry)) n g (heads (formOf form) + g + n) (now (store .entry)) ⌝ }
 {
     let w = set_width(n);
     for k in 0..set_count(form, n, g) {
         let at = place_of(form, g, k);
-        fill_set(&mut store[at..], input, w, k);
+        fill_set(&mut store[at..], bytes, w, k);
     }
 }
 
 // Set k of the contents, where each set has w bytes, put into the first words of a part of the store.
-fn fill_set(words: &mut [u64], input: &[u8], w: usize, k: usize)
-    requires { ⌜ SetInside (now input) w (headerBytes + w * k) × (WORDS ≤ length (now words)) ⌝ }
-    ensures { λ r. ⌜ now (words .exit) ≡ overwrite (setIn (contentsOf (now (input .entry))) w (headerBytes + w * k)) (now (words .entry)) ⌝ }
+fn fill_set(words: &mut [u64], bytes: &[u8], w: usize, k: usize)
+    requires { ⌜ SetInside (now bytes) w (headerBytes + w * k) × (WORDS ≤ length (now words)) ⌝ }
+    ensures { λ r. ⌜ now (words .exit) ≡ overwrite (setIn (now (bytes .entry)) w (headerBytes + w * k)) (now (words .entry)) ⌝ }
 {
     let at = HEADER + w * k;
     for v in 0..WORDS {
-        words[v] = word_in(input, w, at, v);
+        words[v] = word_in(bytes, w, at, v);
     }
+}
+
+// Word v of the set whose w bytes begin at `at`: 0 past its bytes.
+fn word_in(bytes: &[u8], w: usize, at: usize, v: usize) -> u64
+    requires { ⌜ SetInside (now bytes) w at × (v < WORDS) ⌝ }
+    ensures { λ r. ⌜ r ≡ getD (setIn (now (bytes .entry)) w at) v 0 ⌝ }
+{
+    if 8 * v + 8 <= w {
+        return low_bytes(bytes, w, at, v, 8);
+    }
+    if w <= 8 * v {
+        return 0;
+    }
+    low_bytes(bytes, w, at, v, w - 8 * v)
+}
+
+// The lowest `count` bytes of that word. The compiler makes one load of eight.
+fn low_bytes(bytes: &[u8], w: usize, at: usize, v: usize, count: usize) -> u64
+    requires { ⌜ SetInside (now bytes) w at × (count ≤ 8) × (8 * v + count ≤ w) ⌝ }
+    ensures { λ r. ⌜ r ≡ number (member (setIn (now (bytes .entry)) w at)) (64 * v) (8 * count) ⌝ }
+{
+    let mut word: u64 = 0;
+    for b in 0..count {
+        word |= wide(bytes[at + (8 * v + b)]) << (8 * b);
+    }
+    word
 }

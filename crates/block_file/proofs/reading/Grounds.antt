@@ -9,37 +9,41 @@
 --   no-states, many-states, second-low,     what `content_refusal` returns for the grounds 14 to 16
 --   second-high, other-blocks
 --   Sized                                   none of these holds; size is the length of the contents
+--   joined-long                             how many bytes the contents are; sized-inside: they have room for a table of that size
 --   set-beyond, filler-non-zero,            what it returns then
 --   content-right
 --   header                                  n and g, read from the first block
---   small-store, far-site, no-input,        what `refusal` returns for grounds 10 and 24, for no bytes, and for ground 11
---   part-block, long-input
---   Whole                                   neither of these holds
---   block-wrong, blocks-right               what it returns then
---   declined, draft-read, table-read        the contract of `read_as` in each case; room-enough, some-block, table-inside: what it may do
+--   small-store, far-site, no-input,        what `outer_refusal` returns for grounds 10 and 24, for no bytes, for ground 11,
+--   part-block, long-input, blocks-decide   and where these do not hold
+--   outer-declines                          a ground that it found decides
+--   room-enough, draft-accepted,            where it found none: what `read_as` may do, and
+--   short-input, some-block
+--   content-decides                         that the grounds of the contents decide
+--   declined, draft-read, table-read        the contract of `read_as` in each case; second-least, table-inside: what it may do
 use Prim.Native.Nat.{ℕ, _+_, _*_, _-_, _/_, _%_, _≤_, _<_}
 use native.Mathlib.Nat.{add-assoc, le-antisymm}
 use native.Mathlib.Omega.{arith}
 use mathlib.Core.Path.{_≡_, refl, sym, ap, ap₂, _∙_, subst}
 use mathlib.Core.Logic.{⊎-elim}
-use mathlib.Core.Bool.{Bool, true, false, not, _||_}
+use mathlib.Core.Bool.{Bool, true, false, cond, not, _||_}
 use mathlib.Core.List.{List, [], _∷_, _++_, append-nil}
-use borrow.Author.Tests.{lt-ltb, le-ltb, eq-eqb, ne-eqb}
+use borrow.Author.Tests.{lt-ltb, le-ltb, ltb-false, eq-eqb, ne-eqb, eqb-true, not-false}
 use lib.Dec.{eqb, ltb}
 use lib.ListN.{length, getD, take, drop}
 use Rattle.model.specs.Sets.{maxStates, any}
-use Rattle.model.specs.Stores.{maxGroups, storeWords, concat, layout, refuse, beyond, nonZero}
-use Rattle.model.specs.Blocks.{blockBytes, contentBytes, checkAt, maxSite, le16At, checkOf, blocksFor, part, contentsOf, blockGrounds}
+use Rattle.model.specs.Stores.{maxGroups, storeWords, concat, layout, Ground, refuse, beyond, nonZero, storeGround}
+use Rattle.model.specs.Blocks.{blockBytes, contentBytes, checkAt, maxSite, siteGround, le16At, checkOf, blocksFor, part, contentsOf, blockGrounds}
 use Rattle.model.specs.Contents.{Form, heads, added, contentLength, setNumber, dialogueIn}
 use Rattle.model.specs.Files.{maxFile}
 use Rattle.model.specs.Calls.{overwrite, statesIn, secondIn, groupsIn, badLength, badSecond, blocksGrounds, contentGrounds, fileGrounds, readGroundsAs, readAnswerAs, readBufferAs}
+use Rattle.model.proofs.Bounds.{or-false}
 use Rattle.model.proofs.GroundLaws.{Clear, refuse-none, refuse-skip, refuse-take, refuse-append, refuse-behind, clear-refuse, refuse-clear, clear-next, refuse-stop}
-use Rattle.model.proofs.BlockLaws.{getD-contentsOf-at}
-use Rattle.model.proofs.CallLaws.{second-pass, right-block, blocks-clear, Readable, read-over, behind-site, behind-length, readable, draft-refusal, read-answer, read-buffer, draft-says}
+use Rattle.model.proofs.BlockLaws.{length-contentsOf, getD-contentsOf-at}
+use Rattle.model.proofs.CallLaws.{second-pass, right-block, blocks-clear, Readable, behind-length, readable, draft-refusal, read-answer, read-buffer, draft-says}
 use Rattle.model.proofs.Drafts.{draft-layout}
 use Rattle.block_file.specs.declared.reading.TableRead.the-variants.{Table, Refused}
 use Rattle.block_file.specs.ReadAnswers.{CalledReadAs}
-use Rattle.block_file.specs.Reading.{TableInside, cleared}
+use Rattle.block_file.specs.Reading.{TableInside, outerGrounds, cleared}
 
 -- ---- the blocks
 
@@ -147,29 +151,38 @@ module _ (form : Form) (input : List ℕ) (n second : ℕ) where
           ∙ refuse-take _ 16 _
           (ap not (ne-eqb _ _ (λ q. x (q ∙ ap (λ (m : ℕ). blocksFor (contentLength form n m)) groups ∙ sym (f ∙ ap (λ (l : ℕ). blocksFor l) is))))))
 
-module _ {form : Form} {input : List ℕ} {n second g size : ℕ} (s : Sized form input n second g size)
-    {b : Bool} (sets : b ≡ any (heads form + g + n) (λ k. beyond n (setNumber (contentsOf input) n k))) where
-  behind-size : contentRefusal form input n second ≡ refuse ((b, 17) ∷ (nonZero (contentsOf input) size (contentBytes * (length input / blockBytes)), 18) ∷ [])
-  unfolding contentGrounds
-  behind-size =
-      let groups : second - added form ≡ g = omega (arith, s .is-second) in
-      refuse-skip _ 14 _ (states-pass n (s .some) (s .states))
-      ∙ refuse-skip _ 15 _ (second-pass form second g (s .is-second) (s .few))
-      ∙ refuse-skip _ 16 _
-      (ap not (eq-eqb _ _ (s .blocks ∙ ap (λ (l : ℕ). blocksFor l) (s .is) ∙ ap (λ (m : ℕ). blocksFor (contentLength form n m)) (sym groups))))
-      ∙ ap₂ (λ a (l : ℕ). refuse ((a, 17) ∷ (nonZero (contentsOf input) l (contentBytes * (length input / blockBytes)), 18) ∷ []))
-      (ap (λ (m : ℕ). any (heads form + m + n) (λ k. beyond n (setNumber (contentsOf input) n k))) groups ∙ sym sets)
-      (ap (λ (m : ℕ). contentLength form n m) groups ∙ sym (s .is))
+-- bytes are the contents
+module _ (input : List ℕ) {bytes : List ℕ} (joined : bytes ≡ contentsOf input) where
+  pub joined-long : length bytes ≡ contentBytes * (length input / blockBytes)
+  joined-long = ap length joined ∙ length-contentsOf input
 
-  pub set-beyond : b ≡ true → 17 ≡ contentRefusal form input n second
-  set-beyond t = sym (behind-size ∙ refuse-take _ 17 _ t)
+  module _ {form : Form} {n second g size : ℕ} (s : Sized form input n second g size) where
+    pub sized-inside : TableInside form bytes n g
+    sized-inside = record { small = s .states; few = s .few; inside = omega (arith, s .is, s .blocks, joined-long) }
 
-  module _ (within : b ≡ false) {z : Bool} (filler : z ≡ nonZero (contentsOf input) size (contentBytes * (length input / blockBytes))) where
-    pub filler-non-zero : z ≡ true → 18 ≡ contentRefusal form input n second
-    filler-non-zero t = sym (behind-size ∙ refuse-skip _ 17 _ within ∙ refuse-take _ 18 _ (sym filler ∙ t))
+    module _ {b : Bool} (sets : b ≡ any (heads form + g + n) (λ k. beyond n (setNumber bytes n k))) where
+      behind-size : contentRefusal form input n second ≡ refuse ((b, 17) ∷ (nonZero bytes size (contentBytes * (length input / blockBytes)), 18) ∷ [])
+      unfolding contentGrounds
+      behind-size =
+          let groups : second - added form ≡ g = omega (arith, s .is-second) in
+          refuse-skip _ 14 _ (states-pass n (s .some) (s .states))
+          ∙ refuse-skip _ 15 _ (second-pass form second g (s .is-second) (s .few))
+          ∙ refuse-skip _ 16 _
+          (ap not (eq-eqb _ _ (s .blocks ∙ ap (λ (l : ℕ). blocksFor l) (s .is) ∙ ap (λ (m : ℕ). blocksFor (contentLength form n m)) (sym groups))))
+          ∙ ap₂ (λ a (l : ℕ). refuse ((a, 17) ∷ (nonZero (contentsOf input) l (contentBytes * (length input / blockBytes)), 18) ∷ []))
+          (ap₂ (λ (m : ℕ) (xs : List ℕ). any (heads form + m + n) (λ k. beyond n (setNumber xs n k))) groups (sym joined) ∙ sym sets)
+          (ap (λ (m : ℕ). contentLength form n m) groups ∙ sym (s .is))
+          ∙ ap (λ (xs : List ℕ). refuse ((b, 17) ∷ (nonZero xs size (contentBytes * (length input / blockBytes)), 18) ∷ [])) (sym joined)
 
-    pub content-right : z ≡ false → 0 ≡ contentRefusal form input n second
-    content-right t = sym (behind-size ∙ refuse-skip _ 17 _ within ∙ refuse-skip _ 18 _ (sym filler ∙ t) ∙ refuse-none)
+      pub set-beyond : b ≡ true → 17 ≡ contentRefusal form input n second
+      set-beyond t = sym (behind-size ∙ refuse-take _ 17 _ t)
+
+      module _ (within : b ≡ false) {z : Bool} (filler : z ≡ nonZero bytes size (contentBytes * (length input / blockBytes))) where
+        pub filler-non-zero : z ≡ true → 18 ≡ contentRefusal form input n second
+        filler-non-zero t = sym (behind-size ∙ refuse-skip _ 17 _ within ∙ refuse-take _ 18 _ (sym filler ∙ t))
+
+        pub content-right : z ≡ false → 0 ≡ contentRefusal form input n second
+        content-right t = sym (behind-size ∙ refuse-skip _ 17 _ within ∙ refuse-skip _ 18 _ (sym filler ∙ t) ∙ refuse-none)
 
 -- ---- all grounds
 
@@ -181,82 +194,118 @@ header input i h l =
     getD-contentsOf-at input j (omega arith) ∙ ap (λ (k : ℕ). getD input k 0) place in
     ap₂ (λ (a b : ℕ). a + 256 * b) (sym (byte i (omega arith))) (ap (λ (k : ℕ). getD input k 0) (add-assoc 2 i 1) ∙ sym (byte (i + 1) l))
 
-pub record Whole (input : List ℕ) (site room : ℕ) : Type 0 where
-  pub fits : storeWords ≤ room
-  pub known : site ≤ maxSite
-  pub some : length input ≡ 0 → ⊥
-  pub whole : length input % blockBytes ≡ 0
-  pub short : length input ≤ maxFile
+module _ (input : List ℕ) (site room : ℕ) where
+  abbrev outerRefusal : ℕ
+  outerRefusal = refuse (outerGrounds input site room)
 
-module _ (form : Form) (input : List ℕ) (site room : ℕ) where
-  pub small-store : room < storeWords → 10 ≡ refuse (readGroundsAs form input site room)
-  unfolding readGroundsAs
+  pub small-store : room < storeWords → 10 ≡ outerRefusal
+  unfolding outerGrounds
   small-store h = sym (refuse-take _ 10 _ (lt-ltb room storeWords h))
 
-  pub far-site : storeWords ≤ room → maxSite < site → 24 ≡ refuse (readGroundsAs form input site room)
-  far-site fits h = sym (read-over form input site room fits h)
+  module _ (fits : storeWords ≤ room) where
+    pub far-site : maxSite < site → 24 ≡ outerRefusal
+    unfolding outerGrounds
+    far-site h = sym (refuse-skip _ 10 _ (le-ltb room storeWords fits) ∙ refuse-take _ 24 _ (lt-ltb maxSite site h))
 
-  module _ (fits : storeWords ≤ room) (known : site ≤ maxSite) where
-    pub no-input : length input ≡ 0 → 0 ≡ refuse (readGroundsAs form input site room)
-    no-input e = sym (draft-refusal form input site room fits known e)
+    module _ (known : site ≤ maxSite) where
+      behind-known : outerRefusal ≡ refuse (cond (eqb (length input) 0) [] ((badLength input, 11) ∷ blocksGrounds input site))
+      unfolding outerGrounds
+      behind-known = refuse-skip _ 10 _ (le-ltb room storeWords fits) ∙ refuse-skip _ 24 _ (le-ltb maxSite site known)
+
+      pub no-input : length input ≡ 0 → 0 ≡ outerRefusal
+      no-input e = sym (behind-known ∙ rw (eq-eqb (length input) 0 e) refuse-none)
+
+      module _ (some : length input ≡ 0 → ⊥) where
+        behind-some : outerRefusal ≡ refuse ((badLength input, 11) ∷ blocksGrounds input site)
+        behind-some = behind-known ∙ rw (ne-eqb (length input) 0 some)
+
+        -- ground 11 decides
+        length-wrong : badLength input ≡ true → 11 ≡ outerRefusal
+        length-wrong b = sym (behind-some ∙ refuse-take _ 11 _ b)
+
+        pub part-block : (length input % blockBytes ≡ 0 → ⊥) → 11 ≡ outerRefusal
+        unfolding badLength
+        part-block x = length-wrong (rw (ne-eqb (length input % blockBytes) 0 x))
+
+        module _ (whole : length input % blockBytes ≡ 0) where
+          pub long-input : maxFile < length input → 11 ≡ outerRefusal
+          unfolding badLength
+          long-input h = length-wrong (rw (eq-eqb (length input % blockBytes) 0 whole) (lt-ltb maxFile (length input) h))
+
+          pub blocks-decide : length input ≤ maxFile → {k : ℕ} → k ≡ refuse (blocksGrounds input site) → k ≡ outerRefusal
+          unfolding badLength
+          blocks-decide h e = e ∙ sym (behind-some ∙ refuse-skip _ 11 _ (rw (eq-eqb (length input % blockBytes) 0 whole) (le-ltb maxFile (length input) h)))
+
+-- grounds behind a list, where the list has any but its first two
+append-more : (b : Bool) (x y z : Ground) (xs ys : List Ground) {k : ℕ} → k ≡ refuse (x ∷ y ∷ cond b [] (z ∷ xs)) → (k ≡ 0 → ⊥) → k ≡ refuse (x ∷ y ∷ cond b [] (z ∷ (xs ++ ys)))
+append-more true x y z xs ys e f = e
+append-more false x y z xs ys e f = refuse-append (x ∷ y ∷ z ∷ xs) ys e f
+
+-- k is the first outer ground that holds, or 0
+module _ (input : List ℕ) (site room : ℕ) {k : ℕ} (e : k ≡ refuse (outerGrounds input site room)) where
+  pub outer-declines : (form : Form) → (k ≡ 0 → ⊥) → k ≡ refuse (readGroundsAs form input site room)
+  unfolding outerGrounds readGroundsAs fileGrounds
+  outer-declines form = append-more (eqb (length input) 0) _ _ _ (blocksGrounds input site) _ e
+
+  module _ (z : k ≡ 0) where
+    passed : (storeWords ≤ room) × (site ≤ maxSite) × (refuse (cond (eqb (length input) 0) [] ((badLength input, 11) ∷ blocksGrounds input site)) ≡ 0)
+    unfolding outerGrounds
+    passed =
+        let early = refuse-clear (storeGround room ∷ siteGround site ∷ []) _ refl (sym e ∙ z) in
+        (ltb-false room storeWords (early .0 .0), ltb-false maxSite site (early .0 .1 .0), early .1)
+
+    pub room-enough : storeWords ≤ room
+    room-enough = passed .0
+
+    pub draft-accepted : (form : Form) → length input ≡ 0 → 0 ≡ refuse (readGroundsAs form input site room)
+    draft-accepted form empty = sym (draft-refusal form input site room (passed .0) (passed .1) empty)
 
     module _ (some : length input ≡ 0 → ⊥) where
-      -- ground 11 decides
-      length-wrong : badLength input ≡ true → 11 ≡ refuse (readGroundsAs form input site room)
-      unfolding fileGrounds
-      length-wrong b = sym (behind-site form input site room fits known some ∙ refuse-take _ 11 _ b)
+      file-passed : (badLength input ≡ false) × (refuse (blocksGrounds input site) ≡ 0)
+      file-passed =
+          let clear = refuse-clear ((badLength input, 11) ∷ []) (blocksGrounds input site) refl (rw (ne-eqb (length input) 0 some) at (passed .2)) in
+          (clear .0 .0, clear .1)
 
-      pub part-block : (length input % blockBytes ≡ 0 → ⊥) → 11 ≡ refuse (readGroundsAs form input site room)
+      length-right : (not (eqb (length input % blockBytes) 0) ≡ false) × (ltb maxFile (length input) ≡ false)
       unfolding badLength
-      part-block x = length-wrong (rw (ne-eqb (length input % blockBytes) 0 x))
+      length-right = or-false _ _ (file-passed .0)
 
-      pub long-input : length input % blockBytes ≡ 0 → maxFile < length input → 11 ≡ refuse (readGroundsAs form input site room)
-      unfolding badLength
-      long-input e h = length-wrong (rw (eq-eqb (length input % blockBytes) 0 e) (lt-ltb maxFile (length input) h))
+      pub short-input : length input ≤ maxFile
+      short-input = ltb-false maxFile (length input) (length-right .1)
 
-module _ (form : Form) {input : List ℕ} {site room : ℕ} (w : Whole input site room) {fault : ℕ} (e : fault ≡ refuse (blocksGrounds input site)) where
-  behind-whole : refuse (readGroundsAs form input site room) ≡ refuse (blocksGrounds input site ++ contentGrounds form input (statesIn input) (secondIn input))
-  unfolding badLength
-  behind-whole =
-      behind-length form input site room (w .fits) (w .known) (w .some) (rw (eq-eqb (length input % blockBytes) 0 (w .whole)) (le-ltb maxFile (length input) (w .short)))
+      pub some-block : blockBytes ≤ length input
+      some-block = omega (arith, some, eqb-true (length input % blockBytes) 0 (not-false _ (length-right .0)))
 
-  pub block-wrong : (fault ≡ 0 → ⊥) → fault ≡ refuse (readGroundsAs form input site room)
-  block-wrong x = refuse-append (blocksGrounds input site) _ e x ∙ sym behind-whole
-
-  pub blocks-right : fault ≡ 0 → {n second k : ℕ} → n ≡ le16At input 2 → second ≡ le16At input 4 → k ≡ contentRefusal form input n second → k ≡ refuse (readGroundsAs form input site room)
-  blocks-right z p q f =
-      let long : blockBytes ≤ length input = omega (arith, w .some, w .whole) in
-      let clear = blocks-clear input site [] (ap refuse (append-nil (blocksGrounds input site)) ∙ sym e ∙ z) .0 in
-      f
-      ∙ ap₂ (λ (a b : ℕ). contentRefusal form input a b) (p ∙ header input 0 long (omega arith)) (q ∙ header input 2 long (omega arith))
-      ∙ sym (behind-whole ∙ refuse-behind (blocksGrounds input site) _ clear)
+      pub content-decides : (form : Form) {n second c : ℕ} → n ≡ le16At input 2 → second ≡ le16At input 4 → c ≡ contentRefusal form input n second
+          → c ≡ refuse (readGroundsAs form input site room)
+      content-decides form p q f =
+          let clear = blocks-clear input site [] (ap refuse (append-nil (blocksGrounds input site)) ∙ file-passed .1) .0 in
+          f
+          ∙ ap₂ (λ (a b : ℕ). contentRefusal form input a b) (p ∙ header input 0 some-block (omega arith)) (q ∙ header input 2 some-block (omega arith))
+          ∙ sym (behind-length form input site room (passed .0) (passed .1) some (file-passed .0) ∙ refuse-behind (blocksGrounds input site) _ clear)
 
 -- ---- the call
 
 -- no ground holds
-module _ (form : Form) (input : List ℕ) (site room : ℕ) {k : ℕ} (e : k ≡ refuse (readGroundsAs form input site room)) (z : k ≡ 0) where
-  pub room-enough : storeWords ≤ room
-  room-enough = readable form input site room (sym e ∙ z) .0
+module _ (form : Form) (input : List ℕ) (site room : ℕ) {k : ℕ} (e : k ≡ refuse (readGroundsAs form input site room)) (z : k ≡ 0) (some : length input ≡ 0 → ⊥) where
+  file : Readable form input site room (statesIn input) (groupsIn form input)
+  file = ⊎-elim (λ q. absurd (some q)) (λ r. r) (readable form input site room (sym e ∙ z) .2)
 
-  module _ (some : length input ≡ 0 → ⊥) where
-    file : Readable form input site room (statesIn input) (groupsIn form input)
-    file = ⊎-elim (λ q. absurd (some q)) (λ r. r) (readable form input site room (sym e ∙ z) .2)
+  first-block : blockBytes ≤ length input
+  first-block = omega (arith, some, file .whole)
 
-    pub some-block : blockBytes ≤ length input
-    some-block = omega (arith, some, file .whole)
+  pub second-least : {second least : ℕ} → second ≡ le16At input 4 → least ≡ added form → least ≤ second
+  second-least q e = omega (arith, q, header input 2 first-block (omega arith), file .second)
 
-    pub second-least : {second least : ℕ} → second ≡ le16At input 4 → least ≡ added form → least ≤ second
-    second-least q e = omega (arith, q, header input 2 some-block (omega arith), file .second)
+  module _ {n g : ℕ} (p : n ≡ le16At input 2) (q : g ≡ le16At input 4 - added form) where
+    says : (n ≡ statesIn input) × (g ≡ groupsIn form input)
+    says = (p ∙ header input 0 first-block (omega arith), q ∙ ap (λ (m : ℕ). m - added form) (header input 2 first-block (omega arith)))
 
-    module _ {n g : ℕ} (p : n ≡ le16At input 2) (q : g ≡ le16At input 4 - added form) where
-      says : (n ≡ statesIn input) × (g ≡ groupsIn form input)
-      says = (p ∙ header input 0 some-block (omega arith), q ∙ ap (λ (m : ℕ). m - added form) (header input 2 some-block (omega arith)))
-
-      pub table-inside : TableInside form input n g
-      table-inside =
-          let blocks : length input / blockBytes ≡ blocksFor (contentLength form n g) =
-          file .blocks ∙ ap₂ (λ (a b : ℕ). blocksFor (contentLength form a b)) (sym (says .0)) (sym (says .1)) in
-          record { small = omega (arith, says .0, file .small); few = omega (arith, says .1, file .few); inside = omega arith }
+    pub table-inside : {bytes : List ℕ} → bytes ≡ contentsOf input → TableInside form bytes n g
+    table-inside joined =
+        let blocks : length input / blockBytes ≡ blocksFor (contentLength form n g) =
+        file .blocks ∙ ap₂ (λ (a b : ℕ). blocksFor (contentLength form a b)) (sym (says .0)) (sym (says .1)) in
+        record { small = omega (arith, says .0, file .small); few = omega (arith, says .1, file .few); inside = omega (arith, joined-long input joined) }
 
 -- k is the first ground that holds, or 0
 module _ (form : Form) (input : List ℕ) (site : ℕ) (store : List ℕ) {k : ℕ} (e : k ≡ refuse (readGroundsAs form input site (length store))) where
@@ -284,7 +333,7 @@ module _ (form : Form) (input : List ℕ) (site : ℕ) (store : List ℕ) {k : �
         accepted (none .0) (none .1) (f ∙ ap (λ (xs : List ℕ). overwrite xs store) (sym (draft-layout form (contentsOf input))))
 
     pub table-read : (length input ≡ 0 → ⊥) → {n g : ℕ} → n ≡ le16At input 2 → g ≡ le16At input 4 - added form
-        → {after : List ℕ} → after ≡ overwrite (layout (dialogueIn form (contentsOf input) n g)) store → CalledReadAs form input site store (Table n g) after
-    table-read some p q f =
+        → {bytes after : List ℕ} → bytes ≡ contentsOf input → after ≡ overwrite (layout (dialogueIn form bytes n g)) store → CalledReadAs form input site store (Table n g) after
+    table-read some {n} {g} p q joined f =
         let header = says form input site (length store) e z some p q in
-        accepted (sym (header .0)) (sym (header .1)) f
+        accepted (sym (header .0)) (sym (header .1)) (f ∙ ap (λ (xs : List ℕ). overwrite (layout (dialogueIn form xs n g)) store) joined)

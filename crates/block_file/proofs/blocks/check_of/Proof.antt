@@ -18,13 +18,17 @@ check-of-spec =
     (tie.spec
     Inv-loop
     μ-loop
+    (λ c. search needs)
     (λ c. sum-none _ _ (search needs))
     (λ c. search needs)
     (λ c. search needs)
+    (λ c. search needs)
     (λ c κs. search needs)
+    (λ c. search needs)
     (λ c. record { fits = term-fits (search needs) (search needs) })
     (λ c. record { fits = sum-fits (search needs) (search needs) (c .before .before .before .loop .inv) })
     (λ c. search needs)
     (λ c. search needs)
     (λ c. sum-more (search needs) (search needs) (c .before .before .before .loop .inv) (search needs))
+    (λ c. search needs)
     (λ c. sum-all (c .before .loop .inv) (search needs)))

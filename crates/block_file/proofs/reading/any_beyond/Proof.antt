@@ -5,7 +5,6 @@ use mathlib.Core.Bool.{false}
 use borrow.Author.Needs.{needs}
 use Rattle.model.specs.Sets.{any}
 use Rattle.model.specs.Stores.{beyond}
-use Rattle.model.specs.Blocks.{contentsOf}
 use Rattle.model.specs.Contents.{setNumber}
 use Rattle.model.proofs.Bounds.{any-start, any-turn, any-intro, any-end}
 use Rattle.block_file.proofs.reading.Words.{set-inside}
@@ -13,10 +12,10 @@ use Rattle.block_file.proofs.reading.any_beyond.Statement.{statement}
 use Rattle.block_file.proofs.reading.any_beyond.Tie as tie
 
 abbrev Inv-loop : tie.InvT-loop
-Inv-loop input n g w k₀ k-end k = (k ≤ k-end) × (any k (λ i. beyond n (setNumber (contentsOf input) n i)) ≡ false)
+Inv-loop bytes n g w k₀ k-end k = (k ≤ k-end) × (any k (λ i. beyond n (setNumber bytes n i)) ≡ false)
 
 abbrev μ-loop : tie.MeasureT-loop
-μ-loop input n g w k₀ k-end k = k-end - k
+μ-loop bytes n g w k₀ k-end k = k-end - k
 
 pub any-beyond-spec : {M : Type 1} → statement M
 any-beyond-spec =

@@ -3,7 +3,6 @@ use Prim.Native.Nat.{_-_, _≤_}
 use borrow.Author.Needs.{needs}
 use lib.ListN.{getD}
 use Rattle.model.specs.Sets.{WORDS, tabulate}
-use Rattle.model.specs.Blocks.{contentsOf}
 use Rattle.model.specs.Contents.{setIn}
 use Rattle.model.proofs.ContentLaws.{setIn-proper}
 use Rattle.block_file.proofs.Overwriting.{Over, over-none, over-next, over-list}
@@ -11,10 +10,10 @@ use Rattle.block_file.proofs.reading.fill_set.Statement.{statement}
 use Rattle.block_file.proofs.reading.fill_set.Tie as tie
 
 abbrev Inv-loop : tie.InvT-loop
-Inv-loop words₀ input w k at v₀ words v = (v ≤ WORDS) × Over (tabulate v (λ i. getD (setIn (contentsOf input) w at) i 0)) words₀ words
+Inv-loop words₀ bytes w k at v₀ words v = (v ≤ WORDS) × Over (tabulate v (λ i. getD (setIn bytes w at) i 0)) words₀ words
 
 abbrev μ-loop : tie.MeasureT-loop
-μ-loop words₀ input w k at v₀ words v = WORDS - v
+μ-loop words₀ bytes w k at v₀ words v = WORDS - v
 
 pub fill-set-spec : {M : Type 1} → statement M
 fill-set-spec =

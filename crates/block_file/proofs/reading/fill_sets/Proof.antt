@@ -3,7 +3,6 @@ use Prim.Native.Nat.{_+_, _-_, _≤_}
 use native.Mathlib.Omega.{arith}
 use borrow.Author.Needs.{needs}
 use lib.ListN.{length-take, length-drop}
-use Rattle.model.specs.Blocks.{contentsOf}
 use Rattle.model.specs.Contents.{heads}
 use Rattle.block_file.specs.Places.{formOf}
 use Rattle.block_file.proofs.reading.Words.{set-inside}
@@ -12,10 +11,10 @@ use Rattle.block_file.proofs.reading.fill_sets.Statement.{statement}
 use Rattle.block_file.proofs.reading.fill_sets.Tie as tie
 
 abbrev Inv-loop : tie.InvT-loop
-Inv-loop form input n g store₀ w k₀ k-end store k = (k ≤ heads (formOf form) + g + n) × Filling (formOf form) (contentsOf input) n g k store₀ store
+Inv-loop form bytes n g store₀ w k₀ k-end store k = (k ≤ heads (formOf form) + g + n) × Filling (formOf form) bytes n g k store₀ store
 
 abbrev μ-loop : tie.MeasureT-loop
-μ-loop form input n g store₀ w k₀ k-end store k = heads (formOf form) + g + n - k
+μ-loop form bytes n g store₀ w k₀ k-end store k = heads (formOf form) + g + n - k
 
 pub fill-sets-spec : {M : Type 1} → statement M
 fill-sets-spec =

@@ -1,5 +1,4 @@
 -- `is_set_beyond`: the set's last byte, without its bits below n.
-use mathlib.Core.Path.{_∙_}
 use borrow.Author.Needs.{needs}
 use Rattle.block_file.proofs.reading.LastByte.{beyond-last}
 use Rattle.block_file.proofs.reading.is_set_beyond.Statement.{statement}
@@ -13,10 +12,10 @@ is-set-beyond-spec =
     (λ c. search needs)
     (λ c. search needs)
     (λ c. search needs)
+    (λ c. search needs)
     (λ c κs. search needs)
-    (λ c κs. search needs)
     (λ c. search needs)
     (λ c. search needs)
     (λ c. search needs)
     (λ c. search needs)
-    (λ c. beyond-last _ _ _ _ _ (search needs) (search needs) (search needs) (c .wide .ensures .0 ∙ c .before .content .ensures) (c .wide .ensures .1)))
+    (λ c. beyond-last _ _ _ _ _ (search needs) (search needs) (search needs) (c .wide .ensures .0) (c .wide .ensures .1)))

@@ -38,4 +38,4 @@ write-spec =
     let some = call .before .before .before .before .before in
     let accepted = some .before in
     let known = accepted .before .before in
-    written _ _ _ _ _ (known .before .if1 .left) (known .if2 .left) _ (accepted .before .refusal .ensures) (accepted .if3 .left) (some .if4 .left) _ (cc) _ (search needs) (call .write-blocks .ensures)))
+    written _ _ _ _ _ (known .before .if1 .left) (known .if2 .left) _ (accepted .before .refusal .ensures) (accepted .if3 .left) (some .if4 .left) _ (cc) _ (search needs) (call .write-file .ensures)))

@@ -8,9 +8,9 @@ pub write-le16-spec : {M : Type 1} → statement M
 write-le16-spec =
     tie.close
     (tie.spec
-    (λ c κs. search needs)
-    (λ c. search needs)
-    (λ c κs. search needs)
     (λ c. search needs)
     (λ c. search needs)
-    (λ c. le16-written _ _ _ _ (search needs) (c .before .le16-byte .ensures) (c .le16-byte2 .ensures)))
+    (λ c. search needs)
+    (λ c. search needs)
+    (λ c. search needs)
+    (λ c. le16-written _ _ (search needs)))
