@@ -4,29 +4,33 @@
 --   step-out, step-back       those meet "at most j + 1 steps from a forbidden state" exactly if those at i + 1 meet "at most j"
 --   outward-reaching          so those at k hold a forbidden state exactly if an initial one is within k steps of one
 --   within-reaching           which is what isWithin says
---   withinBy, within-found    and what the first layer with a forbidden state tells
-use Prim.Native.Nat.{ℕ, zero, suc, _+_, _≤_, _<_, suc-le-suc}
+--   first-found               the first layer with a forbidden state is that of a shortest path
+--   withinBy, within-found    which tells whether one of at most k steps is there
+use Prim.Native.Nat.{ℕ, zero, suc, _+_, _≤_, _<_}
 use native.Mathlib.Omega.{arith}
 use mathlib.Core.Path.{_≡_, sym, ap, _∙_, subst}
 use mathlib.Core.Logic.{inl, ⊎-elim}
 use mathlib.Core.Bool.{Bool, true, false, not, _&&_}
 use mathlib.Core.List.{List}
-use borrow.Author.Tests.{eqb-false, ne-eqb, ltb-true, ltb-false, leb-true, le-leb}
-use lib.Dec.{eqb, leb, ltb}
-use Rattle.model.specs.Sets.{maxStates, Set, first, member, empty, meets}
+use borrow.Author.Tests.{eqb-false, ne-eqb, ltb-true, lt-ltb, leb-true, le-leb}
+use lib.Dec.{eqb, leb}
+use Rattle.model.specs.Sets.{maxStates, Set, member, empty, meets}
 use Rattle.model.specs.Tables.{Table}
 use Rattle.model.specs.Rounds.{iterate}
-use Rattle.model.specs.Paths.{reaching, unreachable, distance}
+use Rattle.model.specs.Paths.{reaching, unreachable, distance, shortest, hasPath}
 use Rattle.model.specs.Stores.{setAt, tableOf}
-use Rattle.model.proofs.Bounds.{and-true, and-intro, not-true, is-false, same-test, by-cond, any-intro, any-find, first-passes, first-before}
-use Rattle.model.proofs.SetLaws.{In, in-bound, empty-in, in-union, union-in, in-firstStates, _⊆_, in-meets, meets-in}
+use Rattle.model.proofs.Bounds.{and-true, and-intro, not-true, is-false, clash, decided, same-test, by-cond, any-intro, any-find, first-is, first-none}
+use Rattle.model.proofs.SetLaws.{In, in-bound, empty-in, in-union, union-in, in-firstStates, firstStates-in, _⊆_, in-meets, meets-in}
 use Rattle.model.proofs.CoverLaws.{post-in}
 use Rattle.model.proofs.WellFormed.{WellFormed}
-use Rattle.model.proofs.PathLaws.{at-lt, in-reaching, reaching-in, reaching-at, reaching-mono, reaching-suc}
+use Rattle.model.proofs.PathLaws.{at-lt, in-reaching, reaching-in, reaching-at, reaching-mono, reaching-suc, shortest-le, shortest-nearest}
+use Rattle.table.specs.Rows.{forbiddenBy}
+use Rattle.table.proofs.Hangs.{forbidden-by, by-forbidden}
 use Rattle.reach.specs.Reached.{reachStep}
-use Rattle.reach.proofs.Layers.{iterate-grows, before, before-mono}
+use Rattle.reach.proofs.Layers.{iterate-grows, before}
 use Rattle.reach.proofs.Walks.{in-step, reachStep-mono, iterate-within, before-is}
 use Rattle.paths.specs.Search.{firstLayer}
+use Rattle.paths.specs.Answers.{foundIn}
 use Rattle.paths.specs.Within.{canReach, isWithin}
 use Rattle.paths.specs.declared.Found.{Found}
 use Rattle.paths.specs.declared.Found.the-variants.{Steps, Nothing}
@@ -36,7 +40,7 @@ abbrev pub outward : Table → ℕ → Set
 outward t i = iterate (reachStep t (t .initial)) empty (suc i)
 
 module _ {t : Table} (ok : WellFormed t) where
-  initial-out : (i : ℕ) → t .initial ⊆ outward t i
+  pub initial-out : (i : ℕ) → t .initial ⊆ outward t i
   unfolding iterate reachStep
   initial-out i s h = in-union (inl h)
 
@@ -72,7 +76,7 @@ module _ {t : Table} (ok : WellFormed t) where
       in-meets (initial-out 0 (w .0) (w .1)) (subst (λ (d : ℕ). In (reaching t d) (w .0)) q (w .2))
   meets-out (suc i) j k e m = step-out i j (meets-out i (suc j) k (omega arith) m)
 
-  meets-back : (i j k : ℕ) → i + j ≡ k → meets (outward t i) (reaching t j) ≡ true → meets (t .initial) (reaching t k) ≡ true
+  pub meets-back : (i j k : ℕ) → i + j ≡ k → meets (outward t i) (reaching t j) ≡ true → meets (t .initial) (reaching t k) ≡ true
   meets-back zero j k e m =
       let w = meets-in m in
       let q : j ≡ k = omega arith in
@@ -114,38 +118,55 @@ withinBy (Steps d) k = leb d k
 withinBy Nothing k = false
 
 module _ (store : List ℕ) (n g : ℕ) (ok : WellFormed (tableOf store n g)) (small : n ≤ maxStates) where
+  abbrev t : Table
+  t = tableOf store n g
+
   -- at most k steps lead from an initial to a forbidden state
   abbrev met : ℕ → Bool
-  met k = meets (before store (setAt store 0) (suc k)) ((tableOf store n 0) .forbidden)
+  met k = meets (before store (setAt store 0) (suc k)) (forbiddenBy store)
 
-  met-is : (k : ℕ) → met k ≡ meets ((tableOf store n g) .initial) (reaching (tableOf store n g) k)
+  met-is : (k : ℕ) → met k ≡ meets (t .initial) (reaching t k)
   unfolding tableOf
   met-is k =
-      ap (λ (X : Set). meets X ((tableOf store n 0) .forbidden)) (before-is store n g (setAt store 0) ok (ok .initial) (suc k)) ∙ outward-reaching ok k
-
-  met-mono : (j k : ℕ) → j ≤ k → met j ≡ true → met k ≡ true
-  met-mono j k l m = let w = meets-in m in in-meets (before-mono store (setAt store 0) (suc j) (suc k) (suc-le-suc l) (w .0) (w .1)) (w .2)
+      ap (λ (X : Set). meets X (forbiddenBy store)) (before-is store n g (setAt store 0) ok (ok .initial) (suc k))
+      ∙ same-test (meets (outward t k) (forbiddenBy store)) (meets (outward t k) (t .forbidden))
+      (λ e. let w = meets-in e in in-meets (w .1) (by-forbidden store n (firstStates-in (iterate-within t (t .initial) ok (ok .initial) (suc k) (w .0) (w .1))) (w .2)))
+      (λ e. let w = meets-in e in in-meets (w .1) (forbidden-by store n (w .2)))
+      ∙ outward-reaching ok k
 
   -- where any number of steps lead there, fewer than n do
-  met-soon : (k : ℕ) → met k ≡ true → first maxStates met < maxStates
-  unfolding tableOf
-  met-soon k m =
-      let w = meets-in (sym (met-is k) ∙ m) in
-      let a = reaching-at (tableOf store n g) k (w .2) in
-      let soon : met (a .0) ≡ true = met-is (a .0) ∙ in-meets (w .1) (a .2 .within) in
-      omega (arith, first-before met maxStates (a .0) soon, at-lt ok (a .0) (a .2))
+  met-path : (k : ℕ) → meets (t .initial) (reaching t k) ≡ true → hasPath t ≡ true
+  unfolding hasPath tableOf
+  met-path k e =
+      let w = meets-in e in
+      let a = reaching-at t k (w .2) in
+      lt-ltb (shortest t) n (omega (arith, shortest-le t (a .0) (w .1) (a .2 .within), at-lt ok (a .0) (a .2)))
 
-  pub within-found : {found : Found} (k : ℕ) → found ≡ firstLayer store (setAt store 0) ((tableOf store n 0) .forbidden)
-      → withinBy found k ≡ isWithin (tableOf store n g) k
-  unfolding firstLayer tableOf
+  pub shortest-below : hasPath t ≡ true → shortest t < maxStates
+  unfolding hasPath tableOf
+  shortest-below e = omega (arith, ltb-true (shortest t) n e, small)
+
+  pub first-found : firstLayer store (setAt store 0) ≡ foundIn t
+  unfolding firstLayer foundIn
+  first-found =
+      ⊎-elim
+      (λ (e : hasPath t ≡ true).
+      let near = shortest-nearest t e in
+      let d = first-is met maxStates (shortest t) (shortest-below e) (met-is (shortest t) ∙ near .within) (λ j l. met-is j ∙ near .no-closer j l) in
+      rw (d, e, lt-ltb (shortest t) maxStates (shortest-below e)))
+      (λ (e : hasPath t ≡ false).
+      let d = first-none met maxStates (λ j l. is-false (met j) (λ m. clash (met-path j (sym (met-is j) ∙ m)) e)) in
+      rw (d, e))
+      (decided (hasPath t))
+
+  pub within-found : {found : Found} (k : ℕ) → found ≡ foundIn t → withinBy found k ≡ isWithin t k
+  unfolding foundIn tableOf
   within-found k e =
-      let d = first maxStates met in
       ap (λ (f : Found). withinBy f k) e
-      ∙ by-cond (λ (f : Found). withinBy f k ≡ met k) (ltb d maxStates) (Steps d) Nothing
+      ∙ by-cond (λ (f : Found). withinBy f k ≡ meets (t .initial) (reaching t k)) (hasPath t) (Steps (shortest t)) Nothing
       (λ q.
-      same-test (leb d k) (met k)
-      (λ l. met-mono d k (leb-true d k l) (first-passes met maxStates (ltb-true d maxStates q)))
-      (λ m. le-leb d k (first-before met maxStates k m)))
-      (λ q. sym (is-false (met k) (λ m. omega (arith, met-soon k m, ltb-false d maxStates q))))
-      ∙ met-is k
+      same-test (leb (shortest t) k) (meets (t .initial) (reaching t k))
+      (λ l. let w = meets-in (shortest-nearest t q .within) in in-meets (w .1) (reaching-mono t (shortest t) k (leb-true (shortest t) k l) (w .0) (w .2)))
+      (λ m. let w = meets-in m in le-leb (shortest t) k (shortest-le t k (w .1) (w .2))))
+      (λ q. sym (is-false (meets (t .initial) (reaching t k)) (λ m. clash (met-path k m) q)))
       ∙ sym (within-reaching ok small k)

@@ -1,13 +1,13 @@
-pub mod Scans
 pub mod Transposed
 pub mod Layers
 pub mod Walks
 pub mod Nearness
-pub mod Find
 pub mod Groups
 pub mod Answers
 pub mod Outward
 pub mod Duality
+pub mod Narrowing
+pub mod Find
 pub mod DistanceAnswers
 pub mod DistancesKept
 pub mod DemandsKept

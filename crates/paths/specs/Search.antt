@@ -1,28 +1,31 @@
--- The search as the code does it: over the words of a store and an array of distances.
+-- The searches as the code does them: over the words of a store, with an array of distances or of layers.
 --
 --   HoldsTable store n           the store holds a well-formed table of n states (an accepted store does); its groups play no part
 --   predecessorRows store n      for each state the states below n that step to it: the rows of the store, transposed
 --   layerAt t d                  the states at distance d; farther t d: those at a greater distance, or at none
 --   distancesBelow t d           the array of the distances below d, with `unreachable` for every other state
 --   Swept t d                    the sweep as far as layer d: the distances below d, layer d, and the states that are left
---   leastBy bound distances X    the least of `bound` and of the distances of the states of X
---   pickBy distances d X         the smallest state of X at distance at most d, or maxStates if there is none
---   walkBy store distances d X   the walk from X in d steps that takes such a state each time: where the array holds the distances of a
---                                table, the model's walk (proofs/Nearness.antt)
---   firstLayer store X Y         the number of the first layer outward from X that holds a state of Y: how many steps lead from X to Y
+--   layerOf store X k            what k steps lead to from X and no fewer
+--   firstLayer store X           the number of the first layer outward from X that holds a forbidden state: how many steps lead from X to one
+--   LayersUpTo store X d rows    the layers before d, and the forbidden states of layer d, a row for each
+--   steppingInto store X Y       the states of X that step to a state of Y
+--   narrowedBack store d rows    back from row d, of each row the states that step to a state kept of the next
+--   walkBy store layers at d X   the walk from X in d steps that takes the smallest state of the layer each time, the first from that numbered `at`:
+--                                where those are the layers of the shortest paths, the model's walk (proofs/Kept.antt)
 --   Writable                     a walk that can be written: each state of it is one, and the buffer has room for all from `at` on
 use Prim.Native.Nat.{ℕ, zero, suc, _+_, _≤_, _<_}
 use mathlib.Core.Path.{_≡_}
 use mathlib.Core.Bool.{cond, _&&_}
 use mathlib.Core.List.{List, [], _∷_}
-use lib.Dec.{eqb, leb, ltb}
-use lib.ListN.{length, getD}
-use Rattle.model.specs.Sets.{maxStates, Set, any, first, tabulate, member, empty, meets, states}
+use lib.Dec.{eqb, ltb}
+use lib.ListN.{length, getD, set}
+use Rattle.model.specs.Sets.{maxStates, Set, first, tabulate, member, setOf, empty, meet, difference, meets, states, smallest}
 use Rattle.model.specs.Tables.{Table}
 use Rattle.model.specs.Rounds.{iterate}
 use Rattle.model.specs.Paths.{unreachable, distance}
 use Rattle.model.specs.Stores.{storeWords, rowAt, setAt, tableOf}
 use Rattle.model.proofs.WellFormed.{WellFormed}
+use Rattle.table.specs.Rows.{forbiddenBy}
 use Rattle.reach.specs.Reached.{reachBy}
 use Rattle.paths.specs.declared.Found.{Found}
 use Rattle.paths.specs.declared.Found.the-variants.{Steps, Nothing}
@@ -50,23 +53,37 @@ pub record Swept (t : Table) (d : ℕ) (distances : List ℕ) (layer rest : Set)
   pub layer-is : layer ≡ layerAt t d
   pub rest-is : rest ≡ farther t d
 
-unfoldable pub leastBy : ℕ → List ℕ → Set → ℕ
-leastBy bound distances X = first bound (λ d. any maxStates (λ s. member X s && leb (getD distances s 0) d))
+-- Layer k is what k steps lead to and no fewer, so layer k is the first with a forbidden state where k steps are the first to lead to one.
+unfoldable pub layerOf : List ℕ → Set → ℕ → Set
+layerOf store X k = let found = iterate (reachBy store X) empty in difference (found (suc k)) (found k)
 
-unfoldable pub pickBy : List ℕ → ℕ → Set → ℕ
-pickBy distances d X = first maxStates (λ s. member X s && leb (getD distances s 0) d)
-
-unfoldable pub walkBy : List ℕ → List ℕ → ℕ → Set → List ℕ
-walkBy store distances zero X = pickBy distances zero X ∷ []
-walkBy store distances (suc d) X = let x = pickBy distances (suc d) X in x ∷ walkBy store distances d (setAt store (rowAt x))
-
--- Layer k is what k steps lead to and no fewer, so layer k is the first with a state of Y where k steps are the first to lead to one.
-unfoldable pub firstLayer : List ℕ → Set → Set → Found
-firstLayer store X Y =
-    let d = first maxStates (λ k. meets (iterate (reachBy store X) empty (suc k)) Y) in
+unfoldable pub firstLayer : List ℕ → Set → Found
+firstLayer store X =
+    let d = first maxStates (λ k. meets (iterate (reachBy store X) empty (suc k)) (forbiddenBy store)) in
     cond (ltb d maxStates) (Steps d) Nothing
 
-pub record Writable (store distances : List ℕ) (X : Set) (d room at : ℕ) : Type 0 where
+abbrev pub LayersUpTo : List ℕ → Set → Found → List Set → Type 0
+LayersUpTo store X (Steps d) rows =
+    (length rows ≡ maxStates)
+    × ((i : ℕ) → i < d → getD rows i [] ≡ layerOf store X i)
+    × (getD rows d [] ≡ meet (layerOf store X d) (forbiddenBy store))
+LayersUpTo store X Nothing rows = Unit {0}
+
+unfoldable pub steppingInto : List ℕ → Set → Set → Set
+steppingInto store X Y = setOf (λ s. member X s && meets (setAt store (rowAt s)) Y)
+
+unfoldable pub narrowedBack : List ℕ → ℕ → List Set → List Set
+narrowedBack store zero rows = rows
+narrowedBack store (suc i) rows = narrowedBack store i (set rows i (steppingInto store (getD rows i []) (getD rows (suc i) [])))
+
+unfoldable pub walkBy : List ℕ → List Set → ℕ → ℕ → Set → List ℕ
+walkBy store layers at zero X = smallest (meet X (getD layers at [])) ∷ []
+walkBy store layers at (suc d) X =
+    let x = smallest (meet X (getD layers at [])) in
+    x ∷ walkBy store layers (suc at) d (setAt store (rowAt x))
+
+pub record Writable (store : List ℕ) (layers : List Set) (X : Set) (d room at : ℕ) : Type 0 where
   pub long : storeWords ≤ length store
-  pub fits : at + d < room
-  pub states : (i : ℕ) → i ≤ d → getD (walkBy store distances d X) i 0 < maxStates
+  pub short : at + d < maxStates
+  pub fits : maxStates ≤ room
+  pub states : (i : ℕ) → i ≤ d → getD (walkBy store layers at d X) i 0 < maxStates

@@ -1,14 +1,14 @@
-// Paths to a forbidden state (the specification, "Paths"): the distance of each state, the path that it names, and the calls shortest path, distances and
+// Paths to a forbidden state (the specification, "Paths"): the distance of each state, the path that the specification names, and the calls shortest path, distances and
 // within.
 //
 //   predecessors                         the rows of the store, transposed: for each state the states that step to it
 //   mark                                 one number as the distance of each state of a set
 //   all_distances, sweep_transposed      the distance of each state, layer by layer from the forbidden states outward
-//   least_distance, smallest_within      the least distance of a set's states; its smallest state within d steps
-//   write_path                           the path, state by state
+//   first_layer                          outward from a set, layer by layer: how many steps lead to a forbidden state
+//   stepping_into, narrow_back           the states that step into a set; the layers back from the last, with what leads on alone
+//   smallest_in_layer, write_path        a state of the path; the path, state by state
 //   find_path                            whether there is a path, and the path at the front of a buffer
 //   put_distances                        the distances of the first n states, at the front of a buffer
-//   first_layer                          outward from a set, layer by layer: how many steps lead to another
 //   shortest_path, distances, within     the calls
 //
 // all_distances, sweep_transposed and find_path ask for a store that holds a table; the calls ask for nothing.
@@ -17,13 +17,13 @@ ghost use Prim.Native.Nat.{_≤_, _<_};
 ghost use lib.ListN.{length, getD};
 ghost use lib.Seq.{sets};
 ghost use mathlib.Core.List.{[]};
-ghost use Rattle.model.specs.Sets.{WORDS, maxStates, tabulate, single, union};
-ghost use Rattle.model.specs.Paths.{unreachable, distance};
+ghost use Rattle.model.specs.Sets.{WORDS, maxStates, tabulate, single, union, meet, smallest};
+ghost use Rattle.model.specs.Paths.{distance};
 ghost use Rattle.model.specs.Stores.{storeWords, tableOf};
 ghost use Rattle.model.specs.Calls.{overwrite};
 ghost use Rattle.state_set.specs.WordSets.{wordSet};
 ghost use Rattle.table.specs.Rows.{mapAt};
-ghost use Rattle.paths.specs.Search.{HoldsTable, predecessorRows, Swept, leastBy, pickBy, walkBy, firstLayer, Writable};
+ghost use Rattle.paths.specs.Search.{HoldsTable, predecessorRows, Swept, firstLayer, LayersUpTo, steppingInto, narrowedBack, walkBy, Writable};
 ghost use Rattle.paths.specs.Answers.{foundIn, pathWritten, Called};
 ghost use Rattle.paths.specs.Distances.{CalledDistances};
 ghost use Rattle.paths.specs.Within.{CalledWithin};
@@ -33,6 +33,7 @@ use state_set::WORDS;
 use table::MAX_STATES;
 use table::Rows;
 use table::forbidden;
+use table::forbidden_among;
 use table::meet_hold;
 use table::refusal;
 use table::row_at;
@@ -153,87 +154,82 @@ pub fn all_distances(store: &[u64], n: usize) -> [u16; MAX_STATES]
     distances
 }
 
-// The least of `bound` and of the distances of the states that `bits` has in word w.
-fn least_in_word(distances: &[u16; MAX_STATES], w: usize, bits: u64, bound: u16) -> u16
-    requires { ⌜ w < WORDS ⌝ }
-    ensures { λ r. ⌜ r ≡ leastBy bound (now (distances .entry)) (wordSet w bits) ⌝ }
-{
-    let mut least = bound;
-    let mut rest = bits;
-    while rest != 0 {
-        let s = 64 * w + u64::trailing_zeros(rest) as usize;
-        if distances[s] < least {
-            least = distances[s];
-        }
-        rest &= rest - 1;
-    }
-    least
-}
-
-// The least distance of a state of x, which says how long a shortest path from x is.
-fn least_distance(distances: &[u16; MAX_STATES], x: StateSet) -> u16
-    ensures { λ r. ⌜ r ≡ leastBy unreachable (now (distances .entry)) (x .words) ⌝ }
-{
-    let mut least = UNREACHABLE;
-    for w in 0..WORDS {
-        least = least_in_word(distances, w, x.words[w], least);
-    }
-    least
-}
-
-// The smallest of the states that `bits` has in word w within d steps of a forbidden one, or MAX_STATES.
-fn smallest_in_word(distances: &[u16; MAX_STATES], w: usize, bits: u64, d: u16) -> usize
-    requires { ⌜ w < WORDS ⌝ }
-    ensures { λ r. ⌜ r ≡ pickBy (now (distances .entry)) d (wordSet w bits) ⌝ }
-{
-    let mut rest = bits;
-    while rest != 0 {
-        let s = 64 * w + u64::trailing_zeros(rest) as usize;
-        if distances[s] <= d {
-            return s;
-        }
-        rest &= rest - 1;
-    }
-    MAX_STATES
-}
-
-// The smallest state of x within d steps of a forbidden one, or MAX_STATES.
-fn smallest_within(distances: &[u16; MAX_STATES], x: StateSet, d: u16) -> usize
-    ensures { λ r. ⌜ r ≡ pickBy (now (distances .entry)) d (x .words) ⌝ }
-{
-    for w in 0..WORDS {
-        let s = smallest_in_word(distances, w, x.words[w], d);
-        if s < MAX_STATES {
-            return s;
-        }
-    }
-    MAX_STATES
-}
-
-// The smallest of the shortest paths that start in x, at `at` in the buffer: its first state, then the path from that state's successors
-// with one step fewer.
-fn write_path(
-    store: &[u64],
-    distances: &[u16; MAX_STATES],
-    x: StateSet,
-    d: u16,
-    path: &mut [u16],
-    at: usize,
-)
-    requires { ⌜ Writable (now store) (now distances) (x .words) d (length (now path)) at ⌝ }
-    ensures { λ _. ⌜ now (path .exit) ≡ sets (now (path .entry)) at (walkBy (now (store .entry)) (now (distances .entry)) d (x .words)) ⌝ }
-{
-    let s = smallest_within(distances, x, d);
-    path[at] = s as u16;
-    if 0 < d {
-        write_path(store, distances, row_at(store, s), d - 1, path, at + 1);
-    }
-}
+// ---- the shortest path
 
 // The steps of a shortest path, if there is one.
 pub enum Found {
     Steps(usize),
     Nothing,
+}
+
+// Outward from `from`, layer by layer, each in its own row of `layers`: layer i is the states that i steps lead to and no fewer. The search ends
+// with the first layer that holds a forbidden state, of which only those states are put down, or when a layer brings no new state.
+fn first_layer(store: &[u64], from: StateSet, layers: &mut Rows) -> Found
+    requires { ⌜ (storeWords ≤ length (now store)) × (length (now layers) ≡ maxStates) ⌝ }
+    ensures { λ r. ⌜ (r ≡ firstLayer (now (store .entry)) (from .words))
+        × LayersUpTo (now (store .entry)) (from .words) r (now (layers .exit)) ⌝ }
+{
+    let mut found = from;
+    let mut layer = from;
+    let mut steps = 0;
+    while !layer.is_empty() {
+        let last = forbidden_among(store, layer);
+        if !last.is_empty() {
+            let words = last.words;
+            layers[steps] = words;
+            return Found::Steps(steps);
+        }
+        let words = layer.words;
+        layers[steps] = words;
+        layer = newly_reached(store, layer, found);
+        found = found.union(layer);
+        steps += 1;
+    }
+    Found::Nothing
+}
+
+// The states of x that step to a state of y: those that are not in hold of all other states.
+fn stepping_into(store: &[u64], x: StateSet, y: StateSet) -> StateSet
+    requires { ⌜ storeWords ≤ length (now store) ⌝ }
+    ensures { λ r. ⌜ r .words ≡ steppingInto (now (store .entry)) (x .words) (y .words) ⌝ }
+{
+    let others = StateSet::first_states(MAX_STATES).difference(y);
+    x.difference(meet_hold(store, x, others))
+}
+
+// Back from layer d: of each layer are kept the states that step to a state kept of the next.
+fn narrow_back(store: &[u64], layers: &mut Rows, d: usize)
+    requires { ⌜ (d < maxStates) × (storeWords ≤ length (now store)) ⌝ }
+    ensures { λ _. ⌜ now (layers .exit) ≡ narrowedBack (now (store .entry)) d (now (layers .entry)) ⌝ }
+{
+    let mut i = d;
+    while 0 < i {
+        let next = row_of(layers, i);
+        i -= 1;
+        let words = stepping_into(store, row_of(layers, i), next).words;
+        layers[i] = words;
+    }
+}
+
+// The smallest state of x in layer i, or MAX_STATES.
+fn smallest_in_layer(layers: &Rows, i: usize, x: StateSet) -> usize
+    requires { ⌜ i < maxStates ⌝ }
+    ensures { λ r. ⌜ r ≡ smallest (meet (x .words) (getD (now (layers .entry)) i [])) ⌝ }
+{
+    x.meet(row_of(layers, i)).smallest()
+}
+
+// The smallest of the shortest paths that start in x, at `at` in the buffer: its first state, then the path from that state's successors
+// with one step fewer. Each state of it is taken from the layer of its place.
+fn write_path(store: &[u64], layers: &Rows, x: StateSet, d: usize, path: &mut [u16], at: usize)
+    requires { ⌜ Writable (now store) (now layers) (x .words) d (length (now path)) at ⌝ }
+    ensures { λ _. ⌜ now (path .exit) ≡ sets (now (path .entry)) at (walkBy (now (store .entry)) (now (layers .entry)) at d (x .words)) ⌝ }
+{
+    let s = smallest_in_layer(layers, at, x);
+    path[at] = s as u16;
+    if 0 < d {
+        write_path(store, layers, row_at(store, s), d - 1, path, at + 1);
+    }
 }
 
 // The path that the specification names, at the front of the buffer.
@@ -242,14 +238,17 @@ pub fn find_path(store: &[u64], n: usize, path: &mut [u16]) -> Found
     ensures { λ r. ⌜ (r ≡ foundIn (tableOf (now (store .entry)) n 0))
         × (now (path .exit) ≡ pathWritten (tableOf (now (store .entry)) n 0) (now (path .entry))) ⌝ }
 {
-    let distances = all_distances(store, n);
+    let none = [0; WORDS];
+    let mut layers = [none; MAX_STATES];
     let initial = set_at(store, 0);
-    let d = least_distance(&distances, initial);
-    if d == UNREACHABLE {
-        return Found::Nothing;
+    match first_layer(store, initial, &mut layers) {
+        Found::Steps(d) => {
+            narrow_back(store, &mut layers, d);
+            write_path(store, &layers, initial, d, path, 0);
+            Found::Steps(d)
+        }
+        Found::Nothing => Found::Nothing,
     }
-    write_path(store, &distances, initial, d, path, 0);
-    Found::Steps(d as usize)
 }
 
 // What the call shortest path answers: d, none, or why it declines.
@@ -310,26 +309,6 @@ pub fn distances(store: &[u64], n: usize, g: usize, out: &mut [u16]) -> Distance
 
 // ---- within
 
-// The number of the first layer outward from `from` that holds a state of `goal`. A layer is the states that are newly reached; the search
-// ends with that layer, or when a layer brings no new state.
-fn first_layer(store: &[u64], from: StateSet, goal: StateSet) -> Found
-    requires { ⌜ storeWords ≤ length (now store) ⌝ }
-    ensures { λ r. ⌜ r ≡ firstLayer (now (store .entry)) (from .words) (goal .words) ⌝ }
-{
-    let mut found = from;
-    let mut layer = from;
-    let mut steps = 0;
-    while !layer.is_empty() {
-        if layer.meets(goal) {
-            return Found::Steps(steps);
-        }
-        layer = newly_reached(store, layer, found);
-        found = found.union(layer);
-        steps += 1;
-    }
-    Found::Nothing
-}
-
 // What the call within answers: yes, no, or why it declines.
 pub enum WithinAnswer {
     Yes,
@@ -345,7 +324,9 @@ pub fn within(store: &[u64], n: usize, g: usize, k: usize) -> WithinAnswer
     if refused != 0 {
         return WithinAnswer::Refused(refused);
     }
-    match first_layer(store, set_at(store, 0), forbidden(store, n)) {
+    let none = [0; WORDS];
+    let mut layers = [none; MAX_STATES];
+    match first_layer(store, set_at(store, 0), &mut layers) {
         Found::Steps(steps) => {
             if steps <= k {
                 WithinAnswer::Yes

@@ -8,6 +8,7 @@
 --   words-in, words-same            membership in the states of the words before one; such a state is in the whole
 --   words-none, words-more, words-all   the words before the first, one more, all of them
 --   words-apart                     a word has no state that those before it have
+--   smallest-word, smallest-none    the lowest bit of the first word that is not 0 is the least state; there is none where all are 0
 use Prim.Native.Nat.{ℕ, _+_, _-_, _*_, _/_, _%_, _^_, _≤_, _<_}
 use native.Mathlib.Omega.{arith}
 use mathlib.Core.Path.{_≡_, sym, ap, _∙_, subst}
@@ -18,8 +19,8 @@ use lib.Dec.{eqb, ltb}
 use lib.Bits.{bitAnd, and-le-r}
 use lib.Count.{trailingZeros}
 use lib.ListN.{getD}
-use Rattle.model.specs.Sets.{WORDS, maxStates, Set, bit, member, empty, single, union, difference}
-use Rattle.model.proofs.Bounds.{and-true, and-intro, not-true, clash, same-test, first-passes, first-before, lt-or-ge}
+use Rattle.model.specs.Sets.{WORDS, maxStates, Set, bit, member, empty, single, union, difference, smallest}
+use Rattle.model.proofs.Bounds.{and-true, and-intro, not-true, is-false, clash, same-test, first-passes, first-before, first-is, first-none, lt-or-ge}
 use Rattle.model.proofs.SetLaws.{Proper, setOf-proper, In, in-bound, in-setOf, setOf-in, empty-in, in-single, single-in, in-union, union-in, in-difference, difference-in, member-at, same-set}
 use Rattle.state_set.specs.WordSets.{wordSet, wordsBelow}
 use Rattle.state_set.proofs.Bits.{bit-zero, trailing-first, first-bit, bit-lowest}
@@ -140,3 +141,35 @@ pub words-all : (w : ℕ) (X : Set) → Proper X → WORDS ≤ w → wordsBelow 
 unfolding wordsBelow
 words-all w X p h =
     same-set _ _ (setOf-proper _) p (λ s m. words-in w X m .1) (λ s m. in-words w X (omega (arith, in-bound m)) m)
+
+-- ---- the least state
+
+module _ (X : Set) where
+  -- a state is in a word that is not 0
+  some-word : {s : ℕ} → In X s → getD X (s / 64) 0 ≡ 0 → ⊥
+  some-word {s} h e = clash (sym (word-member X (s / 64) s (omega (arith, in-bound h)) (omega arith)) ∙ h .is) (ap (λ (x : ℕ). bit x (s % 64)) e ∙ bit-zero (s % 64))
+
+  module _ (w : ℕ) (none : (v : ℕ) → v < w → getD X v 0 ≡ 0) where
+    pub smallest-word : Proper X → w < WORDS → (getD X w 0 ≡ 0 → ⊥) → 64 * w + trailingZeros 64 (getD X w 0) ≡ smallest X
+    unfolding smallest
+    smallest-word p h some =
+        let x = getD X w 0 in
+        let f = p .fits w h in
+        let low = word-lowest w x h f some in
+        let at = wordSet-in w x low in
+        sym
+        (first-is (member X) maxStates (64 * w + trailingZeros 64 x) (in-bound low) (word-member X w _ h (at .0) ∙ at .1)
+        (λ s l.
+        is-false (member X s)
+        (λ m.
+        ⊎-elim
+        (λ b. some-word (record { is = m }) (none (s / 64) b))
+        (λ b.
+        let here : s / 64 ≡ w = omega (arith, at .0) in
+        omega (arith, word-least w x h f some (in-wordSet w x (omega (arith, in-bound low)) here (sym (word-member X w s h here) ∙ m))))
+        (lt-or-ge (s / 64) w))))
+
+    pub smallest-none : WORDS ≤ w → maxStates ≡ smallest X
+    unfolding smallest
+    smallest-none h =
+        sym (first-none (member X) maxStates (λ s l. is-false (member X s) (λ m. some-word (record { is = m }) (none (s / 64) (omega arith)))))

@@ -5,12 +5,12 @@
 //   contains, is_subset, meets, is_empty, equals    tests
 //   union, meet, difference                         word by word
 //   with, without                                   one state more; one fewer
-//   count                                           the number of states
+//   count, smallest                                 the number of states; the least of them
 //
 // Each contract is an equality with the model's definition of the same thing.
 ghost use mathlib.Core.Path.{_≡_};
 ghost use Prim.Native.Nat.{min, _-_, _^_};
-ghost use Rattle.model.specs.Sets.{member, empty, single, union, meet, difference, subset, same, meets, firstStates, size};
+ghost use Rattle.model.specs.Sets.{member, empty, single, union, meet, difference, subset, same, meets, firstStates, size, smallest};
 
 // The model's WORDS is the same number.
 pub const WORDS: usize = 8;
@@ -151,5 +151,16 @@ impl StateSet {
             states += u64::count_ones(self.words[w]) as usize;
         }
         states
+    }
+    // The least state, or the number of states that a set can hold where there is none.
+    pub fn smallest(self) -> usize
+        ensures { λ r. ⌜ r ≡ smallest (self .words) ⌝ }
+    {
+        for w in 0..WORDS {
+            if self.words[w] != 0 {
+                return 64 * w + u64::trailing_zeros(self.words[w]) as usize;
+            }
+        }
+        64 * WORDS
     }
 }

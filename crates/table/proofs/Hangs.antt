@@ -1,26 +1,22 @@
--- The forbidden states of a store's table, one state after the other.
+-- The forbidden states of a store's table, by the words of the store.
 --
---   dead-is                                     no successor, as the code tests it
---   hang-told                                   what the code says of a state
---   Hanging, hanging-start, -turn, -end         the marked states, and the hangs among the states passed
-use Prim.Native.Nat.{ℕ, _+_, _≤_, _<_, zero-le}
-use native.Mathlib.Nat.{le-antisymm}
-use native.Mathlib.Omega.{arith}
-use mathlib.Core.Path.{_≡_, sym, ap, _∙_, subst}
-use mathlib.Core.Logic.{⊎-elim}
-use mathlib.Core.Bool.{Bool, true, false, not, _&&_}
+--   dead-is                          no successor, as the code tests it
+--   forbidden-by, by-forbidden       a state of the table is among them exactly if it is among those of the words
+--   among-is                         those of a set, as the code gathers them
+--   marked-among                     the marked states and those among the table's states are all of them
+use Prim.Native.Nat.{ℕ, _<_}
+use mathlib.Core.Path.{_≡_, sym, ap, _∙_}
+use mathlib.Core.Logic.{inl, inr, ⊎-elim}
+use mathlib.Core.Bool.{true, false, not}
 use mathlib.Core.List.{List}
-use borrow.Author.Tests.{ltb-true, le-ltb}
-use lib.Dec.{ltb}
-use Rattle.model.specs.Sets.{maxStates, Set, any, member, empty, union, subset, states}
-use Rattle.model.specs.Tables.{isDeadEnd, isHang, hangs}
+use Rattle.model.specs.Sets.{maxStates, Set, member, empty, union, meet, difference, subset, firstStates}
+use Rattle.model.specs.Tables.{isDeadEnd, hangs}
 use Rattle.model.specs.Stores.{markedAt, restingAt, rowAt, setAt, tableOf}
-use Rattle.model.proofs.Bounds.{is-false, clash, decided, same-test}
-use Rattle.model.proofs.SetLaws.{Proper, setOf-proper, setOf-cong, empty-in, subset-in, in-subset}
-use Rattle.model.proofs.HangLaws.{dead-none, none-dead}
-use Rattle.model.proofs.ImageLaws.{union-assoc, union-empty}
+use Rattle.model.proofs.Bounds.{and-true, and-intro, is-false, clash, same-test}
+use Rattle.model.proofs.SetLaws.{setOf-proper, In, in-bound, in-setOf, setOf-in, empty-in, in-union, union-in, in-meet, meet-in, in-difference, difference-in, in-firstStates, firstStates-in, subset-in, in-subset, same-set}
+use Rattle.model.proofs.HangLaws.{dead-none, none-dead, in-hangs, hangs-in}
 use Rattle.model.proofs.StoreLaws.{row-is}
-use Rattle.table.proofs.Hold.{passed, states-more}
+use Rattle.table.specs.Rows.{meetHold, forbiddenBy}
 
 pub dead-is : (row : ℕ → Set) (s : ℕ) → subset (row s) empty ≡ isDeadEnd row s
 dead-is row s =
@@ -28,73 +24,72 @@ dead-is row s =
     (λ e. none-dead row s (λ u. is-false (member (row s) u) (λ h. empty-in (subset-in e u (record { is = h })))))
     (λ e. in-subset (λ u h. absurd (clash (h .is) (dead-none row s e u))))
 
--- ---- hangs
+module _ (store : List ℕ) where
+  abbrev marked : Set
+  marked = setAt store markedAt
 
-hangs-more : (row : ℕ → Set) (resting : Set) (i : ℕ) → hangs (i + 1) row resting ≡ union (hangs i row resting) (passed (isHang row resting) i)
-unfolding hangs
-hangs-more row resting i = states-more (isHang row resting) i
+  abbrev resting : Set
+  resting = setAt store restingAt
 
-hangs-none : (row : ℕ → Set) (resting : Set) → hangs 0 row resting ≡ empty
-unfolding hangs states empty
-hangs-none row resting = setOf-cong _ _ (λ s h. rw (le-ltb s 0 zero-le))
+  -- a row for each number, whatever n is
+  abbrev rowIn : ℕ → Set
+  rowIn s = setAt store (rowAt s)
 
--- only the rows of the table's states play a part
-hangs-cong : (n : ℕ) (row other : ℕ → Set) (resting : Set) → ((s : ℕ) → s < n → row s ≡ other s) → hangs n row resting ≡ hangs n other resting
-unfolding hangs states isHang isDeadEnd
-hangs-cong n row other resting e =
-    setOf-cong _ _
-    (λ s h.
-    ⊎-elim
-    (λ (q : ltb s n ≡ true). ap (λ (X : Set). ltb s n && (not (any maxStates (member X)) && not (member resting s))) (e s (ltb-true s n q)))
-    (λ (q : ltb s n ≡ false). rw q)
-    (decided (ltb s n)))
+  module _ (n : ℕ) where
+    -- only the rows of the table's states play a part
+    dead-row : (s : ℕ) → s < n → isDeadEnd ((tableOf store n 0) .row) s ≡ isDeadEnd rowIn s
+    unfolding isDeadEnd
+    dead-row s l = rw (row-is store n 0 s l)
 
--- ---- the loop
+    pub forbidden-by : {s : ℕ} → In ((tableOf store n 0) .forbidden) s → In (forbiddenBy store) s
+    unfolding forbiddenBy tableOf
+    forbidden-by {s} h =
+        in-union
+        (⊎-elim (λ m. inl m)
+        (λ m.
+        let w = hangs-in n _ resting m in
+        inr (in-hangs maxStates rowIn resting (in-bound h) (in-bound h) (sym (dead-row s (w .0)) ∙ w .1) (w .2)))
+        (union-in h))
 
-union-proper : (X Y : Set) → Proper (union X Y)
-unfolding union
-union-proper X Y = setOf-proper _
+    pub by-forbidden : {s : ℕ} → s < n → In (forbiddenBy store) s → In ((tableOf store n 0) .forbidden) s
+    unfolding forbiddenBy tableOf
+    by-forbidden {s} l h =
+        in-union
+        (⊎-elim (λ m. inl m)
+        (λ m. let w = hangs-in maxStates rowIn resting m in inr (in-hangs n _ resting (in-bound h) l (dead-row s l ∙ w .1) (w .2)))
+        (union-in h))
 
--- a row for each number, whatever n is
-abbrev pub rowIn : List ℕ → ℕ → Set
-rowIn store s = setAt store (rowAt s)
+    pub marked-among : union marked (meet (firstStates n) (forbiddenBy store)) ≡ (tableOf store n 0) .forbidden
+    unfolding union tableOf
+    marked-among =
+        same-set _ _ (setOf-proper _) (setOf-proper _)
+        (λ s h. ⊎-elim (λ m. in-union (inl m)) (λ m. let both = meet-in m in by-forbidden (firstStates-in (both .0)) (both .1)) (union-in h))
+        (λ s h.
+        in-union
+        (⊎-elim (λ m. inl m) (λ m. inr (in-meet (in-firstStates (in-bound h) (hangs-in n _ resting m .0)) (forbidden-by h))) (union-in h)))
 
--- what `is_hang` says of a state, where the resting states are those of the store
-pub hang-told : (store : List ℕ) (s : ℕ) {X : Set} {b c : Bool} → b ≡ isHang (rowIn store) X s → X ≡ setAt store restingAt → b ≡ c
-    → isHang (rowIn store) (setAt store restingAt) s ≡ c
-hang-told store s told resting e = sym (told ∙ ap (λ (Y : Set). isHang (rowIn store) Y s) resting) ∙ e
-
-pub record Hanging (store : List ℕ) (n i : ℕ) (found : Set) : Type 0 where
-  pub within : i ≤ n
-  pub proper : Proper found
-  pub is : found ≡ union (setAt store markedAt) (hangs i (rowIn store) (setAt store restingAt))
-
-module _ (store : List ℕ) (n : ℕ) where
-  pub hanging-start : {found : Set} → Proper found → found ≡ setAt store markedAt → Hanging store n 0 found
-  hanging-start {found} p e =
-      record {
-        within = zero-le;
-        proper = p;
-        is = sym (union-empty found p) ∙ ap (λ (X : Set). union X empty) e ∙ ap (union (setAt store markedAt)) (sym (hangs-none (rowIn store) (setAt store restingAt)));
-      }
-
-  pub hanging-turn : {i : ℕ} {found found′ : Set} → i < n → found′ ≡ union found (passed (isHang (rowIn store) (setAt store restingAt)) i)
-      → Hanging store n i found → Hanging store n (i + 1) found′
-  hanging-turn {i} h e so =
-      let hang = passed (isHang (rowIn store) (setAt store restingAt)) i in
-      record {
-        within = omega arith;
-        proper = subst Proper (sym e) (union-proper _ _);
-        is =
-            e
-            ∙ ap (λ (X : Set). union X hang) (so .is)
-            ∙ sym (union-assoc (setAt store markedAt) (hangs i (rowIn store) (setAt store restingAt)) hang)
-            ∙ ap (union (setAt store markedAt)) (sym (hangs-more (rowIn store) (setAt store restingAt) i));
-      }
-
-  pub hanging-end : {i : ℕ} {found : Set} → n ≤ i → Hanging store n i found → found ≡ (tableOf store n 0) .forbidden
-  unfolding tableOf
-  hanging-end l so =
-      so .is
-      ∙ ap (λ (m : ℕ). union (setAt store markedAt) (hangs m (rowIn store) (setAt store restingAt))) (le-antisymm (so .within) l)
-      ∙ ap (union (setAt store markedAt)) (hangs-cong n (rowIn store) _ (setAt store restingAt) (λ s h. sym (row-is store n 0 s h)))
+  pub among-is : (X : Set) → union (meet X marked) (meetHold store (difference X resting) empty) ≡ meet X (forbiddenBy store)
+  unfolding union meet meetHold forbiddenBy
+  among-is X =
+      same-set _ _ (setOf-proper _) (setOf-proper _)
+      (λ s h.
+      ⊎-elim (λ m. let both = meet-in m in in-meet (both .0) (in-union (inl (both .1))))
+      (λ m.
+      let both = and-true (member (difference X resting) s) _ (setOf-in _ m) in
+      let left = difference-in {X = X} {Y = resting} (record { is = both .0 }) in
+      in-meet (left .0)
+      (in-union
+      (inr
+      (in-hangs maxStates rowIn resting (in-bound h) (in-bound h) (sym (dead-is rowIn s) ∙ both .1)
+      (is-false (member resting s) (λ r. left .1 (record { is = r })))))))
+      (union-in h))
+      (λ s h.
+      let both = meet-in h in
+      in-union
+      (⊎-elim (λ m. inl (in-meet (both .0) m))
+      (λ m.
+      let w = hangs-in maxStates rowIn resting m in
+      inr
+      (in-setOf _ (in-bound h)
+      (and-intro (member (difference X resting) s) _ (in-difference (both .0) (λ r. clash (r .is) (w .2)) .is) (dead-is rowIn s ∙ w .1))))
+      (union-in (both .1))))

@@ -3,7 +3,7 @@
 //   set_at, group_at, row_at     a set of the store
 //   successors                   post: all successors of the states of a set
 //   meet_hold                    x meet hold(y): the states of a set whose every successor is in another
-//   forbidden                    the forbidden states: those marked so, and the hangs
+//   forbidden_among, forbidden   the forbidden states of a set, those marked so and the hangs; those of a table
 //   Rows, row_of, union_of       a row of words for each state, the set in one row, the union of the rows of a set's states
 //   refusal                      the first of the grounds 10, 14, 15 and 17 that holds, or 0
 //
@@ -14,11 +14,10 @@ ghost use mathlib.Core.Bool.{not, _&&_};
 ghost use lib.Dec.{eqb};
 ghost use lib.ListN.{length, getD};
 ghost use mathlib.Core.List.{[]};
-ghost use Rattle.model.specs.Sets.{WORDS, maxStates, any, union, subset, image};
-ghost use Rattle.model.specs.Tables.{isHang};
+ghost use Rattle.model.specs.Sets.{WORDS, maxStates, any, union, meet, subset, image};
 ghost use Rattle.state_set.specs.WordSets.{wordSet};
 ghost use Rattle.model.specs.Stores.{storeWords, maxGroups, groupAt, rowAt, setAt, tableOf, beyond, nonZero, malformed, refuse, sharedGrounds};
-ghost use Rattle.table.specs.Rows.{successorsBy, meetHold};
+ghost use Rattle.table.specs.Rows.{successorsBy, meetHold, forbiddenBy};
 use state_set::StateSet;
 use state_set::WORDS;
 
@@ -131,27 +130,25 @@ pub fn meet_hold(store: &[u64], x: StateSet, y: StateSet) -> StateSet
     StateSet { words }
 }
 
-// Without successors, and not resting.
-fn is_hang(store: &[u64], s: usize, resting: StateSet) -> bool
-    requires { ⌜ (s < maxStates) × (storeWords ≤ length (now store)) ⌝ }
-    ensures { λ b. ⌜ b ≡ isHang (λ s. setAt (now (store .entry)) (rowAt s)) (resting .words) s ⌝ }
+// The forbidden states of x: those marked so, and the hangs, which step nowhere and are not resting.
+pub fn forbidden_among(store: &[u64], x: StateSet) -> StateSet
+    requires { ⌜ storeWords ≤ length (now store) ⌝ }
+    ensures { λ r. ⌜ r .words ≡ meet (x .words) (forbiddenBy (now (store .entry))) ⌝ }
 {
-    row_at(store, s).is_empty() & !resting.contains(s)
+    let hangs = meet_hold(
+        store,
+        x.difference(set_at(store, RESTING_AT)),
+        StateSet::empty(),
+    );
+    x.meet(set_at(store, MARKED_AT)).union(hangs)
 }
 
 // The forbidden states of a table with n states; its groups play no part.
 pub fn forbidden(store: &[u64], n: usize) -> StateSet
-    requires { ⌜ (n ≤ maxStates) × (storeWords ≤ length (now store)) ⌝ }
+    requires { ⌜ storeWords ≤ length (now store) ⌝ }
     ensures { λ r. ⌜ r .words ≡ (tableOf (now (store .entry)) n 0) .forbidden ⌝ }
 {
-    let resting = set_at(store, RESTING_AT);
-    let mut found = set_at(store, MARKED_AT);
-    for s in 0..n {
-        if is_hang(store, s, resting) {
-            found = found.with(s);
-        }
-    }
-    found
+    set_at(store, MARKED_AT).union(forbidden_among(store, StateSet::first_states(n)))
 }
 
 // One row of words for each state.

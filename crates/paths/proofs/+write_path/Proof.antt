@@ -12,7 +12,7 @@ use Rattle.paths.proofs.Walks.{walkBy-last, walkBy-step, writable-first
 use Rattle.paths.proofs.write_path.Reads as write-path
 use Rattle.paths.proofs.write_path.Kinds as write-path-kinds
 use Rattle.paths.proofs.+write_path.Lts-write_path as write-path-lts
-use Rattle.paths.proofs.smallest_within.Reads as smallest-within-reads
+use Rattle.paths.proofs.smallest_in_layer.Reads as smallest-in-layer-reads
 use Rattle.table.proofs.row_at.Reads as row-at-reads
 use Rattle.paths.proofs.+write_path.{statement}
 use Rattle.paths.proofs.+write_path.Tie.{close}
@@ -28,31 +28,31 @@ write-path-below t = and 3 write-path-kinds.ps (falls 3 write-path-kinds.ps _<_ 
 
 abbrev claims : ℕ → write-path-lts.Claims
 claims t =
-    (smallest-within-reads.Asked, smallest-within-reads.Learnt, row-at-reads.Asked, row-at-reads.Learnt, write-path-below t, write-path.Post)
+    (smallest-in-layer-reads.Asked, smallest-in-layer-reads.Learnt, row-at-reads.Asked, row-at-reads.Learnt, write-path-below t, write-path.Post)
 
 pub +write-path-spec : {M : Type 1} → statement M
 +write-path-spec =
     close μ-write-path
     (λ t.
     write-path-lts.spec (claims t) (write-path-at t) write-path.Post
-    (λ c κs. search needs)
-    (λ c. omega (arith, writable-first _ _ _ _ (c .smallest-within .ensures) (c .before .before .before .pre .1)))
+    (λ c κs. omega (arith, c .before .before .pre .1 .short))
+    (λ c. omega (arith, writable-first _ _ _ _ _ (c .smallest-in-layer .ensures) (c .before .before .before .pre .1)))
     (λ c. search needs)
-    (λ c. omega (arith, c .before .before .before .pre .1 .fits))
-    (λ c κs. (writable-first _ _ _ _ (c .before .smallest-within .ensures) (c .before .before .before .before .pre .1), c .before .before .before .before .pre .1 .long))
+    (λ c. omega (arith, c .before .before .before .pre .1 .short, c .before .before .before .pre .1 .fits))
+    (λ c κs. (writable-first _ _ _ _ _ (c .before .smallest-in-layer .ensures) (c .before .before .before .before .pre .1), c .before .before .before .before .pre .1 .long))
     (λ c. search needs)
-    (λ c. let start = c .before .before .before .before .before .before in omega (arith, start, start .pre .1 .fits))
+    (λ c. let start = c .before .before .before .before .before .before in omega (arith, start, start .pre .1 .short))
     (λ c κs.
     let d = c .before .before .before in
     let start = d .before .before .before in (
       omega (arith, start .pre .0, c .before .before .if1 .taken),
-      rw length-set (writable-rest _ _ _ _ (d .smallest-within .ensures) (start .pre .1) (c .before .row-at .ensures) (c .before .before .if1 .taken)),
+      rw length-set (writable-rest _ _ _ _ _ (d .smallest-in-layer .ensures) (start .pre .1) (c .before .row-at .ensures) (c .before .before .if1 .taken)),
     ))
     (λ c. ap length (c .before .before .write-path .ensures) ∙ simp (length-sets, length-set))
     (λ c.
     let call = c .before .before .before in
     let d = call .before .before .before in
     c .before .before .write-path .ensures
-    ∙ rw (walkBy-step _ _ _ _ (d .smallest-within .ensures) (call .before .row-at .ensures) (call .before .before .if1 .taken), add-one))
+    ∙ rw (walkBy-step _ _ _ _ _ (d .smallest-in-layer .ensures) (call .before .row-at .ensures) (call .before .before .if1 .taken), add-one))
     (λ c. simp length-set)
-    (λ c. rw (walkBy-last _ _ _ _ (c .before .smallest-within .ensures) (c .if1 .left))))
+    (λ c. rw (walkBy-last _ _ _ _ _ (c .before .smallest-in-layer .ensures) (c .if1 .left))))

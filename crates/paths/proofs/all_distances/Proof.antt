@@ -31,7 +31,7 @@ all-distances-spec =
     (tie.spec
     Inv-loop
     μ-loop
-    (λ c κs. (c .before .pre .small, c .before .pre .long))
+    (λ c κs. c .before .pre .long)
     (λ c κs. search needs)
     (λ c κs. search needs)
     (λ c.

@@ -1,4 +1,5 @@
--- `first_layer`: the layers so far hold no state of the goal. A layer with a state makes one more found, so there are fewer layers than states.
+-- `first_layer`: the layers so far hold no forbidden state, and each has its row. A layer with a state makes one more found, so there are fewer
+-- layers than states.
 use Prim.Native.Nat.{_-_, _<_}
 use native.Mathlib.Omega.{arith}
 use mathlib.Core.Path.{_≡_, sym, _∙_}
@@ -13,17 +14,17 @@ use Rattle.paths.proofs.first_layer.Statement.{statement}
 use Rattle.paths.proofs.first_layer.Tie as tie
 
 abbrev Inv-loop : tie.InvT-loop
-Inv-loop store goal found₀ layer₀ steps₀ found layer steps = Outward store (found₀ .words) (goal .words) steps (found .words) (layer .words)
+Inv-loop store layers₀ found₀ layer₀ steps₀ layers found layer steps = Outward store (found₀ .words) steps (found .words) (layer .words) layers
 
 abbrev μ-loop : tie.MeasureT-loop
-μ-loop store goal found₀ layer₀ steps₀ found layer steps = maxStates - steps
+μ-loop store layers₀ found₀ layer₀ steps₀ layers found layer steps = maxStates - steps
 
 -- the layer has a state
 some : (c : tie.Then1 Inv-loop μ-loop) → subset (c .before .before .loop .layer .words) empty ≡ false
 some c = sym (c .before .is-empty .ensures) ∙ not-true _ (c .if1 .taken)
 
 below : (c : tie.Then1 Inv-loop μ-loop) → c .before .before .loop .steps < maxStates
-below c = outward-below _ _ _ (c .before .before .loop .inv) (some c)
+below c = outward-below _ _ (c .before .before .loop .inv) (some c)
 
 pub first-layer-spec : {M : Type 1} → statement M
 first-layer-spec =
@@ -31,16 +32,25 @@ first-layer-spec =
     (tie.spec
     Inv-loop
     μ-loop
-    (λ c. outward-start _ _ _ (proper (search needs) (λ w. search needs)))
+    (λ c. outward-start _ _ (proper (search needs) (λ w. search needs)) (c .before .pre .1))
     (λ c κs. search needs)
     (λ c κs. search needs)
-    (λ c. let d = c .before .before in outward-hit _ _ _ (d .before .before .loop .inv) (some d) (sym (c .before .meets .ensures) ∙ c .if2 .taken))
     (λ c κs. search needs)
-    (λ c κs. search needs)
-    (λ c. omega (arith, below (c .before .before .before .before)))
-    (λ c. let l = below (c .before .before .before .before) in omega arith)
+    (λ c. record { fits = omega (arith, below (c .before .before .before .before)) })
+    (λ c. below (c .before .before .before .before))
     (λ c.
     let d = c .before .before .before .before in
-    outward-turn _ _ _ (d .before .before .loop .inv) (some d) (sym (c .before .before .before .meets .ensures) ∙ c .before .before .if2 .left)
+    outward-hit _ _ (d .before .before .loop .inv) (some d) (c .before .before .before .forbidden-among .ensures)
+    (sym (c .before .before .is-empty2 .ensures) ∙ not-true _ (c .before .if2 .taken)))
+    (λ c. record { fits = omega (arith, below (c .before .before .before .before)) })
+    (λ c. below (c .before .before .before .before))
+    (λ c κs. search needs)
+    (λ c κs. search needs)
+    (λ c. omega (arith, below (c .before .before .before .before .before .before)))
+    (λ c. let l = below (c .before .before .before .before .before .before) in omega arith)
+    (λ c.
+    let d = c .before .before .before .before .before .before in
+    outward-turn _ _ (d .before .before .loop .inv) (some d) (c .before .before .before .before .before .forbidden-among .ensures)
+    (sym (c .before .before .before .before .is-empty2 .ensures) ∙ not-false _ (c .before .before .before .if2 .left))
     (c .before .newly-reached .ensures) (c .union .ensures))
-    (λ c. outward-end _ _ _ (c .before .before .loop .inv) (sym (c .before .is-empty .ensures) ∙ not-false _ (c .if1 .left))))
+    (λ c. (outward-end _ _ (c .before .before .loop .inv) (sym (c .before .is-empty .ensures) ∙ not-false _ (c .if1 .left)), tt)))

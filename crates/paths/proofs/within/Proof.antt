@@ -1,6 +1,6 @@
 -- `within`: the shared grounds, then what the first layer with a forbidden state tells.
 use native.Mathlib.Omega.{arith}
-use mathlib.Core.Path.{_≡_, sym, ap, ap₂, _∙_}
+use mathlib.Core.Path.{_≡_, refl, sym, ap, _∙_}
 use borrow.Author.Needs.{needs}
 use borrow.Author.Tests.{le-leb, lt-leb}
 use Rattle.model.specs.Stores.{tableOf}
@@ -9,7 +9,7 @@ use Rattle.paths.specs.Search.{firstLayer}
 use Rattle.paths.specs.Within.{isWithin}
 use Rattle.paths.specs.declared.Found.{Found}
 use Rattle.paths.proofs.Answers.{accepted}
-use Rattle.paths.proofs.Duality.{withinBy, within-found}
+use Rattle.paths.proofs.Duality.{withinBy, first-found, within-found}
 use Rattle.paths.proofs.DistanceAnswers.{within-refused, within-yes, within-no}
 use Rattle.paths.proofs.within.Statement.{statement}
 use Rattle.paths.proofs.within.Tie as tie
@@ -24,7 +24,7 @@ told : (c : tie.After-first-layer) → let a = c .before .before .before .before
 told c =
     let d = c .before .before .before in
     within-found _ _ _ (well-formed _ _ _ (held d)) (held d .small) _
-    (c .first-layer .ensures ∙ ap₂ (firstLayer _) (c .before .before .set-at .ensures) (c .before .forbidden .ensures))
+    (c .first-layer .ensures .0 ∙ ap (firstLayer _) (c .before .before .set-at .ensures) ∙ first-found _ _ _ (well-formed _ _ _ (held d)) (held d .small))
 
 pub within-spec : {M : Type 1} → statement M
 within-spec =
@@ -33,8 +33,7 @@ within-spec =
     (λ c κs. search needs)
     (λ c. within-refused _ _ _ _ (c .before .refusal .ensures) (c .if1 .taken))
     (λ c κs. omega (arith, held c .long))
-    (λ c κs. (held (c .before) .small, held (c .before) .long))
-    (λ c κs. held (c .before .before) .long)
+    (λ c κs. (held (c .before .before) .long, refl))
     (λ c. search needs)
     (λ c. search needs)
     (λ c.
