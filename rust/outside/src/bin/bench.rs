@@ -8,7 +8,7 @@
 //! median ratios with the range that holds 80 % of them. `--peer` measures the peer against itself,
 //! which shows the noise; `--only` takes the rows that have the words in their call and family, as in
 //! 'decide | fan-out 2'. `--runs` measures nothing: the library alone goes N times through the tables
-//! of each row, to be watched by a profiler.
+//! of each row, to be watched by a profiler; on those of decide modal it makes the two calls of decide too.
 
 use std::hint::black_box;
 use std::process::ExitCode;
@@ -228,9 +228,10 @@ fn watch(subject: &dyn Calls, rows: &[Row], choices: &[Choices], runs: usize) {
     let mut buffers = Buffers::new();
     for Choices { name, cases } in choices {
         for _ in 0..runs {
-            cases.iter().for_each(|case| {
+            for case in cases {
                 black_box(case.decide_modal(subject, &mut buffers.path));
-            });
+                black_box(case.decide_twice(subject, &mut buffers.path));
+            }
         }
         let count = runs * cases.len();
         println!("{}: {name}: {count} calls", subject.name());
