@@ -12,18 +12,18 @@ use Prim.Native.Nat.{ℕ, zero, suc, _+_, _-_, _≤_, _<_}
 use native.Mathlib.Nat.{not-suc-le-zero}
 use native.Mathlib.Omega.{arith}
 use mathlib.Core.Path.{_≡_, refl, sym, ap, ap₂, _∙_, subst}
-use mathlib.Core.Logic.{inl, inr, ⊎-elim}
-use mathlib.Core.Bool.{Bool, true, false}
+use mathlib.Core.Logic.{⊎-elim}
+use mathlib.Core.Bool.{true}
 use mathlib.Core.List.{List, [], _∷_}
 use lib.ListN.{length, getD, set, length-set}
 use lib.Seq.{getD-set-same, getD-set-other}
-use Rattle.model.specs.Sets.{maxStates, Set, member, setOf, empty, meet, difference, subset, meets, firstStates, smallest}
+use Rattle.model.specs.Sets.{maxStates, Set, member, meet, difference, meets, firstStates, smallest}
 use Rattle.model.specs.Tables.{Table}
 use Rattle.model.specs.Rounds.{iterate}
 use Rattle.model.specs.Paths.{reaching, walk}
 use Rattle.model.specs.Stores.{rowAt, setAt, tableOf}
 use Rattle.model.proofs.Bounds.{and-true, and-intro, clash, decided, lt-or-ge}
-use Rattle.model.proofs.SetLaws.{setOf-proper, In, in-bound, in-or-out, in-setOf, setOf-in, empty-in, in-meet, meet-in, in-difference, difference-in, in-firstStates, firstStates-in, _⊆_, ⊆-of-eq, subset-in, in-subset, same-set, in-meets, meets-in}
+use Rattle.model.proofs.SetLaws.{setOf-proper, In, in-bound, in-setOf, setOf-in, empty-in, in-meet, meet-in, in-difference, difference-in, in-firstStates, firstStates-in, _⊆_, ⊆-of-eq, subset-in, in-subset, same-set, in-meets, meets-in}
 use Rattle.model.proofs.WellFormed.{WellFormed}
 use Rattle.model.proofs.PathLaws.{Nearest, pick, pick-at, at-row, in-reaching, reaching-in}
 use Rattle.model.proofs.StoreLaws.{row-is}

@@ -5,7 +5,7 @@
 --   word-least                      it is the least state
 --   word-less                       which is a smaller number
 --   word-none                       the word 0 has no states
---   words-in, words-same            membership in the states of the words before one; such a state is in the whole
+--   words-in                        membership in the states of the words before one
 --   words-none, words-more, words-all   the words before the first, one more, all of them
 --   words-apart                     a word has no state that those before it have
 --   smallest-word, smallest-none    the lowest bit of the first word that is not 0 is the least state; there is none where all are 0
@@ -20,7 +20,7 @@ use lib.Bits.{bitAnd, and-le-r}
 use lib.Count.{trailingZeros}
 use lib.ListN.{getD}
 use Rattle.model.specs.Sets.{WORDS, maxStates, Set, bit, member, empty, single, union, difference, smallest}
-use Rattle.model.proofs.Bounds.{and-true, and-intro, not-true, is-false, clash, same-test, first-passes, first-before, first-is, first-none, lt-or-ge}
+use Rattle.model.proofs.Bounds.{and-true, and-intro, not-true, is-false, clash, first-passes, first-before, first-is, first-none, lt-or-ge}
 use Rattle.model.proofs.SetLaws.{Proper, setOf-proper, In, in-bound, in-setOf, setOf-in, empty-in, in-single, single-in, in-union, union-in, in-difference, difference-in, member-at, same-set}
 use Rattle.state_set.specs.WordSets.{wordSet, wordsBelow}
 use Rattle.state_set.proofs.Bits.{bit-zero, trailing-first, first-bit, bit-lowest}
@@ -132,10 +132,6 @@ words-more w X h =
 
 pub words-apart : (w : ℕ) (X : Set) (x : ℕ) {s : ℕ} → In (wordsBelow w X) s → In (wordSet w x) s → ⊥
 words-apart w X x {s} h k = omega (arith, words-in w X h .0, wordSet-in w x k .0)
-
-pub words-same : (w : ℕ) (X : Set) (s : ℕ) → s / 64 < w → member (wordsBelow w X) s ≡ member X s
-words-same w X s l =
-    same-test (member (wordsBelow w X) s) (member X s) (λ e. words-in w X (record { is = e }) .1 .is) (λ e. in-words w X l (record { is = e }) .is)
 
 pub words-all : (w : ℕ) (X : Set) → Proper X → WORDS ≤ w → wordsBelow w X ≡ X
 unfolding wordsBelow

@@ -5,12 +5,11 @@
 --   among-is                         those of a set, as the code gathers them
 --   marked-among                     the marked states and those among the table's states are all of them
 use Prim.Native.Nat.{ℕ, _<_}
-use mathlib.Core.Path.{_≡_, sym, ap, _∙_}
+use mathlib.Core.Path.{_≡_, sym, _∙_}
 use mathlib.Core.Logic.{inl, inr, ⊎-elim}
-use mathlib.Core.Bool.{true, false, not}
 use mathlib.Core.List.{List}
 use Rattle.model.specs.Sets.{maxStates, Set, member, empty, union, meet, difference, subset, firstStates}
-use Rattle.model.specs.Tables.{isDeadEnd, hangs}
+use Rattle.model.specs.Tables.{isDeadEnd}
 use Rattle.model.specs.Stores.{markedAt, restingAt, rowAt, setAt, tableOf}
 use Rattle.model.proofs.Bounds.{and-true, and-intro, is-false, clash, same-test}
 use Rattle.model.proofs.SetLaws.{setOf-proper, In, in-bound, in-setOf, setOf-in, empty-in, in-union, union-in, in-meet, meet-in, in-difference, difference-in, in-firstStates, firstStates-in, subset-in, in-subset, same-set}

@@ -1,7 +1,7 @@
 -- The states of a set that pass a test, and those that are in hold.
 --
 --   passed, in-passed, passed-in    what a state gives to those that pass a test
---   image-passed, states-more       the states of a set that pass, as an image; those below a number, one after the other
+--   image-passed                    the states of a set that pass, as an image
 --   passed-take, passed-skip        one more state, which passes or does not
 --   word-with                       the states of a word with one bit more
 --   held, meetHold-is               the states of a set that are in hold, as an image
@@ -18,10 +18,10 @@ use lib.Bits.{bitOr}
 use lib.ListN.{length, getD}
 use mir.Syntax.{w64}
 use mir.Val.{Fits}
-use Rattle.model.specs.Sets.{WORDS, maxStates, Set, bit, member, setOf, empty, single, union, subset, states, image}
+use Rattle.model.specs.Sets.{WORDS, maxStates, Set, bit, member, setOf, empty, single, union, subset, image}
 use Rattle.model.specs.Stores.{rowAt, setAt}
-use Rattle.model.proofs.Bounds.{and-true, and-intro, or-intro, or-true as or-cases, by-cond, below-suc}
-use Rattle.model.proofs.SetLaws.{Proper, setOf-proper, In, in-bound, in-setOf, setOf-in, empty-in, in-single, single-in, in-union, union-in, in-states, states-in, same-set, in-image, image-in, member-setOf, member-at}
+use Rattle.model.proofs.Bounds.{and-true, and-intro, or-intro, or-true as or-cases, by-cond}
+use Rattle.model.proofs.SetLaws.{Proper, setOf-proper, In, in-bound, in-setOf, setOf-in, empty-in, in-single, single-in, in-union, union-in, same-set, in-image, image-in, member-setOf, member-at}
 use Rattle.model.proofs.CoverLaws.{image-proper}
 use Rattle.model.proofs.ImageLaws.{union-comm, union-empty}
 use Rattle.state_set.specs.WordSets.{wordSet}
@@ -56,19 +56,6 @@ module _ (p : ℕ → Bool) where
       (λ s h.
       let both = and-true (member X s) (p s) (setOf-in _ h) in
       in-image (passed p) X maxStates (in-bound h) (record { is = both .0 }) (in-passed (in-bound h) (both .1)))
-
-  pub states-more : (i : ℕ) → states (i + 1) p ≡ union (states i p) (passed p i)
-  unfolding states union
-  states-more i =
-      same-set _ _ (setOf-proper _) (setOf-proper _)
-      (λ s h.
-      let w = states-in (i + 1) p h in
-      in-union
-      (⊎-elim (λ e. inr (subst (λ (x : ℕ). In (passed p x) s) e (in-passed (in-bound h) (w .1)))) (λ l. inl (in-states i p (in-bound h) l (w .1)))
-      (below-suc (omega (arith, w .0)))))
-      (λ s h.
-      ⊎-elim (λ k. let w = states-in i p k in in-states (i + 1) p (in-bound h) (omega (arith, w .0)) (w .1))
-      (λ k. let v = passed-in i k in in-states (i + 1) p (in-bound h) (omega (arith, v .0)) (v .1)) (union-in h))
 
 -- a state that passes is added, one that does not is passed over
 module _ (p : ℕ → Bool) (out : Set) {out′ : Set} (x : ℕ) where
