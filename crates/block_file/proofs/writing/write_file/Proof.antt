@@ -1,7 +1,7 @@
 -- `write_file`: the contents joined, in blocks.
 use native.Mathlib.Omega.{arith}
 use borrow.Author.Needs.{needs}
-use Rattle.block_file.proofs.WriteLaws.{contentsRoom, contents-room, length-joined, blocks-joined}
+use Rattle.block_file.proofs.writing.Joining.{contentsRoom, contents-room, length-joined, blocks-joined}
 use Rattle.block_file.proofs.writing.write_file.Statement.{statement}
 use Rattle.block_file.proofs.writing.write_file.Tie as tie
 
