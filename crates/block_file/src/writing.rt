@@ -10,7 +10,7 @@
 // What is written is said with the model's `overwrite`: at the front of what was lent, the rest of it untouched.
 ghost use Prim.Native.Nat.{_+_, _*_, _≤_, _<_};
 ghost use mathlib.Core.Path.{_≡_};
-ghost use lib.ListN.{length, getD};
+ghost use lib.ListN.{length};
 ghost use Rattle.model.specs.Sets.{WORDS, maxStates};
 ghost use Rattle.model.specs.Stores.{headSets, maxGroups, dialogueOf, concat};
 ghost use Rattle.model.specs.Blocks.{blockBytes, contentBytes, maxSite, le16, blocksFor, blockOf};

@@ -35,7 +35,7 @@ use Rattle.model.specs.Stores.{maxGroups, storeWords, concat, layout, Ground, r
 use Rattle.model.specs.Blocks.{blockBytes, contentBytes, checkAt, maxSite, siteGround, le16At, checkOf, blocksFor, part, contentsOf, blockGrounds}
 use Rattle.model.specs.Contents.{Form, heads, added, contentLength, setNumber, dialogueIn}
 use Rattle.model.specs.Files.{maxFile}
-use Rattle.model.specs.Calls.{overwrite, statesIn, secondIn, groupsIn, badLength, badSecond, blocksGrounds, contentGrounds, fileGrounds, readGroundsAs, readAnswerAs, readBufferAs}
+use Rattle.model.specs.Calls.{overwrite, statesIn, groupsIn, badLength, badSecond, blocksGrounds, contentGrounds, fileGrounds, readGroundsAs, readAnswerAs, readBufferAs}
 use Rattle.model.proofs.Bounds.{or-false}
 use Rattle.model.proofs.GroundLaws.{Clear, refuse-none, refuse-skip, refuse-take, refuse-append, refuse-behind, clear-refuse, refuse-clear, clear-next, refuse-stop}
 use Rattle.model.proofs.BlockLaws.{length-contentsOf, getD-contentsOf-at}

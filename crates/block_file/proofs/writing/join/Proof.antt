@@ -3,7 +3,7 @@ use mathlib.Core.Path.{refl, _∙_}
 use borrow.Author.Needs.{needs}
 use Rattle.model.specs.Contents.{headerBytes}
 use Rattle.block_file.proofs.Overwriting.{overwrite-lent}
-use Rattle.block_file.proofs.WriteLaws.{contents-written}
+use Rattle.block_file.proofs.writing.Joining.{contents-written}
 use Rattle.block_file.proofs.writing.join.Statement.{statement}
 use Rattle.block_file.proofs.writing.join.Tie as tie
 

@@ -7,7 +7,7 @@ use Rattle.model.specs.Stores.{headSets, concat}
 use Rattle.block_file.specs.Writing.{placedSet}
 use Rattle.block_file.proofs.Overwriting.{Over, parts-none}
 use Rattle.block_file.proofs.BlockLaws.{sets-fit}
-use Rattle.block_file.proofs.WriteLaws.{sets-more, sets-all, set-room}
+use Rattle.block_file.proofs.writing.Joining.{sets-more, sets-all, set-room}
 use Rattle.block_file.proofs.writing.join_sets.Statement.{statement}
 use Rattle.block_file.proofs.writing.join_sets.Tie as tie
 

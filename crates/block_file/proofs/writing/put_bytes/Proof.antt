@@ -4,7 +4,7 @@ use mathlib.Core.Path.{refl}
 use borrow.Author.Needs.{needs}
 use Rattle.block_file.specs.Writing.{wordBytes}
 use Rattle.block_file.proofs.Overwriting.{Over, over-all}
-use Rattle.block_file.proofs.WriteLaws.{bytes-none, bytes-more}
+use Rattle.block_file.proofs.writing.SetBytes.{bytes-none, bytes-more}
 use Rattle.block_file.proofs.writing.put_bytes.Statement.{statement}
 use Rattle.block_file.proofs.writing.put_bytes.Tie as tie
 

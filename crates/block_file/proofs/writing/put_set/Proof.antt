@@ -1,6 +1,6 @@
 -- `put_set`: whole words, and what is left.
 use borrow.Author.Needs.{needs}
-use Rattle.block_file.proofs.WriteLaws.{set-whole, set-rest}
+use Rattle.block_file.proofs.writing.SetBytes.{set-whole, set-rest}
 use Rattle.block_file.proofs.writing.put_set.Statement.{statement}
 use Rattle.block_file.proofs.writing.put_set.Tie as tie
 

@@ -4,7 +4,7 @@ use borrow.Author.Needs.{needs}
 use Rattle.model.specs.Stores.{concat}
 use Rattle.block_file.specs.Writing.{wordsBytes}
 use Rattle.block_file.proofs.Overwriting.{Over, parts-none, parts-all}
-use Rattle.block_file.proofs.WriteLaws.{words-more}
+use Rattle.block_file.proofs.writing.SetBytes.{words-more}
 use Rattle.block_file.proofs.writing.put_words.Statement.{statement}
 use Rattle.block_file.proofs.writing.put_words.Tie as tie
 

@@ -2,7 +2,7 @@
 use native.Mathlib.Omega.{arith}
 use borrow.Author.Needs.{needs}
 use Rattle.block_file.proofs.BlockLaws.{contentsRoom}
-use Rattle.block_file.proofs.WriteLaws.{contents-room, length-joined, blocks-joined}
+use Rattle.block_file.proofs.writing.Joining.{contents-room, length-joined, blocks-joined}
 use Rattle.block_file.proofs.writing.write_file.Statement.{statement}
 use Rattle.block_file.proofs.writing.write_file.Tie as tie
 
