@@ -8,6 +8,7 @@
 use crate::calls::{
     Calls, Decision, Replay, SAFE, Shortest, TableRead, UNDECIDED, UNSAFE, Within, Written,
 };
+use crate::windows::{Minute, NextOpen};
 
 #[derive(Clone, Copy, Debug, PartialEq, Eq)]
 pub enum Looks {
@@ -155,7 +156,11 @@ impl<'s> Table<'s> {
             sets.iter()
                 .fold(Set::EMPTY, |all, &set| all.union(Set(set)))
         };
-        let held = any(fixed).union(any(used)).union(any(used_rows));
+        // Where there are as many states as can be, every bit is one of them.
+        let held = match n {
+            MAX_STATES => Set::EMPTY,
+            _ => any(fixed).union(any(used)).union(any(used_rows)),
+        };
         let idle = any(unused).union(any(unused_rows));
         if !held.inside(Set::below(n)) || !idle.is_empty() {
             return Err(17);
@@ -180,6 +185,21 @@ impl<'s> Table<'s> {
 
     fn post(&self, x: Set) -> Set {
         x.gather(self.rows)
+    }
+
+    /// The successors of a layer's states, in one pass over their rows, or nothing where one of them is forbidden.
+    fn step_on(&self, layer: Set) -> Option<Set> {
+        let mut after = Set::EMPTY;
+        let mut hangs = Set::EMPTY;
+        layer.each(|state| {
+            let row = Set(self.rows[state]);
+            after = after.union(row);
+            if row.is_empty() {
+                hangs.insert(state);
+            }
+        });
+        let ends = layer.meet(self.marked).union(hangs.minus(self.resting));
+        ends.is_empty().then_some(after)
     }
 
     /// The states of a set whose every successor is in x.
@@ -294,20 +314,16 @@ fn write_path(table: &Table, path: &mut [u16]) -> Option<usize> {
     let mut layer = table.initial;
     let mut seen = layer;
     let mut steps = 0;
-    loop {
+    while let Some(after) = table.step_on(layer) {
         if layer.is_empty() {
             return None;
         }
-        let last = table.forbidden(layer);
-        if !last.is_empty() {
-            layers[steps] = last;
-            break;
-        }
         layers[steps] = layer;
-        layer = table.post(layer).minus(seen);
+        layer = after.minus(seen);
         seen = seen.union(layer);
         steps += 1;
     }
+    layers[steps] = table.forbidden(layer);
     for k in (0..steps).rev() {
         let next = layers[k + 1];
         layers[k] = layers[k].filter(|state| !Set(table.rows[state]).meet(next).is_empty());
@@ -325,23 +341,54 @@ fn write_path(table: &Table, path: &mut [u16]) -> Option<usize> {
 
 // ---- Distances
 
-/// The distance of each state, backward from the forbidden states by layers over the rows transposed.
+/// Layers of distances that are found by a look at the row of each state that is left; the rows of those
+/// that are left then are transposed.
+const LAYERS_BY_ROWS: u16 = 4;
+
+/// The distance of each state, backward from the forbidden states.
 fn put_distances(table: &Table, out: &mut [u16]) {
-    let mut before = [[0; WORDS]; MAX_STATES];
-    for state in 0..table.n {
-        let mut alone = Set::EMPTY;
-        alone.insert(state);
-        Set(table.rows[state]).each(|after| before[after] = Set(before[after]).union(alone).0);
-    }
     out.fill(u16::MAX);
     let mut layer = table.forbidden(Set::below(table.n));
-    let mut seen = layer;
+    let mut rest = Set::below(table.n).minus(layer);
     let mut steps = 0;
     while !layer.is_empty() {
         layer.each(|state| out[state] = steps);
-        layer = layer.gather(&before).minus(seen);
-        seen = seen.union(layer);
+        if steps == LAYERS_BY_ROWS {
+            return put_further(table, layer, rest, out);
+        }
+        layer = rest.filter(|state| !Set(table.rows[state]).meet(layer).is_empty());
+        rest = rest.minus(layer);
         steps += 1;
+    }
+}
+
+/// The distances of the states that are left, behind the last layer: state by state in a queue, over the rows of
+/// those that are left transposed.
+fn put_further(table: &Table, layer: Set, mut rest: Set, out: &mut [u16]) {
+    let mut before = [[0; WORDS]; MAX_STATES];
+    let ahead = layer.union(rest);
+    rest.each(|state| {
+        let (word, bit) = (state / 64, 1 << (state % 64));
+        let row = Set(table.rows[state]).meet(ahead);
+        row.each(|after| before[after][word] |= bit);
+    });
+    let mut queue = [0; MAX_STATES];
+    let mut length = 0;
+    layer.each(|state| {
+        queue[length] = state;
+        length += 1;
+    });
+    let mut place = 0;
+    while place < length {
+        let after = queue[place];
+        let new = Set(before[after]).meet(rest);
+        rest = rest.minus(new);
+        new.each(|state| {
+            out[state] = out[after] + 1;
+            queue[length] = state;
+            length += 1;
+        });
+        place += 1;
     }
 }
 
@@ -350,15 +397,15 @@ fn steps_to_forbidden(table: &Table) -> Option<usize> {
     let mut layer = table.initial;
     let mut seen = layer;
     let mut steps = 0;
-    while !layer.is_empty() {
-        if !table.forbidden(layer).is_empty() {
-            return Some(steps);
+    while let Some(after) = table.step_on(layer) {
+        if layer.is_empty() {
+            return None;
         }
-        layer = table.post(layer).minus(seen);
+        layer = after.minus(seen);
         seen = seen.union(layer);
         steps += 1;
     }
-    None
+    Some(steps)
 }
 
 // ---- Files
@@ -469,6 +516,155 @@ fn reached(table: &Table) -> Set {
         reached = reached.union(new);
     }
     reached
+}
+
+// ---- Loads
+
+const MAX_FAN_OUT: usize = 16;
+const SHORT_LAG: usize = 24;
+const LONG_LAG: usize = 55;
+const INCREMENT: u32 = 2_654_435_769;
+/// As many numbers as the largest load takes, and a whole turn past them.
+const NUMBERS: usize = LONG_LAG + MAX_STATES * MAX_FAN_OUT + SHORT_LAG;
+
+/// The first numbers of a seed, at least `count` of them, SHORT_LAG at a time.
+fn put_numbers(seed: u32, count: usize, numbers: &mut [u32; NUMBERS]) {
+    for (k, number) in (0..).zip(&mut numbers[..LONG_LAG]) {
+        *number = seed.wrapping_add(INCREMENT.wrapping_mul(k));
+    }
+    for at in (LONG_LAG..count).step_by(SHORT_LAG) {
+        let (made, next) = numbers.split_at_mut(at);
+        let (near, far) = (&made[at - SHORT_LAG..], &made[at - LONG_LAG..]);
+        for i in 0..SHORT_LAG {
+            next[i] = near[i].wrapping_add(far[i]);
+        }
+    }
+}
+
+/// Remainders by one divisor, without a division for each (Lemire's).
+struct Divisor {
+    n: u64,
+    inverse: u64,
+}
+
+impl Divisor {
+    fn new(n: usize) -> Divisor {
+        let n = n as u64;
+        Divisor {
+            n,
+            inverse: (u64::MAX / n).wrapping_add(1),
+        }
+    }
+
+    fn remainder(&self, x: u32) -> usize {
+        let part = self.inverse.wrapping_mul(x.into());
+        ((u128::from(part) * u128::from(self.n)) >> 64) as usize
+    }
+}
+
+/// The table of a seed, in a store of zeros.
+fn put_load(seed: u32, n: usize, fan_out: usize, store: &mut [u64; STORE_WORDS]) {
+    let mut numbers = [0; NUMBERS];
+    put_numbers(seed, LONG_LAG + n * fan_out, &mut numbers);
+    let (sets, _) = store.as_chunks_mut::<WORDS>();
+    sets[0][0] = 1;
+    sets[1][(n - 1) / 64] = 1 << ((n - 1) % 64);
+    if fan_out == 0 {
+        return;
+    }
+    let divisor = Divisor::new(n);
+    let rows = sets[HEAD_SETS + MAX_GROUPS..][..n].iter_mut();
+    for (row, drawn) in rows.zip(numbers[LONG_LAG..].chunks_exact(fan_out)) {
+        for &number in drawn {
+            let state = divisor.remainder(number);
+            row[state / 64] |= 1 << (state % 64);
+        }
+    }
+}
+
+// ---- Release windows
+
+const MAX_TIME: usize = (1 << 31) - 1;
+const MAX_WINDOWS: usize = 32;
+const MAX_DAYS: usize = 64;
+const DAY: u32 = 1440;
+const WEEK: u32 = 7 * DAY;
+
+/// A window's start and length.
+fn window(word: u64) -> (u32, u32) {
+    (word as u32, (word >> 32) as u32)
+}
+
+/// The minutes from one of the week until a window is open.
+fn least_wait(windows: &[(u32, u32)], minute: u32) -> u32 {
+    let wait = |&(start, length): &(u32, u32)| {
+        let since = if minute < start {
+            minute + WEEK - start
+        } else {
+            minute - start
+        };
+        if since < length { 0 } else { WEEK - since }
+    };
+    windows.iter().map(wait).min().unwrap_or(WEEK)
+}
+
+/// The first open minute: from midnight to midnight over closed days, over the least wait on any other.
+fn first_open(time: u32, windows: &[(u32, u32)], closed: &[u32]) -> u32 {
+    let mut minute = time;
+    loop {
+        let day = minute / DAY;
+        if closed
+            .iter()
+            .fold(false, |any, &other| any | (other == day))
+        {
+            minute = (day + 1) * DAY;
+            continue;
+        }
+        match least_wait(windows, minute % WEEK) {
+            0 => return minute,
+            wait => minute += wait,
+        }
+    }
+}
+
+impl NextOpen for Peer {
+    fn name(&self) -> &'static str {
+        "peer"
+    }
+
+    fn next_open(&self, time: usize, windows: &[u64], closed: &[u32]) -> Minute {
+        let refused = |refusal| Minute {
+            refusal,
+            ..Minute::default()
+        };
+        if time > MAX_TIME {
+            return refused(31);
+        }
+        if windows.len() > MAX_WINDOWS || closed.len() > MAX_DAYS {
+            return refused(30);
+        }
+        let mut unpacked = [(0, 0); MAX_WINDOWS];
+        let unpacked = &mut unpacked[..windows.len()];
+        for (place, &word) in unpacked.iter_mut().zip(windows) {
+            *place = window(word);
+        }
+        if unpacked
+            .iter()
+            .any(|&(start, length)| start >= WEEK || length == 0 || length > WEEK)
+        {
+            return refused(29);
+        }
+        if unpacked.is_empty() {
+            return Minute {
+                never: 1,
+                ..Minute::default()
+            };
+        }
+        Minute {
+            minute: first_open(time as u32, unpacked, closed),
+            ..Minute::default()
+        }
+    }
 }
 
 // ---- The calls
@@ -645,6 +841,21 @@ impl Calls for Peer {
             refusal: 0,
             length: output.len() as u32,
         }
+    }
+
+    fn generate(&self, seed: u32, n: usize, fan_out: usize, store: &mut [u64]) -> u32 {
+        let Some(store) = store.first_chunk_mut::<STORE_WORDS>() else {
+            return 10;
+        };
+        if n == 0 || n > MAX_STATES {
+            return 14;
+        }
+        if fan_out > MAX_FAN_OUT {
+            return 22;
+        }
+        store.fill(0);
+        put_load(seed, n, fan_out, store);
+        0
     }
 
     fn replay(&self, store: &[u64], n: usize, g: usize, log: &[u8]) -> Replay {
