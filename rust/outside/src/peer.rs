@@ -79,6 +79,10 @@ impl Set {
         self.0.iter().map(|word| word.count_ones()).sum()
     }
 
+    fn holds(self, state: usize) -> bool {
+        self.0[state / 64] >> (state % 64) & 1 == 1
+    }
+
     fn insert(&mut self, state: usize) {
         self.0[state / 64] |= 1 << (state % 64);
     }
@@ -187,19 +191,17 @@ impl<'s> Table<'s> {
         x.gather(self.rows)
     }
 
-    /// The successors of a layer's states, in one pass over their rows, or nothing where one of them is forbidden.
-    fn step_on(&self, layer: Set) -> Option<Set> {
+    /// The successors of a layer's states, and whether one of these is forbidden, in one pass over their rows.
+    #[inline(always)]
+    fn step_on(&self, layer: Set) -> (Set, bool) {
         let mut after = Set::EMPTY;
-        let mut hangs = Set::EMPTY;
+        let mut hang = false;
         layer.each(|state| {
             let row = Set(self.rows[state]);
             after = after.union(row);
-            if row.is_empty() {
-                hangs.insert(state);
-            }
+            hang |= row.is_empty() && !self.resting.holds(state);
         });
-        let ends = layer.meet(self.marked).union(hangs.minus(self.resting));
-        ends.is_empty().then_some(after)
+        (after, hang || !layer.meet(self.marked).is_empty())
     }
 
     /// The states of a set whose every successor is in x.
@@ -314,7 +316,12 @@ fn write_path(table: &Table, path: &mut [u16]) -> Option<usize> {
     let mut layer = table.initial;
     let mut seen = layer;
     let mut steps = 0;
-    while let Some(after) = table.step_on(layer) {
+    loop {
+        let (after, ends) = table.step_on(layer);
+        if ends {
+            layers[steps] = table.forbidden(layer);
+            break;
+        }
         if layer.is_empty() {
             return None;
         }
@@ -323,7 +330,6 @@ fn write_path(table: &Table, path: &mut [u16]) -> Option<usize> {
         seen = seen.union(layer);
         steps += 1;
     }
-    layers[steps] = table.forbidden(layer);
     for k in (0..steps).rev() {
         let next = layers[k + 1];
         layers[k] = layers[k].filter(|state| !Set(table.rows[state]).meet(next).is_empty());
@@ -341,9 +347,10 @@ fn write_path(table: &Table, path: &mut [u16]) -> Option<usize> {
 
 // ---- Distances
 
-/// Layers of distances that are found by a look at the row of each state that is left; the rows of those
-/// that are left then are transposed.
+/// Layers of distances that are found by a look at the row of each state that is left. Behind them, where more
+/// than THIN layers of the last one's size are left, the rows are transposed.
 const LAYERS_BY_ROWS: u16 = 4;
+const THIN: u32 = 32;
 
 /// The distance of each state, backward from the forbidden states.
 fn put_distances(table: &Table, out: &mut [u16]) {
@@ -353,7 +360,7 @@ fn put_distances(table: &Table, out: &mut [u16]) {
     let mut steps = 0;
     while !layer.is_empty() {
         layer.each(|state| out[state] = steps);
-        if steps == LAYERS_BY_ROWS {
+        if steps >= LAYERS_BY_ROWS && rest.size() > THIN * layer.size() {
             return put_further(table, layer, rest, out);
         }
         layer = rest.filter(|state| !Set(table.rows[state]).meet(layer).is_empty());
@@ -397,15 +404,16 @@ fn steps_to_forbidden(table: &Table) -> Option<usize> {
     let mut layer = table.initial;
     let mut seen = layer;
     let mut steps = 0;
-    while let Some(after) = table.step_on(layer) {
-        if layer.is_empty() {
-            return None;
+    while !layer.is_empty() {
+        let (after, ends) = table.step_on(layer);
+        if ends {
+            return Some(steps);
         }
         layer = after.minus(seen);
         seen = seen.union(layer);
         steps += 1;
     }
-    Some(steps)
+    None
 }
 
 // ---- Files

@@ -1,13 +1,13 @@
 //! The benchmark: the library's calls beside the optimised peer, in one run.
 //!
-//!     bench [--peer] [--repetitions R] [--only WORDS]     the tables of docs/PERFORMANCE.md
+//!     bench [--peer] [--repetitions R] [--only WORDS]..   the tables of docs/PERFORMANCE.md
 //!     bench --rows [..]                                   a line for each call and family
 //!     bench --runs N [..]                                 nothing is measured: each row N times, for a profiler
 //!
 //! In each repetition the library, the peer and, where there is one, the limit are measured in turn, in changing
 //! order, in the processor time of the thread; a ratio is of two times of one repetition. In brackets stands the
 //! range that holds 80 % of the ratios. `--peer` measures the peer against itself, which shows the noise; `--only`
-//! takes the rows that have the words in their call and family, as in 'decide | fan-out 2'.
+//! takes the rows that have the words in their call and family, as in 'decide | fan-out 2', and may be said again.
 
 mod measure;
 mod rows;
@@ -24,13 +24,13 @@ struct Options {
     peer: bool,
     rows: bool,
     repetitions: usize,
-    only: String,
+    only: Vec<String>,
     runs: Option<usize>,
 }
 
 fn main() -> ExitCode {
     let Some(options) = options() else {
-        eprintln!("usage: bench [--peer] [--rows] [--repetitions R] [--only WORDS] [--runs N]");
+        eprintln!("usage: bench [--peer] [--rows] [--repetitions R] [--only WORDS].. [--runs N]");
         return ExitCode::from(2);
     };
     let Some(subject) = subject(options.peer) else {
@@ -39,7 +39,7 @@ fn main() -> ExitCode {
     };
     let rows = rows::rows(&options.only);
     if rows.is_empty() {
-        eprintln!("bench: no row has '{}' in it", options.only);
+        eprintln!("bench: no row has '{}' in it", options.only.join("' or '"));
         return ExitCode::from(2);
     }
     if let Some(runs) = options.runs {
@@ -56,7 +56,7 @@ fn options() -> Option<Options> {
         peer: false,
         rows: false,
         repetitions: REPETITIONS,
-        only: String::new(),
+        only: Vec::new(),
         runs: None,
     };
     let mut words = std::env::args().skip(1);
@@ -67,7 +67,7 @@ fn options() -> Option<Options> {
             "--rows" => options.rows = true,
             "--repetitions" => options.repetitions = number()?,
             "--runs" => options.runs = Some(number()?),
-            "--only" => options.only = words.next()?,
+            "--only" => options.only.push(words.next()?),
             _ => return None,
         }
     }

@@ -100,22 +100,45 @@ fn agree(subject: Library, row: &Row, case: &Case) -> Result<(), String> {
 
 /// The limit: as many bytes as a call has to read and to write, copied, and what is left of either read or filled.
 struct Touch {
-    read: Vec<u8>,
-    written: Vec<u8>,
+    read: Lines,
+    written: Lines,
+}
+
+/// Bytes that begin with a line of the cache.
+struct Lines {
+    bytes: Vec<u8>,
+    from: usize,
+}
+
+impl Lines {
+    const LINE: usize = 64;
+
+    fn new(length: usize) -> Lines {
+        let bytes = vec![1; length + Lines::LINE];
+        let from = bytes.as_ptr().align_offset(Lines::LINE);
+        let mut lines = Lines { bytes, from };
+        lines.bytes.truncate(from + length);
+        lines
+    }
+
+    fn len(&self) -> usize {
+        self.bytes.len() - self.from
+    }
 }
 
 impl Touch {
     fn new(row: &Row) -> Touch {
         let (read, written) = row.call.bytes(&row.cases[0]);
         Touch {
-            read: vec![1; read],
-            written: vec![1; written],
+            read: Lines::new(read),
+            written: Lines::new(written),
         }
     }
 
     fn run(&mut self, times: usize) {
         for _ in 0..times {
-            let (read, written) = (black_box(&self.read[..]), black_box(&mut self.written[..]));
+            let read = black_box(&self.read.bytes[self.read.from..]);
+            let written = black_box(&mut self.written.bytes[self.written.from..]);
             let both = read.len().min(written.len());
             let (copied, filled) = written.split_at_mut(both);
             copied.copy_from_slice(&read[..both]);
@@ -123,7 +146,7 @@ impl Touch {
             let (words, _) = read[both..].as_chunks::<8>();
             let word = |all: u64, word: &[u8; 8]| all | u64::from_ne_bytes(*word);
             black_box(words.iter().fold(0, word));
-            black_box(&self.written);
+            black_box(&self.written.bytes);
         }
     }
 }

@@ -204,11 +204,12 @@ impl Row {
     }
 }
 
-/// The rows that have the words in their names.
-pub fn rows(only: &str) -> Vec<Row> {
+/// The rows that have some of the words in their names, or all of them where there are no words.
+pub fn rows(only: &[String]) -> Vec<Row> {
     let mut rows = Vec::new();
     let mut add = |call: Call, family: &str, cases: &mut dyn FnMut() -> Vec<Case>| {
-        if format!("{} | {family}", call.name()).contains(only) {
+        let name = format!("{} | {family}", call.name());
+        if only.is_empty() || only.iter().any(|words| name.contains(words)) {
             rows.push(Row {
                 call,
                 family: family.to_string(),
