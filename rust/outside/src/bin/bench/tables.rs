@@ -3,7 +3,7 @@
 use shuntberry_outside::families::GROWTH;
 
 use crate::measure::{Figures, Spread};
-use crate::rows::Row;
+use crate::rows::{Call, Row};
 
 type Measured<'r> = (&'r Row, Figures);
 
@@ -51,92 +51,114 @@ fn by_call<'m, 'r>(measured: &'m [Measured<'r>]) -> Vec<&'m [Measured<'r>]> {
         .collect()
 }
 
+/// A table, where it has lines.
+fn print_table(head: &str, lines: Vec<String>) {
+    if !lines.is_empty() {
+        println!("\n{head}\n{}", lines.join("\n"));
+    }
+}
+
+/// The rows by a ratio, rising.
+fn sorted<'m, 'r>(
+    rows: impl Iterator<Item = &'m Measured<'r>>,
+    ratio: impl Fn(&Figures) -> f64,
+) -> Vec<&'m Measured<'r>>
+where
+    'r: 'm,
+{
+    let mut sorted: Vec<&Measured> = rows.collect();
+    sorted.sort_by(|one, other| ratio(&one.1).total_cmp(&ratio(&other.1)));
+    sorted
+}
+
 pub fn print_calls(measured: &[Measured]) {
-    println!("\n| call | families | library | ratio to the peer: least | median | greatest |");
-    println!("|---|--:|--:|---|--:|---|");
-    for rows in by_call(measured) {
-        let mut sorted: Vec<&Measured> = rows.iter().collect();
-        sorted.sort_by(|one, other| one.1.ratio.middle.total_cmp(&other.1.ratio.middle));
-        let times = rows.iter().map(|(_, figures)| figures.library);
-        let (least, most) = times.fold((f64::MAX, 0.0), |(least, most): (f64, f64), time| {
-            (least.min(time), most.max(time))
-        });
+    let line = |rows: &&[Measured]| {
+        let by_time = sorted(rows.iter(), |figures| figures.library);
+        let by_ratio = sorted(rows.iter(), |figures| figures.ratio.middle);
+        let last = rows.len() - 1;
         let at = |(row, figures): &Measured| format!("{}, {}", spread(&figures.ratio), row.family);
-        println!(
+        format!(
             "| {} | {} | {} to {} | {} | {:.2} | {} |",
             rows[0].0.call.name(),
             rows.len(),
-            micros(least),
-            micros(most),
-            at(sorted[0]),
-            sorted[(sorted.len() - 1) / 2].1.ratio.middle,
-            at(sorted[sorted.len() - 1]),
-        );
-    }
+            micros(by_time[0].1.library),
+            micros(by_time[last].1.library),
+            at(by_ratio[0]),
+            by_ratio[last / 2].1.ratio.middle,
+            at(by_ratio[last]),
+        )
+    };
+    print_table(
+        "| call | families | library | ratio to the peer: least | median | greatest |\n|---|--:|--:|---|--:|---|",
+        by_call(measured).iter().map(line).collect(),
+    );
 }
 
 // ---- Growth
 
-/// The kind of a family of growth, and its number of states.
-fn growth(family: &str) -> Option<(&str, usize)> {
-    let (kind, n) = family.strip_prefix("growth, ")?.rsplit_once(", ")?;
-    Some((kind, n.parse().ok()?))
+/// The kind of a family of growth.
+fn growing(family: &str) -> Option<&str> {
+    let (kind, _) = family.strip_prefix("growth, ")?.rsplit_once(", ")?;
+    Some(kind)
 }
 
+/// The library's times at each size; acceptance, which is no call, has none of its own.
 pub fn print_growth(measured: &[Measured]) {
-    let sizes = GROWTH.map(|n| n.to_string()).join(" | ");
-    println!("\n| call | tables | {sizes} | a doubling takes |");
-    println!("|---|---|{}--:|", "--:|".repeat(GROWTH.len()));
+    let mut lines = Vec::new();
     for rows in by_call(measured) {
-        let growing: Vec<(&str, f64)> = rows
+        let times: Vec<(&str, f64)> = rows
             .iter()
-            .filter_map(|(row, figures)| Some((growth(&row.family)?.0, figures.library)))
+            .filter(|(row, _)| row.call != Call::Acceptance)
+            .filter_map(|(row, figures)| Some((growing(&row.family)?, figures.library)))
             .collect();
-        for times in growing.chunk_by(|one, other| one.0 == other.0) {
-            let doublings: Vec<f64> = times.windows(2).map(|pair| pair[1].1 / pair[0].1).collect();
-            let least = doublings.iter().copied().fold(f64::MAX, f64::min);
-            let most = doublings.iter().copied().fold(0.0, f64::max);
-            let times_of: Vec<String> = times.iter().map(|&(_, time)| micros(time)).collect();
-            println!(
-                "| {} | {} | {} | {least:.1} to {most:.1} times as long |",
-                rows[0].0.call.name(),
-                times[0].0,
-                times_of.join(" | "),
-            );
+        for times in times.chunk_by(|one, other| one.0 == other.0) {
+            if times.len() == GROWTH.len() {
+                let shown: Vec<String> = times.iter().map(|&(_, time)| micros(time)).collect();
+                let doublings = times.windows(2).map(|pair| pair[1].1 / pair[0].1);
+                let doublings: Vec<String> = doublings.map(|by| format!("{by:.1}")).collect();
+                lines.push(format!(
+                    "| {} | {} | {} | {} |",
+                    rows[0].0.call.name(),
+                    times[0].0,
+                    shown.join(" | "),
+                    doublings.join(", "),
+                ));
+            }
         }
     }
+    let sizes = GROWTH.map(|n| n.to_string()).join(" | ");
+    let columns = "--:|".repeat(GROWTH.len());
+    print_table(
+        &format!("| call | tables | {sizes} | each doubling, times |\n|---|---|{columns}--:|"),
+        lines,
+    );
 }
 
 // ---- Limits
 
-/// The family that stands for a call: a table of as many states as there can be.
-const LIMITS: [&str; 11] = [
-    "decide | fan-out 4",
-    "decide | corridor of 512",
-    "shortest path | fan-out 4",
-    "distances | fan-out 4",
-    "within | fan-out 4",
-    "acceptance | fan-out 4",
-    "read | 512 states, 64 groups",
-    "write | 512 states, 64 groups",
-    "generate | 512 states, fan-out 2",
-    "replay | 16,384 entries, dense rows",
-    "next open | 32 windows, 64 closed days",
-];
-
+/// Of each call, the families with the most bytes that have to be touched: the nearest to the limit and the farthest.
 pub fn print_limits(measured: &[Measured]) {
-    println!("\n| call | family | bytes | limit | library | ratio |");
-    println!("|---|---|--:|--:|--:|--:|");
-    for (row, figures) in measured {
-        if LIMITS.contains(&&row.name()[..]) {
-            println!(
-                "| {} | {} | {} | {} | {} |",
-                row.name(),
-                figures.bytes,
-                micros(figures.limit),
-                micros(figures.library),
-                spread(&figures.above),
-            );
-        }
-    }
+    let line = |rows: &&[Measured]| {
+        let most = rows.iter().map(|(_, figures)| figures.bytes).max();
+        let largest = rows
+            .iter()
+            .filter(|(_, figures)| Some(figures.bytes) == most);
+        let by_ratio = sorted(largest, |figures| figures.above.middle);
+        let at = |(row, figures): &Measured| {
+            let (time, above) = (micros(figures.library), figures.above.middle);
+            format!("{time} | {above:.1}, {}", row.family)
+        };
+        format!(
+            "| {} | {} | {} | {} | {} |",
+            rows[0].0.call.name(),
+            by_ratio[0].1.bytes,
+            micros(by_ratio[0].1.limit),
+            at(by_ratio[0]),
+            at(by_ratio[by_ratio.len() - 1]),
+        )
+    };
+    print_table(
+        "| call | bytes | limit | nearest | ratio | farthest | ratio |\n|---|--:|--:|--:|---|--:|---|",
+        by_call(measured).iter().map(line).collect(),
+    );
 }
