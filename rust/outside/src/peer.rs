@@ -423,12 +423,29 @@ fn blocks_needed(n: usize, g: usize) -> (usize, usize) {
     (length, length.div_ceil(CONTENT))
 }
 
+/// The sum of (i + 1) times byte i, LANES bytes at a time. A byte counts once in its lane of `sums`, and in `later`
+/// once for each chunk behind its own.
 fn check_of(block: &[u8], site: usize) -> u16 {
-    let sum: u32 = block[..510]
-        .iter()
-        .zip(1..)
-        .map(|(&byte, place)| place * byte as u32)
-        .sum();
+    const LANES: usize = 32;
+    let (chunks, rest) = block[..510].as_chunks::<LANES>();
+    let mut sums = [0u16; LANES];
+    let mut later = [0u16; LANES];
+    for chunk in chunks {
+        for lane in 0..LANES {
+            later[lane] += sums[lane];
+            sums[lane] += chunk[lane] as u16;
+        }
+    }
+    let from = LANES * chunks.len();
+    let in_lane = |lane: usize| {
+        let last = from - LANES + lane + 1;
+        (last * sums[lane] as usize - LANES * later[lane] as usize) as u32
+    };
+    let in_rest = rest.iter().zip(from as u32 + 1..);
+    let sum: u32 = (0..LANES).map(in_lane).sum::<u32>()
+        + in_rest
+            .map(|(&byte, place)| place * byte as u32)
+            .sum::<u32>();
     ((site as u32 + sum) % 65_521) as u16
 }
 
