@@ -51,6 +51,13 @@ fn by_call<'m, 'r>(measured: &'m [Measured<'r>]) -> Vec<&'m [Measured<'r>]> {
         .collect()
 }
 
+/// The same without acceptance, which is the first part of a call and none by itself.
+fn calls<'m, 'r>(measured: &'m [Measured<'r>]) -> Vec<&'m [Measured<'r>]> {
+    let mut calls = by_call(measured);
+    calls.retain(|rows| rows[0].0.call != Call::Acceptance);
+    calls
+}
+
 /// A table, where it has lines.
 fn print_table(head: &str, lines: Vec<String>) {
     if !lines.is_empty() {
@@ -102,13 +109,12 @@ fn growing(family: &str) -> Option<&str> {
     Some(kind)
 }
 
-/// The library's times at each size; acceptance, which is no call, has none of its own.
+/// The library's times at each size.
 pub fn print_growth(measured: &[Measured]) {
     let mut lines = Vec::new();
-    for rows in by_call(measured) {
+    for rows in calls(measured) {
         let times: Vec<(&str, f64)> = rows
             .iter()
-            .filter(|(row, _)| row.call != Call::Acceptance)
             .filter_map(|(row, figures)| Some((growing(&row.family)?, figures.library)))
             .collect();
         for times in times.chunk_by(|one, other| one.0 == other.0) {
@@ -159,6 +165,6 @@ pub fn print_limits(measured: &[Measured]) {
     };
     print_table(
         "| call | bytes | limit | nearest | ratio | farthest | ratio |\n|---|--:|--:|--:|---|--:|---|",
-        by_call(measured).iter().map(line).collect(),
+        calls(measured).iter().map(line).collect(),
     );
 }
