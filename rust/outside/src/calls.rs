@@ -103,6 +103,8 @@ pub trait Calls: Sync {
     fn within(&self, store: &[u64], n: usize, g: usize, k: usize) -> Within;
     fn read(&self, input: &[u8], site: usize, store: &mut [u64]) -> TableRead;
     fn write(&self, store: &[u64], n: usize, g: usize, site: usize, output: &mut [u8]) -> Written;
+    /// The refusal, or 0.
+    fn generate(&self, seed: u32, n: usize, fan_out: usize, store: &mut [u64]) -> u32;
     fn replay(&self, store: &[u64], n: usize, g: usize, log: &[u8]) -> Replay;
     fn open(&self, store: &[u64], n: usize, g: usize) -> Session;
     fn edit(&self, store: &mut [u64], n: usize, g: usize, lit: Words, edit: Edit) -> Session;
@@ -220,6 +222,11 @@ mod linked {
                 refusal: answer.refusal,
                 length: answer.length,
             }
+        }
+
+        fn generate(&self, seed: u32, n: usize, fan_out: usize, store: &mut [u64]) -> u32 {
+            let (words, room) = (store.as_mut_ptr(), store.len());
+            unsafe { raw::shuntberry_generate(seed, n, fan_out, words, room) }
         }
 
         fn replay(&self, store: &[u64], n: usize, g: usize, log: &[u8]) -> Replay {
@@ -404,6 +411,13 @@ mod linked {
                         length: length_of_front(output, &file),
                     }
                 }
+            }
+        }
+
+        fn generate(&self, seed: u32, n: usize, fan_out: usize, store: &mut [u64]) -> u32 {
+            match shuntberry::generate(seed, n, fan_out, store) {
+                Err(Refused(refusal)) => refusal,
+                Ok(()) => 0,
             }
         }
 

@@ -14,7 +14,7 @@ pub struct Family {
 const TABLES: usize = 16;
 
 /// The sizes at which the growth of the cost is measured.
-const GROWTH: [usize; 4] = [MAX_STATES / 8, MAX_STATES / 4, MAX_STATES / 2, MAX_STATES];
+pub const GROWTH: [usize; 4] = [MAX_STATES / 8, MAX_STATES / 4, MAX_STATES / 2, MAX_STATES];
 
 fn family(name: impl Into<String>, tables: Vec<Dialogue>) -> Family {
     Family {

@@ -9,6 +9,7 @@ use crate::calls::{
     Calls, DEPENDS, Decision, Edit, Modal, Replay, SAFE, Session, Shortest, TableRead, UNDECIDED,
     UNSAFE, Within, Written,
 };
+use crate::windows::{Minute, NextOpen};
 
 #[derive(Clone, Copy, Debug, PartialEq, Eq)]
 pub enum Looks {
@@ -161,7 +162,11 @@ impl<'s> Table<'s> {
             sets.iter()
                 .fold(Set::EMPTY, |all, &set| all.union(Set(set)))
         };
-        let held = any(fixed).union(any(used)).union(any(used_rows));
+        // Where there are as many states as can be, every bit is one of them.
+        let held = match n {
+            MAX_STATES => Set::EMPTY,
+            _ => any(fixed).union(any(used)).union(any(used_rows)),
+        };
         let idle = any(unused).union(any(unused_rows));
         if !held.inside(Set::below(n)) || !idle.is_empty() {
             return Err(17);
@@ -194,6 +199,19 @@ impl<'s> Table<'s> {
 
     fn post(&self, x: Set) -> Set {
         x.gather(self.rows)
+    }
+
+    /// The successors of a layer's states, and whether one of these is forbidden, in one pass over their rows.
+    #[inline(always)]
+    fn step_on(&self, layer: Set) -> (Set, bool) {
+        let mut after = Set::EMPTY;
+        let mut hang = false;
+        layer.each(|state| {
+            let row = Set(self.rows[state]);
+            after = after.union(row);
+            hang |= row.is_empty() && !self.resting.has(state);
+        });
+        (after, hang || !layer.meet(self.marked).is_empty())
     }
 
     /// The states of a set whose every successor is in x.
@@ -309,16 +327,16 @@ fn write_path(table: &Table, path: &mut [u16]) -> Option<usize> {
     let mut seen = layer;
     let mut steps = 0;
     loop {
+        let (after, ends) = table.step_on(layer);
+        if ends {
+            layers[steps] = table.forbidden(layer);
+            break;
+        }
         if layer.is_empty() {
             return None;
         }
-        let last = table.forbidden(layer);
-        if !last.is_empty() {
-            layers[steps] = last;
-            break;
-        }
         layers[steps] = layer;
-        layer = table.post(layer).minus(seen);
+        layer = after.minus(seen);
         seen = seen.union(layer);
         steps += 1;
     }
@@ -339,23 +357,55 @@ fn write_path(table: &Table, path: &mut [u16]) -> Option<usize> {
 
 // ---- Distances
 
-/// The distance of each state, backward from the forbidden states by layers over the rows transposed.
+/// Layers of distances that are found by a look at the row of each state that is left. Behind them, where more
+/// than THIN layers of the last one's size are left, the rows are transposed.
+const LAYERS_BY_ROWS: u16 = 4;
+const THIN: u32 = 32;
+
+/// The distance of each state, backward from the forbidden states.
 fn put_distances(table: &Table, out: &mut [u16]) {
-    let mut before = [[0; WORDS]; MAX_STATES];
-    for state in 0..table.n {
-        let mut alone = Set::EMPTY;
-        alone.insert(state);
-        Set(table.rows[state]).each(|after| before[after] = Set(before[after]).union(alone).0);
-    }
     out.fill(u16::MAX);
     let mut layer = table.forbidden(Set::below(table.n));
-    let mut seen = layer;
+    let mut rest = Set::below(table.n).minus(layer);
     let mut steps = 0;
     while !layer.is_empty() {
         layer.each(|state| out[state] = steps);
-        layer = layer.gather(&before).minus(seen);
-        seen = seen.union(layer);
+        if steps >= LAYERS_BY_ROWS && rest.size() > THIN * layer.size() {
+            return put_further(table, layer, rest, out);
+        }
+        layer = rest.filter(|state| !Set(table.rows[state]).meet(layer).is_empty());
+        rest = rest.minus(layer);
         steps += 1;
+    }
+}
+
+/// The distances of the states that are left, behind the last layer: state by state in a queue, over the rows of
+/// those that are left transposed.
+fn put_further(table: &Table, layer: Set, mut rest: Set, out: &mut [u16]) {
+    let mut before = [[0; WORDS]; MAX_STATES];
+    let ahead = layer.union(rest);
+    rest.each(|state| {
+        let (word, bit) = (state / 64, 1 << (state % 64));
+        let row = Set(table.rows[state]).meet(ahead);
+        row.each(|after| before[after][word] |= bit);
+    });
+    let mut queue = [0; MAX_STATES];
+    let mut length = 0;
+    layer.each(|state| {
+        queue[length] = state;
+        length += 1;
+    });
+    let mut place = 0;
+    while place < length {
+        let after = queue[place];
+        let new = Set(before[after]).meet(rest);
+        rest = rest.minus(new);
+        new.each(|state| {
+            out[state] = out[after] + 1;
+            queue[length] = state;
+            length += 1;
+        });
+        place += 1;
     }
 }
 
@@ -365,10 +415,11 @@ fn steps_to_forbidden(table: &Table) -> Option<usize> {
     let mut seen = layer;
     let mut steps = 0;
     while !layer.is_empty() {
-        if !table.forbidden(layer).is_empty() {
+        let (after, ends) = table.step_on(layer);
+        if ends {
             return Some(steps);
         }
-        layer = table.post(layer).minus(seen);
+        layer = after.minus(seen);
         seen = seen.union(layer);
         steps += 1;
     }
@@ -382,12 +433,29 @@ fn blocks_needed(n: usize, g: usize) -> (usize, usize) {
     (length, length.div_ceil(CONTENT))
 }
 
+/// The sum of (i + 1) times byte i, LANES bytes at a time. A byte counts once in its lane of `sums`, and in `later`
+/// once for each chunk behind its own.
 fn check_of(block: &[u8], site: usize) -> u16 {
-    let sum: u32 = block[..510]
-        .iter()
-        .zip(1..)
-        .map(|(&byte, place)| place * byte as u32)
-        .sum();
+    const LANES: usize = 32;
+    let (chunks, rest) = block[..510].as_chunks::<LANES>();
+    let mut sums = [0u16; LANES];
+    let mut later = [0u16; LANES];
+    for chunk in chunks {
+        for lane in 0..LANES {
+            later[lane] += sums[lane];
+            sums[lane] += chunk[lane] as u16;
+        }
+    }
+    let from = LANES * chunks.len();
+    let in_lane = |lane: usize| {
+        let last = from - LANES + lane + 1;
+        (last * sums[lane] as usize - LANES * later[lane] as usize) as u32
+    };
+    let in_rest = rest.iter().zip(from as u32 + 1..);
+    let sum: u32 = (0..LANES).map(in_lane).sum::<u32>()
+        + in_rest
+            .map(|(&byte, place)| place * byte as u32)
+            .sum::<u32>();
     ((site as u32 + sum) % 65_521) as u16
 }
 
@@ -552,6 +620,155 @@ fn decide_choices(
         verdict,
         size: invariant.size(),
         steps: steps.unwrap_or(0) as u32,
+    }
+}
+
+// ---- Loads
+
+const MAX_FAN_OUT: usize = 16;
+const SHORT_LAG: usize = 24;
+const LONG_LAG: usize = 55;
+const INCREMENT: u32 = 2_654_435_769;
+/// As many numbers as the largest load takes, and a whole turn past them.
+const NUMBERS: usize = LONG_LAG + MAX_STATES * MAX_FAN_OUT + SHORT_LAG;
+
+/// The first numbers of a seed, at least `count` of them, SHORT_LAG at a time.
+fn put_numbers(seed: u32, count: usize, numbers: &mut [u32; NUMBERS]) {
+    for (k, number) in (0..).zip(&mut numbers[..LONG_LAG]) {
+        *number = seed.wrapping_add(INCREMENT.wrapping_mul(k));
+    }
+    for at in (LONG_LAG..count).step_by(SHORT_LAG) {
+        let (made, next) = numbers.split_at_mut(at);
+        let (near, far) = (&made[at - SHORT_LAG..], &made[at - LONG_LAG..]);
+        for i in 0..SHORT_LAG {
+            next[i] = near[i].wrapping_add(far[i]);
+        }
+    }
+}
+
+/// Remainders by one divisor, without a division for each (Lemire's).
+struct Divisor {
+    n: u64,
+    inverse: u64,
+}
+
+impl Divisor {
+    fn new(n: usize) -> Divisor {
+        let n = n as u64;
+        Divisor {
+            n,
+            inverse: (u64::MAX / n).wrapping_add(1),
+        }
+    }
+
+    fn remainder(&self, x: u32) -> usize {
+        let part = self.inverse.wrapping_mul(x.into());
+        ((u128::from(part) * u128::from(self.n)) >> 64) as usize
+    }
+}
+
+/// The table of a seed, in a store of zeros.
+fn put_load(seed: u32, n: usize, fan_out: usize, store: &mut [u64; STORE_WORDS]) {
+    let mut numbers = [0; NUMBERS];
+    put_numbers(seed, LONG_LAG + n * fan_out, &mut numbers);
+    let (sets, _) = store.as_chunks_mut::<WORDS>();
+    sets[0][0] = 1;
+    sets[1][(n - 1) / 64] = 1 << ((n - 1) % 64);
+    if fan_out == 0 {
+        return;
+    }
+    let divisor = Divisor::new(n);
+    let rows = sets[HEAD_SETS + MAX_GROUPS..][..n].iter_mut();
+    for (row, drawn) in rows.zip(numbers[LONG_LAG..].chunks_exact(fan_out)) {
+        for &number in drawn {
+            let state = divisor.remainder(number);
+            row[state / 64] |= 1 << (state % 64);
+        }
+    }
+}
+
+// ---- Release windows
+
+const MAX_TIME: usize = (1 << 31) - 1;
+const MAX_WINDOWS: usize = 32;
+const MAX_DAYS: usize = 64;
+const DAY: u32 = 1440;
+const WEEK: u32 = 7 * DAY;
+
+/// A window's start and length.
+fn window(word: u64) -> (u32, u32) {
+    (word as u32, (word >> 32) as u32)
+}
+
+/// The minutes from one of the week until a window is open.
+fn least_wait(windows: &[(u32, u32)], minute: u32) -> u32 {
+    let wait = |&(start, length): &(u32, u32)| {
+        let since = if minute < start {
+            minute + WEEK - start
+        } else {
+            minute - start
+        };
+        if since < length { 0 } else { WEEK - since }
+    };
+    windows.iter().map(wait).min().unwrap_or(WEEK)
+}
+
+/// The first open minute: from midnight to midnight over closed days, over the least wait on any other.
+fn first_open(time: u32, windows: &[(u32, u32)], closed: &[u32]) -> u32 {
+    let mut minute = time;
+    loop {
+        let day = minute / DAY;
+        if closed
+            .iter()
+            .fold(false, |any, &other| any | (other == day))
+        {
+            minute = (day + 1) * DAY;
+            continue;
+        }
+        match least_wait(windows, minute % WEEK) {
+            0 => return minute,
+            wait => minute += wait,
+        }
+    }
+}
+
+impl NextOpen for Peer {
+    fn name(&self) -> &'static str {
+        "peer"
+    }
+
+    fn next_open(&self, time: usize, windows: &[u64], closed: &[u32]) -> Minute {
+        let refused = |refusal| Minute {
+            refusal,
+            ..Minute::default()
+        };
+        if time > MAX_TIME {
+            return refused(31);
+        }
+        if windows.len() > MAX_WINDOWS || closed.len() > MAX_DAYS {
+            return refused(30);
+        }
+        let mut unpacked = [(0, 0); MAX_WINDOWS];
+        let unpacked = &mut unpacked[..windows.len()];
+        for (place, &word) in unpacked.iter_mut().zip(windows) {
+            *place = window(word);
+        }
+        if unpacked
+            .iter()
+            .any(|&(start, length)| start >= WEEK || length == 0 || length > WEEK)
+        {
+            return refused(29);
+        }
+        if unpacked.is_empty() {
+            return Minute {
+                never: 1,
+                ..Minute::default()
+            };
+        }
+        Minute {
+            minute: first_open(time as u32, unpacked, closed),
+            ..Minute::default()
+        }
     }
 }
 
@@ -729,6 +946,21 @@ impl Calls for Peer {
             refusal: 0,
             length: output.len() as u32,
         }
+    }
+
+    fn generate(&self, seed: u32, n: usize, fan_out: usize, store: &mut [u64]) -> u32 {
+        let Some(store) = store.first_chunk_mut::<STORE_WORDS>() else {
+            return 10;
+        };
+        if n == 0 || n > MAX_STATES {
+            return 14;
+        }
+        if fan_out > MAX_FAN_OUT {
+            return 22;
+        }
+        store.fill(0);
+        put_load(seed, n, fan_out, store);
+        0
     }
 
     fn replay(&self, store: &[u64], n: usize, g: usize, log: &[u8]) -> Replay {

@@ -278,9 +278,9 @@ pub fn edges(libraries: &[&dyn NextOpen], tally: &mut Tally) -> Outcome {
     Ok(())
 }
 
-/// Each minute of 70 weeks, or one in every `stride`, for some calendars: without closed days, with 64 of them,
-/// and up to the limit on times.
-pub fn seventy_weeks(libraries: &[&dyn NextOpen], random: &mut Random, stride: u64) -> Outcome {
+/// Each minute of 70 weeks, for some calendars: without closed days, with 64 of them, and up to the limit on
+/// times.
+pub fn seventy_weeks(libraries: &[&dyn NextOpen], random: &mut Random) -> Outcome {
     let closed: Vec<u32> = (0..MAX_DAYS).map(|_| random.below(7 * 70) as u32).collect();
     let sevens: Vec<u32> = (1..=64).map(|week| 7 * week).collect();
     let late = MAX_TIME - 70 * WEEK + 1;
@@ -300,7 +300,7 @@ pub fn seventy_weeks(libraries: &[&dyn NextOpen], random: &mut Random, stride: u
     for (first, windows, closed) in &calendars {
         let calendar = Calendar::paint(*first, 71, windows, closed);
         let words = words(windows);
-        for time in (*first..first + 70 * WEEK).step_by(stride as usize) {
+        for time in *first..first + 70 * WEEK {
             let expected = calendar.answer(time);
             // The guards are tried on some of the minutes.
             if time % 1009 == 0 {
@@ -391,23 +391,6 @@ fn random_day(random: &mut Random, near: u32) -> u32 {
 }
 
 // ---- Libraries
-
-/// A plain implementation in the library's place, to test the tests: it asks of one minute after the other.
-pub struct Plain;
-
-impl NextOpen for Plain {
-    fn name(&self) -> &'static str {
-        "minute by minute"
-    }
-
-    fn next_open(&self, time: usize, windows: &[u64], closed: &[u32]) -> Minute {
-        let windows: Vec<Window> = windows
-            .iter()
-            .map(|word| (word & 0xffff_ffff, word >> 32))
-            .collect();
-        minute_by_minute(time as u64, &windows, closed)
-    }
-}
 
 #[cfg(feature = "library")]
 pub use linked::{Linked, Wrapped};

@@ -1,11 +1,12 @@
-//! The call generate, by its export for C and by the wrapper, held to a generator written another way
+//! The call generate, by its export for C, by the wrapper and by the peer, held to a generator written another way
 //! from the specification: a ring of 55 numbers, and the table as lists of booleans.
 #![cfg(feature = "library")]
 
-use shuntberry::{Refused, raw};
 use shuntberry_outside::blocks::Form;
 use shuntberry_outside::buffer::Lent;
+use shuntberry_outside::calls::{Calls, Linked, Wrapped};
 use shuntberry_outside::generate::Random;
+use shuntberry_outside::peer::{Looks, Peer};
 use shuntberry_outside::table::{Dialogue, MAX_STATES, STORE_WORDS, set_where};
 
 const MAX_FAN_OUT: usize = 16;
@@ -73,32 +74,19 @@ fn expected(seed: u32, n: usize, fan_out: usize, room: usize) -> (u32, Vec<u64>)
     }
 }
 
-/// Both ways of calling, on a store of random words between guards: the answer, every word of the store
-/// and the guards.
+/// Each library, on a store of random words between guards: the answer, every word of the store and the guards.
 fn examine(seed: u32, n: usize, fan_out: usize, room: usize, random: &mut Random) {
-    let what = format!("generate({seed}, {n}, {fan_out}) into {room} words");
     let (refusal, front) = expected(seed, n, fan_out, room);
     let old = random.words(room);
-
-    let mut store = Lent::new(&old);
-    let words = store.mutable();
-    // SAFETY: the pointer and the length are those of a slice.
-    let answer =
-        unsafe { raw::shuntberry_generate(seed, n, fan_out, words.as_mut_ptr(), words.len()) };
-    assert_eq!(answer, refusal, "{what}");
-    store.holds(&what, &front).unwrap();
-
-    let mut store = Lent::new(&old);
-    let answer = shuntberry::generate(seed, n, fan_out, store.mutable());
-    let wrapped = if refusal == 0 {
-        Ok(())
-    } else {
-        Err(Refused(refusal))
-    };
-    assert_eq!(answer, wrapped, "the wrapper's {what}");
-    store
-        .holds(&format!("the wrapper's {what}"), &front)
-        .unwrap();
+    let libraries: [&dyn Calls; 3] = [&Linked, &Wrapped, &Peer(Looks::New)];
+    for library in libraries {
+        let name = library.name();
+        let what = format!("{name}'s generate({seed}, {n}, {fan_out}) into {room} words");
+        let mut store = Lent::new(&old);
+        let answer = library.generate(seed, n, fan_out, store.mutable());
+        assert_eq!(answer, refusal, "{what}");
+        store.holds(&what, &front).unwrap();
+    }
 }
 
 /// The other calls on a generated store: write gives the file, and decide and shortest path accept it.

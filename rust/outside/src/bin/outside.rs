@@ -112,16 +112,15 @@ fn libraries(peer: bool) -> Result<Vec<&'static dyn Calls>, String> {
     Err("built without the library; only --peer can be tested".to_string())
 }
 
-/// What is asked for the next open minute, and every how many minutes of 70 weeks.
-fn next_open_libraries(peer: bool) -> (Vec<&'static dyn NextOpen>, u64) {
+/// What is asked for the next open minute.
+fn next_open_libraries(peer: bool) -> Vec<&'static dyn NextOpen> {
     if peer {
-        // It looks at each minute up to the answer, so that every minute of the weeks would take too long.
-        return (vec![&windows::Plain], 40_009);
+        return vec![&Peer(Looks::New)];
     }
     #[cfg(feature = "library")]
-    return (vec![&windows::Linked, &windows::Wrapped], 1);
+    return vec![&windows::Linked, &windows::Wrapped];
     #[cfg(not(feature = "library"))]
-    (Vec::new(), 1)
+    Vec::new()
 }
 
 /// Runs the named tables, then the random cases on a few threads. Each case has a seed of its own, so
@@ -132,7 +131,7 @@ fn run(libraries: &[&dyn Calls], options: &Options) -> (Tally, Vec<String>, f64)
     let failures = Mutex::new(Vec::new());
     let next = AtomicU64::new(options.case.unwrap_or(0));
     let end = options.case.map_or(options.count, |case| case + 1);
-    let (openers, stride) = next_open_libraries(options.peer);
+    let openers = next_open_libraries(options.peer);
 
     if options.case.is_none() {
         let mut random = Random::new(options.seed);
@@ -158,7 +157,7 @@ fn run(libraries: &[&dyn Calls], options: &Options) -> (Tally, Vec<String>, f64)
         }
         let examined = caught(|| {
             windows::edges(&openers, &mut tally)?;
-            windows::seventy_weeks(&openers, &mut random, stride)
+            windows::seventy_weeks(&openers, &mut random)
         });
         if let Err(fault) = examined {
             let fault = format!("next open: {fault}");
