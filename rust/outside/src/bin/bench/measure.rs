@@ -143,12 +143,22 @@ impl Touch {
             let (copied, filled) = written.split_at_mut(both);
             copied.copy_from_slice(&read[..both]);
             filled.fill(0);
-            let (words, _) = read[both..].as_chunks::<8>();
-            let word = |all: u64, word: &[u8; 8]| all | u64::from_ne_bytes(*word);
-            black_box(words.iter().fold(0, word));
+            black_box(all_bits(&read[both..]));
             black_box(&self.written.bytes);
         }
     }
+}
+
+/// The union of all lines.
+fn all_bits(bytes: &[u8]) -> [u8; Lines::LINE] {
+    let (lines, _) = bytes.as_chunks::<{ Lines::LINE }>();
+    let mut all = [0; Lines::LINE];
+    for line in lines {
+        for place in 0..Lines::LINE {
+            all[place] |= line[place];
+        }
+    }
+    all
 }
 
 // ---- The clock
