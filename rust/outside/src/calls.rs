@@ -133,8 +133,8 @@ pub use linked::{Linked, Wrapped};
 #[cfg(feature = "library")]
 mod linked {
     use super::{
-        Calls, DEPENDS, Decision, Edit, Modal, Replay, SAFE, Session, Shortest, TableRead, UNDECIDED,
-        UNSAFE, Within, Words, Written,
+        Calls, DEPENDS, Decision, Edit, Modal, Replay, SAFE, Session, Shortest, TableRead,
+        UNDECIDED, UNSAFE, Within, Words, Written,
     };
     use shuntberry::{ModalVerdict, Refused, StateSet, Verdict, raw};
 
@@ -258,14 +258,6 @@ mod linked {
                 },
             })
         }
-    }
-
-    /// The session's fields; an answer that no test expects where the last one is not 0.
-    fn laid_out(answer: raw::Session) -> Session {
-        Session {
-            refusal: answer.refusal + answer.reserved.wrapping_mul(1 << 16),
-            reachable: answer.reachable.words,
-        }
 
         fn decide_modal(
             &self,
@@ -288,6 +280,14 @@ mod linked {
                 size: answer.size,
                 steps: answer.steps,
             }
+        }
+    }
+
+    /// The session's fields; an answer that no test expects where the last one is not 0.
+    fn laid_out(answer: raw::Session) -> Session {
+        Session {
+            refusal: answer.refusal + answer.reserved.wrapping_mul(1 << 16),
+            reachable: answer.reachable.words,
         }
     }
 
@@ -463,20 +463,6 @@ mod linked {
             }
             session.reachable().0
         }
-    }
-
-    /// The wrapper's answer, with the set that a refused call gives.
-    fn answered(answer: Result<StateSet, Refused>, refused: Words) -> Session {
-        match answer {
-            Ok(StateSet(reachable)) => Session {
-                refusal: 0,
-                reachable,
-            },
-            Err(Refused(refusal)) => Session {
-                refusal,
-                reachable: refused,
-            },
-        }
 
         fn decide_modal(
             &self,
@@ -509,6 +495,20 @@ mod linked {
                 size: invariant.states().count() as u32,
                 steps: states.map_or(0, |states| length_of_front(path, &states).wrapping_sub(1)),
             }
+        }
+    }
+
+    /// The wrapper's answer, with the set that a refused call gives.
+    fn answered(answer: Result<StateSet, Refused>, refused: Words) -> Session {
+        match answer {
+            Ok(StateSet(reachable)) => Session {
+                refusal: 0,
+                reachable,
+            },
+            Err(Refused(refusal)) => Session {
+                refusal,
+                reachable: refused,
+            },
         }
     }
 }

@@ -1023,13 +1023,6 @@ impl Calls for Peer {
         start.insert(to);
         lit_now(Set(lit).union(reached_from(&table, start)))
     }
-}
-
-fn lit_now(set: Set) -> Session {
-    Session {
-        refusal: 0,
-        reachable: set.0,
-    }
 
     fn decide_modal(
         &self,
@@ -1056,5 +1049,12 @@ fn lit_now(set: Set) -> Session {
             Ok(rows) => rows,
         };
         decide_choices(&table, rows, path, self.0)
+    }
+}
+
+fn lit_now(set: Set) -> Session {
+    Session {
+        refusal: 0,
+        reachable: set.0,
     }
 }
