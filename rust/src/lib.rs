@@ -536,7 +536,7 @@ pub fn open(store: &[u64], n: usize, g: usize) -> Result<StateSet, Refused> {
 /// the same if the step exists or `from` is not in it, else the set with all that `to` reaches. At most one
 /// word of the store changes.
 ///
-/// Refused with 10, 14, 15, 17 or 27, as an edit of a [`Session`], which keeps the set.
+/// Refused with 10, 14, 15, 17 or 27; the set that was handed in is then still the one to go on with.
 ///
 /// ```
 /// use shuntberry::{SET_WORDS, STORE_WORDS, StateSet, add_step, remove_step, row};
@@ -574,7 +574,7 @@ pub fn add_step(
 /// Removes a step from the table, and gives the set that is lit after it: `reachable` if there is no such
 /// step, else what the initial states reach. At most one word of the store changes. ([`add_step`] has an example.)
 ///
-/// Refused with 10, 14, 15, 17 or 27, as an edit of a [`Session`], which keeps the set.
+/// Refused with 10, 14, 15, 17 or 27; the set that was handed in is then still the one to go on with.
 pub fn remove_step(
     store: &mut [u64],
     n: usize,
