@@ -131,7 +131,7 @@ extern "C" {
 #define SHUNTBERRY_SAFE 0      /* no forbidden state can be reached from an initial one (decide modal: in no choice) */
 #define SHUNTBERRY_UNSAFE 1    /* one can: the path buffer holds how (decide modal: in every choice) */
 #define SHUNTBERRY_UNDECIDED 2 /* the allowance was used up before either was known (decide) */
-#define SHUNTBERRY_DEPENDS 3   /* with the certain steps alone none can, with all possible steps one can (decide modal) */
+#define SHUNTBERRY_DEPENDS 3   /* with the certain steps alone none can, with all possible steps one can: the path buffer holds how (decide modal) */
 
 /* ---- The calls ---- */
 
@@ -337,8 +337,9 @@ struct shuntberry_modal {
  * its may steps.)
  *
  * A CHOICE has, for each state, all of its certain steps and any of the possible ones beside them, step by step,
- * whether or not such a pump is sold: SHUNTBERRY_DEPENDS may come of pumps that nobody makes. The verdict is safe if every choice is safe, unsafe if every choice is unsafe, and else SHUNTBERRY_DEPENDS: the certain
- * steps alone are then a safe choice, and all possible steps an unsafe one. It is never undecided.
+ * whether or not such a pump is sold: SHUNTBERRY_DEPENDS may come of pumps that nobody makes. The verdict is
+ * safe if every choice is safe, unsafe if every choice is unsafe, and else SHUNTBERRY_DEPENDS: the certain steps
+ * alone are then a safe choice, and all possible steps an unsafe one. It is never undecided.
  *
  * A state is forbidden if it is marked, or if it has no POSSIBLE step and is not resting: the same states for
  * every choice. So a state that has possible steps only is no hang here, even in a choice that leaves it none.
@@ -349,7 +350,8 @@ struct shuntberry_modal {
  * If unsafe, steps + 1 places at the front of `path` are the path that a release check gives on the certain
  * steps, which is one of every choice; if it depends, the path that it gives on the possible steps. No other
  * place is touched, and if safe none is. Where both rows of each state are equal, an accepted call has the
- * verdict, invariant, size, steps and path of shuntberry_decide with SHUNTBERRY_MAX_ALLOWANCE. Neither the store nor `possible` is changed.
+ * verdict, invariant, size, steps and path of shuntberry_decide with SHUNTBERRY_MAX_ALLOWANCE. Neither the store
+ * nor `possible` is changed.
  *
  * Refuses with 10 (either buffer), 14, 15, 17 (either buffer), 28 or 21.
  */

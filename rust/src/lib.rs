@@ -687,8 +687,8 @@ pub enum ModalVerdict<'p> {
 /// has every certain step of each state, and any of the possible ones beside them.
 ///
 /// Forbidden is the same for every choice: a state that is marked, or that has no *possible* step and does not rest. So a
-/// state with possible steps only is not forbidden here, also in a choice that leaves it none; [`decide`], which sees the certain
-/// steps alone, takes it for a hang.
+/// state with possible steps only is not forbidden here, also in a choice that leaves it none. [`decide`] takes it for a hang: a
+/// choice that is safe here may be unsafe there, as a table of its own.
 ///
 /// The path stands at the front of `path`, and no other place of it is touched; if safe, none is. Words of `possible` past the
 /// first [`POSSIBLE_WORDS`] are not read. Refused with 10 (either buffer), 14, 15, 17 (either buffer), 28 or 21.

@@ -2,6 +2,7 @@
 --
 --   Copying, copied             a loop that copies the words of a set; the set when it is done
 --   beyond-is                   a set has a state from n up exactly if it is not inside the first n states
+--   all-states                  none has one where n is the most that there can be
 --   beyond-none, -union, -turn, -end    a loop that joins sets, one of which may have a state from n up
 --   non-zero-start, -pass, -hit, -end   a loop that looks for a word other than 0
 --   malformed-initial, .., malformed-last   the tests of ground 17, one after the other
@@ -92,6 +93,10 @@ beyond-union n X Y =
 
 -- the sets f 0, f 1, .. joined
 module _ (n : ℕ) (f : ℕ → Set) where
+  -- none has a state from n up where there are no such states
+  pub all-states : (count : ℕ) → maxStates ≤ n → any count (λ i. beyond n (f i)) ≡ false
+  all-states count h = no-any _ count (λ k l. is-false (beyond n (f k)) (λ e. let w = beyond-in n (f k) e in omega (arith, in-bound (w .2))))
+
   pub beyond-turn : (j : ℕ) (out : Set) {out′ X : Set} → beyond n out ≡ any j (λ i. beyond n (f i)) → X ≡ f j → out′ ≡ union out X
       → beyond n out′ ≡ any (j + 1) (λ i. beyond n (f i))
   unfolding any
