@@ -211,17 +211,16 @@ pub fn any_beyond(store: &[u64], at: usize, count: usize, n: usize) -> bool
     is_beyond(joined, n)
 }
 
-// Some word from `from` on and before `to` is not 0.
+// Some word from `from` on and before `to` is not 0. They are joined and tested once, which the compiler does several at a time.
 pub fn non_zero(store: &[u64], from: usize, to: usize) -> bool
     requires { ⌜ (from ≤ to) × (to ≤ length (now store)) ⌝ }
     ensures { λ r. ⌜ r ≡ nonZero (now (store .entry)) from to ⌝ }
 {
+    let mut joined = 0;
     for i in from..to {
-        if store[i] != 0 {
-            return true;
-        }
+        joined |= store[i];
     }
-    false
+    joined != 0
 }
 
 // A 1 bit for a state from n up, or a word of an unused group or row not 0.
