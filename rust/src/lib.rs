@@ -214,7 +214,7 @@ impl Refused {
             15 => "g is over 64, or a file's second number is not g + 32,768, as in the old form",
             16 => "the number of blocks is not that of a file with this n and g",
             17 => {
-                "a set, the resting one included, holds a state from n up, or a word of an unused group or row is not 0"
+                "a set, the resting one included, holds a state from n up, or a word of an unused group or row is not 0, also of the possible steps"
             }
             18 => "a filler byte is not 0",
             19 => "the output is shorter than the file",
