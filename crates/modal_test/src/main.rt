@@ -134,6 +134,12 @@ fn groups_and_rest() {
     try_one(b"to 3", &must, 4, 3, &may[ROWS_AT..]);
 }
 
+fn clear(store: &mut [u64], at: usize) {
+    if at < store.len() {
+        store[at] = 0;
+    }
+}
+
 // The last state is a hang. First each step is certain, then the last one possible, then it is not even that, and the state before it a hang.
 fn corridor() {
     let mut must = [0u64; STORE_WORDS];
@@ -141,7 +147,7 @@ fn corridor() {
     let mut may = [0u64; STORE_WORDS];
     put_corridor(&mut may);
     try_one(b"corridor", &must, MAX_STATES, 0, &may[ROWS_AT..]);
-    must[STORE_WORDS - WORDS - 1] = 0;
+    clear(&mut must, STORE_WORDS - WORDS - 1);
     try_one(
         b"corridor, the last step possible",
         &must,
@@ -149,7 +155,7 @@ fn corridor() {
         0,
         &may[ROWS_AT..],
     );
-    may[STORE_WORDS - WORDS - 1] = 0;
+    clear(&mut may, STORE_WORDS - WORDS - 1);
     try_one(
         b"corridor without its last step",
         &must,
