@@ -73,10 +73,9 @@ def decide_test():
 # ---- modal_test: every choice between certain and possible steps (docs/SPECIFICATION.md, Possible steps)
 
 def choices(table, possible):
-    """Every choice, the certain steps alone first and all possible steps last; where there are many options, these two."""
+    """Every choice, the certain steps alone first and all possible steps last."""
     options = sorted(possible - table.steps)
-    taken = range(2 ** len(options)) if len(options) < 10 else (0, 2 ** len(options) - 1)
-    return [table.steps | {step for i, step in enumerate(options) if bits >> i & 1} for bits in taken]
+    return [table.steps | {step for i, step in enumerate(options) if bits >> i & 1} for bits in range(2 ** len(options))]
 
 
 def modal_answer(table, possible):
@@ -85,15 +84,16 @@ def modal_answer(table, possible):
     # an old table's forbidden states are the marked ones
     chosen = [make.OldTable(table.n, table.initial, forbidden, steps, table.groups) for steps in choices(table, possible)]
     make.ALLOWANCE = MAX_STATES
-    least, most = chosen[0], chosen[-1]
-    is_safe = [make.decide(choice)[0] == "safe" for choice in chosen]
+    decisions = [make.decide(choice) for choice in chosen]
+    is_safe = [verdict == "safe" for verdict, _, _ in decisions]
+    least, most = 0, -1
 
-    def invariant(choice):
-        states = make.decide(choice)[2]
+    def invariant(at):
+        states = decisions[at][2]
         return f"invariant {len(states)}:" + "".join(f" {s}" for s in sorted(states))
 
-    def path(choice):
-        return "path" + "".join(f" {s}" for s in make.shortest_path(choice))
+    def path(at):
+        return "path" + "".join(f" {s}" for s in make.shortest_path(chosen[at]))
 
     if all(is_safe):
         return f"safe {invariant(most)}"
