@@ -218,17 +218,16 @@ fn is_set_beyond(bytes: &[u8], n: usize, w: usize, k: usize) -> bool
     last >> (n - 8 * (w - 1)) != 0
 }
 
-// Some byte from `from` on and before `to` is not 0.
+// Some byte from `from` on and before `to` is not 0. They are joined and tested once, as the words of a store are.
 fn non_zero(bytes: &[u8], from: usize, to: usize) -> bool
     requires { ⌜ (from ≤ to) × (to ≤ length (now bytes)) ⌝ }
     ensures { λ r. ⌜ r ≡ nonZero (now (bytes .entry)) from to ⌝ }
 {
+    let mut joined = 0;
     for i in from..to {
-        if bytes[i] != 0 {
-            return true;
-        }
+        joined |= bytes[i];
     }
-    false
+    joined != 0
 }
 
 // ---- filling

@@ -5,7 +5,7 @@
 --   all-states                  none has one where n is the most that there can be
 --   beyond-none, -union, -turn, -end    a loop that joins sets, one of which may have a state from n up
 --   or-none                     words joined are 0 just where each of them is
---   non-zero-start, -turn, -end  a loop that joins words, to see whether one is other than 0
+--   non-zero-hit                a word other than 0; non-zero-start, -turn, -end: a loop that joins words, to see whether there is one
 --   malformed-initial, .., malformed-last   the tests of ground 17, one after the other
 use Prim.Native.Nat.{ℕ, _+_, _≤_, _<_}
 use native.Mathlib.Nat.{le-antisymm}
@@ -123,6 +123,10 @@ module _ (xs : List ℕ) (from : ℕ) where
   pub non-zero-start : nonZero xs from from ≡ false
   unfolding nonZero
   non-zero-start = no-any _ from (λ k l. rw (lt-leb from k l))
+
+  pub non-zero-hit : (to i : ℕ) → from ≤ i → i < to → (getD xs i 0 ≡ 0 → ⊥) → nonZero xs from to ≡ true
+  unfolding nonZero
+  non-zero-hit to i l h z = any-intro _ to i h (and-intro (leb from i) (not (eqb (getD xs i 0) 0)) (le-leb from i l) (ap not (ne-eqb (getD xs i 0) 0 z)))
 
   pub non-zero-turn : (i joined : ℕ) → from ≤ i → nonZero xs from i ≡ not (eqb joined 0) → nonZero xs from (i + 1) ≡ not (eqb (bitOr joined (getD xs i 0)) 0)
   unfolding nonZero any
