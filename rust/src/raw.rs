@@ -162,7 +162,9 @@ unsafe extern "C" {
         log: *const u8,
         log_len: usize,
     ) -> Replay;
+
     pub fn shuntberry_open(store: *const u64, store_len: usize, n: usize, g: usize) -> Session;
+
     pub fn shuntberry_add_step(
         store: *mut u64,
         store_len: usize,
@@ -172,6 +174,7 @@ unsafe extern "C" {
         from: usize,
         to: usize,
     ) -> Session;
+
     pub fn shuntberry_remove_step(
         store: *mut u64,
         store_len: usize,

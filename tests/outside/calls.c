@@ -1,9 +1,9 @@
 /*
  * The calls from C by the header alone: a corridor of as many states as there can be is laid out with the header's
  * offsets, written, read back, and asked for its path, which is every state in turn; the largest load
- * is generated; then the corridor's end as a hang and at rest, some of the refusals, logs of the corridor, the corridor
- * with a step that is only possible, and next open minute. The calls run on a painted stack, to see how much of it they
- * take.
+ * is generated; then the corridor's end as a hang and at rest, some of the refusals, logs of the corridor, an edit
+ * session that cuts it in two and mends it, decide modal on the corridor with a step that is only possible, and next
+ * open minute. The calls run on a painted stack, to see how much of it they take.
  *
  * Without groups all states of Z have one cover, Z itself, so that each round loses the one state that
  * steps out: Z is all but the last state in round 0 and state 0 alone in round STATES - 2, where S is empty. That
@@ -303,12 +303,13 @@ static void sessions(void)
     memcpy(other, store, sizeof store);
     struct shuntberry_session now = shuntberry_open(other, words, STATES, 0);
     require(lit_below(now, STATES), "open");
-    const struct shuntberry_set whole = now.reachable;
-    now = shuntberry_remove_step(other, words, STATES, 0, now.reachable, half - 1, half);
+    const struct shuntberry_set whole = now.reachable, none = {{0}};
+    struct shuntberry_set handed = now.reachable;
+    now = shuntberry_remove_step(other, words, STATES, 0, handed, half - 1, half);
     require(lit_below(now, half), "a step removed");
+    require(same_set(handed, whole), "a set goes in by value");
     struct shuntberry_shortest cut = shuntberry_shortest_path(other, words, STATES, 0, path, SHUNTBERRY_PATH_PLACES);
     require(cut.found == 1 && cut.steps == half - 1, "a state without its last step hangs");
-    require(same_set(whole, shuntberry_open(store, words, STATES, 0).reachable), "a set goes in by value");
     now = shuntberry_add_step(other, words, STATES, 0, now.reachable, half, half);
     require(lit_below(now, half), "a step to itself from an unlit state");
     now = shuntberry_add_step(other, words, STATES, 0, now.reachable, half - 1, half);
@@ -323,7 +324,7 @@ static void sessions(void)
     }
     require(memcmp(other, store, sizeof store) == 0, "a refused edit leaves the store");
     now = shuntberry_open(other, words - 1, STATES, 0);
-    require(now.refusal == SHUNTBERRY_STORE_SHORT && !is_lit(now, 0), "a refused opening gives the empty set");
+    require(now.refusal == SHUNTBERRY_STORE_SHORT && same_set(now.reachable, none), "a refused opening gives the empty set");
 }
 
 static struct shuntberry_modal decide_modal(void)

@@ -117,6 +117,7 @@ pub trait Calls: Sync {
         }
         lit
     }
+
     fn decide_modal(
         &self,
         store: &[u64],
@@ -286,7 +287,10 @@ mod linked {
     /// The session's fields; an answer that no test expects where the last one is not 0.
     fn laid_out(answer: raw::Session) -> Session {
         Session {
-            refusal: answer.refusal + answer.reserved.wrapping_mul(1 << 16),
+            refusal: match answer.reserved {
+                0 => answer.refusal,
+                _ => u32::MAX,
+            },
             reachable: answer.reachable.words,
         }
     }

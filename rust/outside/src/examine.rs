@@ -733,6 +733,10 @@ fn drafts(libraries: &[&dyn Calls], random: &mut Random, tally: &mut Tally) -> O
             for (_, answer) in near.clone() {
                 same("the plain within of n = 0", answer.refusal, refusals[2])?;
             }
+            // Opening has the grounds of within, and no edit names a state of the table.
+            let session = sessions::refusals(libraries, store, (0, g), random)?;
+            let edit = if refusals[2] == 0 { 27 } else { refusals[2] };
+            same("the sessions of n = 0", session, [refusals[2], edit])?;
             libraries.iter().try_for_each(|library| {
                 decide(*library, store, (0, g, allowance), &path, &decision)?;
                 shortest_path(*library, store, (0, g), &path, &shortest)?;

@@ -285,8 +285,20 @@ pub fn spoiled(
     random: &mut Random,
     tally: &mut Tally,
 ) -> Outcome {
+    let [by_open, by_edit] = refusals(libraries, store, (n, g), random)?;
+    tally.count("refusal by open", by_open);
+    tally.count("refusal by an edit", by_edit);
+    Ok(())
+}
+
+/// Opening and an edit of any two numbers near n, with any set: why each is refused, or 0.
+pub fn refusals(
+    libraries: &[&dyn Calls],
+    store: &[u64],
+    (n, g): (usize, usize),
+    random: &mut Random,
+) -> Result<[u32; 2], String> {
     let first = opened(store, n, g);
-    tally.count("refusal by open", first.refusal);
     let most = n.clamp(1, MAX_STATES);
     let state = |random: &mut Random| {
         let some = random.below(most);
@@ -296,12 +308,11 @@ pub fn spoiled(
     let change = random.pick(&[Edit::Add(from, to), Edit::Remove(from, to)]);
     let lit = random_set(most, random);
     let expected = edited(store, (n, g), lit, change);
-    tally.count("refusal by an edit", expected.0.refusal);
     for library in libraries {
         open(*library, store, (n, g), first)?;
         edit(*library, store, (n, g), lit, change, &expected)?;
     }
-    Ok(())
+    Ok([first.refusal, expected.0.refusal])
 }
 
 /// Figures worked out by hand, the edges of n, a table without states, and the order of the grounds.
@@ -390,6 +401,14 @@ pub fn edges(libraries: &[&dyn Calls], random: &mut Random) -> Outcome {
         ],
     )?;
     // A table without states.
+    for library in libraries {
+        open(
+            *library,
+            &named::draft().to_store(),
+            (0, 0),
+            Session::default(),
+        )?;
+    }
     run(
         &named::draft(),
         &[0, 7],
