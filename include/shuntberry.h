@@ -131,7 +131,7 @@ extern "C" {
 #define SHUNTBERRY_SAFE 0      /* no forbidden state can be reached from an initial one (decide modal: in no choice) */
 #define SHUNTBERRY_UNSAFE 1    /* one can: the path buffer holds how (decide modal: in every choice) */
 #define SHUNTBERRY_UNDECIDED 2 /* the allowance was used up before either was known (decide) */
-#define SHUNTBERRY_DEPENDS 3   /* with the certain steps alone none can, with all possible steps one can (decide modal) */
+#define SHUNTBERRY_DEPENDS 3   /* with the certain steps alone none can, with all possible steps one can: the path buffer holds how (decide modal) */
 
 /* ---- The calls ---- */
 
@@ -300,8 +300,9 @@ struct shuntberry_session shuntberry_open(const uint64_t *store, size_t store_le
 /*
  * Adds the step from `from` to `to` to the table in the store, or removes it: at most one word of the store
  * changes, in the row of `from`. `reachable` goes in by value, as the set comes back. After every list of edits
- * from an opened table, each handed the set that the one before gave, the set is the one that shuntberry_open
- * gives for the table as edited; a refused edit counts as none.
+ * from an opened table, each handed the set that the one before gave, with the same n and g and the store
+ * changed by nothing else between (else open again), the set is the one that shuntberry_open gives for the table
+ * as edited; a refused edit counts as none.
  *
  * Of any set that is handed in: adding a step that exists, or removing one that does not, changes neither
  * the set nor the store. Else adding a step from a state that is not in the set leaves the set alone, adding
@@ -309,8 +310,8 @@ struct shuntberry_session shuntberry_open(const uint64_t *store, size_t store_le
  * states reach. States from n up in the set are no ground for a refusal: an addition keeps them, a removal
  * that takes a step out drops them.
  *
- * Which states are reached does not hang on which are forbidden. But an edit may take the last step of a state,
- * which makes it a hang unless it rests, or give a hang a way out: ask shuntberry_decide again.
+ * Any edit may change what shuntberry_decide answers, also by making a hang or by giving one a way out: ask it
+ * again. Which states are reached does not hang on which are forbidden.
  *
  * Both refuse with 10, 14, 15, 17 or 27; store and set are then as they were before.
  */
@@ -335,19 +336,22 @@ struct shuntberry_modal {
  * SHUNTBERRY_POSSIBLE_WORDS are not read. (The field's term is a modal transition system: its must steps and
  * its may steps.)
  *
- * A CHOICE has, for each state, all of its certain steps and any of the possible ones beside them. The verdict
- * is safe if every choice is safe, unsafe if every choice is unsafe, and else SHUNTBERRY_DEPENDS: the certain
- * steps alone are then a safe choice, and all possible steps an unsafe one. It is never undecided.
+ * A CHOICE has, for each state, all of its certain steps and any of the possible ones beside them, step by step,
+ * whether or not such a pump is sold: SHUNTBERRY_DEPENDS may come of pumps that nobody makes. The verdict is
+ * safe if every choice is safe, unsafe if every choice is unsafe, and else SHUNTBERRY_DEPENDS: the certain steps
+ * alone are then a safe choice, and all possible steps an unsafe one. It is never undecided.
  *
  * A state is forbidden if it is marked, or if it has no POSSIBLE step and is not resting: the same states for
  * every choice. So a state that has possible steps only is no hang here, even in a choice that leaves it none.
- * For shuntberry_decide, which is given the certain steps alone, it is one: of one and the same store that call
- * may say unsafe, and this one safe or that it depends.
+ * For shuntberry_decide it is one. So a choice that is safe here may be unsafe there, as a table of its own; and
+ * of one and the same store, whose rows are the certain steps, that call may say unsafe and this one safe or
+ * that it depends.
  *
  * If unsafe, steps + 1 places at the front of `path` are the path that a release check gives on the certain
  * steps, which is one of every choice; if it depends, the path that it gives on the possible steps. No other
- * place is touched, and if safe none is. Where both rows of each state are equal, all fields and the path are
- * those of shuntberry_decide with SHUNTBERRY_MAX_ALLOWANCE. Neither the store nor `possible` is changed.
+ * place is touched, and if safe none is. Where both rows of each state are equal, an accepted call has the
+ * verdict, invariant, size, steps and path of shuntberry_decide with SHUNTBERRY_MAX_ALLOWANCE. Neither the store
+ * nor `possible` is changed.
  *
  * Refuses with 10 (either buffer), 14, 15, 17 (either buffer), 28 or 21.
  */

@@ -70,71 +70,6 @@ def decide_test():
     return "".join(line + "\n" for line in lines)
 
 
-# ---- modal_test: every choice between certain and possible steps (docs/SPECIFICATION.md, Possible steps)
-
-def choices(table, possible):
-    """Every choice, the certain steps alone first and all possible steps last; where there are many options, these two."""
-    options = sorted(possible - table.steps)
-    taken = range(2 ** len(options)) if len(options) < 10 else (0, 2 ** len(options) - 1)
-    return [table.steps | {step for i, step in enumerate(options) if bits >> i & 1} for bits in taken]
-
-
-def modal_answer(table, possible):
-    stuck = table.states() - {a for a, _ in possible}
-    forbidden = table.marked | stuck - table.resting
-    # an old table's forbidden states are the marked ones
-    chosen = [make.OldTable(table.n, table.initial, forbidden, steps, table.groups) for steps in choices(table, possible)]
-    make.ALLOWANCE = MAX_STATES
-    least, most = chosen[0], chosen[-1]
-    is_safe = [make.decide(choice)[0] == "safe" for choice in chosen]
-
-    def invariant(choice):
-        states = make.decide(choice)[2]
-        return f"invariant {len(states)}:" + "".join(f" {s}" for s in sorted(states))
-
-    def path(choice):
-        return "path" + "".join(f" {s}" for s in make.shortest_path(choice))
-
-    if all(is_safe):
-        return f"safe {invariant(most)}"
-    if not any(is_safe):
-        return f"unsafe {path(least)}"
-    return f"depends {invariant(least)} {path(most)}"
-
-
-def modal_test():
-    def steps(text):
-        return {(int(pair[0]), int(pair[1])) for pair in text.split()}
-
-    lines = []
-    for name, n, initial, marked, certain, possible in [
-        ("E", 3, {0}, {2}, "00 12", "00 12"), ("E with 01", 3, {0}, {2}, "00 12", "00 01 12"),
-        ("E, 01 certain", 3, {0}, {2}, "00 01 12", "00 01 12"), ("B with 03", 5, {0}, {3}, "01 12 23 44", "01 03 12 23 44"),
-        ("B, 12 possible", 5, {0}, {3}, "01 23 44", "01 12 23 44"), ("no step certain", 2, {0}, set(), "", "01 10"),
-        ("a hang behind 01", 2, {0}, set(), "", "01"), ("an initial hang", 2, {0}, set(), "", "11"),
-        ("F with 00", 1, {0}, {0}, "", "00"), ("draft", 0, set(), set(), "", ""),
-    ]:
-        lines.append(f"{name}: {modal_answer(Table(n, initial, marked, steps(certain)), steps(possible))}{KEPT}")
-    for name, certain, possible in [("to rest", "01", "01 12"), ("to rest or 3", "01", "01 12 13"), ("to 3", "01 13", "01 12 13")]:
-        table = Table(4, {0}, {3}, steps(certain), [{0}, {1}, {2}], {2})
-        lines.append(f"{name}: {modal_answer(table, steps(possible))}{KEPT}")
-    whole = {(s, s + 1) for s in range(MAX_STATES - 1)}
-    cut = whole - {(MAX_STATES - 2, MAX_STATES - 1)}
-    for name, certain, possible in [
-        ("corridor", whole, whole), ("corridor, the last step possible", cut, whole), ("corridor without its last step", cut, cut),
-    ]:
-        lines.append(f"{name}: {modal_answer(Table(MAX_STATES, {0}, set(), certain), possible)}{KEPT}")
-    for name, refusal in [
-        ("n too great and all else", 14), ("n 0 g 1 and all else", 14), ("g too great and all else", 15), ("state 5 of 5 and all else", 17),
-        ("state 5 of 5 possible and all else", 17), ("state 5 of 5 possible", 17), ("a certain step not possible and all else", 28),
-        ("a certain step not possible", 28), ("a row of none", 17), ("possible steps one word short and all else", 10), ("store one word short", 10),
-    ]:
-        lines.append(f"{name}: refused {refusal}{KEPT}")
-    lines.append(f"three words more: {modal_answer(Table(2, set(), set(), set()), set())}{KEPT}")
-    lines.append(f"path buffer one place short: refused 21{KEPT}")
-    return "".join(line + "\n" for line in lines)
-
-
 # ---- order_test: the looks of the first round (docs/SPECIFICATION.md, Rounds)
 
 def order(table):
@@ -483,7 +418,7 @@ def files_test():
     return "".join(line + "\n" for line in lines)
 
 
-PROGRAMS = {"decide_test": decide_test, "modal_test": modal_test, "order_test": order_test, "agreement_test": agreement_test, "files_test": files_test}
+PROGRAMS = {"decide_test": decide_test, "order_test": order_test, "agreement_test": agreement_test, "files_test": files_test}
 
 if __name__ == "__main__":
     failed = False

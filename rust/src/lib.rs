@@ -214,7 +214,7 @@ impl Refused {
             15 => "g is over 64, or a file's second number is not g + 32,768, as in the old form",
             16 => "the number of blocks is not that of a file with this n and g",
             17 => {
-                "a set, the resting one included, holds a state from n up, or a word of an unused group or row is not 0"
+                "a set, the resting one included, holds a state from n up, or a word of an unused group or row is not 0, also of the possible steps"
             }
             18 => "a filler byte is not 0",
             19 => "the output is shorter than the file",
@@ -536,7 +536,7 @@ pub fn open(store: &[u64], n: usize, g: usize) -> Result<StateSet, Refused> {
 /// the same if the step exists or `from` is not in it, else the set with all that `to` reaches. At most one
 /// word of the store changes.
 ///
-/// Refused with 10, 14, 15, 17 or 27, as an edit of a [`Session`], which keeps the set.
+/// Refused with 10, 14, 15, 17 or 27; the set that was handed in is then still the one to go on with.
 ///
 /// ```
 /// use shuntberry::{SET_WORDS, STORE_WORDS, StateSet, add_step, remove_step, row};
@@ -574,7 +574,7 @@ pub fn add_step(
 /// Removes a step from the table, and gives the set that is lit after it: `reachable` if there is no such
 /// step, else what the initial states reach. At most one word of the store changes. ([`add_step`] has an example.)
 ///
-/// Refused with 10, 14, 15, 17 or 27, as an edit of a [`Session`], which keeps the set.
+/// Refused with 10, 14, 15, 17 or 27; the set that was handed in is then still the one to go on with.
 pub fn remove_step(
     store: &mut [u64],
     n: usize,
@@ -687,8 +687,8 @@ pub enum ModalVerdict<'p> {
 /// has every certain step of each state, and any of the possible ones beside them.
 ///
 /// Forbidden is the same for every choice: a state that is marked, or that has no *possible* step and does not rest. So a
-/// state with possible steps only is not forbidden here, also in a choice that leaves it none; [`decide`], which sees the certain
-/// steps alone, takes it for a hang.
+/// state with possible steps only is not forbidden here, also in a choice that leaves it none. [`decide`] takes it for a hang: a
+/// choice that is safe here may be unsafe there, as a table of its own.
 ///
 /// The path stands at the front of `path`, and no other place of it is touched; if safe, none is. Words of `possible` past the
 /// first [`POSSIBLE_WORDS`] are not read. Refused with 10 (either buffer), 14, 15, 17 (either buffer), 28 or 21.

@@ -2,7 +2,7 @@
 --
 --   rows-beyond, rows-used                        `is_malformed`: ground 17 of the second buffer
 --   uncertain-start, -hit, -pass, -end            `is_uncertain`: a loop that looks for a certain step that is not possible
---   ModalHeld                                     no ground before 21 holds
+--   ModalHeld, Passed17                           no ground before 21, up to 17, holds
 --   short-possible, refuse-shared, .., accepted   `refusal_of`: the grounds in their order, and what a call that is not declined knows
 use Prim.Native.Nat.{ℕ, _+_, _*_, _≤_, _<_}
 use native.Mathlib.Nat.{zero-add}
@@ -68,6 +68,11 @@ pub record ModalHeld (store : List ℕ) (n g : ℕ) (possible : List ℕ) : Type
   pub clean : malformedRows possible n ≡ false
   pub certain : uncertain store n possible ≡ false
 
+-- no ground up to 17 holds
+abbrev pub Passed17 : List ℕ → ℕ → ℕ → List ℕ → Type 0
+Passed17 store n g possible =
+    (possibleWords ≤ length possible) × (refuse (sharedGrounds store n g) ≡ 0) × (malformedRows possible n ≡ false)
+
 or-right : (a b : Bool) → b ≡ true → (a || b) ≡ true
 or-right a b e = or-intro a b (inr e)
 
@@ -121,17 +126,20 @@ module _ (store : List ℕ) (n g : ℕ) (possible : List ℕ) (room : ℕ) where
     pub refuse-17 : malformedRows possible n ≡ true → 17 ≡ refuse (modalGrounds store n g possible room)
     refuse-17 h = sym (late ∙ refuse-take _ 17 _ h)
 
-    module _ (clean : malformedRows possible n ≡ false) where
-      pub refuse-28 : uncertain store n possible ≡ true → 28 ≡ refuse (modalGrounds store n g possible room)
-      refuse-28 h = sym (late ∙ refuse-skip _ 17 _ clean ∙ refuse-take _ 28 _ h)
+  -- where none up to 17 holds
+  module _ (ok : Passed17 store n g possible) where
+    later : refuse (modalGrounds store n g possible room) ≡ refuse ((uncertain store n possible, 28) ∷ (ltb room maxStates, 21) ∷ [])
+    later = late (ok .0) (ok .1) ∙ refuse-skip _ 17 _ (ok .2)
 
-      module _ (certain : uncertain store n possible ≡ false) where
-        pub refuse-21 : room < maxStates → 21 ≡ refuse (modalGrounds store n g possible room)
-        refuse-21 h = sym (late ∙ refuse-skip _ 17 _ clean ∙ refuse-skip _ 28 _ certain ∙ refuse-take _ 21 _ (lt-ltb room maxStates h))
+    pub refuse-28 : uncertain store n possible ≡ true → 28 ≡ refuse (modalGrounds store n g possible room)
+    refuse-28 h = sym (later ∙ refuse-take _ 28 _ h)
 
-        pub refuse-nothing : maxStates ≤ room → 0 ≡ refuse (modalGrounds store n g possible room)
-        refuse-nothing h =
-            sym (late ∙ refuse-skip _ 17 _ clean ∙ refuse-skip _ 28 _ certain ∙ refuse-skip _ 21 _ (le-ltb room maxStates h) ∙ refuse-none)
+    module _ (certain : uncertain store n possible ≡ false) where
+      pub refuse-21 : room < maxStates → 21 ≡ refuse (modalGrounds store n g possible room)
+      refuse-21 h = sym (later ∙ refuse-skip _ 28 _ certain ∙ refuse-take _ 21 _ (lt-ltb room maxStates h))
+
+      pub refuse-nothing : maxStates ≤ room → 0 ≡ refuse (modalGrounds store n g possible room)
+      refuse-nothing h = sym (later ∙ refuse-skip _ 28 _ certain ∙ refuse-skip _ 21 _ (le-ltb room maxStates h) ∙ refuse-none)
 
   pub accepted : refuse (modalGrounds store n g possible room) ≡ 0 → ModalHeld store n g possible × (maxStates ≤ room)
   unfolding modalGrounds badStates

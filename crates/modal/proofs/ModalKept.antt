@@ -114,7 +114,7 @@ module _ (store possible before : List ℕ) (e : refuse (sharedGrounds store 0 0
   draft-safe : maxStates ≤ length before → ((i : ℕ) → i < possibleWords → getD possible i 0 ≡ 0)
       → modalAnswer store 0 0 possible (length before) ≡ record { refusal = 0; verdict = 0; invariant = empty; size = 0; steps = 0 }
   draft-safe roomy zero =
-      let ground = sym (refuse-nothing store 0 0 possible (length before) long e (draft-rows zero) draft-certain roomy) in
+      let ground = sym (refuse-nothing store 0 0 possible (length before) (long, e, draft-rows zero) draft-certain roomy) in
       let ok = accepted store 0 0 possible (length before) ground .0 in
       let same = as-decide store 0 0 possible ok (λ s h. absurd (not-suc-le-zero h)) before roomy in
       let d = draft .decide store release before (same .accepted) .0 in
@@ -154,5 +154,6 @@ modal-promises =
       declined = call-declined;
       draft = λ store possible before e long roomy zero. draft-safe store possible before e long roomy zero;
       draft-17 = λ store possible before e long i h f. draft-17 store possible before e long i h f;
+      figure = refl;
       first-words = first-words;
     }

@@ -1,8 +1,9 @@
 -- The answer of decide_modal in the specification's numbers, and what the functions below the call return.
 --
---   checkedOf             what a release check gave: the verdict is safe, and its invariant
---   answerOf, isRefused   the numbers of each case of the answer; the case in which the call is declined
---   CalledModal           a call of decide_modal and what it gave: its contract
+--   endsSafe, ChecksOut     an ending that is safe; what a release check of a table gave: whether it is safe, and its invariant
+--   answersWith, answerOf   the numbers of each case of the answer
+--   isRefused               the case in which the call is declined
+--   CalledModal             a call of decide_modal and what it gave: its contract
 use Prim.Native.Nat.{ℕ}
 use mathlib.Core.Path.{_≡_}
 use mathlib.Core.Bool.{Bool, true, false, not}

@@ -8,7 +8,7 @@
 //   refusal_of                     the grounds in order
 //   decide_modal                   the call
 //
-// A table is laid out for each check and for the path, so that one store of STORE_WORDS words stands on the stack at a time.
+// A table is laid out for each check and for the path. No two are needed at once, but the compiled call keeps three on its stack.
 ghost use mathlib.Core.Path.{_≡_};
 ghost use Prim.Native.Nat.{_+_, _*_, _≤_, _<_};
 ghost use lib.ListN.{length};
@@ -250,15 +250,15 @@ pub fn decide_modal(
         };
     }
     let on_certain = check_on(store, n, g, forbidden, store, ROWS_AT);
-    let invariant = on_certain.invariant;
     if !on_certain.safe {
         return ModalDecision {
             verdict: ModalVerdict::Unsafe {
                 steps: path_on(store, n, forbidden, store, ROWS_AT, path),
             },
-            invariant,
+            invariant: StateSet::empty(),
         };
     }
+    let invariant = on_certain.invariant;
     ModalDecision {
         verdict: ModalVerdict::Depends {
             size: invariant.count(),

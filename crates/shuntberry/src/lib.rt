@@ -1,6 +1,6 @@
 // The calls for C (include/shuntberry.h). Each only calls the call of the same name and lays its answer out in a struct of the
 // specification's numbers (docs/SPECIFICATION.md, "Refusals"): `refusal` is 0 where the call was not declined, and every other field is 0
-// where it was. An answer of the refusal alone is just that number.
+// where it was (but an edit of a session gives back the set that it was handed). An answer of the refusal alone is just that number.
 ghost use mathlib.Core.Path.{_≡_};
 ghost use Prim.Native.Nat.{_≤_};
 ghost use lib.ListN.{length};

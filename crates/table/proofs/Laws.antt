@@ -2,8 +2,10 @@
 --
 --   Copying, copied             a loop that copies the words of a set; the set when it is done
 --   beyond-is                   a set has a state from n up exactly if it is not inside the first n states
+--   all-states                  none has one where n is the most that there can be
 --   beyond-none, -union, -turn, -end    a loop that joins sets, one of which may have a state from n up
---   non-zero-start, -pass, -hit, -end   a loop that looks for a word other than 0
+--   or-none                     words joined are 0 just where each of them is
+--   non-zero-start, -turn, -end  a loop that joins words, to see whether one is other than 0
 --   malformed-initial, .., malformed-last   the tests of ground 17, one after the other
 use Prim.Native.Nat.{ℕ, _+_, _≤_, _<_}
 use native.Mathlib.Nat.{le-antisymm}
@@ -14,13 +16,14 @@ use mathlib.Core.Logic.{inl, inr, ⊎-elim}
 use mathlib.Core.Bool.{Bool, true, false, not, _&&_, _||_}
 use mathlib.Core.List.{List}
 use borrow.Author.Count.{below-more}
-use borrow.Author.Tests.{le-leb, leb-true, eq-eqb, ne-eqb, lt-leb}
+use borrow.Author.Tests.{le-leb, leb-true, eqb-true, eq-eqb, ne-eqb, lt-leb}
+use lib.Bits.{bitOr, or-add-and, and-le-r}
 use lib.Dec.{eqb, leb}
 use lib.ListN.{length, getD, set, take, drop, length-set, length-take, length-drop}
 use lib.Seq.{ext-getD, getD-take, getD-drop, getD-set-same, getD-set-other}
 use Rattle.model.specs.Sets.{WORDS, maxStates, Set, member, subset, firstStates, any, empty, union}
 use Rattle.model.specs.Stores.{maxGroups, markedAt, restingAt, groupAt, rowAt, storeWords, setAt, beyond, nonZero, malformed}
-use Rattle.model.proofs.Bounds.{and-true, and-intro, or-intro, or-true as or-cases, is-false, same-test, lt-or-ge, any-intro, any-find, any-turn, no-any, not-true}
+use Rattle.model.proofs.Bounds.{and-true, and-intro, or-intro, or-true as or-cases, is-false, same-test, lt-or-ge, clash, decided, any-intro, any-find, no-any, not-true}
 use Rattle.model.proofs.SetLaws.{In, in-bound, empty-in, in-firstStates, firstStates-in, in-union, union-in, subset-in, subset-not}
 
 -- ---- a set copied out of the store
@@ -92,6 +95,10 @@ beyond-union n X Y =
 
 -- the sets f 0, f 1, .. joined
 module _ (n : ℕ) (f : ℕ → Set) where
+  -- none has a state from n up where there are no such states
+  pub all-states : (count : ℕ) → maxStates ≤ n → any count (λ i. beyond n (f i)) ≡ false
+  all-states count h = no-any _ count (λ k l. is-false (beyond n (f k)) (λ e. let w = beyond-in n (f k) e in omega (arith, in-bound (w .2))))
+
   pub beyond-turn : (j : ℕ) (out : Set) {out′ X : Set} → beyond n out ≡ any j (λ i. beyond n (f i)) → X ≡ f j → out′ ≡ union out X
       → beyond n out′ ≡ any (j + 1) (λ i. beyond n (f i))
   unfolding any
@@ -101,26 +108,29 @@ module _ (n : ℕ) (f : ℕ → Set) where
   pub beyond-end : (j count : ℕ) (out : Set) → j ≤ count → count ≤ j → beyond n out ≡ any j (λ i. beyond n (f i)) → beyond n out ≡ any count (λ i. beyond n (f i))
   beyond-end j count out l h e = e ∙ ap (λ (k : ℕ). any k (λ i. beyond n (f i))) (le-antisymm l h)
 
--- a loop that looks for a word other than 0, from `from` on
+-- words joined are 0 just where each of them is
+or-none : (a b : ℕ) → not (eqb (bitOr a b) 0) ≡ (not (eqb a 0) || not (eqb b 0))
+or-none a b =
+    ⊎-elim
+    (λ (p : eqb a 0 ≡ true). rw (eqb-true a 0 p) refl)
+    (λ (p : eqb a 0 ≡ false).
+    let some : bitOr a b ≡ 0 → ⊥ = λ z. let n : a ≡ 0 → ⊥ = λ e. clash (eq-eqb a 0 e) p in n (omega (arith, or-add-and a b, and-le-r a b)) in
+    rw (p, ne-eqb (bitOr a b) 0 some) refl)
+    (decided (eqb a 0))
+
+-- a loop that joins words, from `from` on
 module _ (xs : List ℕ) (from : ℕ) where
   pub non-zero-start : nonZero xs from from ≡ false
   unfolding nonZero
   non-zero-start = no-any _ from (λ k l. rw (lt-leb from k l))
 
-  pub non-zero-pass : (i : ℕ) → nonZero xs from i ≡ false → getD xs i 0 ≡ 0 → nonZero xs from (i + 1) ≡ false
-  unfolding nonZero
-  non-zero-pass i e z = any-turn _ i e (clear (leb from i))
-    where
-      clear : (b : Bool) → (b && not (eqb (getD xs i 0) 0)) ≡ false
-      clear true = rw (eq-eqb (getD xs i 0) 0 z)
-      clear false = refl
+  pub non-zero-turn : (i joined : ℕ) → from ≤ i → nonZero xs from i ≡ not (eqb joined 0) → nonZero xs from (i + 1) ≡ not (eqb (bitOr joined (getD xs i 0)) 0)
+  unfolding nonZero any
+  non-zero-turn i joined l e =
+      rw (add-one, le-leb from i l) (ap (λ (b : Bool). b || not (eqb (getD xs i 0) 0)) e ∙ sym (or-none joined (getD xs i 0)))
 
-  pub non-zero-hit : (to i : ℕ) → from ≤ i → i < to → (getD xs i 0 ≡ 0 → ⊥) → nonZero xs from to ≡ true
-  unfolding nonZero
-  non-zero-hit to i l h z = any-intro _ to i h (and-intro (leb from i) (not (eqb (getD xs i 0) 0)) (le-leb from i l) (ap not (ne-eqb (getD xs i 0) 0 z)))
-
-  pub non-zero-end : (i to : ℕ) → i ≤ to → to ≤ i → nonZero xs from i ≡ false → nonZero xs from to ≡ false
-  non-zero-end i to l h e = subst (λ (k : ℕ). nonZero xs from k ≡ false) (le-antisymm l h) e
+  pub non-zero-end : (i to joined : ℕ) → i ≤ to → to ≤ i → nonZero xs from i ≡ not (eqb joined 0) → nonZero xs from to ≡ not (eqb joined 0)
+  non-zero-end i to joined l h e = subst (λ (k : ℕ). nonZero xs from k ≡ not (eqb joined 0)) (le-antisymm l h) e
 
 -- ---- the tests of ground 17, one after the other
 

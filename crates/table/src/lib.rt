@@ -195,11 +195,15 @@ fn is_beyond(x: StateSet, n: usize) -> bool
     !x.is_subset(StateSet::first_states(n))
 }
 
-// One of the `count` sets that begin at `at` has a state from n up. The sets are joined and tested once.
+// One of the `count` sets that begin at `at` has a state from n up. The sets are joined and tested once, and not looked at where there are as many
+// states as can be.
 pub fn any_beyond(store: &[u64], at: usize, count: usize, n: usize) -> bool
     requires { ⌜ at + WORDS * count ≤ length (now store) ⌝ }
     ensures { λ r. ⌜ r ≡ any count (λ j. beyond n (setAt (now (store .entry)) (at + WORDS * j))) ⌝ }
 {
+    if MAX_STATES <= n {
+        return false;
+    }
     let mut joined = StateSet::empty();
     for j in 0..count {
         joined = joined.union(set_at(store, at + WORDS * j));
@@ -207,17 +211,16 @@ pub fn any_beyond(store: &[u64], at: usize, count: usize, n: usize) -> bool
     is_beyond(joined, n)
 }
 
-// Some word from `from` on and before `to` is not 0.
+// Some word from `from` on and before `to` is not 0. They are joined and tested once, which the compiler does several at a time.
 pub fn non_zero(store: &[u64], from: usize, to: usize) -> bool
     requires { ⌜ (from ≤ to) × (to ≤ length (now store)) ⌝ }
     ensures { λ r. ⌜ r ≡ nonZero (now (store .entry)) from to ⌝ }
 {
+    let mut joined = 0;
     for i in from..to {
-        if store[i] != 0 {
-            return true;
-        }
+        joined |= store[i];
     }
-    false
+    joined != 0
 }
 
 // A 1 bit for a state from n up, or a word of an unused group or row not 0.

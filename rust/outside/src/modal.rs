@@ -103,7 +103,7 @@ impl Optional {
         rows
     }
 
-    /// All choices, or some of them where there are too many.
+    /// All choices, or some of them where there are too many; the certain steps alone first and all possible ones last.
     fn choices(&self, random: &mut Random) -> Vec<Vec<Set>> {
         let options = self.options();
         if options.len() > MOST_OPTIONS {
@@ -112,7 +112,10 @@ impl Optional {
                 let taken = options.iter().copied().filter(|_| random.once_in(times));
                 self.choice(taken)
             };
-            return (0..DRAWN).map(|_| drawn(random)).collect();
+            let mut choices = vec![self.dialogue.rows.clone()];
+            choices.extend((0..DRAWN).map(|_| drawn(random)));
+            choices.push(self.possible.clone());
+            return choices;
         }
         let taken = |bits: usize| {
             let chosen = (0..options.len()).filter(move |&i| bits >> i & 1 == 1);
@@ -306,27 +309,28 @@ fn of_choices(
     let path: Vec<usize> = expected.front.iter().map(|&state| state.into()).collect();
     let words = expected.answer.invariant;
     let invariant = set_where(n, |s| words[s / 64] >> (s % 64) & 1 == 1);
-    let mut safe = 0;
     let choices = optional.choices(random);
+    let mut are_safe = Vec::new();
     for choice in &choices {
         let table = optional.table(choice);
         let far = search::distances(&table);
         let is_safe = (0..n).all(|s| !table.initial[s] || far[s].is_none());
-        safe += is_safe as usize;
         let holds = match expected.answer.verdict {
             SAFE => is_safe && rounds::is_invariant(&table, &invariant),
             UNSAFE => !is_safe && search::is_path(&table, &path),
+            // Only the two ends are known: they are looked at below.
             _ => true,
         };
         if !holds {
             return Err(format!("a choice is none of the verdict's: {choice:?}"));
         }
+        are_safe.push(is_safe);
     }
     let all = optional.options().len() <= MOST_OPTIONS;
     tally.count("choices tried", if all { "all" } else { "some" });
-    let depends = 0 < safe && safe < choices.len();
-    if all && (expected.answer.verdict == DEPENDS) != depends {
-        return Err(format!("{safe} of {} choices are safe", choices.len()));
+    let ends = (are_safe[0], are_safe[are_safe.len() - 1]);
+    if expected.answer.verdict == DEPENDS && ends != (true, false) {
+        return Err(format!("certain steps alone and all possible: safe {ends:?}"));
     }
     Ok(())
 }

@@ -5,7 +5,7 @@ use borrow.Author.Needs.{needs}
 use Rattle.model.specs.Sets.{WORDS, any}
 use Rattle.model.specs.Stores.{setAt, beyond}
 use Rattle.model.proofs.Bounds.{any-start}
-use Rattle.table.proofs.Laws.{beyond-none, beyond-turn, beyond-end}
+use Rattle.table.proofs.Laws.{all-states, beyond-none, beyond-turn, beyond-end}
 use Rattle.table.proofs.any_beyond.Statement.{statement}
 use Rattle.table.proofs.any_beyond.Tie as tie
 
@@ -21,6 +21,7 @@ any-beyond-spec =
     (tie.spec
     Inv-loop
     μ-loop
+    (λ c. sym (all-states _ _ _ (search needs)))
     (λ c κs. search needs)
     (λ c. (search needs, ap (beyond _) (c .empty .ensures) ∙ beyond-none _ ∙ sym (any-start _)))
     (λ c. search needs)
