@@ -330,7 +330,9 @@ fn of_choices(
     tally.count("choices tried", if all { "all" } else { "some" });
     let ends = (are_safe[0], are_safe[are_safe.len() - 1]);
     if expected.answer.verdict == DEPENDS && ends != (true, false) {
-        return Err(format!("certain steps alone and all possible: safe {ends:?}"));
+        return Err(format!(
+            "certain steps alone and all possible: safe {ends:?}"
+        ));
     }
     Ok(())
 }

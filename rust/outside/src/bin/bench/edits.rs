@@ -50,7 +50,7 @@ impl Kind {
     }
 
     /// Whether there are so many steps, or so few, that one to remove or to add is soon drawn.
-    pub fn fits(self, dialogue: &Dialogue) -> bool {
+    fn fits(self, dialogue: &Dialogue) -> bool {
         let cells = dialogue.rows.iter().flatten();
         let wanted = matches!(self, Kind::Removals);
         cells.filter(|&&step| step == wanted).count() >= 2 * EDITS
@@ -58,11 +58,12 @@ impl Kind {
 }
 
 /// The tables that are edited: no steps, and the first of each family of the greatest size.
-pub fn tables(named: &[Family]) -> Vec<(&str, Dialogue)> {
+pub fn tables(kind: Kind, named: &[Family]) -> Vec<(&str, Dialogue)> {
     let nothing = Dialogue::of(MAX_STATES, &[0], &[MAX_STATES - 1], &[], &[]);
     let largest = named
         .iter()
         .filter(|family| family.tables[0].n == MAX_STATES && !family.name.starts_with("growth"))
         .map(|family| (family.name.as_str(), family.tables[0].clone()));
-    [("no steps", nothing)].into_iter().chain(largest).collect()
+    let all = [("no steps", nothing)].into_iter().chain(largest);
+    all.filter(|(_, dialogue)| kind.fits(dialogue)).collect()
 }

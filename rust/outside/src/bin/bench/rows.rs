@@ -386,25 +386,38 @@ pub fn rows(only: &[String]) -> Vec<Row> {
     for (family, mut cases) in questions() {
         add(Call::NextOpen, family, &mut || std::mem::take(&mut cases));
     }
-    let edited = edits::tables(&named);
     for kind in Kind::ALL {
         for beside in [None, Some(Call::OpenAgain)] {
-            for (family, dialogue) in edited.iter().filter(|(_, dialogue)| kind.fits(dialogue)) {
+            if !wanted(only, &label(Call::Edit(kind), beside)) {
+                continue;
+            }
+            for (family, dialogue) in edits::tables(kind, &named) {
                 add_beside((Call::Edit(kind), beside), family, &mut || {
-                    vec![Case::with_edits(dialogue, kind)]
+                    vec![Case::with_edits(&dialogue, kind)]
                 });
             }
         }
     }
-    let options = families::for_options(&mut Random::new(SEED));
     for beside in [None, Some(Call::DecideTwice)] {
-        for (family, tables) in &options {
-            add_beside((Call::DecideModal, beside), family, &mut || {
+        if !wanted(only, &label(Call::DecideModal, beside)) {
+            continue;
+        }
+        for (family, tables) in families::for_options(&mut Random::new(SEED)) {
+            add_beside((Call::DecideModal, beside), &family, &mut || {
                 tables.iter().map(Case::with_options).collect()
             });
         }
     }
     rows
+}
+
+/// Whether some of the words can be in the name of a row with the label: its tables may take long to draw.
+fn wanted(only: &[String], label: &str) -> bool {
+    let fits = |words: &String| match words.split_once(" |") {
+        Some((call, _)) => label.ends_with(call),
+        None => true,
+    };
+    only.is_empty() || only.iter().any(fits)
 }
 
 /// Loads by their number of states and fan-out; growth comes last.
