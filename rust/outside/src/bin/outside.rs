@@ -212,7 +212,7 @@ fn random_case(libraries: &[&dyn Calls], seed: u64, case: u64, tally: &mut Tally
 
 /// In some of the cases, a question for the next open minute.
 fn random_question(openers: &[&dyn NextOpen], seed: u64, case: u64, tally: &mut Tally) -> Outcome {
-    if case % CASES_PER_QUESTION != 0 {
+    if !case.is_multiple_of(CASES_PER_QUESTION) {
         return Ok(());
     }
     windows::random_case(openers, &mut Random::for_case(!seed, case), tally)

@@ -4,11 +4,14 @@
 //!     bench --rows [..]                                   a line for each call and family
 //!     bench --runs N [..]                                 nothing is measured: each row N times, for a profiler
 //!
-//! In each repetition the library, the peer and, where there is one, the limit are measured in turn, in changing
-//! order, in the processor time of the thread; a ratio is of two times of one repetition. In brackets stands the
-//! range that holds 80 % of the ratios. `--peer` measures the peer against itself, which shows the noise; `--only`
-//! takes the rows that have the words in their call and family, as in 'decide | fan-out 2', and may be said again.
+//! In each repetition the library, the peer and the limit are measured in turn, in changing order, in the processor
+//! time of the thread; a ratio is of two times of one repetition. In brackets stands the range that holds 80 % of the
+//! ratios. Some calls are measured a second time beside others of the library's that answer the same: decide modal
+//! beside two calls of decide, each edit of a session beside opening the table again. `--peer` measures the peer
+//! against itself, which shows the noise; `--only` takes the rows that have the words in their call and family, as in
+//! 'decide | fan-out 2', and may be said again.
 
+mod edits;
 mod measure;
 mod rows;
 mod tables;
@@ -89,9 +92,9 @@ fn watch(subject: Library, rows: &[Row], runs: usize) {
     let mut buffers = Buffers::new();
     for row in rows {
         for _ in 0..runs {
-            row.run(subject, &mut buffers);
+            row.run((row.call, subject), &mut buffers);
         }
-        let calls = runs * row.cases.len();
+        let calls = runs * row.calls();
         println!("{}: {}: {calls} calls", subject.name(), row.name());
     }
 }
@@ -115,6 +118,7 @@ fn print(subject: Library, rows: &[Row], options: &Options) -> Result<(), String
     }
     if !options.rows {
         tables::print_calls(&measured);
+        tables::print_edits(&measured);
         tables::print_growth(&measured);
         tables::print_limits(&measured);
     }

@@ -2,7 +2,7 @@
 
 use std::hint::black_box;
 
-use crate::rows::{Buffers, Case, Library, PEER, Row};
+use crate::rows::{Buffers, Case, Library, Row, Side};
 
 /// The least time that a measurement takes, in nanoseconds.
 const LEAST: f64 = 1e6;
@@ -30,7 +30,8 @@ impl Spread {
 /// The figures of a row; times in microseconds for one call.
 pub struct Figures {
     pub library: f64,
-    pub peer: f64,
+    /// The peer, or what else the row is measured beside.
+    pub beside: f64,
     pub ratio: Spread,
     /// The bytes that have to be touched, what that takes, and the library's ratio to it.
     pub bytes: usize,
@@ -38,10 +39,11 @@ pub struct Figures {
     pub above: Spread,
 }
 
-/// Measures a row, once library and peer are seen to answer the same.
+/// Measures a row, once both sides are seen to answer the same.
 pub fn measure(subject: Library, row: &Row, repetitions: usize) -> Result<Figures, String> {
+    let sides = row.sides(subject);
     for case in &row.cases {
-        agree(subject, row, case)?;
+        agree(sides, row, case)?;
     }
     let mut buffers = Buffers::new();
     let mut touch = Touch::new(row);
@@ -49,9 +51,8 @@ pub fn measure(subject: Library, row: &Row, repetitions: usize) -> Result<Figure
         let start = processor_time();
         for _ in 0..rounds {
             match which {
-                0 => row.run(subject, &mut buffers),
-                1 => row.run(PEER, &mut buffers),
-                _ => touch.run(row.cases.len()),
+                0 | 1 => row.run(sides[which], &mut buffers),
+                _ => touch.run(row.calls()),
             }
         }
         (processor_time() - start) / rounds as f64
@@ -66,14 +67,14 @@ pub fn measure(subject: Library, row: &Row, repetitions: usize) -> Result<Figure
         }
     }
     let per_call =
-        |which: usize| Spread::of(times[which].clone()).middle / row.cases.len() as f64 / 1000.0;
+        |which: usize| Spread::of(times[which].clone()).middle / row.calls() as f64 / 1000.0;
     let ratio = |which: usize| {
         let pairs = times[0].iter().zip(&times[which]);
         Spread::of(pairs.map(|(subject, other)| subject / other).collect())
     };
     Ok(Figures {
         library: per_call(0),
-        peer: per_call(1),
+        beside: per_call(1),
         ratio: ratio(1),
         bytes: touch.read.len() + touch.written.len(),
         limit: per_call(2),
@@ -82,18 +83,17 @@ pub fn measure(subject: Library, row: &Row, repetitions: usize) -> Result<Figure
 }
 
 /// That both answer the same, with the same in their buffers.
-fn agree(subject: Library, row: &Row, case: &Case) -> Result<(), String> {
-    let answer = |library: Library| {
+fn agree(sides: [Side; 2], row: &Row, case: &Case) -> Result<(), String> {
+    let [ours, theirs] = sides.map(|(call, library)| {
         let mut buffers = Buffers::new();
-        (row.call.answer(library, case, &mut buffers), buffers)
-    };
-    let (ours, theirs) = (answer(subject), answer(PEER));
+        (call.answer(library, case, &mut buffers), buffers)
+    });
     if ours == theirs {
         return Ok(());
     }
     let (ours, theirs) = (ours.0, theirs.0);
     Err(format!(
-        "{}: answers or buffers differ: {ours:?}, the peer's {theirs:?}",
+        "{}: answers or buffers differ: {ours:?}, and beside it {theirs:?}",
         row.name()
     ))
 }

@@ -4,13 +4,19 @@ use std::hint::black_box;
 
 use shuntberry_outside::accept::{MAX_ALLOWANCE, MAX_LOG};
 use shuntberry_outside::blocks::{Form, LARGEST};
-use shuntberry_outside::calls::{Calls, Decision, Replay, Shortest, TableRead, Within, Written};
+use shuntberry_outside::calls::{
+    Calls, DEPENDS, Decision, Edit, Modal, Replay, SAFE, Shortest, TableRead, UNSAFE, Within,
+    Words, Written,
+};
 use shuntberry_outside::families::{self, GROWTH};
 use shuntberry_outside::generate::Random;
 use shuntberry_outside::logs;
+use shuntberry_outside::modal::Optional;
 use shuntberry_outside::peer::{Looks, Peer};
-use shuntberry_outside::table::{Dialogue, MAX_STATES, STORE_WORDS};
+use shuntberry_outside::table::{Dialogue, MAX_STATES, STORE_WORDS, row_at};
 use shuntberry_outside::windows::{self, DAY, Minute, NextOpen, WEEK};
+
+use crate::edits::{self, Kind};
 
 pub const SEED: u64 = 1;
 /// The site of the files.
@@ -52,6 +58,13 @@ pub enum Call {
     Write,
     Generate,
     Replay,
+    /// Each edit of a session.
+    Edit(Kind),
+    /// What is lit after each edit, worked out afresh: the step's bit is changed by hand, and the table opened again.
+    OpenAgain,
+    DecideModal,
+    /// Decide on the possible steps and on the certain ones, which are laid out as tables already.
+    DecideTwice,
     NextOpen,
 }
 
@@ -67,7 +80,21 @@ impl Call {
             Call::Write => "write",
             Call::Generate => "generate",
             Call::Replay => "replay",
+            Call::Edit(kind) => kind.name(),
+            Call::OpenAgain => "opening again",
+            Call::DecideModal => "decide modal",
+            Call::DecideTwice => "decide twice",
             Call::NextOpen => "next open",
+        }
+    }
+
+    /// The greatest ratio to the peer that is aimed at, on every family.
+    pub fn target(self) -> Option<f64> {
+        match self {
+            Call::Decide => Some(1.2),
+            Call::ShortestPath => Some(1.5),
+            Call::Read | Call::Write => Some(2.0),
+            _ => None,
         }
     }
 
@@ -76,6 +103,8 @@ impl Call {
         let store = size_of::<[u64; STORE_WORDS]>();
         match self {
             Call::Decide | Call::ShortestPath | Call::Within | Call::Acceptance => (store, 0),
+            Call::Edit(_) | Call::OpenAgain => (store, 0),
+            Call::DecideModal | Call::DecideTwice => (store + size_of_val(&case.possible[..]), 0),
             Call::Distances => (store, size_of::<u16>() * case.n),
             Call::Read => (case.file.len(), store),
             Call::Write => (store, case.file.len()),
@@ -109,10 +138,48 @@ impl Call {
                 Answer::Refusal(calls.generate(seed, n, fan_out, &mut buffers.store))
             }
             Call::Replay => Answer::Replay(calls.replay(store, n, g, &case.log)),
+            Call::Edit(_) => {
+                let edited = buffers.edited(store);
+                Answer::Lit(calls.session(edited, n, g, &case.edits))
+            }
+            Call::OpenAgain => Answer::Lit(open_again(calls, case, buffers.edited(store))),
+            Call::DecideModal => {
+                let possible = &case.possible;
+                Answer::Modal(calls.decide_modal(store, n, g, possible, &mut buffers.places))
+            }
+            Call::DecideTwice => Answer::Modal(decide_twice(calls, case, &mut buffers.places)),
             Call::NextOpen => {
                 Answer::Minute(opener.next_open(case.time, &case.windows, &case.closed))
             }
         }
+    }
+}
+
+fn open_again(calls: &dyn Calls, case: &Case, store: &mut [u64]) -> Words {
+    let mut lit = calls.open(store, case.n, case.g).reachable;
+    for &edit in &case.edits {
+        let (Edit::Add(from, to) | Edit::Remove(from, to)) = edit;
+        store[row_at(from) + to / 64] ^= 1 << (to % 64);
+        lit = calls.open(store, case.n, case.g).reachable;
+    }
+    lit
+}
+
+/// Decide modal's answer by two calls of decide. The path of the certain steps is written last: it is no shorter.
+fn decide_twice(calls: &dyn Calls, case: &Case, path: &mut [u16]) -> Modal {
+    let mut decide = |store| calls.decide(store, case.n, case.g, MAX_ALLOWANCE, path);
+    let [most, least] = case.checked.each_ref().map(|store| decide(store));
+    let (verdict, safe, steps) = match (least.verdict, most.verdict) {
+        (_, SAFE) => (SAFE, most, 0),
+        (UNSAFE, _) => (UNSAFE, least, least.steps),
+        _ => (DEPENDS, least, most.steps),
+    };
+    Modal {
+        invariant: safe.invariant,
+        refusal: 0,
+        verdict,
+        size: safe.size,
+        steps,
     }
 }
 
@@ -126,6 +193,9 @@ pub enum Answer {
     TableRead(TableRead),
     Written(Written),
     Replay(Replay),
+    /// What is lit after a session's last edit.
+    Lit(Words),
+    Modal(Modal),
     Minute(Minute),
 }
 
@@ -145,6 +215,12 @@ impl Buffers {
             file: [0; LARGEST],
         }
     }
+
+    /// A copy of a store, to edit.
+    fn edited(&mut self, store: &[u64]) -> &mut [u64] {
+        self.store.copy_from_slice(store);
+        &mut self.store
+    }
 }
 
 /// What a call is given; each reads some of it.
@@ -155,6 +231,10 @@ pub struct Case {
     store: Vec<u64>,
     file: Vec<u8>,
     log: Vec<u8>,
+    edits: Vec<Edit>,
+    possible: Vec<u64>,
+    /// The stores with the possible steps and with the certain ones.
+    checked: [Vec<u64>; 2],
     seed: u32,
     fan_out: usize,
     time: usize,
@@ -183,23 +263,69 @@ impl Case {
             ..Case::of(dialogue)
         }
     }
+
+    fn with_edits(dialogue: &Dialogue, kind: Kind) -> Case {
+        Case {
+            edits: kind.edits(dialogue, &mut Random::new(SEED)),
+            ..Case::of(dialogue)
+        }
+    }
+
+    fn with_options(optional: &Optional) -> Case {
+        Case {
+            possible: optional.possible_words(),
+            checked: [optional.most(), optional.least()].map(|dialogue| dialogue.to_store()),
+            ..Case::of(&optional.dialogue)
+        }
+    }
+
+    /// Whether the table has as many states as can be.
+    pub fn is_largest(&self) -> bool {
+        self.n == MAX_STATES
+    }
 }
+
+/// A call of an implementation.
+pub type Side = (Call, Library);
 
 pub struct Row {
     pub call: Call,
+    /// What the call is measured beside: others of the same implementation that answer the same, or else the peer's.
+    pub beside: Option<Call>,
     pub family: String,
     pub cases: Vec<Case>,
 }
 
+/// The call, with what it is measured beside where that is not the peer's.
+fn label(call: Call, beside: Option<Call>) -> String {
+    let beside = beside.map(|other| format!(", beside {}", other.name()));
+    format!("{}{}", call.name(), beside.unwrap_or_default())
+}
+
 impl Row {
+    pub fn label(&self) -> String {
+        label(self.call, self.beside)
+    }
+
     pub fn name(&self) -> String {
-        format!("{} | {}", self.call.name(), self.family)
+        format!("{} | {}", self.label(), self.family)
+    }
+
+    /// What is measured, and what it is measured beside.
+    pub fn sides(&self, subject: Library) -> [Side; 2] {
+        let beside = self.beside.map(|call| (call, subject));
+        [(self.call, subject), beside.unwrap_or((self.call, PEER))]
+    }
+
+    /// How many calls a run makes: one on each case, or one for each edit.
+    pub fn calls(&self) -> usize {
+        self.cases.iter().map(|case| case.edits.len().max(1)).sum()
     }
 
     /// Makes the call on each case.
-    pub fn run(&self, library: Library, buffers: &mut Buffers) {
+    pub fn run(&self, (call, library): Side, buffers: &mut Buffers) {
         for case in &self.cases {
-            black_box(self.call.answer(library, black_box(case), buffers));
+            black_box(call.answer(library, black_box(case), buffers));
         }
     }
 }
@@ -207,15 +333,21 @@ impl Row {
 /// The rows that have some of the words in their names, or all of them where there are no words.
 pub fn rows(only: &[String]) -> Vec<Row> {
     let mut rows = Vec::new();
-    let mut add = |call: Call, family: &str, cases: &mut dyn FnMut() -> Vec<Case>| {
-        let name = format!("{} | {family}", call.name());
+    let mut add_beside = |(call, beside): (Call, Option<Call>),
+                          family: &str,
+                          cases: &mut dyn FnMut() -> Vec<Case>| {
+        let name = format!("{} | {family}", label(call, beside));
         if only.is_empty() || only.iter().any(|words| name.contains(words)) {
             rows.push(Row {
                 call,
+                beside,
                 family: family.to_string(),
                 cases: cases(),
             });
         }
+    };
+    let mut add = |call, family: &str, cases: &mut dyn FnMut() -> Vec<Case>| {
+        add_beside((call, None), family, cases);
     };
     let mut random = Random::new(SEED);
     let named = families::named(&mut random);
@@ -254,7 +386,38 @@ pub fn rows(only: &[String]) -> Vec<Row> {
     for (family, mut cases) in questions() {
         add(Call::NextOpen, family, &mut || std::mem::take(&mut cases));
     }
+    for kind in Kind::ALL {
+        for beside in [None, Some(Call::OpenAgain)] {
+            if !wanted(only, &label(Call::Edit(kind), beside)) {
+                continue;
+            }
+            for (family, dialogue) in edits::tables(kind, &named) {
+                add_beside((Call::Edit(kind), beside), family, &mut || {
+                    vec![Case::with_edits(&dialogue, kind)]
+                });
+            }
+        }
+    }
+    for beside in [None, Some(Call::DecideTwice)] {
+        if !wanted(only, &label(Call::DecideModal, beside)) {
+            continue;
+        }
+        for (family, tables) in families::for_options(&mut Random::new(SEED)) {
+            add_beside((Call::DecideModal, beside), &family, &mut || {
+                tables.iter().map(Case::with_options).collect()
+            });
+        }
+    }
     rows
+}
+
+/// Whether some of the words can be in the name of a row with the label: its tables may take long to draw.
+fn wanted(only: &[String], label: &str) -> bool {
+    let fits = |words: &String| match words.split_once(" |") {
+        Some((call, _)) => label.ends_with(call),
+        None => true,
+    };
+    only.is_empty() || only.iter().any(fits)
 }
 
 /// Loads by their number of states and fan-out; growth comes last.

@@ -26,7 +26,7 @@ fn micros(time: f64) -> String {
 // ---- Each row
 
 pub fn head_of_rows(library: &str) {
-    println!("\n| call | family | {library} | peer | ratio | limit | ratio |");
+    println!("\n| call | family | {library} | beside it | ratio | limit | ratio |");
     println!("|---|---|--:|--:|--:|--:|--:|");
 }
 
@@ -35,7 +35,7 @@ pub fn print_row(row: &Row, figures: &Figures) {
         "| {} | {} | {} | {} | {} | {} |",
         row.name(),
         micros(figures.library),
-        micros(figures.peer),
+        micros(figures.beside),
         spread(&figures.ratio),
         micros(figures.limit),
         spread(&figures.above),
@@ -47,14 +47,14 @@ pub fn print_row(row: &Row, figures: &Figures) {
 /// The rows of each call, in order.
 fn by_call<'m, 'r>(measured: &'m [Measured<'r>]) -> Vec<&'m [Measured<'r>]> {
     measured
-        .chunk_by(|(one, _), (other, _)| one.call == other.call)
+        .chunk_by(|(one, _), (other, _)| (one.call, one.beside) == (other.call, other.beside))
         .collect()
 }
 
-/// The same without acceptance, which is the first part of a call and none by itself.
+/// The same once for each call, and without acceptance, which is the first part of a call and none by itself.
 fn calls<'m, 'r>(measured: &'m [Measured<'r>]) -> Vec<&'m [Measured<'r>]> {
     let mut calls = by_call(measured);
-    calls.retain(|rows| rows[0].0.call != Call::Acceptance);
+    calls.retain(|rows| rows[0].0.call != Call::Acceptance && rows[0].0.beside.is_none());
     calls
 }
 
@@ -85,20 +85,56 @@ pub fn print_calls(measured: &[Measured]) {
         let last = rows.len() - 1;
         let at = |(row, figures): &Measured| format!("{}, {}", spread(&figures.ratio), row.family);
         format!(
-            "| {} | {} | {} to {} | {} | {:.2} | {} |",
-            rows[0].0.call.name(),
+            "| {} | {} | {} to {} | {} | {:.2} | {} | {} |",
+            rows[0].0.label(),
             rows.len(),
             micros(by_time[0].1.library),
             micros(by_time[last].1.library),
             at(by_ratio[0]),
             by_ratio[last / 2].1.ratio.middle,
             at(by_ratio[last]),
+            target(rows),
         )
     };
     print_table(
-        "| call | families | library | ratio to the peer: least | median | greatest |\n|---|--:|--:|---|--:|---|",
+        "| call | families | library | ratio: least | median | greatest | target |\n|---|--:|--:|---|--:|---|---|",
         by_call(measured).iter().map(line).collect(),
     );
+}
+
+/// The target of a call, and on how many families its median ratio is over that.
+fn target(rows: &[Measured]) -> String {
+    let (row, _) = rows[0];
+    let Some(most) = row.call.target() else {
+        return String::new();
+    };
+    match rows.iter().filter(|row| row.1.ratio.middle > most).count() {
+        0 => format!("{most:.1}: met"),
+        over => format!("{most:.1}: {over} over"),
+    }
+}
+
+// ---- Edits
+
+/// What an edit takes, and its acceptance test on tables of the same size.
+pub fn print_edits(measured: &[Measured]) {
+    let range = |is: &dyn Fn(&Row) -> bool| {
+        let rows = measured.iter().filter(|(row, _)| is(row));
+        let by_time = sorted(rows, |figures| figures.library);
+        let time = |row: &&Measured| micros(row.1.library);
+        Some(format!(
+            "{} to {}",
+            time(by_time.first()?),
+            time(by_time.last()?)
+        ))
+    };
+    let edits = range(&|row| matches!(row.call, Call::Edit(_)) && row.beside.is_none());
+    let acceptance = range(&|row| row.call == Call::Acceptance && row.cases[0].is_largest());
+    if let (Some(edits), Some(acceptance)) = (edits, acceptance) {
+        println!(
+            "\nAn edit takes {edits} microseconds; the acceptance test is {acceptance} microseconds of it."
+        );
+    }
 }
 
 // ---- Growth
@@ -156,7 +192,7 @@ pub fn print_limits(measured: &[Measured]) {
         };
         format!(
             "| {} | {} | {} | {} | {} |",
-            rows[0].0.call.name(),
+            rows[0].0.label(),
             by_ratio[0].1.bytes,
             micros(by_ratio[0].1.limit),
             at(by_ratio[0]),
