@@ -152,17 +152,17 @@ module _ (store : List ℕ) (n g : ℕ) (possible path : List ℕ) where
             not-safe : eqb ((releaseCheck possible-t) .verdict) 0 ≡ false
             not-safe = told store n g possible held f (possibleRow possible n) c q .0
 
-            pub unsafe-answer : {d : ℕ} {after : List ℕ} → u .safe ≡ false
+            pub unsafe-answer : {d : ℕ} {X : Set} {after : List ℕ} → u .safe ≡ false → X ≡ empty
                 → d ≡ stepsIn (foundIn (tableWith store n 0 F (certainRow store n))) → after ≡ pathWritten (tableWith store n 0 F (certainRow store n)) path
-                → Answered (Unsafe d) (u .invariant .words) after
+                → Answered (Unsafe d) X after
             unfolding modalWritten
-            unsafe-answer {d} p e w =
+            unsafe-answer {d} {X} p x e w =
                 let t = told store n g possible held f (certainRow store n) v p in
                 let says = says-unsafe certain-t (certain-formed store n g possible held g) (small-for store n g possible held (certainRow store n)) (t .0) in
                 let at = found store n g possible held f path store (rowAt 0) (held .held .long) (says .1) e w in
                 let both =
-                answered (Unsafe d) (u .invariant .words)
-                (ap₂ (λ (k : ℕ) (X : Set). answersWith (Unsafe k) X) (at .0 ∙ sym (says .2)) (t .1 ∙ says .3)
+                answered (Unsafe d) X
+                (ap₂ (λ (k : ℕ) (Y : Set). answersWith (Unsafe k) Y) (at .0 ∙ sym (says .2)) x
                 ∙ decided-answer (unsafe-of (releaseCheck certain-t) (releaseCheck possible-t) not-safe (eq-eqb ((releaseCheck certain-t) .verdict) 1 (says .0))))
                 refl in
                 (both .0, at .1 ∙ both .1, both .2)

@@ -250,15 +250,15 @@ pub fn decide_modal(
         };
     }
     let on_certain = check_on(store, n, g, forbidden, store, ROWS_AT);
-    let invariant = on_certain.invariant;
     if !on_certain.safe {
         return ModalDecision {
             verdict: ModalVerdict::Unsafe {
                 steps: path_on(store, n, forbidden, store, ROWS_AT, path),
             },
-            invariant,
+            invariant: StateSet::empty(),
         };
     }
+    let invariant = on_certain.invariant;
     ModalDecision {
         verdict: ModalVerdict::Depends {
             size: invariant.count(),

@@ -43,7 +43,7 @@ decide-modal-spec =
     let held = ok test .0 in
     (held .held .small, held .held .few, held .held .long, held .held .long))
     (λ c κs.
-    let forbidden = c .before .before .before .before .before .before .before in
+    let forbidden = c .before .before .before .before .before .before in
     let test = forbidden .before in
     let held = ok test .0 in (
       held .held .small,
@@ -52,6 +52,7 @@ decide-modal-spec =
       ok test .1,
       certain-ready _ _ _ _ held (forbidden .forbidden-by .ensures),
     ))
+    (λ c κs. search needs)
     (λ c. search needs)
     (λ c.
     let certain = c .before .before .before .before .before .before .before in
@@ -59,8 +60,8 @@ decide-modal-spec =
     let forbidden = check .before in
     let test = forbidden .before in
     unsafe-answer _ _ _ _ _ (test .before .refusal-of .ensures) (test .if1 .left) (forbidden .forbidden-by .ensures) (check .check-on .ensures)
-    (certain .before .if2 .left) (certain .check-on2 .ensures) (not-true _ (c .before .before .before .before .if3 .taken)) (c .before .before .path-on .ensures .0)
-    (c .before .before .path-on .ensures .1))
+    (certain .before .if2 .left) (certain .check-on2 .ensures) (not-true _ (c .before .before .before .before .before .if3 .taken)) (c .empty2 .ensures) (c .before .before .before .path-on .ensures .0)
+    (c .before .before .before .path-on .ensures .1))
     (λ c κs. search needs)
     (λ c κs.
     let forbidden = c .before .before .before .before .before .before .before .before in
@@ -79,5 +80,5 @@ decide-modal-spec =
     let forbidden = check .before in
     let test = forbidden .before in
     depends-answer _ _ _ _ _ (test .before .refusal-of .ensures) (test .if1 .left) (forbidden .forbidden-by .ensures) (check .check-on .ensures)
-    (certain .before .if2 .left) (certain .check-on2 .ensures) (not-false _ (c .before .before .before .before .before .if3 .left)) (c .before .before .before .before .count2 .ensures)
+    (certain .before .if2 .left) (certain .check-on2 .ensures) (not-false _ (c .before .before .before .before .before .before .if3 .left)) (c .before .before .before .before .count2 .ensures)
     (c .before .before .path-on2 .ensures .0) (c .before .before .path-on2 .ensures .1)))
