@@ -8,7 +8,7 @@
 //   refusal_of                     the grounds in order
 //   decide_modal                   the call
 //
-// A table is laid out for each check and for the path. No two are needed at once, but the compiled call keeps three on its stack.
+// A table is laid out for each check and for the path. No two are needed at once, but the compiled call keeps four on its stack.
 ghost use mathlib.Core.Path.{_≡_};
 ghost use Prim.Native.Nat.{_+_, _*_, _≤_, _<_};
 ghost use lib.ListN.{length};
