@@ -1,7 +1,8 @@
 //! The command `tables`: a table as text, as a file and as a picture. `man/man1/tables.1` is its page.
 //!
 //! It ends with 0 only where the text, file or picture was written whole; with 2 where the library refused the file, or the text has
-//! mistakes; with 3 for anything else. Nothing is written before all of it is known.
+//! mistakes; with 3 for anything else. Nothing is written before all of it is known; where encode has no file for standard output, it writes
+//! `failed` there, which is none.
 
 use shuntberry::{FILE_BYTES, Refused};
 use shuntberry_tables::picture::{self, Options};
@@ -54,6 +55,11 @@ fn main() -> ExitCode {
         Err(Failed(why)) => (why, 3),
     };
     let _ = writeln!(io::stderr(), "{why}");
+    // In place of a file there is a line that is none: an empty output would be a draft, and safe.
+    let is_output = |word: &OsString| word == "-o" || word == "--output";
+    if words.first().is_some_and(|word| word == "encode") && !words.iter().any(is_output) {
+        let _ = writeln!(io::stdout(), "failed");
+    }
     ExitCode::from(status)
 }
 
