@@ -11,7 +11,7 @@
 --   steppingInto store X Y       the states of X that step to a state of Y
 --   narrowedBack store d rows    back from row d, of each row the states that step to a state kept of the next
 --   walkBy store layers at d X   the walk from X in d steps that takes the smallest state of the layer each time, the first from that numbered `at`:
---                                where those are the layers of the shortest paths, the model's walk (proofs/Kept.antt)
+--                                where those are the layers of the shortest paths, the model's walk (proofs/Find.antt)
 --   Writable                     a walk that can be written: each state of it is one, and the buffer has room for all from `at` on
 use Prim.Native.Nat.{ℕ, zero, suc, _+_, _≤_, _<_}
 use mathlib.Core.Path.{_≡_}

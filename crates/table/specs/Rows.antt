@@ -18,7 +18,7 @@ successorsBy store X = image maxStates (λ s. setAt store (rowAt s)) X
 unfoldable pub meetHold : List ℕ → Set → Set → Set
 meetHold store X Y = setOf (λ s. member X s && subset (setAt store (rowAt s)) Y)
 
--- For the states of a table the same as the table's (Forbidden, in proofs/).
+-- For the states of a table the same as the table's (proofs/Hangs.antt).
 unfoldable pub forbiddenBy : List ℕ → Set
 forbiddenBy store = union (setAt store markedAt) (hangs maxStates (λ s. setAt store (rowAt s)) (setAt store restingAt))
 
