@@ -61,4 +61,5 @@ def main():
         (folder / f"{i}.new").write_bytes(new)
 
 
-main()
+if __name__ == "__main__":
+    main()
