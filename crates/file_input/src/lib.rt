@@ -7,7 +7,7 @@ ghost use Prim.Native.Nat.{_+_};
 ghost use lib.ListN.{length};
 ghost use Rattle.model.specs.Files.{maxFile};
 ghost use Rattle.io.specs.Counts.{Counts};
-use block_file::MAX_FILE;
+use file_blocks::MAX_FILE;
 use libc::STDIN_FILENO;
 
 // One byte more than the largest file.

@@ -6,11 +6,11 @@
 // filler 12 to 509, check 510 511. In that of a full block the resting set has 22 to 29 and the last row ends at 509, so that nothing is filler.
 // That of H has a second block: last row 514 to 521, filler 522 to 1021. With a group, which has 30 to 37, last row 522 to 529, filler 530 to 1021.
 ghost use Prim.Native.Nat.{_*_, _^_, _<_};
-use block_file::MAX_FILE;
-use block_file::TableRead;
-use block_file::Written;
-use block_file::read;
-use block_file::write;
+use file_blocks::MAX_FILE;
+use file_reading::TableRead;
+use file_reading::read;
+use file_writing::Written;
+use file_writing::write;
 use table::MAX_GROUPS;
 use table::MAX_STATES;
 use table::STORE_WORDS;

@@ -19,9 +19,9 @@ use Rattle.model.proofs.Bounds.{length-tabulate}
 use Rattle.model.proofs.ContentLaws.{contents-cong}
 use Rattle.model.proofs.FileLaws.{length-blocks, fileLength-most}
 use Rattle.model.proofs.CallLaws.{write-refusal, writable, write-answer, write-buffer}
-use Rattle.block_file.specs.declared.writing.Written.{Written}
-use Rattle.block_file.specs.declared.writing.Written.the-variants.{File, Refused}
-use Rattle.block_file.specs.WriteAnswers.{writtenOf}
+use Rattle.file_writing.specs.declared.Written.{Written}
+use Rattle.file_writing.specs.declared.Written.the-variants.{File, Refused}
+use Rattle.file_writing.specs.WriteAnswers.{writtenOf}
 use Rattle.generator.specs.declared.Generated.{Generated}
 use Rattle.generator.specs.declared.Generated.the-variants.{Filled, Refused as GenerateRefused}
 use Rattle.generator.specs.Load.{loadFrom, load, GenerateAnswer, generateAnswer}

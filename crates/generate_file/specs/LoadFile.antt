@@ -10,8 +10,8 @@ use Rattle.model.specs.Stores.{storeWords}
 use Rattle.model.specs.Contents.{newForm}
 use Rattle.model.specs.Files.{fileLength, fileOf}
 use Rattle.model.specs.Calls.{overwrite}
-use Rattle.block_file.specs.declared.writing.Written.{Written}
-use Rattle.block_file.specs.declared.writing.Written.the-variants.{File, Refused}
+use Rattle.file_writing.specs.declared.Written.{Written}
+use Rattle.file_writing.specs.declared.Written.the-variants.{File, Refused}
 use Rattle.generator.specs.Load.{load, generateAnswer}
 
 -- The program lends generate a store that is long enough.

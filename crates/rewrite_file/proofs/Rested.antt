@@ -27,8 +27,8 @@ use Rattle.model.proofs.CallLaws.{write-answer}
 use Rattle.model.proofs.RoundTrips.{Taken, taken, laid}
 use Rattle.table.specs.Rows.{meetHold}
 use Rattle.table.proofs.Hangs.{dead-is}
-use Rattle.block_file.specs.Reading.{overwriteFrom}
-use Rattle.block_file.proofs.Overwriting.{lent-back, put-long, put-own, put-apart}
+use Rattle.file_blocks.specs.Places.{overwriteFrom}
+use Rattle.file_blocks.proofs.Overwriting.{lent-back, put-long, put-own, put-apart}
 use Rattle.rewriting.specs.Rewriting.{deadEnds, rewritten, OldFile, oldDialogue, newFile}
 use Rattle.rewriting.proofs.Rewritten.{rewritten-held, dialogue-is}
 use Rattle.rewrite_file.specs.RewriteText.{zeroStore, restedStore, writeText}

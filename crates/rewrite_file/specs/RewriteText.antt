@@ -14,7 +14,7 @@ use Rattle.model.specs.Contents.{oldForm, newForm}
 use Rattle.model.specs.Files.{fileOf}
 use Rattle.model.specs.Calls.{readGroundsAs, writeAnswer}
 use Rattle.table.specs.Rows.{meetHold}
-use Rattle.block_file.specs.Reading.{overwriteFrom}
+use Rattle.file_blocks.specs.Places.{overwriteFrom}
 use Rattle.report.specs.Text.{refusedText}
 use Rattle.rewriting.specs.Rewriting.{newFile}
 

@@ -1,7 +1,7 @@
 -- `check`: the text of the table that read put into the store, or of read's refusal.
 use mathlib.Core.Path.{sym, ap, _∙_}
 use borrow.Author.Needs.{needs}
-use Rattle.block_file.specs.ReadAnswers.{readOf, isRefused}
+use Rattle.file_reading.specs.ReadAnswers.{readOf, isRefused}
 use Rattle.check_file.proofs.Reports.{check-refused, check-read}
 use Rattle.check_file.proofs.check.Statement.{statement}
 use Rattle.check_file.proofs.check.Tie as tie

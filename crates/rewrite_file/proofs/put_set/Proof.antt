@@ -4,7 +4,7 @@ use mathlib.Core.Path.{refl}
 use borrow.Author.Needs.{needs}
 use lib.ListN.{getD}
 use Rattle.model.specs.Sets.{WORDS, tabulate}
-use Rattle.block_file.proofs.Overwriting.{Over, over-none, over-next, over-list}
+use Rattle.file_blocks.proofs.Overwriting.{Over, over-none, over-next, over-list}
 use Rattle.rewrite_file.proofs.put_set.Statement.{statement}
 use Rattle.rewrite_file.proofs.put_set.Tie as tie
 

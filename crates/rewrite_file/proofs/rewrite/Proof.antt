@@ -1,7 +1,7 @@
 -- `rewrite`: the new file of the table that read_old put into the store, or its refusal.
 use mathlib.Core.Path.{sym, ap, _∙_}
 use borrow.Author.Needs.{needs}
-use Rattle.block_file.specs.ReadAnswers.{readOf, isRefused}
+use Rattle.file_reading.specs.ReadAnswers.{readOf, isRefused}
 use Rattle.rewrite_file.proofs.Texts.{rewrite-refused, rewrite-done}
 use Rattle.rewrite_file.proofs.rewrite.Statement.{statement}
 use Rattle.rewrite_file.proofs.rewrite.Tie as tie

@@ -1,7 +1,7 @@
 -- `write_file`: the file that write left, or its refusal.
 use mathlib.Core.Path.{sym, ap, _∙_}
 use borrow.Author.Needs.{needs}
-use Rattle.block_file.specs.WriteAnswers.{writtenOf, isRefused}
+use Rattle.file_writing.specs.WriteAnswers.{writtenOf, isRefused}
 use Rattle.rewrite_file.proofs.Texts.{write-refused, write-done}
 use Rattle.rewrite_file.proofs.write_file.Statement.{statement}
 use Rattle.rewrite_file.proofs.write_file.Tie as tie

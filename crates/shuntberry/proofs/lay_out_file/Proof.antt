@@ -2,7 +2,7 @@
 use mathlib.Core.Path.{sym, ap}
 use native.Mathlib.Omega.{arith}
 use borrow.Author.Needs.{needs}
-use Rattle.block_file.specs.WriteAnswers.{writtenOf}
+use Rattle.file_writing.specs.WriteAnswers.{writtenOf}
 use Rattle.shuntberry.proofs.lay_out_file.Statement.{statement}
 use Rattle.shuntberry.proofs.lay_out_file.Tie as tie
 

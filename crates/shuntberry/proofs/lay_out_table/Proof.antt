@@ -2,7 +2,7 @@
 use mathlib.Core.Path.{sym, ap}
 use native.Mathlib.Omega.{arith}
 use borrow.Author.Needs.{needs}
-use Rattle.block_file.specs.ReadAnswers.{readOf}
+use Rattle.file_reading.specs.ReadAnswers.{readOf}
 use Rattle.shuntberry.proofs.lay_out_table.Statement.{statement}
 use Rattle.shuntberry.proofs.lay_out_table.Tie as tie
 

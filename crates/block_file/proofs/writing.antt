@@ -1,2 +1,0 @@
-pub mod SetBytes
-pub mod Joining

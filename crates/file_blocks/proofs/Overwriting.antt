@@ -1,0 +1,147 @@
+-- A buffer written over, part by part.
+--
+--   Over xs old out                  out is old with xs written over its front
+--   over-none, over-next, over-all   a loop that writes f 0, f 1, ..: before its first turn; a turn; when it is done
+--   over-list                        one that writes the elements of a list has written the list
+--   lent, back                       the rest of a buffer from a place on, which is lent; the buffer, with what came back in its place
+--   lent-back                        a buffer whose rest was lent and written over
+--   overwrite-lent                   so more is written behind what stands at the front
+--   parts-none, parts-more, parts-all   a loop that lends the rest and writes the lists f 0, f 1, .. of w elements there, each behind those before it
+--   put-long, put-own, put-other     a list put into a buffer from a place on: the length; its own places; any other place
+--   put-apart                        a set of a store that it was put into elsewhere
+use Prim.Native.Nat.{ℕ, _+_, _*_, _-_, _≤_, _<_}
+use native.Mathlib.Nat.{le-antisymm}
+use native.Mathlib.Omega.{arith}
+use mathlib.Core.Path.{_≡_, refl, sym, ap, ap₂, _∙_, subst}
+use mathlib.Core.Logic.{_⊎_, inl, inr, ⊎-elim}
+use mathlib.Core.List.{List, [], _∷_, _++_, append-nil}
+use borrow.Rule.Slice.PartMut.{putMid}
+use lib.ListN.{length, getD, set, take, drop, length-set, length-append, length-drop, drop-of-length-le, List·getD-append}
+use lib.Seq.{ext-getD, length-take-le, take-all, take-at, drop-at, getD-take, getD-drop, getD-append-add}
+use Rattle.model.specs.Sets.{WORDS, tabulate}
+use Rattle.model.specs.Stores.{setAt, concat}
+use Rattle.model.specs.Calls.{overwrite}
+use Rattle.model.proofs.Bounds.{length-tabulate, getD-tabulate}
+use Rattle.model.proofs.ListLaws.{getD-behind, tabulate-next, length-concat, concat-next, length-overwrite, overwrite-more, overwrite-set}
+use Rattle.model.proofs.StoreLaws.{length-setAt, getD-setAt}
+use Rattle.file_blocks.specs.Places.{overwriteFrom}
+
+pub record Over (xs old out : List ℕ) : Type 0 where
+  pub long : length out ≡ length old
+  pub is : out ≡ overwrite xs old
+
+module _ (f : ℕ → ℕ) (old : List ℕ) where
+  pub over-none : Over (tabulate 0 f) old old
+  unfolding tabulate overwrite
+  over-none = record { long = refl; is = refl }
+
+  pub over-next : (out : List ℕ) (i : ℕ) {x : ℕ} → i < length old → x ≡ f i → Over (tabulate i f) old out → Over (tabulate (i + 1) f) old (set out i x)
+  over-next out i {x} h e w =
+      record {
+        long = length-set out i x ∙ w .long;
+        is =
+            ap (λ ys. set ys i x) (w .is)
+            ∙ overwrite-set (tabulate i f) old x i (length-tabulate f i) h
+            ∙ ap (λ ys. overwrite ys old) (ap (λ (y : ℕ). tabulate i f ++ (y ∷ [])) e ∙ sym (tabulate-next f i));
+      }
+
+pub over-all : (xs : ℕ → List ℕ) (old out : List ℕ) (i m : ℕ) → i ≤ m → m ≤ i → Over (xs i) old out → out ≡ overwrite (xs m) old
+over-all xs old out i m l h w = w .is ∙ ap (λ (j : ℕ). overwrite (xs j) old) (le-antisymm l h)
+
+pub over-list : (xs : List ℕ) {old out : List ℕ} (i m : ℕ) → length xs ≡ m → i ≤ m → m ≤ i → Over (tabulate i (λ j. getD xs j 0)) old out → out ≡ overwrite xs old
+over-list xs {old} {out} i m long l h so =
+    let at : ℕ → ℕ = λ j. getD xs j 0 in
+    let all : tabulate m at ≡ xs =
+    ext-getD 0 (tabulate m at) xs (length-tabulate at m ∙ sym long)
+    (λ j b. getD-tabulate at m j 0 (subst (λ (k : ℕ). j < k) (length-tabulate at m) b)) in
+    over-all (λ k. tabulate k at) old out i m l h so ∙ ap (λ ys. overwrite ys old) all
+
+-- ---- the rest of a buffer, lent
+
+abbrev pub lent : ℕ → List ℕ → List ℕ
+lent at out = take (length out - at) (drop at out)
+
+abbrev pub back : ℕ → List ℕ → List ℕ → List ℕ
+back at out rest = take at out ++ (rest ++ drop (length out - at) (drop at out))
+
+pub lent-back : (at : ℕ) (out rest xs : List ℕ) → rest ≡ overwrite xs (lent at out)
+    → putMid at (length out - at) out rest ≡ overwriteFrom at xs out
+unfolding overwriteFrom
+lent-back at out rest xs e =
+    let all : length (drop at out) ≤ length out - at = omega (arith, length-drop at out) in
+    ap (λ ys. take at out ++ ys)
+    (ap₂ (λ ys zs. ys ++ zs)
+    (e ∙ ap (overwrite xs) (take-all (length out - at) (drop at out) all))
+    (drop-of-length-le (drop at out) {i = length out - at} all)
+    ∙ append-nil (overwrite xs (drop at out)))
+
+-- ys written behind xs
+pub overwrite-lent : (xs ys old out rest : List ℕ) (n : ℕ) → length xs ≡ n → out ≡ overwrite xs old → rest ≡ overwrite ys (lent n out) → back n out rest ≡ overwrite (xs ++ ys) old
+unfolding overwriteFrom
+overwrite-lent xs ys old out rest n long e f =
+    lent-back n out rest ys f ∙ ap (λ zs. take n zs ++ overwrite ys (drop n zs)) e ∙ overwrite-more xs old ys n long
+
+-- lists of w elements, each written behind those before it
+module _ (f : ℕ → List ℕ) (old : List ℕ) where
+  pub parts-none : Over (concat 0 f) old old
+  unfolding concat overwrite
+  parts-none = record { long = refl; is = refl }
+
+  pub parts-more : (w : ℕ) → ((k : ℕ) → length (f k) ≡ w) → (out rest : List ℕ) (k : ℕ) → Over (concat k f) old out → rest ≡ overwrite (f k) (lent (w * k) out)
+      → length (back (w * k) out rest) ≡ length out → Over (concat (k + 1) f) old (back (w * k) out rest)
+  parts-more w wide out rest k so e long =
+      record {
+        long = long ∙ so .long;
+        is =
+            overwrite-lent (concat k f) (f k) old out rest (w * k) (length-concat f w k (λ j h. wide j)) (so .is) e
+            ∙ ap (λ xs. overwrite xs old) (sym (concat-next f k));
+      }
+
+  pub parts-all : (out : List ℕ) (k m : ℕ) → k ≤ m → m ≤ k → Over (concat k f) old out → out ≡ overwrite (concat m f) old
+  parts-all = over-all (λ k. concat k f) old
+
+-- ---- a list put into a buffer
+
+-- the same words at a place
+setAt-same : (xs ys : List ℕ) (at : ℕ) → at + WORDS ≤ length xs → at + WORDS ≤ length ys
+    → ((w : ℕ) → w < WORDS → getD xs (at + w) 0 ≡ getD ys (at + w) 0) → setAt xs at ≡ setAt ys at
+setAt-same xs ys at h l e =
+    ext-getD 0 (setAt xs at) (setAt ys at) (length-setAt xs at h ∙ sym (length-setAt ys at l))
+    (λ w m.
+    let word : w < WORDS = subst (λ (j : ℕ). w < j) (length-setAt xs at h) m in
+    getD-setAt xs at w word ∙ e w word ∙ sym (getD-setAt ys at w word))
+
+module _ (at : ℕ) (xs old : List ℕ) (h : at + length xs ≤ length old) where
+  front-long : length (take at old) ≡ at
+  front-long = length-take-le at old (omega arith)
+
+  pub put-long : length (overwriteFrom at xs old) ≡ length old
+  unfolding overwriteFrom
+  put-long =
+      length-append (take at old) (overwrite xs (drop at old))
+      ∙ omega (arith, front-long, length-drop at old, length-overwrite xs (drop at old) (omega (arith, length-drop at old)))
+
+  pub put-own : (w : ℕ) → length xs ≡ w → take w (drop at (overwriteFrom at xs old)) ≡ xs
+  unfolding overwriteFrom overwrite
+  put-own w e =
+      ap (take w) (drop-at (take at old) (xs ++ drop (length xs) (drop at old)) at front-long) ∙ take-at xs (drop (length xs) (drop at old)) w e
+
+  pub put-other : (i : ℕ) → (i < at) ⊎ (at + length xs ≤ i) → getD (overwriteFrom at xs old) i 0 ≡ getD old i 0
+  unfolding overwriteFrom overwrite
+  put-other i =
+      ⊎-elim
+      (λ l. List·getD-append (take at old) (overwrite xs (drop at old)) 0 i (subst (λ (m : ℕ). i < m) (sym front-long) l) ∙ getD-take at old i 0 l)
+      (λ l.
+      let r = i - (at + length xs) in
+      let place : at + (length xs + r) ≡ i = omega arith in
+      ap (λ (j : ℕ). getD (overwriteFrom at xs old) j 0) (sym place)
+      ∙ getD-behind (take at old) (overwrite xs (drop at old)) at (length xs + r) 0 front-long
+      ∙ getD-append-add xs (drop (length xs) (drop at old)) r 0
+      ∙ getD-drop (length xs) (drop at old) r 0
+      ∙ getD-drop at old (length xs + r) 0
+      ∙ ap (λ (j : ℕ). getD old j 0) place)
+
+  pub put-apart : (place : ℕ) → place + WORDS ≤ length old → (place + WORDS ≤ at) ⊎ (at + length xs ≤ place) → setAt (overwriteFrom at xs old) place ≡ setAt old place
+  put-apart place l apart =
+      setAt-same (overwriteFrom at xs old) old place (omega (arith, put-long)) l
+      (λ w m. put-other (place + w) (⊎-elim (λ b. inl (omega arith)) (λ b. inr (omega arith)) apart))

@@ -1,0 +1,156 @@
+// What reading and writing a file share (the specification, "Files").
+//
+//   BLOCK, CONTENT, CONTENT_AT, CHECK_AT     a block's bytes, those of its content, and where its content and its check begin
+//   HEADER                                   the content bytes of n and of the second number, before the sets
+//   MAX_FILE, CONTENTS                       the length of the largest file, and its content bytes
+//   Form, head_sets, added                   the form of a file; its sets before the groups, how many; what its second number has more than g
+//   wide                                     a byte as a 64-bit number
+//   le16_at                                  the number whose two bytes stand at a place, low byte first
+//   copy_content                             the content of a block, copied
+//   MAX_SITE, check_of                       the greatest site number; the check of a block for a site
+//   set_width, set_count                     the bytes of a set, and how many sets there are
+//   content_length, blocks_for               the bytes of the contents (L), and the blocks that hold so many
+//   place_of                                 where a set of the file begins in the store
+ghost use Prim.Native.Nat.{_+_, _≤_, _<_};
+ghost use mathlib.Core.Path.{_≡_};
+ghost use lib.ListN.{length};
+ghost use Rattle.model.specs.Sets.{WORDS, maxStates};
+ghost use Rattle.model.specs.Stores.{headSets, maxGroups, storeWords};
+ghost use Rattle.model.specs.Blocks.{contentBytes, checkAt, maxSite, le16At, blocksFor, checkOf};
+ghost use Rattle.model.specs.Contents.{newForm, heads, added, setWidth, contentLength};
+ghost use Rattle.model.specs.Calls.{overwrite};
+ghost use Rattle.file_blocks.specs.Places.{formOf, placeOf, contentFrom};
+use state_set::WORDS;
+use table::GROUPS_AT;
+use table::HEAD_SETS;
+use table::MAX_GROUPS;
+use table::MAX_STATES;
+use table::ROWS_AT;
+
+pub const BLOCK: usize = 512;
+
+pub const CONTENT: usize = 508;
+
+pub const CONTENT_AT: usize = 2;
+
+pub const CHECK_AT: usize = 510;
+
+pub const HEADER: usize = 4;
+
+// The length of the largest file, of either form.
+pub const MAX_FILE: usize = BLOCK
+    * ((HEADER + (MAX_STATES + 7) / 8 * (HEAD_SETS + MAX_GROUPS + MAX_STATES) + CONTENT - 1)
+        / CONTENT);
+
+// The content bytes of the largest file.
+pub const CONTENTS: usize = CONTENT * (MAX_FILE / BLOCK);
+
+// The sets before the groups of a file of the old form: initial and marked.
+const OLD_HEAD_SETS: usize = 2;
+
+// What is added to g in the second number of a file of the new form.
+const ADDED: usize = 32768;
+
+pub const MAX_SITE: usize = 65520;
+
+// The old form has no resting states.
+pub enum Form {
+    Old,
+    New,
+}
+
+pub fn head_sets(form: Form) -> usize
+    ensures { λ r. ⌜ (r ≡ heads (formOf form)) × (r ≤ headSets) ⌝ }
+{
+    match form {
+        Form::Old => OLD_HEAD_SETS,
+        Form::New => HEAD_SETS,
+    }
+}
+
+pub fn added(form: Form) -> usize
+    ensures { λ r. ⌜ (r ≡ added (formOf form)) × (r < 65536) ⌝ }
+{
+    match form {
+        Form::Old => 0,
+        Form::New => ADDED,
+    }
+}
+
+pub fn wide(b: u8) -> u64
+    ensures { λ r. ⌜ (r ≡ b) × (r < 256) ⌝ }
+{
+    b as u64
+}
+
+pub fn le16_at(bytes: &[u8], i: usize) -> usize
+    requires { ⌜ i + 1 < length (now bytes) ⌝ }
+    ensures { λ r. ⌜ r ≡ le16At (now (bytes .entry)) i ⌝ }
+{
+    (wide(bytes[i]) + 256 * wide(bytes[i + 1])) as usize
+}
+
+// The content of a block, from byte `from` of some bytes on, to the front of what is lent.
+pub fn copy_content(bytes: &[u8], from: usize, out: &mut [u8])
+    requires { ⌜ (from + contentBytes ≤ length (now bytes)) × (contentBytes ≤ length (now out)) ⌝ }
+    ensures { λ r. ⌜ now (out .exit) ≡ overwrite (contentFrom (now (bytes .entry)) from contentBytes) (now (out .entry)) ⌝ }
+{
+    for i in 0..CONTENT {
+        out[i] = bytes[from + i];
+    }
+}
+
+// The sum starts from the site. It stays below 2^32, so it is reduced once, at the end.
+pub fn check_of(block: &[u8], site: usize) -> u64
+    requires { ⌜ (checkAt ≤ length (now block)) × (site ≤ maxSite) ⌝ }
+    ensures { λ r. ⌜ r ≡ checkOf site (now (block .entry)) ⌝ }
+{
+    let mut sum: u32 = site as u32;
+    for i in 0..CHECK_AT {
+        sum += (i as u32 + 1) * (wide(block[i]) as u32);
+    }
+    (sum % 65521) as u64
+}
+
+pub fn set_width(n: usize) -> usize
+    requires { ⌜ n ≤ maxStates ⌝ }
+    ensures { λ r. ⌜ r ≡ setWidth n ⌝ }
+{
+    (n + 7) / 8
+}
+
+pub fn set_count(form: Form, n: usize, g: usize) -> usize
+    requires { ⌜ (n ≤ maxStates) × (g ≤ maxGroups) ⌝ }
+    ensures { λ r. ⌜ (r ≡ heads (formOf form) + g + n) × (r ≤ headSets + maxGroups + maxStates) ⌝ }
+{
+    head_sets(form) + g + n
+}
+
+pub fn content_length(form: Form, n: usize, g: usize) -> usize
+    requires { ⌜ (n ≤ maxStates) × (g ≤ maxGroups) ⌝ }
+    ensures { λ r. ⌜ (r ≡ contentLength (formOf form) n g) × (r ≤ contentLength newForm maxStates maxGroups) ⌝ }
+{
+    HEADER + set_width(n) * set_count(form, n, g)
+}
+
+pub fn blocks_for(l: usize) -> usize
+    requires { ⌜ l ≤ contentLength newForm maxStates maxGroups ⌝ }
+    ensures { λ r. ⌜ r ≡ blocksFor l ⌝ }
+{
+    (l + CONTENT - 1) / CONTENT
+}
+
+// Where set k of the file begins in the store.
+pub fn place_of(form: Form, g: usize, k: usize) -> usize
+    requires { ⌜ (g ≤ maxGroups) × (k < heads (formOf form) + g + maxStates) ⌝ }
+    ensures { λ r. ⌜ (r ≡ placeOf (formOf form) g k) × (r + WORDS ≤ storeWords) ⌝ }
+{
+    let heads = head_sets(form);
+    if k < heads {
+        return WORDS * k;
+    }
+    if k < heads + g {
+        return GROUPS_AT + WORDS * (k - heads);
+    }
+    ROWS_AT + WORDS * (k - (heads + g))
+}

@@ -1,0 +1,34 @@
+-- `fill_set`: the words passed are those of the set.
+use Prim.Native.Nat.{_-_, _≤_}
+use borrow.Author.Needs.{needs}
+use lib.ListN.{getD}
+use Rattle.model.specs.Sets.{WORDS, tabulate}
+use Rattle.model.specs.Contents.{setIn}
+use Rattle.model.proofs.ContentLaws.{setIn-proper}
+use Rattle.file_blocks.proofs.Overwriting.{Over, over-none, over-next, over-list}
+use Rattle.file_reading.proofs.fill_set.Statement.{statement}
+use Rattle.file_reading.proofs.fill_set.Tie as tie
+
+abbrev Inv-loop : tie.InvT-loop
+Inv-loop words₀ bytes w k at v₀ words v = (v ≤ WORDS) × Over (tabulate v (λ i. getD (setIn bytes w at) i 0)) words₀ words
+
+abbrev μ-loop : tie.MeasureT-loop
+μ-loop words₀ bytes w k at v₀ words v = WORDS - v
+
+pub fill-set-spec : {M : Type 1} → statement M
+fill-set-spec =
+    tie.close
+    (tie.spec
+    Inv-loop
+    μ-loop
+    (λ c. search needs)
+    (λ c. search needs)
+    (λ c. (search needs, over-none _ _))
+    (λ c κs. search needs)
+    (λ c. search needs)
+    (λ c. search needs)
+    (λ c. search needs)
+    (λ c. search needs)
+    (λ c. (search needs, over-next _ _ _ _ (search needs) (c .word-in .ensures) (c .before .before .loop .inv .1)))
+    (λ c. search needs)
+    (λ c. over-list _ _ WORDS (setIn-proper _ _ _ .long) (search needs) (search needs) (c .before .loop .inv .1)))

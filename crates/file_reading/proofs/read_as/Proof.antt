@@ -1,0 +1,77 @@
+-- `read_as`: the store is cleared or filled where nothing is refused.
+use Prim.Native.Nat.{ℕ, _-_, _≤_}
+use native.Mathlib.Omega.{arith}
+use mathlib.Core.Path.{_≡_, refl, sym, ap₂}
+use borrow.Author.Needs.{needs}
+use lib.ListN.{length}
+use Rattle.model.specs.Stores.{refuse}
+use Rattle.model.specs.Blocks.{blockBytes}
+use Rattle.model.specs.Calls.{readGroundsAs}
+use Rattle.file_blocks.specs.Places.{formOf}
+use Rattle.file_blocks.proofs.BlockLaws.{contentsRoom}
+use Rattle.file_reading.proofs.Grounds.{joined-long, outer-declines, room-enough, draft-accepted, short-input, some-block, content-decides, second-least, table-inside, declined, draft-read, table-read}
+use Rattle.file_reading.proofs.Joining.{joined-room, joined-fits, joined}
+use Rattle.file_reading.proofs.read_as.Statement.{statement}
+use Rattle.file_reading.proofs.read_as.Tie as tie
+
+-- there is a block, and so a header
+block : (c : tie.Else2) → blockBytes ≤ length (c .before .before .before .before .before .args .input .now)
+block c = some-block _ _ _ (c .before .before .outer-refusal .ensures) (c .before .if1 .left) (c .if2 .left)
+
+-- the grounds of the contents decide
+ground : (c : tie.After-content-refusal) → let args = c .before .before .before .before .before .before .before .before .before .before .before .before .args in
+    c .content-refusal .result ≡ refuse (readGroundsAs (formOf (args .form)) (args .input .now) (args .site) (length (args .store .now)))
+ground c =
+    let second = c .before .before in
+    let file = second .before .before .before .before .before in
+    content-decides _ _ _ (file .before .before .outer-refusal .ensures) (file .before .if1 .left) (file .if2 .left) _ (second .before .le16-at .ensures)
+    (second .le16-at2 .ensures) (c .content-refusal .ensures)
+
+pub read-as-spec : {M : Type 1} → statement M
+read-as-spec =
+    tie.close
+    (tie.spec
+    (λ c κs. search needs)
+    (λ c. declined _ _ _ _ (outer-declines _ _ _ (c .before .outer-refusal .ensures) _ (c .if1 .taken)) (c .if1 .taken))
+    (λ c κs. room-enough _ _ _ (c .before .before .before .outer-refusal .ensures) (c .before .before .if1 .left))
+    (λ c. search needs)
+    (λ c.
+    let draft = c .before .before .before .before in
+    draft-read _ _ _ _ (draft-accepted _ _ _ (draft .before .before .outer-refusal .ensures) (draft .before .if1 .left) _ (draft .if2 .taken)) refl (draft .if2 .taken)
+    (c .before .before .clear .ensures))
+    (λ c. search needs)
+    (λ c κs.
+    let file = c .before in
+    joined-room (file .before .before .before .before .before .args .input .now) contentsRoom (short-input _ _ _ (file .before .before .outer-refusal .ensures) (file .before .if1 .left) (file .if2 .left)) (omega arith))
+    (λ c. search needs)
+    (λ c κs. omega (arith, block (c .before .before .before)))
+    (λ c. search needs)
+    (λ c κs. omega (arith, block (c .before .before .before .before)))
+    (λ c. joined-fits _ contentsRoom (c .before .before .before .join .ensures))
+    (λ c. sym (joined-long _ (joined _ contentsRoom (c .before .before .before .before .join .ensures))))
+    (λ c κs. joined _ contentsRoom (c .before .before .before .before .join .ensures))
+    (λ c. declined _ _ _ _ (ground (c .before)) (c .if3 .taken))
+    (λ c κs. search needs)
+    (λ c.
+    let none = c .before in
+    let second = none .before .before .before in
+    omega (arith, second-least _ _ _ _ (ground (none .before)) (none .if3 .left) (second .before .before .before .before .before .if2 .left) (second .le16-at2 .ensures) (c .added .ensures .0)))
+    (λ c. joined-fits _ contentsRoom (c .before .before .before .before .before .before .before .join .ensures))
+    (λ c. sym (joined-long _ (joined _ contentsRoom (c .before .before .before .before .before .before .before .before .join .ensures))))
+    (λ c κs.
+    let added = c .before .before in
+    let none = added .before in
+    let second = none .before .before .before in
+    let file = second .before .before .before .before .before in (
+      table-inside _ _ _ _ (ground (none .before)) (none .if3 .left) (file .if2 .left) (second .before .le16-at .ensures)
+          (ap₂ (λ (a b : ℕ). a - b) (second .le16-at2 .ensures) (added .added .ensures .0)) (joined _ contentsRoom (second .before .before .before .join .ensures)),
+      room-enough _ _ _ (file .before .before .outer-refusal .ensures) (file .before .if1 .left),
+    ))
+    (λ c. search needs)
+    (λ c.
+    let added = c .before .before .before .before .before in
+    let none = added .before in
+    let second = none .before .before .before in
+    table-read _ _ _ _ (ground (none .before)) (none .if3 .left) (second .before .before .before .before .before .if2 .left) (second .before .le16-at .ensures)
+    (ap₂ (λ (a b : ℕ). a - b) (second .le16-at2 .ensures) (added .added .ensures .0)) (joined _ contentsRoom (second .before .before .before .join .ensures))
+    (c .before .before .fill .ensures)))

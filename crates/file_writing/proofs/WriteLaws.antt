@@ -1,0 +1,128 @@
+-- Laws that the functions of `writing` cite.
+--
+--   le16-written                         two bytes stored
+--   blockFront, block-written            a block up to its check, and with it
+--   held                                 where no shared ground holds, the store is long enough and n and g are in bounds
+--   declined-short, declined-site, declined-shared, draft-written, declined-room, written   the contract of `write` in each case
+use Prim.Native.Nat.{ℕ, _+_, _*_, _/_, _%_, _≤_, _<_}
+use native.Mathlib.Omega.{arith}
+use mathlib.Core.Path.{_≡_, refl, sym, ap, _∙_}
+use mathlib.Core.List.{List, [], _∷_, _++_}
+use borrow.Author.Tests.{lt-ltb, ne-eqb}
+use lib.ListN.{set, length}
+use Rattle.model.specs.Stores.{storeWords, dialogueOf, concat, refuse, sharedGrounds}
+use Rattle.model.specs.Blocks.{blockBytes, contentBytes, checkAt, maxSite, le16, blocksFor, checkOf, blockOf}
+use Rattle.model.specs.Contents.{newForm, contents, contentLength}
+use Rattle.model.specs.Files.{blockFile, fileOf, fileLength}
+use Rattle.model.specs.Calls.{overwrite, outputGround, writeGrounds, writeAnswer, writeBuffer}
+use Rattle.model.proofs.Bounds.{length-tabulate, getD-tabulate}
+use Rattle.model.proofs.ListLaws.{overwrite-front, overwrite-set}
+use Rattle.model.proofs.GroundLaws.{refuse-take, refuse-append}
+use Rattle.model.proofs.BlockLaws.{checkOf-cong, block-unique, framed-is, blockOf-is}
+use Rattle.model.proofs.ContentLaws.{length-contents}
+use Rattle.model.proofs.FileLaws.{file-draft, file-blocks, length-draft, length-blocks}
+use Rattle.model.proofs.CallLaws.{Writable, write-over, write-behind, write-answer, write-buffer}
+use Rattle.model.proofs.Acceptance.{Store, accepted-store, store-accepted}
+use Rattle.file_writing.specs.declared.Written.the-variants.{File, Refused}
+use Rattle.file_writing.specs.WriteAnswers.{CalledWrite}
+use Rattle.file_blocks.specs.Places.{contentFrom}
+use Rattle.file_writing.specs.Writing.{LongEnough}
+use Rattle.file_blocks.proofs.BlockLaws.{length-contentFrom}
+
+-- ---- a buffer filled
+
+-- the two bytes of a number
+pub le16-written : (old : List ℕ) (x : ℕ) → 2 ≤ length old → set (set old 0 (x % 256)) 1 (x / 256 % 256) ≡ overwrite (le16 x) old
+unfolding overwrite
+le16-written old x h =
+    ap (λ ys. set ys 1 (x / 256 % 256)) (overwrite-set [] old (x % 256) 0 refl (omega arith))
+    ∙ overwrite-set (x % 256 ∷ []) old (x / 256 % 256) 1 refl h
+
+-- ---- a block
+
+module _ (bytes : List ℕ) (k : ℕ) where
+  abbrev pub blockFront : List ℕ
+  blockFront = le16 k ++ contentFrom bytes (contentBytes * k) contentBytes
+
+  pub length-blockFront : length blockFront ≡ checkAt
+  length-blockFront = omega (arith, length-contentFrom bytes (contentBytes * k) contentBytes)
+
+  blockFront-is : (site : ℕ) → blockFront ++ le16 (checkOf site blockFront) ≡ blockOf site bytes k
+  unfolding contentFrom
+  blockFront-is site =
+      block-unique (framed-is site bytes k (contentFrom bytes (contentBytes * k) contentBytes) (length-contentFrom bytes (contentBytes * k) contentBytes) (λ i h. getD-tabulate _ contentBytes i 0 h)) (blockOf-is site bytes k)
+
+  -- with the check taken of the buffer
+  pub block-written : (site : ℕ) (old out : List ℕ) (check : ℕ) → out ≡ overwrite blockFront old → check ≡ checkOf site out
+      → overwrite (blockFront ++ le16 check) old ≡ overwrite (blockOf site bytes k) old
+  block-written site old out check e f =
+      let same : checkOf site out ≡ checkOf site blockFront =
+      ap (checkOf site) e ∙ checkOf-cong site (overwrite blockFront old) blockFront (λ i h. overwrite-front blockFront old i 0 (omega (arith, length-blockFront))) in
+      ap (λ (x : ℕ). overwrite (blockFront ++ le16 x) old) (f ∙ same) ∙ ap (λ xs. overwrite xs old) (blockFront-is site)
+
+-- ---- the call
+
+-- no ground that the calls share holds
+pub held : (store : List ℕ) (n g k : ℕ) → k ≡ refuse (sharedGrounds store n g) → k ≡ 0 → LongEnough store n g
+held store n g k e z = let s = accepted-store store n g [] (sym e ∙ z) .0 in record { long = s .long; small = s .small; few = s .few }
+
+module _ (store : List ℕ) (n g site : ℕ) (out : List ℕ) where
+  -- a ground k holds
+  declined : (k : ℕ) → k ≡ refuse (writeGrounds store n g site (length out)) → (k ≡ 0 → ⊥) → CalledWrite store n g site out (Refused k) out
+  unfolding writeAnswer writeBuffer
+  declined k e f = let no = ne-eqb k 0 f in (rw (← e, no), rw (← e, no, no), rw (← e, no, no))
+
+  -- none holds, and l bytes are written
+  accepted : {l : ℕ} {after : List ℕ} → Writable store n g site (length out) → l ≡ fileLength newForm n g → after ≡ overwrite (fileOf newForm site (dialogueOf store n g)) out
+      → CalledWrite store n g site out (File l) after
+  accepted w e f =
+      let answer = write-answer store n g site (length out) w in
+      (ap (λ (m : ℕ). record { refusal = 0; length = m }) e ∙ sym answer, f ∙ sym (write-buffer store n g site out w), rw answer)
+
+  pub declined-short : length store < storeWords → CalledWrite store n g site out (Refused 10) out
+  unfolding writeGrounds
+  declined-short h = declined 10 (sym (refuse-take _ 10 _ (lt-ltb (length store) storeWords h))) (λ x. omega arith)
+
+  pub declined-site : storeWords ≤ length store → maxSite < site → CalledWrite store n g site out (Refused 24) out
+  declined-site long h = declined 24 (sym (write-over store n g site (length out) long h)) (λ x. omega arith)
+
+  -- k is the first of the grounds that the calls share, or 0
+  module _ (long : storeWords ≤ length store) (known : site ≤ maxSite) (k : ℕ) (e : k ≡ refuse (sharedGrounds store n g)) where
+    behind : refuse (writeGrounds store n g site (length out)) ≡ refuse (sharedGrounds store n g ++ (outputGround n g (length out) ∷ []))
+    behind = write-behind store n g site (length out) long known
+
+    pub declined-shared : (k ≡ 0 → ⊥) → CalledWrite store n g site out (Refused k) out
+    declined-shared f = declined k (refuse-append (sharedGrounds store n g) _ e f ∙ sym behind) f
+
+    module _ (z : k ≡ 0) where
+      table-held : Store store n g
+      table-held = accepted-store store n g [] (sym e ∙ z) .0
+
+      pub draft-written : n ≡ 0 → CalledWrite store n g site out (File 0) out
+      unfolding overwrite dialogueOf
+      draft-written d =
+          let none = length-draft newForm n g d in
+          accepted (record { held = table-held; known = known; fits = omega (arith, none) }) (sym none)
+          (ap (λ xs. overwrite xs out) (sym (file-draft newForm site (dialogueOf store n g) d)))
+
+      module _ (some : n ≡ 0 → ⊥) (blocks : ℕ) (b : blocks ≡ blocksFor (contentLength newForm n g)) where
+        size : fileLength newForm n g ≡ blockBytes * blocks
+        size = length-blocks newForm n g some ∙ ap (λ (m : ℕ). blockBytes * m) (sym b)
+
+        pub declined-room : length out < blockBytes * blocks → CalledWrite store n g site out (Refused 19) out
+        declined-room h =
+            declined 19
+            (sym
+            (behind ∙ store-accepted store n g _ table-held ∙ refuse-take _ 19 _ (lt-ltb (length out) (fileLength newForm n g) (omega (arith, size)))))
+            (λ x. omega arith)
+
+        pub written : (after : List ℕ) → blockBytes * blocks ≤ length out → after ≡ overwrite (concat blocks (blockOf site (contents newForm (dialogueOf store n g)))) out
+            → CalledWrite store n g site out (File (blockBytes * blocks)) after
+        unfolding blockFile dialogueOf
+        written after h w =
+            let t = dialogueOf store n g in
+            let many = ap (λ (l : ℕ). blocksFor l) (length-contents newForm t (length-tabulate _ g)) in
+            accepted (record { held = table-held; known = known; fits = omega (arith, size) }) (sym size)
+            (w
+            ∙ ap (λ (m : ℕ). overwrite (concat m (blockOf site (contents newForm t))) out) (b ∙ sym many)
+            ∙ ap (λ xs. overwrite xs out) (sym (file-blocks newForm site t some)))

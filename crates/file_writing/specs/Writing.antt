@@ -1,0 +1,26 @@
+-- What the functions below `write` ask, and their parts of the file.
+--
+--   LongEnough store n g         a store long enough, with n and g in bounds
+--   wordBytes x count            the lowest so many bytes of a word, lowest first; wordsBytes words v: all eight of word v
+--   placedSet store w g k        the w bytes of set k of a file with g groups, from its place in the store
+use Prim.Native.Nat.{ℕ, _*_, _/_, _%_, _^_, _≤_}
+use mathlib.Core.List.{List}
+use lib.ListN.{length, getD}
+use Rattle.model.specs.Sets.{maxStates, tabulate}
+use Rattle.model.specs.Stores.{maxGroups, storeWords, setAt}
+use Rattle.model.specs.Contents.{newForm, setBytes}
+use Rattle.file_blocks.specs.Places.{placeOf}
+
+pub record LongEnough (store : List ℕ) (n g : ℕ) : Type 0 where
+  pub long : storeWords ≤ length store
+  pub small : n ≤ maxStates
+  pub few : g ≤ maxGroups
+
+unfoldable pub wordBytes : ℕ → ℕ → List ℕ
+wordBytes x count = tabulate count (λ b. x / 2 ^ (8 * b) % 256)
+
+unfoldable pub wordsBytes : List ℕ → ℕ → List ℕ
+wordsBytes words v = wordBytes (getD words v 0) 8
+
+unfoldable pub placedSet : List ℕ → ℕ → ℕ → ℕ → List ℕ
+placedSet store w g k = setBytes w (setAt store (placeOf newForm g k))

@@ -1,0 +1,171 @@
+// The call `write`: the file of a table, from the store to the lent output.
+//
+//   Written, write                 the file at the front of the output and its length, or why it is declined
+//   write_file                     the file: the contents joined, then its blocks
+//   join, join_sets                the contents; the sets, which stand behind the header
+//   put_set, put_words, put_bytes  the bytes of a set; of its first words; the lowest of a word
+//   write_blocks, write_block      the first so many blocks; one block: its number, its content, its check
+//   write_le16                     a two-byte number, low byte first
+//
+// What is written is said with the model's `overwrite`: at the front of what was lent, the rest of it untouched.
+ghost use Prim.Native.Nat.{_+_, _*_, _≤_, _<_};
+ghost use mathlib.Core.Path.{_≡_};
+ghost use lib.ListN.{length};
+ghost use Rattle.model.specs.Sets.{WORDS, maxStates};
+ghost use Rattle.model.specs.Stores.{headSets, maxGroups, dialogueOf, concat};
+ghost use Rattle.model.specs.Blocks.{blockBytes, contentBytes, maxSite, le16, blocksFor, blockOf};
+ghost use Rattle.model.specs.Contents.{newForm, setWidth, setBytes, contents, contentLength};
+ghost use Rattle.model.specs.Calls.{overwrite};
+ghost use Rattle.file_writing.specs.WriteAnswers.{CalledWrite};
+ghost use Rattle.file_writing.specs.Writing.{LongEnough, wordBytes, wordsBytes, placedSet};
+use file_blocks::BLOCK;
+use file_blocks::CHECK_AT;
+use file_blocks::CONTENT;
+use file_blocks::CONTENT_AT;
+use file_blocks::CONTENTS;
+use file_blocks::Form;
+use file_blocks::HEADER;
+use file_blocks::MAX_SITE;
+use file_blocks::added;
+use file_blocks::blocks_for;
+use file_blocks::check_of;
+use file_blocks::content_length;
+use file_blocks::copy_content;
+use file_blocks::place_of;
+use file_blocks::set_count;
+use file_blocks::set_width;
+use state_set::WORDS;
+use table::STORE_WORDS;
+use table::refusal;
+
+pub enum Written {
+    // The length of the file.
+    File(usize),
+    Refused(u8),
+}
+
+// Nothing is written before the last ground of refusal has been tested. A draft is a file of no bytes, for which no output is too short.
+pub fn write(store: &[u64], n: usize, g: usize, site: usize, output: &mut [u8]) -> Written
+    ensures { λ r. ⌜ CalledWrite (now (store .entry)) n g site (now (output .entry)) r (now (output .exit)) ⌝ }
+{
+    if store.len() < STORE_WORDS {
+        return Written::Refused(10);
+    }
+    if MAX_SITE < site {
+        return Written::Refused(24);
+    }
+    let declined = refusal(store, n, g);
+    if declined != 0 {
+        return Written::Refused(declined);
+    }
+    if n == 0 {
+        return Written::File(0);
+    }
+    let l = content_length(Form::New, n, g);
+    let blocks = blocks_for(l);
+    let size = BLOCK * blocks;
+    if output.len() < size {
+        return Written::Refused(19);
+    }
+    write_file(store, n, g, site, blocks, output);
+    Written::File(size)
+}
+
+// The contents are joined first: so each set is taken apart once, by words, wherever the edges of blocks cut it.
+fn write_file(store: &[u64], n: usize, g: usize, site: usize, blocks: usize, out: &mut [u8])
+    requires { ⌜ LongEnough (now store) n g × (site ≤ maxSite) × (blocks ≤ blocksFor (contentLength newForm maxStates maxGroups)) × (blockBytes * blocks ≤ length (now out)) ⌝ }
+    ensures { λ r. ⌜ now (out .exit) ≡ overwrite (concat blocks (blockOf site (contents newForm (dialogueOf (now (store .entry)) n g)))) (now (out .entry)) ⌝ }
+{
+    let mut bytes = [0u8; CONTENTS];
+    join(store, n, g, &mut bytes);
+    write_blocks(&bytes, site, blocks, out);
+}
+
+// ---- contents
+
+fn join(store: &[u64], n: usize, g: usize, out: &mut [u8])
+    requires { ⌜ LongEnough (now store) n g × (contentLength newForm n g ≤ length (now out)) ⌝ }
+    ensures { λ r. ⌜ now (out .exit) ≡ overwrite (contents newForm (dialogueOf (now (store .entry)) n g)) (now (out .entry)) ⌝ }
+{
+    write_le16(n, out);
+    write_le16(added(Form::New) + g, &mut out[2..]);
+    join_sets(store, n, g, &mut out[HEADER..]);
+}
+
+fn join_sets(store: &[u64], n: usize, g: usize, out: &mut [u8])
+    requires { ⌜ LongEnough (now store) n g × (setWidth n * (headSets + g + n) ≤ length (now out)) ⌝ }
+    ensures { λ r. ⌜ now (out .exit) ≡ overwrite (concat (headSets + g + n) (placedSet (now (store .entry)) (setWidth n) g)) (now (out .entry)) ⌝ }
+{
+    let w = set_width(n);
+    for k in 0..set_count(Form::New, n, g) {
+        let a = place_of(Form::New, g, k);
+        let e = a + WORDS;
+        let at = w * k;
+        put_set(&store[a..e], w, &mut out[at..]);
+    }
+}
+
+// The first w bytes of a set: its whole words, and what is left of one.
+fn put_set(set: &[u64], w: usize, out: &mut [u8])
+    requires { ⌜ (WORDS ≤ length (now set)) × (w ≤ 8 * WORDS) × (w ≤ length (now out)) ⌝ }
+    ensures { λ r. ⌜ now (out .exit) ≡ overwrite (setBytes w (now (set .entry))) (now (out .entry)) ⌝ }
+{
+    let whole = w / 8;
+    put_words(set, whole, out);
+    let at = 8 * whole;
+    if at == w {
+        return;
+    }
+    put_bytes(set[whole], w - at, &mut out[at..]);
+}
+
+fn put_words(set: &[u64], count: usize, out: &mut [u8])
+    requires { ⌜ (count ≤ WORDS) × (WORDS ≤ length (now set)) × (8 * count ≤ length (now out)) ⌝ }
+    ensures { λ r. ⌜ now (out .exit) ≡ overwrite (concat count (wordsBytes (now (set .entry)))) (now (out .entry)) ⌝ }
+{
+    for v in 0..count {
+        let at = 8 * v;
+        put_bytes(set[v], 8, &mut out[at..]);
+    }
+}
+
+// The lowest `count` bytes of a word, lowest first. The compiler makes one store of eight.
+fn put_bytes(x: u64, count: usize, out: &mut [u8])
+    requires { ⌜ (count ≤ 8) × (count ≤ length (now out)) ⌝ }
+    ensures { λ r. ⌜ now (out .exit) ≡ overwrite (wordBytes x count) (now (out .entry)) ⌝ }
+{
+    for b in 0..count {
+        out[b] = ((x >> (8 * b)) % 256) as u8;
+    }
+}
+
+// ---- blocks
+
+// The number of a block has two bytes.
+fn write_blocks(bytes: &[u8], site: usize, blocks: usize, out: &mut [u8])
+    requires { ⌜ (contentBytes * blocks ≤ length (now bytes)) × (site ≤ maxSite) × (blocks ≤ 65536) × (blockBytes * blocks ≤ length (now out)) ⌝ }
+    ensures { λ r. ⌜ now (out .exit) ≡ overwrite (concat blocks (blockOf site (now (bytes .entry)))) (now (out .entry)) ⌝ }
+{
+    for k in 0..blocks {
+        let at = BLOCK * k;
+        write_block(bytes, site, k, &mut out[at..]);
+    }
+}
+
+fn write_block(bytes: &[u8], site: usize, k: usize, out: &mut [u8])
+    requires { ⌜ (contentBytes * k + contentBytes ≤ length (now bytes)) × (site ≤ maxSite) × (k < 65536) × (blockBytes ≤ length (now out)) ⌝ }
+    ensures { λ r. ⌜ now (out .exit) ≡ overwrite (blockOf site (now (bytes .entry)) k) (now (out .entry)) ⌝ }
+{
+    write_le16(k, out);
+    copy_content(bytes, CONTENT * k, &mut out[CONTENT_AT..]);
+    let check = check_of(out, site) as usize;
+    write_le16(check, &mut out[CHECK_AT..]);
+}
+
+fn write_le16(x: usize, out: &mut [u8])
+    requires { ⌜ 2 ≤ length (now out) ⌝ }
+    ensures { λ r. ⌜ now (out .exit) ≡ overwrite (le16 x) (now (out .entry)) ⌝ }
+{
+    out[0] = (x % 256) as u8;
+    out[1] = (x / 256 % 256) as u8;
+}
