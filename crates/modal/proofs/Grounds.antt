@@ -76,9 +76,6 @@ Passed17 store n g possible =
 or-right : (a b : Bool) → b ≡ true → (a || b) ≡ true
 or-right a b e = or-intro a b (inr e)
 
-or-neither : (a b : Bool) → a ≡ false → b ≡ false → (a || b) ≡ false
-or-neither a b p q = rw (p, q)
-
 module _ (store : List ℕ) (n g : ℕ) (possible : List ℕ) (room : ℕ) where
   pub short-possible : length possible < possibleWords → 10 ≡ refuse (modalGrounds store n g possible room)
   unfolding modalGrounds

@@ -7,7 +7,7 @@
 --   Readable                                    no ground of read holds of a file with a block, and n and g are those of the input
 --   blocks-clear                                no ground of the blocks holds, if nothing is refused
 --   clear-block, right-block                    no ground of a block holds exactly if its number and its check are right
---   read-over                                   a site over the greatest; behind-site, behind-length: the grounds of a file behind 24 and behind 11
+--   read-over                                   a site over the greatest; behind-length: the grounds of a file behind 11
 --   readable                                    where nothing is refused the input has no bytes or is readable
 --   draft-refusal, readable-refusal             and back
 --   read-refusal, read-answer, read-buffer      the refusal of any answer; the answer and the store where nothing is refused
@@ -145,7 +145,7 @@ module _ (form : Form) (input : List ℕ) (site room : ℕ) where
 
   -- a file with any block: the grounds behind 24, and those behind 11
   module _ (fits : storeWords ≤ room) (known : site ≤ maxSite) (present : length input ≡ 0 → ⊥) where
-    pub behind-site : refuse (readGroundsAs form input site room) ≡ refuse (fileGrounds form input site)
+    behind-site : refuse (readGroundsAs form input site room) ≡ refuse (fileGrounds form input site)
     unfolding readGroundsAs
     behind-site = refuse-skip _ 10 _ (le-ltb room storeWords fits) ∙ refuse-skip _ 24 _ (le-ltb maxSite site known) ∙ rw (ne-eqb (length input) 0 present)
 

@@ -5,7 +5,7 @@
 --   number-none, number-append                a number made of tests none of which passes; in two parts
 --   word-number, byte-number                  the words of a set, and a byte of a word, by the states
 --   setIn-proper, member-setIn, setIn-below   the set that w bytes hold: its states, all of them below 8 w
---   number-setIn, number-setIn-past           its bytes are those that it was read from, and 0 past them
+--   number-setIn                              its bytes are those that it was read from
 --   setIn-is                                  it is the set whose bytes they are
 --   heads-least, heads-most, added-most       how many sets stand before the groups, and what is added to g
 --   length-heads, heads-each                  those sets: how many, and a fact about each
@@ -125,10 +125,6 @@ module _ (bytes : List ℕ) (w at : ℕ) where
       bit-number (member (setIn bytes w at)) (8 * j) 8 i l
       ∙ member-setIn (8 * j + i) (omega arith) (omega arith)
       ∙ ap₂ (λ (b p : ℕ). bit (getD bytes (at + b) 0) p) byte place)
-
-  pub number-setIn-past : (j : ℕ) → w ≤ j → number (member (setIn bytes w at)) (8 * j) 8 ≡ 0
-  number-setIn-past j h =
-      number-none (member (setIn bytes w at)) (8 * j) 8 (λ s l. member-past (setIn bytes w at) (8 * w) setIn-below s (omega arith))
 
   -- the set is the one whose bytes they are
   pub setIn-is : (X : Set) → Proper X → ((s : ℕ) → In X s → s < 8 * w) → ((j : ℕ) → j < w → getD bytes (at + j) 0 ≡ number (member X) (8 * j) 8) → setIn bytes w at ≡ X

@@ -1,7 +1,7 @@
 -- The theory of the rounds: what holds of each, where they stop, and what the outcome tells. Zi, Ri and Si are the sets of round i, Wj is
 -- what j rounds of backward elimination leave, b the backward number.
 --
---   RoundFacts t r                     Z is listed; S ⊆ R ⊆ Z; R holds Init ∩ Z and its own steps into Z; S holds each X with X ⊆ R ∩ hold X
+--   RoundFacts t r                     S ⊆ R ⊆ Z; R holds Init ∩ Z and its own steps into Z; S holds each X with X ⊆ R ∩ hold X
 --   round-facts, round-is              each round has them, and is as the specification says
 --   listed-within                      each listed set holds states of the table only, if the groups do
 --   in-next-Z, next-Z-in               Z of the next round by its members: S ∩ hold S
@@ -41,7 +41,6 @@ use Rattle.model.proofs.WellFormed.{WellFormed}
 -- ---- one round
 
 pub record RoundFacts (t : Table) (r : Round) : Type 0 where
-  pub Z-listed : List·Memᴰ (r .Z) (r .list)
   pub R-within : r .R ⊆ firstStates (t .n)
   pub R-in-Z : r .R ⊆ r .Z
   pub R-initial : (s : ℕ) → In (t .initial) s → In (r .Z) s → In (r .R) s
@@ -91,7 +90,6 @@ module _ (t : Table) (L : List Set) (Z : Set) (listed : List·Memᴰ Z L) (withi
   roundOf-facts =
       let R-within : forward t L Z ⊆ firstStates (t .n) = λ s h. within s (forward-inside s h) in
       record {
-        Z-listed = listed;
         R-within = R-within;
         R-in-Z = forward-inside;
         R-initial = λ s h k. forward-holds s (in-meet k (in-union (inl h)));
