@@ -5,7 +5,6 @@
 use crate::accept::{MAX_ALLOWANCE, PATH_PLACES};
 use crate::blocks::{self, Form};
 use crate::calls::{Calls, Decision, SAFE, UNDECIDED, UNSAFE};
-use crate::damage::{self, DAMAGES, Damage};
 use crate::examine::{self, Outcome, Tally};
 use crate::expected::{self, Expected, Judged};
 use crate::generate::{Kind, Random};
@@ -37,7 +36,6 @@ pub fn old_files(libraries: &[&dyn Calls], random: &mut Random, tally: &mut Tall
     stored_answers(libraries, random)?;
     for _ in 0..TABLES {
         random_old_file(libraries, random, tally)?;
-        damaged_old_file(random, tally)?;
     }
     let needed = (THING, NEEDED.to_string());
     let tables = tally.0.get(&needed).copied().unwrap_or(0);
@@ -165,27 +163,4 @@ fn random_old_file(libraries: &[&dyn Calls], random: &mut Random, tally: &mut Ta
     }
     tally.count(THING, "whole");
     Ok(())
-}
-
-/// An old file with one damage is refused with that damage's number, a new file with 15.
-fn damaged_old_file(random: &mut Random, tally: &mut Tally) -> Outcome {
-    let dialogue = Kind::random(random).dialogue(random);
-    if rewritten(&Form::New.encode(&dialogue, SITE)) != Err(15) {
-        return Err("a new file is not refused with 15".to_string());
-    }
-    let applicable: Vec<Damage> = DAMAGES
-        .into_iter()
-        .filter(|damage| damage.applies_to(Form::Old, &dialogue))
-        .collect();
-    let damage = random.pick(&applicable);
-    let file = damage::damaged(Form::Old, &dialogue, SITE, &[damage], random);
-    match (damage.refusal(), rewritten(&file).err()) {
-        (Some(number), earned) if earned != Some(number) => Err(format!(
-            "an old file with {damage:?} is refused with {earned:?}, expected {number}"
-        )),
-        _ => {
-            tally.count(THING, "damaged");
-            Ok(())
-        }
-    }
 }
