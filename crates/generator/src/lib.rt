@@ -142,17 +142,19 @@ fn put_rows(numbers: &[u32], n: usize, f: usize, store: &mut [u64])
     }
 }
 
-// The successors of state s: its numbers, each modulo n.
+// The successors of state s: its numbers, each modulo n. The bits are set in place, since a set that went in and came back for each number would
+// be most of the work.
 fn successors(numbers: &[u32], n: usize, f: usize, s: usize) -> StateSet
-    requires { ⌜ (0 < n) × (55 + s * f + f ≤ length (now numbers)) ⌝ }
+    requires { ⌜ (0 < n) × (n ≤ maxStates) × (55 + s * f + f ≤ length (now numbers)) ⌝ }
     ensures { λ r. ⌜ r .words ≡ successors (now (numbers .entry)) n f s ⌝ }
 {
     let at = LONG_LAG + s * f;
-    let mut row = StateSet::empty();
+    let mut words = [0; WORDS];
     for i in 0..f {
-        row = row.with(wide(numbers[at + i]) % n);
+        let t = wide(numbers[at + i]) % n;
+        words[t / 64] |= 1 << (t % 64);
     }
-    row
+    StateSet { words }
 }
 
 fn wide(x: u32) -> usize

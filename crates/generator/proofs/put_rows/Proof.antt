@@ -26,7 +26,7 @@ put-rows-spec =
     (λ c. search needs)
     (λ c κs.
     let start = c .before .before .before .before .before in
-    (omega arith, its-numbers (start .args .n) (start .args .f) (c .before .before .loop .s) _ (search needs) (start .pre .1)))
+    (omega arith, search needs, its-numbers (start .args .n) (start .args .f) (c .before .before .loop .s) _ (search needs) (start .pre .1)))
     (λ c κs. omega arith)
     (λ c. search needs)
     (λ c. search needs)
