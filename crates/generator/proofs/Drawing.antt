@@ -34,12 +34,12 @@ module _ (xs : List ℕ) (at n : ℕ) where
   unfolding drawn
   drawn-proper i e = subst Proper (sym e) (setOf-proper _)
 
-  pub drawn-more : (i x : ℕ) (X Y : Set) → X ≡ drawn xs at n i → x ≡ getD xs (at + i) 0 → Y ≡ union X (single (x % n)) → Y ≡ drawn xs at n (i + 1)
+  pub drawn-more : (i : ℕ) {x t : ℕ} {X Y : Set} → X ≡ drawn xs at n i → x ≡ getD xs (at + i) 0 → t ≡ x % n → Y ≡ union X (single t) → Y ≡ drawn xs at n (i + 1)
   unfolding drawn union single any
-  drawn-more i x X Y e d u =
+  drawn-more i e d r u =
       let y = getD xs (at + i) 0 % n in
       u
-      ∙ ap₂ (λ (Z : Set) (m : ℕ). union Z (single (m % n))) e d
+      ∙ ap₂ (λ (Z : Set) (m : ℕ). union Z (single m)) e (r ∙ ap (λ (m : ℕ). m % n) d)
       ∙ setOf-cong _ _
       (λ t h.
       ap₂ _||_ (passes (λ s. any i (λ j. eqb s (getD xs (at + j) 0 % n))) t h) (passes (λ s. eqb s y) t h)
@@ -50,8 +50,8 @@ unfolding drawn successors
 drawn-all xs n f s i X e h l = e ∙ ap (drawn xs (55 + s * f) n) (le-antisymm h l)
 
 -- a number modulo n is a state
-pub drawn-state : (x : ℕ) {n : ℕ} → 0 < n → n ≤ maxStates → x % n < maxStates
-drawn-state x h l = omega (arith, mod-lt x h)
+pub drawn-state : (x : ℕ) {n t : ℕ} → t ≡ x % n → 0 < n → n ≤ maxStates → t < maxStates
+drawn-state x e h l = omega (arith, e, mod-lt x h)
 
 pub its-numbers : (n f s m : ℕ) → s < n → 55 + n * f ≤ m → 55 + s * f + f ≤ m
 its-numbers n f s m h l = omega (arith, mul-le-mul-right f h, suc-mul s f)

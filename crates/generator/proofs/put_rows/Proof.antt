@@ -10,10 +10,10 @@ use Rattle.generator.proofs.put_rows.Statement.{statement}
 use Rattle.generator.proofs.put_rows.Tie as tie
 
 abbrev Inv-loop : tie.InvT-loop
-Inv-loop numbers n f store₀ s₀ store s = Rowing (successors numbers n f) store₀ n s store
+Inv-loop numbers n f store₀ inverse s₀ store s = Rowing (successors numbers n f) store₀ n s store
 
 abbrev μ-loop : tie.MeasureT-loop
-μ-loop numbers n f store₀ s₀ store s = n - s
+μ-loop numbers n f store₀ inverse s₀ store s = n - s
 
 pub put-rows-spec : {M : Type 1} → statement M
 put-rows-spec =
@@ -21,12 +21,13 @@ put-rows-spec =
     (tie.spec
     Inv-loop
     μ-loop
+    (λ c. search needs)
     (λ c. rowing-none _ _ _ (λ s. successors-wide _ _ _ s) (omega arith))
     (λ c. search needs)
     (λ c. search needs)
     (λ c κs.
     let start = c .before .before .before .before .before in
-    (omega arith, search needs, its-numbers (start .args .n) (start .args .f) (c .before .before .loop .s) _ (search needs) (start .pre .1)))
+    (search needs, search needs, search needs, its-numbers (start .args .n) (start .args .f) (c .before .before .loop .s) _ (search needs) (start .pre .2)))
     (λ c κs. omega arith)
     (λ c. search needs)
     (λ c. search needs)
