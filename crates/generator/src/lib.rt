@@ -5,7 +5,7 @@
 //   put_numbers, next_number     the first numbers; the one that follows those that are there
 //   fill                         the table of some numbers put into the store
 //   clear, put_set, put_rows     0 in every word of a table; one set; the row of each state
-//   successors, remainder        the numbers that a state takes, each modulo n; the remainder by a multiplication
+//   put_successors, remainder    the numbers that a state takes, each modulo n; the remainder by a multiplication
 //
 // n is the number of states and f the fan-out. The call, `generate`, asks for nothing.
 ghost use mathlib.Core.Path.{_≡_};
@@ -139,11 +139,7 @@ fn put_rows(numbers: &[u32], n: usize, f: usize, store: &mut [u64])
 {
     let inverse = (1 << 32) / n;
     for s in 0..n {
-        put_set(
-            store,
-            ROWS_AT + WORDS * s,
-            successors(numbers, n, inverse, f, s),
-        );
+        put_successors(numbers, n, inverse, f, s, store);
     }
 }
 
@@ -158,19 +154,19 @@ fn remainder(x: usize, n: usize, inverse: usize) -> usize
     if rest < n { rest } else { rest - n }
 }
 
-// The successors of state s: its numbers, each modulo n. The bits are set in place, since a set that went in and came back for each number would
-// be most of the work.
-fn successors(numbers: &[u32], n: usize, inverse: usize, f: usize, s: usize) -> StateSet
-    requires { ⌜ (0 < n) × (n ≤ maxStates) × (inverse ≡ 2 ^ 32 / n) × (55 + s * f + f ≤ length (now numbers)) ⌝ }
-    ensures { λ r. ⌜ r .words ≡ successors (now (numbers .entry)) n f s ⌝ }
+// The successors of state s: its numbers, each modulo n. The bits are set in the store itself: a set put together elsewhere would be read by wider words than it
+// was written by, which is slow.
+fn put_successors(numbers: &[u32], n: usize, inverse: usize, f: usize, s: usize, store: &mut [u64])
+    requires { ⌜ (0 < n) × (n ≤ maxStates) × (inverse ≡ 2 ^ 32 / n) × (55 + s * f + f ≤ length (now numbers)) × (rowAt s + WORDS ≤ length (now store)) ⌝ }
+    ensures { λ r. ⌜ now (store .exit) ≡ paste (now (store .entry)) (rowAt s) (successors (now (numbers .entry)) n f s) WORDS ⌝ }
 {
-    let at = LONG_LAG + s * f;
-    let mut words = [0; WORDS];
+    let from = LONG_LAG + s * f;
+    let at = ROWS_AT + WORDS * s;
+    put_set(store, at, StateSet::empty());
     for i in 0..f {
-        let t = remainder(wide(numbers[at + i]), n, inverse);
-        words[t / 64] |= 1 << (t % 64);
+        let t = remainder(wide(numbers[from + i]), n, inverse);
+        store[at + t / 64] |= 1 << (t % 64);
     }
-    StateSet { words }
 }
 
 fn wide(x: u32) -> usize

@@ -1,6 +1,7 @@
 -- `put_rows`: the rows passed stand in their places.
 use Prim.Native.Nat.{_-_}
 use native.Mathlib.Omega.{arith}
+use mathlib.Core.Path.{refl}
 use borrow.Author.Needs.{needs}
 use Rattle.generator.specs.Load.{successors}
 use Rattle.generator.proofs.Drawing.{its-numbers}
@@ -23,17 +24,17 @@ put-rows-spec =
     μ-loop
     (λ c. search needs)
     (λ c. rowing-none _ _ _ (λ s. successors-wide _ _ _ s) (omega arith))
-    (λ c. search needs)
-    (λ c. search needs)
     (λ c κs.
     let start = c .before .before .before .before .before in
-    (search needs, search needs, search needs, its-numbers (start .args .n) (start .args .f) (c .before .before .loop .s) _ (search needs) (start .pre .2)))
-    (λ c κs. omega arith)
+    let so = c .before .before .loop in (
+      search needs,
+      search needs,
+      refl,
+      its-numbers (start .args .n) (start .args .f) (so .s) _ (search needs) (start .pre .2),
+      omega (arith, so .inv .room, so .inv .long),
+    ))
     (λ c. search needs)
     (λ c. search needs)
-    (λ c.
-    let put = c .before .before in
-    rowing-more _ _ _ _ _ (put .before .before .before .before .loop .inv) _ _ (search needs) (put .before .successors .ensures)
-    (put .put-set .ensures))
+    (λ c. rowing-more _ _ _ _ _ (c .before .before .before .before .before .loop .inv) _ (search needs) (c .before .before .put-successors .ensures))
     (λ c. search needs)
     (λ c. rowing-all _ _ _ _ _ (c .before .loop .inv) (search needs)))
