@@ -1,5 +1,6 @@
 pub mod Numbers
 pub mod Drawing
+pub mod Remainders
 pub mod Pasting
 pub mod Filled
 pub mod Generating

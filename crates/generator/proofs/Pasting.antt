@@ -3,25 +3,30 @@
 --   drop-behind                                 what lies behind what was written
 --   setAt-before, setAt-inside, setAt-behind    a set before, among and behind the words written
 --   paste-more                                  written over from where it was written before
+--   paste-again, paste-word, paste-set          the same words written anew; a word among them; one of them written anew
 --   Pasting d at s n j xs                       the first j of the n words of s stand in what was d, from `at` on: a loop that writes
 --   pasting-none, -more, -all                   before its first turn; a turn; when it is done
 --   Rowing f d n s xs                           so do the sets f 0, .., f (s − 1) at the places of the first of n rows
 --   rowing-none, -more, -all
 --   holds-overwrite                             a store that holds t, the words past a table as before, is t's layout written over what was there
 use Prim.Native.Nat.{ℕ, _+_, _*_, _-_, _≤_, _<_}
-use native.Mathlib.Nat.{le-antisymm, le-of-eq}
+use native.Mathlib.Nat.{le-antisymm, le-of-eq, zero-add, suc-add}
 use native.Mathlib.Numerals.{add-one}
 use native.Mathlib.Omega.{arith}
 use mathlib.Core.Path.{_≡_, refl, sym, ap, ap₂, _∙_}
-use mathlib.Core.List.{List, _++_, append-assoc}
-use lib.ListN.{length, getD, set, take, drop, length-set, take-append-drop}
-use lib.Seq.{paste, paste-zero, paste-suc, length-paste, length-paste-head, take-paste, drop-paste, length-take-le, take-all, take-append-add, drop-drop}
+use mathlib.Core.List.{List, [], _∷_, _++_, append-assoc}
+use lib.ListN.{length, getD, set, take, drop, length-set, length-append, take-append-drop, List·getD-append}
+use lib.Seq.{paste, paste-zero, paste-suc, length-paste, length-paste-head, take-paste, drop-paste, length-take-le, take-all, take-append-add, take-at, drop-drop, getD-append-add, set-append-left}
 use Rattle.model.specs.Sets.{WORDS, Set}
 use Rattle.model.specs.Tables.{Dialogue}
 use Rattle.model.specs.Stores.{rowAt, storeWords, setAt, concat, layout}
 use Rattle.model.specs.Calls.{overwrite}
 use Rattle.model.proofs.ListLaws.{part-front, part-behind, length-concat, concat-next}
 use Rattle.model.proofs.StoreLaws.{Holds, Laid, holds-layout, length-layout}
+
+set-append-add : (xs ys : List ℕ) (j v : ℕ) → set (xs ++ ys) (length xs + j) v ≡ xs ++ set ys j v
+set-append-add [] ys j v = ap (λ (k : ℕ). set ys k v) (zero-add j)
+set-append-add (x ∷ xs) ys j v = ap (λ (k : ℕ). set (x ∷ (xs ++ ys)) k v) (suc-add (length xs) j) ∙ ap (λ zs. x ∷ zs) (set-append-add xs ys j v)
 
 -- ---- what was written, and what was not
 
@@ -67,6 +72,37 @@ module _ (d : List ℕ) (at : ℕ) (s : List ℕ) (n : ℕ) (hd : at + n ≤ len
       ap (λ xs. xs ++ take m ys) (take-all n s (le-of-eq hs)) ∙ sym (take-append-add s ys m) ∙ ap (λ (k : ℕ). take (k + m) (s ++ ys)) hs in
       ap₂ (λ xs zs. (xs ++ take m ys) ++ zs) (take-paste d at s n (omega arith) (omega arith)) (drop-behind (at + n + m) (omega arith))
       ∙ ap₂ (λ xs (k : ℕ). xs ++ drop k d) (append-assoc front (take n s) (take m ys) ∙ ap (λ xs. front ++ xs) both) place
+
+  before-long : length (take at d) ≡ at
+  before-long = length-take-le at d (omega arith)
+
+  pub paste-again : (ys : List ℕ) → paste (paste d at s n) at ys n ≡ paste d at ys n
+  paste-again ys =
+      ap₂ (λ xs zs. (xs ++ take n ys) ++ zs)
+      (ap (take at) (append-assoc (take at d) (take n s) (drop (at + n) d)) ∙ take-at (take at d) (take n s ++ drop (at + n) d) at before-long)
+      (drop-paste d at s n (omega arith) (omega arith))
+
+  -- the words before, those written, the rest
+  pasted : (xs : List ℕ) → length xs ≡ n → paste d at xs n ≡ (take at d ++ xs) ++ drop (at + n) d
+  pasted xs e = ap (λ ys. (take at d ++ ys) ++ drop (at + n) d) (take-all n xs (le-of-eq e))
+
+  module _ (j : ℕ) (h : j < n) where
+    inside : at + j < length (take at d ++ s)
+    inside = omega (arith, length-append (take at d) s, before-long, hs)
+
+    pub paste-word : getD (paste d at s n) (at + j) 0 ≡ getD s j 0
+    paste-word =
+        ap (λ xs. getD xs (at + j) 0) (pasted s hs)
+        ∙ List·getD-append (take at d ++ s) (drop (at + n) d) 0 (at + j) inside
+        ∙ ap (λ (k : ℕ). getD (take at d ++ s) (k + j) 0) (sym before-long)
+        ∙ getD-append-add (take at d) s j 0
+
+    pub paste-set : (v : ℕ) → set (paste d at s n) (at + j) v ≡ paste d at (set s j v) n
+    paste-set v =
+        ap (λ xs. set xs (at + j) v) (pasted s hs)
+        ∙ set-append-left (take at d ++ s) (drop (at + n) d) (at + j) v inside
+        ∙ ap (λ xs. xs ++ drop (at + n) d) (ap (λ (k : ℕ). set (take at d ++ s) (k + j) v) (sym before-long) ∙ set-append-add (take at d) s j v)
+        ∙ sym (pasted (set s j v) (length-set s j v ∙ hs))
 
 -- ---- words, one after the other
 
@@ -117,12 +153,12 @@ module _ (f : ℕ → Set) (d : List ℕ) (n : ℕ) where
     many : (m : ℕ) → length (concat m f) ≡ WORDS * m
     many m = length-concat f WORDS m (λ k l. so .wide k)
 
-    pub rowing-more : (ys X : List ℕ) → s < n → X ≡ f s → ys ≡ paste xs (rowAt s) X WORDS → Rowing f d n (s + 1) ys
-    rowing-more ys X h e p =
+    pub rowing-more : (ys : List ℕ) → s < n → ys ≡ paste xs (rowAt s) (f s) WORDS → Rowing f d n (s + 1) ys
+    rowing-more ys h p =
         let more : WORDS * s + WORDS ≡ WORDS * (s + 1) = omega arith in
         let is : ys ≡ paste d (rowAt 0) (concat (s + 1) f) (WORDS * (s + 1)) =
         p
-        ∙ ap₂ (λ zs Y. paste zs (rowAt s) Y WORDS) (so .is) e
+        ∙ ap (λ zs. paste zs (rowAt s) (f s) WORDS) (so .is)
         ∙ paste-more d (rowAt 0) (concat s f) (WORDS * s) (omega (arith, so .room)) (many s) (f s) WORDS (omega (arith, so .room))
         ∙ ap₂ (paste d (rowAt 0)) (sym (concat-next f s)) more in
         record {

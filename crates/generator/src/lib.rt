@@ -5,11 +5,11 @@
 //   put_numbers, next_number     the first numbers; the one that follows those that are there
 //   fill                         the table of some numbers put into the store
 //   clear, put_set, put_rows     0 in every word of a table; one set; the row of each state
-//   successors                   the numbers that a state takes, each modulo n
+//   put_successors, remainder    the numbers that a state takes, each modulo n; the remainder by a multiplication
 //
 // n is the number of states and f the fan-out. The call, `generate`, asks for nothing.
 ghost use mathlib.Core.Path.{_≡_};
-ghost use Prim.Native.Nat.{_+_, _*_, _≤_, _<_};
+ghost use Prim.Native.Nat.{_+_, _*_, _/_, _%_, _^_, _≤_, _<_};
 ghost use lib.ListN.{length, take};
 ghost use lib.Seq.{paste};
 ghost use Rattle.model.specs.Sets.{WORDS, maxStates, tabulate};
@@ -134,29 +134,43 @@ fn put_set(store: &mut [u64], at: usize, x: StateSet)
 }
 
 fn put_rows(numbers: &[u32], n: usize, f: usize, store: &mut [u64])
-    requires { ⌜ (n ≤ maxStates) × (55 + n * f ≤ length (now numbers)) × (storeWords ≤ length (now store)) ⌝ }
+    requires { ⌜ (0 < n) × (n ≤ maxStates) × (55 + n * f ≤ length (now numbers)) × (storeWords ≤ length (now store)) ⌝ }
     ensures { λ r. ⌜ now (store .exit) ≡ paste (now (store .entry)) (rowAt 0) (concat n (successors (now (numbers .entry)) n f)) (WORDS * n) ⌝ }
 {
+    let inverse = (1 << 32) / n;
     for s in 0..n {
-        put_set(store, ROWS_AT + WORDS * s, successors(numbers, n, f, s));
+        put_successors(numbers, n, inverse, f, s, store);
     }
 }
 
-// The successors of state s: its numbers, each modulo n.
-fn successors(numbers: &[u32], n: usize, f: usize, s: usize) -> StateSet
-    requires { ⌜ (0 < n) × (55 + s * f + f ≤ length (now numbers)) ⌝ }
-    ensures { λ r. ⌜ r .words ≡ successors (now (numbers .entry)) n f s ⌝ }
+// x modulo n, where `inverse` is 2^32 / n: a multiplication in place of a division, which would be most of the work. The quotient that it gives is at most
+// one too small.
+fn remainder(x: usize, n: usize, inverse: usize) -> usize
+    requires { ⌜ (x < 2 ^ 32) × (0 < n) × (n ≤ maxStates) × (inverse ≡ 2 ^ 32 / n) ⌝ }
+    ensures { λ r. ⌜ r ≡ x % n ⌝ }
 {
-    let at = LONG_LAG + s * f;
-    let mut row = StateSet::empty();
+    let quotient = x * inverse >> 32;
+    let rest = x - quotient * n;
+    if rest < n { rest } else { rest - n }
+}
+
+// The successors of state s: its numbers, each modulo n. The bits are set in the store itself: a set put together elsewhere would be read by wider words than it
+// was written by, which is slow.
+fn put_successors(numbers: &[u32], n: usize, inverse: usize, f: usize, s: usize, store: &mut [u64])
+    requires { ⌜ (0 < n) × (n ≤ maxStates) × (inverse ≡ 2 ^ 32 / n) × (55 + s * f + f ≤ length (now numbers)) × (rowAt s + WORDS ≤ length (now store)) ⌝ }
+    ensures { λ r. ⌜ now (store .exit) ≡ paste (now (store .entry)) (rowAt s) (successors (now (numbers .entry)) n f s) WORDS ⌝ }
+{
+    let from = LONG_LAG + s * f;
+    let at = ROWS_AT + WORDS * s;
+    put_set(store, at, StateSet::empty());
     for i in 0..f {
-        row = row.with(wide(numbers[at + i]) % n);
+        let t = remainder(wide(numbers[from + i]), n, inverse);
+        store[at + t / 64] |= 1 << (t % 64);
     }
-    row
 }
 
 fn wide(x: u32) -> usize
-    ensures { λ r. ⌜ r ≡ x ⌝ }
+    ensures { λ r. ⌜ (r ≡ x) × (r < 2 ^ 32) ⌝ }
 {
     x as usize
 }

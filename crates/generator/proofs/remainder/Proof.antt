@@ -1,0 +1,15 @@
+-- `remainder`: what the quotient leaves, or n less.
+use borrow.Author.Needs.{needs}
+use Rattle.generator.proofs.Remainders.{product-fits, taken, taken-fits, left-is, left-over}
+use Rattle.generator.proofs.remainder.Statement.{statement}
+use Rattle.generator.proofs.remainder.Tie as tie
+
+pub remainder-spec : {M : Type 1} → statement M
+remainder-spec =
+    tie.close
+    (tie.spec
+    (λ c. record { fits = product-fits {n = c .args .n} (search needs) (search needs) (search needs) })
+    (λ c. record { fits = taken-fits (search needs) (search needs) (search needs) })
+    (λ c. taken (search needs) (search needs) (search needs))
+    (λ c. left-is (search needs) (search needs) (search needs) (search needs))
+    (λ c. left-over (search needs) (search needs) (search needs) (search needs)))
