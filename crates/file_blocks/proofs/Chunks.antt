@@ -50,7 +50,7 @@ weighted-from block part at (suc n) e =
       mul-add at (total part n) x,
     )
 
-abbrev pub held : List ℕ → List ℕ → List ℕ → ℕ → ℕ
+abbrev held : List ℕ → List ℕ → List ℕ → ℕ → ℕ
 held block sums turns at = weighted block at + (at * total sums lanes + (lanes * total turns lanes + weighted sums lanes))
 
 -- one chunk more
@@ -82,7 +82,7 @@ unfolding weighted
 zeros-weighted = refl
 
 pub chunk-none : (block : List ℕ) → Chunked block (replicate lanes 0) (replicate lanes 0) 0
-chunk-none block = record { within = omega arith; is = omega (arith, zeros-total, zeros-weighted); low = most-zero 0; low-turns = most-zero 0 }
+chunk-none block = record { within = omega arith; is = omega (arith, zeros-total, zeros-weighted); low = most-zero; low-turns = most-zero }
 
 module _ {block sums turns : List ℕ} {k : ℕ} (so : Chunked block sums turns k) where
   pub chunk-more : {sums′ turns′ : List ℕ} → let part = contentFrom block (lanes * (chunks - 1 - k)) lanes in

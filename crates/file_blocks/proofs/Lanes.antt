@@ -21,9 +21,12 @@ use Rattle.file_blocks.proofs.Overwriting.{Over, over-none, over-next, 
 
 -- ---- a row added to another
 
+abbrev both : List ℕ → List ℕ → ℕ → ℕ
+both xs ys l = getD xs l 0 + getD ys l 0
+
 pub record Adding (xs ys out : List ℕ) (i : ℕ) : Type 0 where
   pub within : i ≤ lanes
-  pub over : Over (tabulate i (λ l. getD xs l 0 + getD ys l 0)) xs out
+  pub over : Over (tabulate i (both xs ys)) xs out
 
 pub add-none : (xs ys : List ℕ) → Adding xs ys xs 0
 add-none xs ys = record { within = omega arith; over = over-none _ xs }
@@ -33,7 +36,7 @@ module _ {xs ys out : List ℕ} {i : ℕ} (so : Adding xs ys out i) where
   ahead : getD out i 0 ≡ getD xs i 0
   unfolding overwrite
   ahead =
-      let done = tabulate i (λ l. getD xs l 0 + getD ys l 0) in
+      let done = tabulate i (both xs ys) in
       let long : length done ≡ i = length-tabulate _ i in
       ap (λ zs. getD zs i 0) (so .over .is)
       ∙ ap (λ (j : ℕ). getD (overwrite done xs) j 0) (sym (add-zero i))
@@ -54,9 +57,10 @@ module _ {xs ys out : List ℕ} {i : ℕ} (so : Adding xs ys out i) where
   pub add-all : length xs ≡ lanes → lanes ≤ i → out ≡ plus xs ys
   unfolding plus overwrite
   add-all long h =
-      let all = tabulate lanes (λ l. getD xs l 0 + getD ys l 0) in
-      over-all (λ k. tabulate k (λ l. getD xs l 0 + getD ys l 0)) xs out i lanes (so .within) h (so .over)
-      ∙ ap (λ zs. all ++ zs) (drop-of-length-le xs {i = length all} (omega (arith, long, length-tabulate (λ l. getD xs l 0 + getD ys l 0) lanes)))
+      let all = tabulate lanes (both xs ys) in
+      let past : length xs ≤ length all = omega (arith, long, length-tabulate (both xs ys) lanes) in
+      over-all (λ k. tabulate k (both xs ys)) xs out i lanes (so .within) h (so .over)
+      ∙ ap (λ zs. all ++ zs) (drop-of-length-le xs past)
       ∙ append-nil all
 
 -- ---- rows added
@@ -72,8 +76,8 @@ getD-content block from l h = getD-tabulate _ lanes l 0 h
 pub most-content : (block : List ℕ) (from : ℕ) → ((i : ℕ) → getD block i 0 < 2 ^ 8) → Most byteMost (contentFrom block from lanes)
 most-content block from byte = record { long = length-contentFrom block from lanes; each = λ l h. omega (arith, getD-content block from l h, byte (from + l)) }
 
-pub most-zero : (m : ℕ) → Most m (replicate lanes 0)
-most-zero m = record { long = length-replicate {A = ℕ} lanes 0; each = λ l h. omega (arith, getD-replicate {A = ℕ} lanes l 0 0 h) }
+pub most-zero : Most 0 (replicate lanes 0)
+most-zero = record { long = length-replicate {A = ℕ} lanes 0; each = λ l h. omega (arith, getD-replicate {A = ℕ} lanes l 0 0 h) }
 
 pub most-plus : {a b m : ℕ} {xs ys : List ℕ} → Most a xs → Most b ys → a + b ≤ m → Most m (plus xs ys)
 unfolding plus

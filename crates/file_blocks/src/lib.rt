@@ -7,7 +7,10 @@
 //   wide                                     a byte as a 64-bit number
 //   le16_at                                  the number whose two bytes stand at a place, low byte first
 //   copy_content                             the content of a block, copied
-//   MAX_SITE, check_of                       the greatest site number; the check of a block for a site, whose bytes are summed in LANES
+//   MAX_SITE, check_of                       the greatest site number; the check of a block for a site
+//   whole_chunks                             the part of its sum that is taken in LANES, of as many bytes side by side
+//   add_lanes, add_bytes                     a row of lanes, or a chunk of bytes, added to a row of lanes
+//   total, weighted, wide_lane               the sum of a row, and its weighted sum; a lane as a 32-bit number
 //   set_width, set_count                     the bytes of a set, and how many sets there are
 //   content_length, blocks_for               the bytes of the contents (L), and the blocks that hold so many
 //   place_of                                 where a set of the file begins in the store
@@ -101,9 +104,10 @@ pub fn copy_content(bytes: &[u8], from: usize, out: &mut [u8])
     }
 }
 
-// The bytes of a chunk, which are summed side by side, and how many whole chunks stand before the check.
+// The bytes of a chunk, which are summed side by side. With fewer lanes the compiler writes the loops over them out, and then makes worse vectors.
 const LANES: usize = 64;
 
+// The whole chunks before the check. They are so few that no lane outgrows 16 bits.
 const CHUNKS: usize = CHECK_AT / LANES;
 
 fn add_lanes(sums: &[u16; LANES], turns: &mut [u16; LANES])
