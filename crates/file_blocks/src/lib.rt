@@ -8,17 +8,21 @@
 //   le16_at                                  the number whose two bytes stand at a place, low byte first
 //   copy_content                             the content of a block, copied
 //   MAX_SITE, check_of                       the greatest site number; the check of a block for a site
+//   whole_chunks                             the part of its sum that is taken in LANES, of as many bytes side by side
+//   add_lanes, add_bytes                     a row of lanes, or a chunk of bytes, added to a row of lanes
+//   total, weighted, wide_lane               the sum of a row, and its weighted sum; a lane as a 32-bit number
 //   set_width, set_count                     the bytes of a set, and how many sets there are
 //   content_length, blocks_for               the bytes of the contents (L), and the blocks that hold so many
 //   place_of                                 where a set of the file begins in the store
-ghost use Prim.Native.Nat.{_+_, _≤_, _<_};
+ghost use Prim.Native.Nat.{_+_, _*_, _≤_, _<_};
 ghost use mathlib.Core.Path.{_≡_};
 ghost use lib.ListN.{length};
 ghost use Rattle.model.specs.Sets.{WORDS, maxStates};
 ghost use Rattle.model.specs.Stores.{headSets, maxGroups, storeWords};
-ghost use Rattle.model.specs.Blocks.{contentBytes, checkAt, maxSite, le16At, blocksFor, checkOf};
+ghost use Rattle.model.specs.Blocks.{contentBytes, checkAt, maxSite, le16At, blocksFor, weighted, checkOf};
 ghost use Rattle.model.specs.Contents.{newForm, heads, added, setWidth, contentLength};
 ghost use Rattle.model.specs.Calls.{overwrite};
+ghost use Rattle.file_blocks.specs.Lanes.{lanes, chunks, byteMost, laneMost, total, plus, Most};
 ghost use Rattle.file_blocks.specs.Places.{formOf, placeOf, contentFrom};
 use state_set::WORDS;
 use table::GROUPS_AT;
@@ -100,13 +104,78 @@ pub fn copy_content(bytes: &[u8], from: usize, out: &mut [u8])
     }
 }
 
-// The sum starts from the site. It stays below 2^32, so it is reduced once, at the end.
+// The bytes of a chunk, which are summed side by side. With fewer lanes the compiler writes the loops over them out, and then makes worse vectors.
+const LANES: usize = 64;
+
+// The whole chunks before the check. They are so few that no lane outgrows 16 bits.
+const CHUNKS: usize = CHECK_AT / LANES;
+
+fn add_lanes(sums: &[u16; LANES], turns: &mut [u16; LANES])
+    requires { ⌜ Most (byteMost * chunks) (now sums) × Most (byteMost * chunks * chunks) (now turns) ⌝ }
+    ensures { λ r. ⌜ now (turns .exit) ≡ plus (now (turns .entry)) (now (sums .entry)) ⌝ }
+{
+    for l in 0..LANES {
+        turns[l] += sums[l];
+    }
+}
+
+fn add_bytes(block: &[u8], from: usize, sums: &mut [u16; LANES])
+    requires { ⌜ (from + lanes ≤ length (now block)) × Most (byteMost * chunks) (now sums) ⌝ }
+    ensures { λ r. ⌜ (now (sums .exit) ≡ plus (now (sums .entry)) (contentFrom (now (block .entry)) from lanes)) × Most byteMost (contentFrom (now (block .entry)) from lanes) ⌝ }
+{
+    for l in 0..LANES {
+        sums[l] += wide(block[from + l]) as u16;
+    }
+}
+
+fn wide_lane(x: u16) -> u32
+    ensures { λ r. ⌜ (r ≡ x) × (r ≤ laneMost) ⌝ }
+{
+    x as u32
+}
+
+fn total(xs: &[u16; LANES]) -> u32
+    ensures { λ r. ⌜ (r ≡ total (now (xs .entry)) lanes) × (r ≤ laneMost * lanes) ⌝ }
+{
+    let mut sum: u32 = 0;
+    for l in 0..LANES {
+        sum += wide_lane(xs[l]);
+    }
+    sum
+}
+
+fn weighted(xs: &[u16; LANES]) -> u32
+    ensures { λ r. ⌜ (r ≡ weighted (now (xs .entry)) lanes) × (r ≤ lanes * laneMost * lanes) ⌝ }
+{
+    let mut sum: u32 = 0;
+    for l in 0..LANES {
+        sum += (l as u32 + 1) * wide_lane(xs[l]);
+    }
+    sum
+}
+
+// The weighted sum of the whole chunks, from the last to the first: a byte counts once in its lane of `sums`, and in `turns` once for each chunk
+// before its own.
+fn whole_chunks(block: &[u8]) -> u32
+    requires { ⌜ checkAt ≤ length (now block) ⌝ }
+    ensures { λ r. ⌜ (r ≡ weighted (now (block .entry)) (lanes * chunks)) × (r ≤ 2 * (lanes * laneMost * lanes)) ⌝ }
+{
+    let mut sums = [0u16; LANES];
+    let mut turns = [0u16; LANES];
+    for k in 0..CHUNKS {
+        add_lanes(&sums, &mut turns);
+        add_bytes(block, LANES * (CHUNKS - 1 - k), &mut sums);
+    }
+    LANES as u32 * total(&turns) + weighted(&sums)
+}
+
+// The sum starts from the site and the whole chunks. It stays below 2^32, so it is reduced once, at the end.
 pub fn check_of(block: &[u8], site: usize) -> u64
     requires { ⌜ (checkAt ≤ length (now block)) × (site ≤ maxSite) ⌝ }
     ensures { λ r. ⌜ r ≡ checkOf site (now (block .entry)) ⌝ }
 {
-    let mut sum: u32 = site as u32;
-    for i in 0..CHECK_AT {
+    let mut sum: u32 = site as u32 + whole_chunks(block);
+    for i in LANES * CHUNKS..CHECK_AT {
         sum += (i as u32 + 1) * (wide(block[i]) as u32);
     }
     (sum % 65521) as u64
