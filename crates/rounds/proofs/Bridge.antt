@@ -1,6 +1,6 @@
 -- From the code's steps, over rows and the store's words, to the model's, over lists and tables.
 --
---   covers-add                   the rows after a set is added
+--   covers-add, covers-start     the rows after a set is added; after all of a list are
 --   covers-read                  a row is the cover of its state
 --   notForbidden-is              all states without the forbidden ones
 --   coverBy-is, successorsBy-is, meetHold-is      for sets of the table's states, the model's cover, post, and meet with hold
@@ -13,12 +13,12 @@ use Prim.Native.Nat.{ℕ, zero, suc, _<_}
 use mathlib.Core.Path.{_≡_, refl, sym, ap, _∙_, subst}
 use mathlib.Core.Logic.{inl, inr, ⊎-elim}
 use mathlib.Core.List.{List, [], _∷_}
-use lib.ListN.{getD}
+use lib.ListN.{getD, replicate}
 use Rattle.model.specs.Sets.{maxStates, Set, member, empty, union, meet, difference, subset, states, firstStates}
 use Rattle.model.specs.Tables.{post, hold, coverOf, cover, notForbidden}
 use Rattle.model.specs.Rounds.{iterate, forwardStep, forward, backwardStep, backward}
 use Rattle.model.specs.Stores.{rowAt, setAt, tableOf}
-use Rattle.model.proofs.Bounds.{and-true, and-intro, is-false, clash, getD-tabulate}
+use Rattle.model.proofs.Bounds.{and-true, and-intro, is-false, clash, getD-tabulate, tabulate-const}
 use Rattle.model.proofs.SetLaws.{Proper, setOf-proper, In, in-bound, in-setOf, setOf-in, in-union, union-in, in-meet, meet-in, in-difference, difference-in, firstStates-in, _⊆_, subset-in, in-subset, same-set, empty-in, in-image, image-in}
 use Rattle.model.specs.Promises.{IsLeast, IsGreatest}
 use Rattle.model.proofs.Fixpoints.{iterate-has, from-below, from-above}
@@ -27,7 +27,7 @@ use Rattle.model.proofs.StoreLaws.{row-is}
 use Rattle.model.proofs.ImageLaws.{image-bound, image-cong}
 use Rattle.table.specs.Rows.{successorsBy, meetHold}
 use Rattle.table.proofs.MapAt.{mapAt-tabulate}
-use Rattle.rounds.specs.Steps.{covers, narrowed, coverBy, forwardBy, backwardBy, IsCover}
+use Rattle.rounds.specs.Steps.{covers, narrowed, narrowedBy, coverBy, forwardBy, backwardBy, IsCover}
 
 -- ---- the cover
 
@@ -38,6 +38,18 @@ covers-read n L s h = getD-tabulate (coverOf n L) maxStates s [] h
 pub covers-add : (n : ℕ) (L : List Set) (Z : Set) → narrowed (covers n L) Z ≡ covers n (Z ∷ L)
 unfolding narrowed covers coverOf
 covers-add n L Z = mapAt-tabulate (λ row. meet row Z) [] Z maxStates (coverOf n L)
+
+covers-none : (n : ℕ) → replicate maxStates (firstStates n) ≡ covers n []
+unfolding covers coverOf
+covers-none n = tabulate-const maxStates (firstStates n)
+
+narrowedBy-covers : (n : ℕ) (L : List Set) → narrowedBy (covers n []) L ≡ covers n L
+unfolding narrowedBy
+narrowedBy-covers n [] = refl
+narrowedBy-covers n (Z ∷ L) = ap (λ (R : List Set). narrowed R Z) (narrowedBy-covers n L) ∙ covers-add n L Z
+
+pub covers-start : (n : ℕ) (L : List Set) {all : Set} {rows : List Set} → all ≡ firstStates n → rows ≡ narrowedBy (replicate maxStates all) L → rows ≡ covers n L
+covers-start n L a e = e ∙ ap (λ (X : Set). narrowedBy (replicate maxStates X) L) a ∙ ap (λ (R : List Set). narrowedBy R L) (covers-none n) ∙ narrowedBy-covers n L
 
 -- ---- sets of the table's states
 

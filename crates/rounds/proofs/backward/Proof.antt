@@ -12,7 +12,7 @@ abbrev Inv-loop : tie.InvT-loop
 Inv-loop store rows s₀ staying₀ s staying = Staying store rows (s₀ .words) (staying .words) (s .words)
 
 abbrev μ-loop : tie.MeasureT-loop
-μ-loop store rows s₀ staying₀ s staying = size (staying .words)
+μ-loop store rows s₀ staying₀ s staying = size (s .words)
 
 pub backward-spec : {M : Type 1} → statement M
 unfolding coverBy
@@ -24,14 +24,21 @@ backward-spec =
     (λ c. staying-start _ _ _ (proper (search needs) (λ w. search needs)) (c .before .pre .2))
     (λ c κs. search needs)
     (λ c κs. search needs)
-    (λ c.
-    let m = c .before .before in
-    let so = m .before .loop .inv in
-    let e = sym (c .before .equals .ensures) ∙ c .if1 .taken in
-    let pre = m .before .before .before .pre in
-    (staying-greatest _ _ _ so (m .meet-hold .ensures) (pre .1) (pre .2) e, staying-next _ _ _ so (m .meet-hold .ensures) (pre .1) (pre .2) e))
     (λ c κs. search needs)
     (λ c.
-    let m = c .before .before .before in
-    staying-less _ _ _ (m .before .loop .inv) (m .meet-hold .ensures) (sym (c .before .before .equals .ensures) ∙ c .before .if1 .left))
-    (λ c. let m = c .before .before .before in staying-turn _ _ _ (m .before .loop .inv) (m .meet-hold .ensures) (c .union-of .ensures)))
+    let u = c .before .before in
+    let m = u .before in
+    let so = m .before .loop .inv in
+    let e = sym (c .before .equals .ensures) ∙ c .if1 .taken in
+    let pre = m .before .before .before .pre in (
+      staying-greatest _ _ _ so (m .meet-hold .ensures) (u .union-of .ensures) (pre .1) (pre .2) e,
+      staying-next _ _ _ so (m .meet-hold .ensures) (u .union-of .ensures) (pre .1) (pre .2) e,
+    ))
+    (λ c.
+    let u = c .before .before in
+    let m = u .before in
+    staying-less _ _ _ (m .before .loop .inv) (m .meet-hold .ensures) (u .union-of .ensures) (sym (c .before .equals .ensures) ∙ c .if1 .left))
+    (λ c.
+    let u = c .before .before in
+    let m = u .before in
+    staying-turn _ _ _ (m .before .loop .inv) (m .meet-hold .ensures) (u .union-of .ensures)))
