@@ -7,25 +7,16 @@ use mathlib.Core.Path.{_≡_, sym, ap, _∙_, subst}
 use mathlib.Core.Logic.{⊎-elim}
 use mathlib.Core.Bool.{true, false}
 use mathlib.Core.List.{List}
-use Rattle.model.specs.Sets.{maxStates, Set, member, subset, same, size, firstStates}
+use Rattle.model.specs.Sets.{maxStates, Set, subset, same, size, firstStates}
 use Rattle.model.specs.Stores.{rowAt, setAt}
 use Rattle.model.specs.Promises.{IsGreatest}
-use Rattle.model.proofs.Bounds.{and-true, and-intro, clash}
-use Rattle.model.proofs.SetLaws.{Proper, setOf-proper, In, in-bound, in-setOf, setOf-in, _⊆_, subset-in, in-subset, ⊆-of-eq, same-set, same-eq}
+use Rattle.model.proofs.Bounds.{and-intro, clash}
+use Rattle.model.proofs.SetLaws.{Proper, setOf-proper, In, _⊆_, in-subset, ⊆-of-eq, same-set, same-eq}
 use Rattle.model.proofs.Counting.{all-or-fewer}
 use Rattle.model.proofs.CoverLaws.{image-proper}
 use Rattle.table.specs.Rows.{meetHold}
 use Rattle.rounds.specs.Steps.{coverBy, backwardBy, IsCover}
-use Rattle.rounds.proofs.Bridge.{coverBy-mono, coverBy-within, coverBy-extends}
-
-module _ (store : List ℕ) (X Y : Set) {s : ℕ} where
-  in-meetHold : In X s → setAt store (rowAt s) ⊆ Y → In (meetHold store X Y) s
-  unfolding meetHold
-  in-meetHold h r = in-setOf _ (in-bound h) (and-intro (member X s) _ (h .is) (in-subset r))
-
-  meetHold-in : In (meetHold store X Y) s → In X s × (setAt store (rowAt s) ⊆ Y)
-  unfolding meetHold
-  meetHold-in h = let both = and-true (member X s) _ (setOf-in _ h) in (record { is = both .0 }, subset-in (both .1))
+use Rattle.rounds.proofs.Bridge.{in-meetHold, meetHold-in, coverBy-mono, coverBy-within, coverBy-extends}
 
 pub record Staying (store : List ℕ) (rows : List Set) (R staying S : Set) : Type 0 where
   pub proper : Proper staying

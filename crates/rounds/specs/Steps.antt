@@ -3,6 +3,7 @@
 --   covers n L              the rows that hold the cover of each state for the list L
 --   narrowed rows Z         the rows after Z is added to the list
 --   narrowedBy rows L       the rows after the sets of L are added, from the last to the first
+--   outside Y               the states that a set can hold, without those of Y
 --   coverBy rows X          the cover of X
 --   forwardBy, backwardBy   R's step and S's step
 --   IsCover rows            the rows hold the cover of each state for some list of sets
@@ -10,7 +11,7 @@ use Prim.Native.Nat.{ℕ}
 use mathlib.Core.Path.{_≡_}
 use mathlib.Core.List.{List, [], _∷_}
 use lib.ListN.{getD}
-use Rattle.model.specs.Sets.{maxStates, Set, union, meet, image, tabulate}
+use Rattle.model.specs.Sets.{maxStates, Set, union, meet, difference, image, firstStates, tabulate}
 use Rattle.model.specs.Tables.{coverOf}
 use Rattle.table.specs.Rows.{successorsBy, meetHold, mapAt}
 
@@ -23,6 +24,9 @@ narrowed rows Z = mapAt Z (λ row. meet row Z) [] rows
 unfoldable pub narrowedBy : List Set → List Set → List Set
 narrowedBy rows [] = rows
 narrowedBy rows (Z ∷ L) = narrowed (narrowedBy rows L) Z
+
+unfoldable pub outside : Set → Set
+outside Y = difference (firstStates maxStates) Y
 
 unfoldable pub coverBy : List Set → Set → Set
 coverBy rows X = image maxStates (λ s. getD rows s []) X

@@ -4,6 +4,8 @@
 //                                       the cover, a row of words for each state, after a set is added to the list; after the groups are
 //   expand, expand_word, look, joining, forward
 //                                       R, look by look: each expands the states that joined by the one before
+//   row_avoids, avoiding_bits, avoiding, meet_hold_within
+//                                       the states that stay in a smaller set
 //   backward                            S, by the states that stay in it
 //   conclude                            what a round comes to
 //   run                                 the rounds
@@ -14,7 +16,7 @@ ghost use mathlib.Core.List.{[]};
 ghost use Prim.Native.Nat.{_+_, _≤_, _<_};
 ghost use lib.ListN.{length, set};
 ghost use lib.Seq.{sets};
-ghost use Rattle.model.specs.Sets.{WORDS, maxStates, union, meet, difference, members, size};
+ghost use Rattle.model.specs.Sets.{WORDS, maxStates, union, meet, difference, subset, members, size};
 ghost use Rattle.state_set.specs.WordSets.{wordSet};
 ghost use Rattle.model.specs.Tables.{notForbidden};
 ghost use Rattle.model.specs.Rounds.{run as run·model};
@@ -22,7 +24,7 @@ ghost use Rattle.model.specs.Stores.{storeWords, maxGroups, rowAt, setAt, table
 ghost use Rattle.model.specs.Calls.{decideGrounds};
 ghost use Rattle.model.specs.Promises.{IsLeast, IsGreatest};
 ghost use Rattle.table.specs.Rows.{successorsBy, meetHold, mapAt};
-ghost use Rattle.rounds.specs.Steps.{narrowed, narrowedBy, coverBy, forwardBy, backwardBy, IsCover};
+ghost use Rattle.rounds.specs.Steps.{narrowed, narrowedBy, outside, coverBy, forwardBy, backwardBy, IsCover};
 ghost use Rattle.rounds.specs.Order.{orderBy, padded};
 ghost use Rattle.rounds.specs.Answers.{Concludes, outcomeOf, invariantOf, stepsIn, Called};
 ghost use Rattle.rounds.specs.OrderAnswers.{Ordered};
@@ -31,6 +33,7 @@ use paths::find_path;
 use state_set::StateSet;
 use state_set::WORDS;
 use table::MAX_STATES;
+use table::ROWS_AT;
 use table::Rows;
 use table::forbidden;
 use table::group_at;
@@ -191,22 +194,77 @@ pub struct Remaining {
     pub next: StateSet,
 }
 
-// The greatest x with x = cover(r meet hold(x)), where r is its own cover. A state of r that steps out of x once stays out, so only those
-// that stay are looked at again, and none where x has not changed.
-fn backward(store: &[u64], rows: &Rows, r: StateSet) -> Remaining
-    requires { ⌜ (storeWords ≤ length (now store)) × IsCover (now rows) × (coverBy (now rows) (r .words) ≡ r .words) ⌝ }
+// State s steps to none of the states that `out` has in word v.
+fn row_avoids(store: &[u64], s: usize, v: usize, out: u64) -> bool
+    requires { ⌜ (s < maxStates) × (v < WORDS) × (storeWords ≤ length (now store)) ⌝ }
+    ensures { λ b. ⌜ b ≡ subset (setAt (now (store .entry)) (rowAt s)) (outside (wordSet v out)) ⌝ }
+{
+    store[ROWS_AT + WORDS * s + v] & out == 0
+}
+
+// Of the states that `bits` has in word w, those that step to none of the states that `out` has in word v, as bits.
+fn avoiding_bits(store: &[u64], w: usize, bits: u64, v: usize, out: u64) -> u64
+    requires { ⌜ (w < WORDS) × (v < WORDS) × (storeWords ≤ length (now store)) ⌝ }
+    ensures { λ r. ⌜ wordSet w r ≡ meetHold (now (store .entry)) (wordSet w bits) (outside (wordSet v out)) ⌝ }
+{
+    let mut kept = 0;
+    let mut rest = bits;
+    while rest != 0 {
+        let i = u64::trailing_zeros(rest) as usize;
+        if row_avoids(store, 64 * w + i, v, out) {
+            kept |= 1 << i;
+        }
+        rest &= rest - 1;
+    }
+    kept
+}
+
+// The states of x that step to none of the states that `out` has in word v: one word of each row is looked at.
+fn avoiding(store: &[u64], x: StateSet, v: usize, out: u64) -> StateSet
+    requires { ⌜ (v < WORDS) × (storeWords ≤ length (now store)) ⌝ }
+    ensures { λ r. ⌜ r .words ≡ meetHold (now (store .entry)) (x .words) (outside (wordSet v out)) ⌝ }
+{
+    let mut words = [0; WORDS];
+    for w in 0..WORDS {
+        words[w] = avoiding_bits(store, w, x.words[w], v, out);
+    }
+    StateSet { words }
+}
+
+// x meet hold(y), where every state of x is in hold(before). What `before` has more than y is often in one word.
+fn meet_hold_within(store: &[u64], x: StateSet, before: StateSet, y: StateSet) -> StateSet
+    requires { ⌜ (storeWords ≤ length (now store)) × (meetHold (now store) (x .words) (before .words) ≡ x .words) ⌝ }
+    ensures { λ r. ⌜ r .words ≡ meetHold (now (store .entry)) (x .words) (y .words) ⌝ }
+{
+    let gone = before.difference(y);
+    let v = gone.smallest() / 64;
+    if v < WORDS {
+        if gone.is_subset(StateSet::first_states(64 * v + 64)) {
+            return avoiding(store, x, v, gone.words[v]);
+        }
+    }
+    meet_hold(store, x, y)
+}
+
+// The greatest x with x = cover(r meet hold(x)), where r is its own cover, and every step from it leads into `entered`. A state of r that steps
+// out of x once stays out, so only those that stay are looked at again, and none where x has not changed.
+fn backward(store: &[u64], rows: &Rows, r: StateSet, entered: StateSet) -> Remaining
+    requires { ⌜ (storeWords ≤ length (now store)) × IsCover (now rows) × (coverBy (now rows) (r .words) ≡ r .words)
+        × (meetHold (now store) (r .words) (entered .words) ≡ r .words) ⌝ }
     ensures { λ x. ⌜ IsGreatest (backwardBy (now (store .entry)) (now (rows .entry)) (r .words)) (x .s .words)
         × (x .next .words ≡ meetHold (now (store .entry)) (x .s .words) (x .s .words)) ⌝ }
 {
+    let mut before = entered;
     let mut s = r;
     let mut staying = r;
     loop {
-        let still = meet_hold(store, staying, s);
+        let still = meet_hold_within(store, staying, before, s);
         let less = union_of(rows, still);
         if less.equals(s) {
             return Remaining { s, next: still };
         }
         staying = still;
+        before = s;
         s = less;
     }
 }
@@ -261,7 +319,7 @@ fn conclude(store: &[u64], rows: &Rows, initial: StateSet, z: StateSet) -> Concl
             set: r,
         };
     }
-    let held = backward(store, rows, r);
+    let held = backward(store, rows, r, entered);
     let s = held.s;
     let next = held.next;
     if !initial.is_subset(s) {
