@@ -1,8 +1,9 @@
 -- From the code's steps, over rows and the store's words, to the model's, over lists and tables.
 --
---   covers-add                   the rows after a set is added
+--   covers-add, covers-start     the rows after a set is added; after all of a list are
 --   covers-read                  a row is the cover of its state
 --   notForbidden-is              all states without the forbidden ones
+--   in-meetHold, meetHold-in     membership
 --   coverBy-is, successorsBy-is, meetHold-is      for sets of the table's states, the model's cover, post, and meet with hold
 --   forwardBy-proper, backwardBy-proper     what the steps give is a proper set
 --   coverBy-mono, -within, -closed, -extends, -again     the cover is a closure (monotone, extensive, idempotent) in the states of the table
@@ -13,12 +14,12 @@ use Prim.Native.Nat.{ℕ, zero, suc, _<_}
 use mathlib.Core.Path.{_≡_, refl, sym, ap, _∙_, subst}
 use mathlib.Core.Logic.{inl, inr, ⊎-elim}
 use mathlib.Core.List.{List, [], _∷_}
-use lib.ListN.{getD}
-use Rattle.model.specs.Sets.{maxStates, Set, member, empty, union, meet, difference, subset, states, firstStates}
+use lib.ListN.{getD, replicate}
+use Rattle.model.specs.Sets.{maxStates, Set, member, empty, union, meet, difference, states, firstStates}
 use Rattle.model.specs.Tables.{post, hold, coverOf, cover, notForbidden}
 use Rattle.model.specs.Rounds.{iterate, forwardStep, forward, backwardStep, backward}
 use Rattle.model.specs.Stores.{rowAt, setAt, tableOf}
-use Rattle.model.proofs.Bounds.{and-true, and-intro, is-false, clash, getD-tabulate}
+use Rattle.model.proofs.Bounds.{and-true, and-intro, is-false, clash, getD-tabulate, tabulate-const}
 use Rattle.model.proofs.SetLaws.{Proper, setOf-proper, In, in-bound, in-setOf, setOf-in, in-union, union-in, in-meet, meet-in, in-difference, difference-in, firstStates-in, _⊆_, subset-in, in-subset, same-set, empty-in, in-image, image-in}
 use Rattle.model.specs.Promises.{IsLeast, IsGreatest}
 use Rattle.model.proofs.Fixpoints.{iterate-has, from-below, from-above}
@@ -27,7 +28,7 @@ use Rattle.model.proofs.StoreLaws.{row-is}
 use Rattle.model.proofs.ImageLaws.{image-bound, image-cong}
 use Rattle.table.specs.Rows.{successorsBy, meetHold}
 use Rattle.table.proofs.MapAt.{mapAt-tabulate}
-use Rattle.rounds.specs.Steps.{covers, narrowed, coverBy, forwardBy, backwardBy, IsCover}
+use Rattle.rounds.specs.Steps.{covers, narrowed, narrowedBy, coverBy, forwardBy, backwardBy, IsCover}
 
 -- ---- the cover
 
@@ -39,6 +40,18 @@ pub covers-add : (n : ℕ) (L : List Set) (Z : Set) → narrowed (covers n L) Z 
 unfolding narrowed covers coverOf
 covers-add n L Z = mapAt-tabulate (λ row. meet row Z) [] Z maxStates (coverOf n L)
 
+covers-none : (n : ℕ) → replicate maxStates (firstStates n) ≡ covers n []
+unfolding covers coverOf
+covers-none n = tabulate-const maxStates (firstStates n)
+
+narrowedBy-covers : (n : ℕ) (L : List Set) → narrowedBy (covers n []) L ≡ covers n L
+unfolding narrowedBy
+narrowedBy-covers n [] = refl
+narrowedBy-covers n (Z ∷ L) = ap (λ (R : List Set). narrowed R Z) (narrowedBy-covers n L) ∙ covers-add n L Z
+
+pub covers-start : (n : ℕ) (L : List Set) {all : Set} {rows : List Set} → all ≡ firstStates n → rows ≡ narrowedBy (replicate maxStates all) L → rows ≡ covers n L
+covers-start n L a e = e ∙ ap (λ (X : Set). narrowedBy (replicate maxStates X) L) a ∙ ap (λ (R : List Set). narrowedBy R L) (covers-none n) ∙ narrowedBy-covers n L
+
 -- ---- sets of the table's states
 
 pub notForbidden-is : (n : ℕ) (F : Set) → difference (firstStates n) F ≡ notForbidden n F
@@ -47,6 +60,15 @@ notForbidden-is n F =
     same-set _ _ (setOf-proper _) (setOf-proper _)
     (λ s h. let both = difference-in h in in-notForbidden n F (both .0) (is-false (member F s) (λ e. both .1 (record { is = e }))))
     (λ s h. in-difference (notForbidden-within n F s h) (λ k. clash (k .is) (notForbidden-in n F h)))
+
+module _ (store : List ℕ) (X Y : Set) {s : ℕ} where
+  pub in-meetHold : In X s → setAt store (rowAt s) ⊆ Y → In (meetHold store X Y) s
+  unfolding meetHold
+  in-meetHold h r = in-setOf _ (in-bound h) (and-intro (member X s) _ (h .is) (in-subset r))
+
+  pub meetHold-in : In (meetHold store X Y) s → In X s × (setAt store (rowAt s) ⊆ Y)
+  unfolding meetHold
+  meetHold-in h = let both = and-true (member X s) _ (setOf-in _ h) in (record { is = both .0 }, subset-in (both .1))
 
 module _ (store : List ℕ) (n g : ℕ) where
   pub successorsBy-is : (X : Set) → X ⊆ firstStates n → successorsBy store X ≡ post n ((tableOf store n g) .row) X
@@ -61,15 +83,8 @@ module _ (store : List ℕ) (n g : ℕ) where
   unfolding meetHold meet
   meetHold-is X Y i =
       same-set _ _ (setOf-proper _) (setOf-proper _)
-      (λ s h.
-      let both = and-true (member X s) (subset (setAt store (rowAt s)) Y) (setOf-in _ h) in
-      let m : In X s = record { is = both .0 } in
-      in-meet m (in-hold n _ (i s m) (subst (λ (R : Set). R ⊆ Y) (sym (row-at s m)) (subset-in (both .1)))))
-      (λ s h.
-      let both = meet-in h in
-      in-setOf _ (in-bound h)
-      (and-intro (member X s) (subset (setAt store (rowAt s)) Y) (both .0 .is)
-      (in-subset (subst (λ (R : Set). R ⊆ Y) (row-at s (both .0)) (hold-in n _ (both .1))))))
+      (λ s h. let m = meetHold-in store X Y h in in-meet (m .0) (in-hold n _ (i s (m .0)) (subst (λ (R : Set). R ⊆ Y) (sym (row-at s (m .0))) (m .1))))
+      (λ s h. let m = meet-in h in in-meetHold store X Y (m .0) (subst (λ (R : Set). R ⊆ Y) (row-at s (m .0)) (hold-in n _ (m .1))))
     where
       row-at : (s : ℕ) → In X s → (tableOf store n g) .row s ≡ setAt store (rowAt s)
       row-at s m = row-is store n g s (firstStates-in (i s m))
@@ -142,10 +157,7 @@ module _ (store : List ℕ) (rows : List Set) (cover : IsCover rows) where
   backward-greatest R =
       from-above _ (cover .n)
       (λ X Y i.
-      coverBy-mono rows _ _
-      (λ s h.
-      let both = and-true (member R s) _ (setOf-in _ h) in
-      in-setOf _ (in-bound h) (and-intro (member R s) _ (both .0) (in-subset (λ u r. i u (subset-in (both .1) u r))))))
+      coverBy-mono rows _ _ (λ s h. let m = meetHold-in store R X h in in-meetHold store R Y (m .0) (λ u r. i u (m .1 u r))))
       (backwardBy-proper store rows R) (λ X. coverBy-within rows cover _)
 
 pub iterate-cong : (P : Set → Type 0) (f g : Set → Set) (x : Set) → P x → ((X : Set) → P X → f X ≡ g X) → ((X : Set) → P (g X)) → (k : ℕ)

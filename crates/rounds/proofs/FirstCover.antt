@@ -1,103 +1,70 @@
--- The cover for the groups and Z0, and the order of the first round.
+-- The cover for the groups, and the order of the first round.
 --
---   Covering, covering-*     `cover_of`: the cover of a state, for the groups added so far
---   Filling, filling-*       `first_cover`: the rows of the states passed
+--   Adding, adding-*         `narrow_by_groups`: the rows after the groups added so far
+--   first-cover              the rows with which the first round begins
 --   order-is                 the order that `forward` gives is that of the table
 --   order-refused, order-listed      the answer of `first_order`
 use Prim.Native.Nat.{ℕ, suc, _-_, _≤_, _<_}
 use native.Mathlib.Nat.{le-refl, le-of-eq}
 use native.Mathlib.Omega.{arith}
 use mathlib.Core.Path.{_≡_, refl, sym, ap, ap₂, _∙_, subst}
-use mathlib.Core.Logic.{⊎-elim}
-use mathlib.Core.Bool.{cond}
 use mathlib.Core.List.{List, [], _∷_}
 use borrow.Author.Tests.{ne-eqb}
-use lib.ListN.{length, getD, set, drop, replicate, drop-of-length-le, length-set}
-use lib.Seq.{drop-cons, ext-getD, getD-set-same, getD-set-other}
-use Rattle.model.specs.Sets.{maxStates, Set, member, empty, meet, members, firstStates, tabulate}
-use Rattle.model.specs.Tables.{coverOf, notForbidden}
+use lib.ListN.{length, drop, replicate, drop-of-length-le}
+use lib.Seq.{drop-cons}
+use Rattle.model.specs.Sets.{maxStates, Set, empty, meet, members, firstStates, tabulate}
+use Rattle.model.specs.Tables.{notForbidden}
 use Rattle.model.specs.Rounds.{iterate, roundOf, firstRound}
 use Rattle.model.specs.Stores.{setAt, tableOf, refuse, sharedGrounds}
 use Rattle.model.specs.Calls.{overwrite}
-use Rattle.model.proofs.Bounds.{below-suc, length-tabulate, getD-tabulate}
+use Rattle.model.proofs.Bounds.{length-tabulate, getD-tabulate}
 use Rattle.model.proofs.ListLaws.{concat-cong}
 use Rattle.model.proofs.SetLaws.{_⊆_, meet-in, difference-in}
 use Rattle.model.proofs.CoverLaws.{notForbidden-within}
-use Rattle.rounds.specs.Steps.{covers, coverBy, forwardBy, IsCover}
+use Rattle.rounds.specs.Steps.{covers, narrowed, narrowedBy, coverBy, forwardBy, IsCover}
 use Rattle.rounds.specs.Order.{Look, lookAt, orderOf, firstLook, joinedBy, forwardOrder, firstBy, joinsBy, orderBy, padded}
 use Rattle.rounds.specs.declared.Expansion.the-variants.{Listed, Refused as ExpansionRefused}
 use Rattle.rounds.specs.OrderAnswers.{OrderAnswer, orderAnswer, Ordered}
-use Rattle.rounds.proofs.Bridge.{coverBy-is, successorsBy-is, coverBy-within, forwardBy-proper, forward-least}
+use Rattle.rounds.proofs.Bridge.{covers-add, covers-start, coverBy-is, successorsBy-is, coverBy-within, forwardBy-proper, forward-least}
 use Rattle.rounds.proofs.Looks.{look-before, fixed-done, order-still, lookAt-cong}
 use Rattle.rounds.proofs.Expanding.{forward-none, forward-more}
 
--- ---- the cover of a state
+-- ---- the groups
 
--- of the g sets f 0, f 1, .., those from f j on are listed
-pub record Covering (n g s : ℕ) (f : ℕ → Set) (row : Set) (j : ℕ) : Type 0 where
-  pub within : j ≤ g
-  pub is : row ≡ coverOf n (drop j (tabulate g f)) s
+-- of the g sets f 0, f 1, .., those from f j on are added
+pub record Adding (g : ℕ) (f : ℕ → Set) (before : List Set) (rows : List Set) (j : ℕ) : Type 0 where
+  pub left : j ≤ g
+  pub is : rows ≡ narrowedBy before (drop j (tabulate g f))
 
-module _ (n g s : ℕ) (f : ℕ → Set) where
-  pub covering-start : {row : Set} → row ≡ firstStates n → Covering n g s f row g
-  unfolding coverOf
-  covering-start e =
-      record {
-        within = le-refl g;
-        is = e ∙ ap (λ (L : List Set). coverOf n L s) (sym (drop-of-length-le (tabulate g f) (le-of-eq (length-tabulate f g))));
-      }
+module _ (g : ℕ) (f : ℕ → Set) (before : List Set) where
+  pub adding-start : Adding g f before before g
+  unfolding narrowedBy
+  adding-start =
+      record { left = le-refl g; is = ap (narrowedBy before) (sym (drop-of-length-le (tabulate g f) (le-of-eq (length-tabulate f g)))) }
 
-  pub covering-turn : {row row′ Z : Set} (j : ℕ) → 0 < j → Z ≡ f (j - 1) → row′ ≡ cond (member Z s) (meet row Z) row → Covering n g s f row j
-      → Covering n g s f row′ (j - 1)
-  unfolding coverOf
-  covering-turn j h z e so =
-      let l : j - 1 < g = omega (arith, so .within) in
+  pub adding-turn : {rows rows′ : List Set} {Z : Set} (j : ℕ) → 0 < j → Z ≡ f (j - 1) → rows′ ≡ narrowed rows Z → Adding g f before rows j
+      → Adding g f before rows′ (j - 1)
+  unfolding narrowedBy
+  adding-turn j h z e so =
+      let l : j - 1 < g = omega (arith, so .left) in
       let k : suc (j - 1) ≡ j = omega arith in
       let first = drop-cons (tabulate g f) (j - 1) [] (subst (λ (m : ℕ). j - 1 < m) (sym (length-tabulate f g)) l) in
       record {
-        within = omega arith;
+        left = omega arith;
         is =
             e
-            ∙ ap₂ (λ (Y R : Set). cond (member Y s) (meet R Y) R) (z ∙ sym (getD-tabulate f g (j - 1) [] l)) (so .is)
-            ∙ ap (λ (i : ℕ). coverOf n (getD (tabulate g f) (j - 1) [] ∷ drop i (tabulate g f)) s) (sym k)
-            ∙ ap (λ (L : List Set). coverOf n L s) (sym first);
+            ∙ ap₂ narrowed (so .is ∙ ap (λ (i : ℕ). narrowedBy before (drop i (tabulate g f))) (sym k)) (z ∙ sym (getD-tabulate f g (j - 1) [] l))
+            ∙ ap (narrowedBy before) (sym first);
       }
 
-  pub covering-end : (Z : Set) {row row′ : Set} {j : ℕ} → j ≤ 0 → row′ ≡ cond (member Z s) (meet row Z) row → Covering n g s f row j
-      → row′ ≡ coverOf n (Z ∷ tabulate g f) s
-  unfolding coverOf
-  covering-end Z {j = j} h e so =
-      let z : j ≡ 0 = omega arith in
-      e ∙ ap (λ (R : Set). cond (member Z s) (meet R Z) R) (so .is ∙ ap (λ (i : ℕ). coverOf n (drop i (tabulate g f)) s) z)
+  pub adding-end : {rows : List Set} {j : ℕ} → j ≤ 0 → Adding g f before rows j → rows ≡ narrowedBy before (tabulate g f)
+  adding-end {j = j} h so = let z : j ≡ 0 = omega arith in so .is ∙ ap (λ (i : ℕ). narrowedBy before (drop i (tabulate g f))) z
 
--- ---- the rows
-
-pub record Filling (n : ℕ) (L : List Set) (rows : List Set) (s : ℕ) : Type 0 where
-  pub within : s ≤ maxStates
-  pub long : length rows ≡ maxStates
-  pub is : (k : ℕ) → k < s → getD rows k [] ≡ coverOf n L k
-
-module _ (n : ℕ) (L : List Set) where
-  pub filling-turn : {rows : List Set} {row : Set} (s : ℕ) → s < maxStates → row ≡ coverOf n L s → Filling n L rows s → Filling n L (set rows s row) (suc s)
-  filling-turn {rows} {row} s h e so =
-      record {
-        within = h;
-        long = length-set rows s row ∙ so .long;
-        is =
-            λ k l.
-            ⊎-elim
-            (λ (q : k ≡ s). ap (λ (i : ℕ). getD (set rows s row) i []) q ∙ getD-set-same rows s row [] (subst (λ (m : ℕ). s < m) (sym (so .long)) h) ∙ e ∙ ap (coverOf n L) (sym q))
-            (λ (b : k < s). getD-set-other rows s k row [] (λ q. omega arith) ∙ so .is k b)
-            (below-suc l);
-      }
-
-  pub filling-end : {rows : List Set} {s : ℕ} → maxStates ≤ s → Filling n L rows s → rows ≡ covers n L
-  unfolding covers
-  filling-end {rows} {s} h so =
-      ext-getD [] rows (tabulate maxStates (coverOf n L)) (so .long ∙ sym (length-tabulate (coverOf n L) maxStates))
-      (λ k l.
-      let b : k < maxStates = subst (λ (m : ℕ). k < m) (so .long) l in
-      so .is k (omega arith) ∙ sym (getD-tabulate (coverOf n L) maxStates k [] b))
+-- with Z added too
+pub first-cover : (store : List ℕ) (n g : ℕ) (Z : Set) {all : Set} {before rows : List Set} → all ≡ firstStates n
+    → before ≡ narrowedBy (replicate maxStates all) ((tableOf store 0 g) .groups) → rows ≡ narrowed before Z → rows ≡ covers n (Z ∷ (tableOf store n g) .groups)
+unfolding tableOf
+first-cover store n g Z a e r = r ∙ ap (λ (X : List Set). narrowed X Z) (covers-start n _ a e) ∙ covers-add n _ Z
 
 -- ---- the order
 

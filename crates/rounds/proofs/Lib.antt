@@ -3,6 +3,7 @@ pub mod Lists
 pub mod Looks
 pub mod Expanding
 pub mod FirstCover
+pub mod Leaving
 pub mod Staying
 pub mod Running
 pub mod Deciding

@@ -1,27 +1,27 @@
 -- The loop of `run`: what its calls compute are the sets and the tests of the model's round.
 --
 --   forward-within, backward-within     R and S hold states of the table only
---   Running                             the invariant of the loop: the first j groups and then Z, which is that of round i, are still to be added
---                                       to the list that the rows are the covers for
---   run-start                           it holds at the start, with all groups left
---   run-group, run-ready                a group is added; where none is left it is Z
---   Ready                               the rows are then the covers of round i
+--   Running                             the invariant of the loop: Z, which is that of round i, is still to be added to the list that the rows are
+--                                       the covers for
+--   run-start                           it holds at the start, after the groups are added
+--   rows-cover                          the rows after Z is added are a cover
 --   conclude-safe, -unsafe, -open       what `conclude` concludes, by the tests of steps 2 and 4
 --   run-safe, run-unsafe, run-undecided     where the rounds end
 --   run-turn                            the invariant holds again after a round that goes on
-use Prim.Native.Nat.{ℕ, suc, _+_, _-_, _≤_, _<_, zero-le}
-use native.Mathlib.Nat.{not-suc-le-zero, le-refl}
+use Prim.Native.Nat.{ℕ, suc, _+_, _≤_, _<_, zero-le}
+use native.Mathlib.Nat.{not-suc-le-zero}
 use native.Mathlib.Numerals.{add-one}
 use native.Mathlib.Omega.{arith}
 use mathlib.Core.Path.{_≡_, refl, sym, ap, ap₂, _∙_, subst}
 use mathlib.Core.Logic.{⊎-elim}
 use mathlib.Core.Bool.{Bool, true, false, not}
-use mathlib.Core.List.{List, [], _∷_, _++_, append-assoc, append-nil}
-use borrow.Author.Tests.{ne-eqb, not-false}
-use Rattle.model.specs.Sets.{Set, empty, union, meet, subset, firstStates, tabulate}
+use mathlib.Core.List.{List, _∷_}
+use lib.ListN.{replicate}
+use borrow.Author.Tests.{not-false}
+use Rattle.model.specs.Sets.{maxStates, Set, empty, union, meet, subset, firstStates}
 use Rattle.model.specs.Tables.{Table, hold, notForbidden}
 use Rattle.model.specs.Rounds.{iterate, forwardStep, forward, backwardStep, backward, Round, roundOf, firstRound, nextRound, isSafe, isUnsafe, safe, unsafe, undecided, run}
-use Rattle.model.specs.Stores.{setAt, groupAt, tableOf}
+use Rattle.model.specs.Stores.{setAt, tableOf}
 use Rattle.model.specs.Promises.{IsLeast, IsGreatest, roundAt, Continues}
 use Rattle.model.proofs.Bounds.{below-suc, not-true}
 use Rattle.model.proofs.SetLaws.{empty-in, meet-in, _⊆_, ⊆-of-eq}
@@ -29,11 +29,11 @@ use Rattle.model.proofs.Fixpoints.{iterate-has, least-unique, greatest-unique}
 use Rattle.model.proofs.CoverLaws.{hold-within, notForbidden-within, forwardStep-within, backwardStep-within}
 use Rattle.model.proofs.RoundLaws.{first-stop}
 use Rattle.table.specs.Rows.{successorsBy, meetHold}
-use Rattle.rounds.specs.Steps.{covers, narrowed, nextAdded, forwardBy, backwardBy, IsCover}
+use Rattle.rounds.specs.Steps.{covers, narrowed, narrowedBy, forwardBy, backwardBy, IsCover}
 use Rattle.rounds.specs.declared.Conclusion.the-variants.{Safe as ConcludesSafe, Unsafe as ConcludesUnsafe, Open}
 use Rattle.rounds.specs.declared.Concluded.{Concluded}
 use Rattle.rounds.specs.Answers.{concludes, setBeside, Concludes}
-use Rattle.rounds.proofs.Bridge.{covers-add, successorsBy-is, meetHold-is, forwardBy-proper, backwardBy-proper, forward-least, backward-greatest, forward-is, backward-is}
+use Rattle.rounds.proofs.Bridge.{covers-add, covers-start, successorsBy-is, meetHold-is, forwardBy-proper, backwardBy-proper, forward-least, backward-greatest, forward-is, backward-is}
 
 -- ---- sets of the table's states
 
@@ -50,24 +50,9 @@ module _ (t : Table) (L : List Set) where
 
 -- ---- the invariant
 
--- the groups of the table are f 0, f 1, ..
-abbrev group : List ℕ → ℕ → Set
-group store j = setAt store (groupAt j)
-
-pub record Running (store : List ℕ) (n g allowance : ℕ) (initial : Set) (rows : List Set) (Z : Set) (j i : ℕ) : Type 0 where
+pub record Running (store : List ℕ) (n g allowance : ℕ) (initial : Set) (rows : List Set) (Z : Set) (i : ℕ) : Type 0 where
   pub list : List Set
   pub rows-are : rows ≡ covers n list
-  pub initial-is : initial ≡ setAt store 0
-  pub within : Z ⊆ firstStates n
-  pub round-is : roundOf (tableOf store n g) (Z ∷ (tabulate j (group store) ++ list)) Z ≡ roundAt (tableOf store n g) i
-  pub left : j ≤ g
-  pub used : i ≤ allowance
-  pub before : (k : ℕ) → k < i → Continues (tableOf store n g) k
-
--- Z is added too: the rows are the covers of round i
-pub record Ready (store : List ℕ) (n g allowance : ℕ) (initial : Set) (rows : List Set) (Z : Set) (i : ℕ) : Type 0 where
-  pub list : List Set
-  pub rows-are : rows ≡ covers n (Z ∷ list)
   pub initial-is : initial ≡ setAt store 0
   pub within : Z ⊆ firstStates n
   pub round-is : roundOf (tableOf store n g) (Z ∷ list) Z ≡ roundAt (tableOf store n g) i
@@ -75,54 +60,19 @@ pub record Ready (store : List ℕ) (n g allowance : ℕ) (initial : Set) (rows 
   pub before : (k : ℕ) → k < i → Continues (tableOf store n g) k
 
 module _ (store : List ℕ) (n g allowance : ℕ) where
-  pub run-start : {initial Z : Set} {rows : List Set} → initial ≡ setAt store 0 → rows ≡ covers n [] → Z ≡ notForbidden n ((tableOf store n 0) .forbidden)
-      → Running store n g allowance initial rows Z g 0
+  pub run-start : {initial all Z : Set} {rows : List Set} → initial ≡ setAt store 0 → all ≡ firstStates n
+      → rows ≡ narrowedBy (replicate maxStates all) ((tableOf store 0 g) .groups) → Z ≡ notForbidden n ((tableOf store n 0) .forbidden)
+      → Running store n g allowance initial rows Z 0
   unfolding roundAt firstRound tableOf
-  run-start a c e =
+  run-start a f c e =
       record {
-        list = [];
-        rows-are = c;
+        list = (tableOf store n g) .groups;
+        rows-are = covers-start n _ f c;
         initial-is = a;
         within = λ s h. notForbidden-within n ((tableOf store n 0) .forbidden) s (⊆-of-eq e s h);
-        round-is = ap₂ (λ (Z : Set) (L : List Set). roundOf (tableOf store n g) (Z ∷ L) Z) e (append-nil (tabulate g (group store)));
-        left = le-refl g;
+        round-is = ap (λ (Z : Set). roundOf (tableOf store n g) (Z ∷ (tableOf store n g) .groups) Z) e;
         used = zero-le;
         before = λ k l. absurd (not-suc-le-zero l);
-      }
-
--- a group is added to the list
-module _ {store : List ℕ} {n g allowance : ℕ} {initial : Set} {rows : List Set} {Z : Set} {j i : ℕ} (so : Running store n g allowance initial rows Z j i) where
-  pub run-group : {rows′ : List Set} → 0 < j → rows′ ≡ narrowed rows (nextAdded store j Z) → Running store n g allowance initial rows′ Z (j - 1) i
-  unfolding nextAdded tabulate
-  run-group some e =
-      let k : suc (j - 1) ≡ j = omega arith in
-      let last = ne-eqb j 0 (λ z. omega arith) in
-      let more : tabulate j (group store) ++ so .list ≡ tabulate (j - 1) (group store) ++ (group store (j - 1) ∷ so .list) =
-      ap (λ (m : ℕ). tabulate m (group store) ++ so .list) (sym k) ∙ append-assoc (tabulate (j - 1) (group store)) (group store (j - 1) ∷ []) (so .list) in
-      record {
-        list = group store (j - 1) ∷ so .list;
-        rows-are = (rw last at e) ∙ ap (λ (X : List Set). narrowed X (group store (j - 1))) (so .rows-are) ∙ covers-add n (so .list) (group store (j - 1));
-        initial-is = so .initial-is;
-        within = so .within;
-        round-is = ap (λ (L : List Set). roundOf (tableOf store n g) (Z ∷ L) Z) (sym more) ∙ so .round-is;
-        left = omega (arith, so .left);
-        used = so .used;
-        before = so .before;
-      }
-
-  -- no group is left, so it is Z that is added
-  pub run-ready : {rows′ : List Set} → j ≤ 0 → rows′ ≡ narrowed rows (nextAdded store j Z) → Ready store n g allowance initial rows′ Z i
-  unfolding nextAdded tabulate
-  run-ready none e =
-      let z : j ≡ 0 = omega arith in
-      record {
-        list = so .list;
-        rows-are = (rw z at e) ∙ ap (λ (X : List Set). narrowed X Z) (so .rows-are) ∙ covers-add n (so .list) Z;
-        initial-is = so .initial-is;
-        within = so .within;
-        round-is = rw z at (so .round-is);
-        used = so .used;
-        before = so .before;
       }
 
 -- ---- what the tests of a round come to
@@ -165,7 +115,9 @@ not-not false = refl
 
 -- ---- a turn
 
-module _ {store : List ℕ} {n g allowance : ℕ} {initial : Set} {rows : List Set} {Z : Set} {i : ℕ} (so : Ready store n g allowance initial rows Z i) where
+-- `added`: the rows after Z is added
+module _ {store : List ℕ} {n g allowance : ℕ} {initial : Set} {before rows : List Set} {Z : Set} {i : ℕ}
+    (so : Running store n g allowance initial before Z i) (added : rows ≡ narrowed before Z) where
   -- the table, the list with Z, the round, and its tests
   abbrev table : Table
   table = tableOf store n g
@@ -182,21 +134,24 @@ module _ {store : List ℕ} {n g allowance : ℕ} {initial : Set} {rows : List S
   abbrev unsafeNow : Bool
   unsafeNow = isUnsafe table roundNow
 
+  pub rows-now : rows ≡ covers n listNow
+  rows-now = added ∙ ap (λ (X : List Set). narrowed X Z) (so .rows-are) ∙ covers-add n (so .list) Z
+
   abbrev pub rows-cover : IsCover rows
-  rows-cover = record { n = n; list = listNow; is = so .rows-are }
+  rows-cover = record { n = n; list = listNow; is = rows-now }
 
   R-is : {R : Set} → IsLeast (forwardBy store rows initial Z) R → R ≡ roundNow .R
   unfolding roundOf tableOf
   R-is e =
       least-unique _ (forwardBy-proper store rows initial Z) e (forward-least store rows rows-cover initial Z)
-      ∙ ap₂ (λ (X : List Set) (Y : Set). iterate (forwardBy store X Y Z) empty n) (so .rows-are) (so .initial-is)
+      ∙ ap₂ (λ (X : List Set) (Y : Set). iterate (forwardBy store X Y Z) empty n) rows-now (so .initial-is)
       ∙ forward-is store n g listNow Z (so .within)
 
   S-is : {R S : Set} → R ≡ roundNow .R → IsGreatest (backwardBy store rows R) S → S ≡ roundNow .S
   unfolding roundOf tableOf
   S-is {R} r e =
       greatest-unique _ (backwardBy-proper store rows R) e (backward-greatest store rows rows-cover R)
-      ∙ ap₂ (λ (X : List Set) (Y : Set). iterate (backwardBy store X Y) (firstStates n) n) (so .rows-are) r
+      ∙ ap₂ (λ (X : List Set) (Y : Set). iterate (backwardBy store X Y) (firstStates n) n) rows-now r
       ∙ backward-is store n g listNow _ (forward-within table listNow Z)
 
   safe-is : {R : Set} {b : Bool} → R ≡ roundNow .R → b ≡ subset (union initial (successorsBy store R)) Z → safeNow ≡ b
@@ -255,19 +210,17 @@ module _ {store : List ℕ} {n g allowance : ℕ} {initial : Set} {rows : List S
         let tests = is-open safeNow unsafeNow (sym concluded ∙ q) in
         ap undecided h ∙ sym (first-stop table allowance .at-undecided (λ k l. before-next (tests .0) (tests .1) k (omega arith)))
 
-    pub run-turn : {j : ℕ} → j ≤ 0 → r .conclusion ≡ Open → (i ≡ allowance → ⊥) → Running store n g allowance initial rows (r .set .words) j (i + 1)
-    unfolding setBeside roundAt nextRound roundOf tableOf tabulate
-    run-turn {j} none q other =
-        let z : j ≡ 0 = omega arith in
+    pub run-turn : r .conclusion ≡ Open → (i ≡ allowance → ⊥) → Running store n g allowance initial rows (r .set .words) (i + 1)
+    unfolding setBeside roundAt nextRound roundOf tableOf
+    run-turn q other =
         let tests = is-open safeNow unsafeNow (sym concluded ∙ q) in
         let next = Z-is S-now (rw q at (e .set)) in
         record {
           list = listNow;
-          rows-are = so .rows-are;
+          rows-are = rows-now;
           initial-is = so .initial-is;
           within = λ x h. hold-within n (table .row) _ x (meet-in (⊆-of-eq next x h) .1);
-          round-is = rw (z, add-one) (ap (λ (Z : Set). roundOf table (Z ∷ listNow) Z) next ∙ ap (nextRound table) (so .round-is));
-          left = omega arith;
+          round-is = rw add-one (ap (λ (Z : Set). roundOf table (Z ∷ listNow) Z) next ∙ ap (nextRound table) (so .round-is));
           used = omega (arith, so .used);
           before = λ k h. before-next (tests .0) (tests .1) k (omega arith);
         }

@@ -7,24 +7,16 @@ use mathlib.Core.Path.{_≡_, sym, ap, _∙_, subst}
 use mathlib.Core.Logic.{⊎-elim}
 use mathlib.Core.Bool.{true, false}
 use mathlib.Core.List.{List}
-use Rattle.model.specs.Sets.{Set, member, subset, same, size, firstStates}
+use Rattle.model.specs.Sets.{maxStates, Set, subset, same, size, firstStates}
 use Rattle.model.specs.Stores.{rowAt, setAt}
 use Rattle.model.specs.Promises.{IsGreatest}
-use Rattle.model.proofs.Bounds.{and-true, and-intro, clash}
-use Rattle.model.proofs.SetLaws.{Proper, setOf-proper, In, in-bound, in-setOf, setOf-in, _⊆_, subset-in, in-subset, ⊆-of-eq, same-set, same-eq}
+use Rattle.model.proofs.Bounds.{and-intro, clash}
+use Rattle.model.proofs.SetLaws.{Proper, setOf-proper, In, _⊆_, in-subset, ⊆-of-eq, same-set, same-eq}
 use Rattle.model.proofs.Counting.{all-or-fewer}
+use Rattle.model.proofs.CoverLaws.{image-proper}
 use Rattle.table.specs.Rows.{meetHold}
 use Rattle.rounds.specs.Steps.{coverBy, backwardBy, IsCover}
-use Rattle.rounds.proofs.Bridge.{coverBy-mono, coverBy-within, coverBy-extends}
-
-module _ (store : List ℕ) (X Y : Set) {s : ℕ} where
-  in-meetHold : In X s → setAt store (rowAt s) ⊆ Y → In (meetHold store X Y) s
-  unfolding meetHold
-  in-meetHold h r = in-setOf _ (in-bound h) (and-intro (member X s) _ (h .is) (in-subset r))
-
-  meetHold-in : In (meetHold store X Y) s → In X s × (setAt store (rowAt s) ⊆ Y)
-  unfolding meetHold
-  meetHold-in h = let both = and-true (member X s) _ (setOf-in _ h) in (record { is = both .0 }, subset-in (both .1))
+use Rattle.rounds.proofs.Bridge.{in-meetHold, meetHold-in, coverBy-mono, coverBy-within, coverBy-extends}
 
 pub record Staying (store : List ℕ) (rows : List Set) (R staying S : Set) : Type 0 where
   pub proper : Proper staying
@@ -34,6 +26,10 @@ pub record Staying (store : List ℕ) (rows : List Set) (R staying S : Set) : Ty
   pub solutions : (Y : Set) → Y ≡ backwardBy store rows R Y → meetHold store R Y ⊆ staying
 
 module _ (store : List ℕ) (rows : List Set) (R : Set) where
+  cover-proper : (X : Set) {Y : Set} → Y ≡ coverBy rows X → Proper Y
+  unfolding coverBy
+  cover-proper X e = subst Proper (sym e) (image-proper maxStates _ _)
+
   pub staying-start : Proper R → coverBy rows R ≡ R → Staying store rows R R R
   staying-start p closed =
       record { proper = p; inside = λ s h. h; cover-is = sym closed; holds = λ s h. meetHold-in store _ _ h .0; solutions = λ Y e s h. meetHold-in store _ _ h .0 }
@@ -44,19 +40,21 @@ module _ (store : List ℕ) (rows : List Set) (R : Set) where
     unfolding backwardBy
     above Y e s h = ⊆-of-eq (sym (so .cover-is)) s (coverBy-mono rows _ _ (so .solutions Y e) s (⊆-of-eq e s h))
 
-    module _ {still : Set} (k : still ≡ meetHold store staying S) where
+    module _ {still S′ : Set} (k : still ≡ meetHold store staying S) (c : S′ ≡ coverBy rows still) where
       still-inside : still ⊆ staying
       still-inside s h = meetHold-in store _ _ (⊆-of-eq k s h) .0
 
-      pub staying-less : same still staying ≡ false → size still < size staying
+      smaller : S′ ⊆ S
+      smaller s h = ⊆-of-eq (sym (so .cover-is)) s (coverBy-mono rows _ _ still-inside s (⊆-of-eq c s h))
+
+      pub staying-less : same S′ S ≡ false → size S′ < size S
       unfolding same
       staying-less f =
-          ⊎-elim (λ back. absurd (clash (and-intro (subset still staying) _ (in-subset still-inside) (in-subset back)) f)) (λ l. l) (all-or-fewer still-inside)
+          ⊎-elim (λ back. absurd (clash (and-intro (subset S′ S) _ (in-subset smaller) (in-subset back)) f)) (λ l. l) (all-or-fewer smaller)
 
-      pub staying-turn : {S′ : Set} → S′ ≡ coverBy rows still → Staying store rows R still S′
+      pub staying-turn : Staying store rows R still S′
       unfolding meetHold
-      staying-turn {S′} c =
-          let smaller : S′ ⊆ S = λ s h. ⊆-of-eq (sym (so .cover-is)) s (coverBy-mono rows _ _ still-inside s (⊆-of-eq c s h)) in
+      staying-turn =
           record {
             proper = subst Proper (sym k) (setOf-proper _);
             inside = λ s h. so .inside s (still-inside s h);
@@ -68,31 +66,34 @@ module _ (store : List ℕ) (rows : List Set) (R : Set) where
             solutions = λ Y e s h. ⊆-of-eq (sym k) s (in-meetHold store _ _ (so .solutions Y e s h) (λ u r. above Y e u (meetHold-in store _ _ h .1 u r)));
           }
 
-      module _ (cover : IsCover rows) (closed : coverBy rows R ≡ R) (e : same still staying ≡ true) where
-        steps : (s : ℕ) → In staying s → setAt store (rowAt s) ⊆ S
-        unfolding meetHold
-        steps s h = meetHold-in store _ _ (⊆-of-eq (sym (same-eq (subst Proper (sym k) (setOf-proper _)) (so .proper) e) ∙ k) s h) .1
+      module _ (cover : IsCover rows) (closed : coverBy rows R ≡ R) (e : same S′ S ≡ true) where
+        -- S has not changed, so the states that stay, which were looked at with it, step to no state outside
+        end : Staying store rows R still S
+        end = subst (Staying store rows R still) (same-eq (cover-proper _ c) (cover-proper _ (so .cover-is)) e) staying-turn
 
-        kept : meetHold store R S ≡ staying
+        steps : (s : ℕ) → In still s → setAt store (rowAt s) ⊆ S
+        steps s h = meetHold-in store _ _ (⊆-of-eq k s h) .1
+
+        kept : meetHold store R S ≡ still
         unfolding meetHold
-        kept = same-set _ _ (setOf-proper _) (so .proper) (so .holds) (λ s h. in-meetHold store _ _ (so .inside s h) (steps s h))
+        kept = same-set _ _ (setOf-proper _) (end .proper) (end .holds) (λ s h. in-meetHold store _ _ (end .inside s h) (steps s h))
 
         pub staying-greatest : IsGreatest (backwardBy store rows R) S
         unfolding backwardBy
         staying-greatest =
             record {
-              solves = so .cover-is ∙ ap (coverBy rows) (sym kept);
+              solves = end .cover-is ∙ ap (coverBy rows) (sym kept);
               greatest = λ Y y. in-subset (above Y y);
             }
 
-        pub staying-next : staying ≡ meetHold store S S
+        pub staying-next : still ≡ meetHold store S S
         unfolding meetHold
         staying-next =
-            same-set _ _ (so .proper) (setOf-proper _)
+            same-set _ _ (end .proper) (setOf-proper _)
             (λ s h.
-            let within : staying ⊆ firstStates (cover .n) = λ u i. coverBy-within rows cover R u (⊆-of-eq (sym closed) u (so .inside u i)) in
-            in-meetHold store _ _ (⊆-of-eq (sym (so .cover-is)) s (coverBy-extends rows cover staying within s h)) (steps s h))
+            let within : still ⊆ firstStates (cover .n) = λ u i. coverBy-within rows cover R u (⊆-of-eq (sym closed) u (end .inside u i)) in
+            in-meetHold store _ _ (⊆-of-eq (sym (end .cover-is)) s (coverBy-extends rows cover still within s h)) (steps s h))
             (λ s h.
             let m = meetHold-in store _ _ h in
-            let in-R = ⊆-of-eq closed s (coverBy-mono rows _ _ (so .inside) s (⊆-of-eq (so .cover-is) s (m .0))) in
-            so .holds s (in-meetHold store _ _ in-R (m .1)))
+            let in-R = ⊆-of-eq closed s (coverBy-mono rows _ _ (end .inside) s (⊆-of-eq (end .cover-is) s (m .0))) in
+            end .holds s (in-meetHold store _ _ in-R (m .1)))

@@ -2,19 +2,17 @@
 --
 --   covers n L              the rows that hold the cover of each state for the list L
 --   narrowed rows Z         the rows after Z is added to the list
---   nextAdded store j Z     the set added next, where the first j groups and then Z are still to be added, from the last to the first
+--   narrowedBy rows L       the rows after the sets of L are added, from the last to the first
+--   outside Y               the states that a set can hold, without those of Y
 --   coverBy rows X          the cover of X
 --   forwardBy, backwardBy   R's step and S's step
 --   IsCover rows            the rows hold the cover of each state for some list of sets
-use Prim.Native.Nat.{ℕ, _-_}
+use Prim.Native.Nat.{ℕ}
 use mathlib.Core.Path.{_≡_}
-use mathlib.Core.Bool.{cond}
-use mathlib.Core.List.{List, []}
-use lib.Dec.{eqb}
+use mathlib.Core.List.{List, [], _∷_}
 use lib.ListN.{getD}
-use Rattle.model.specs.Sets.{maxStates, Set, union, meet, image, tabulate}
+use Rattle.model.specs.Sets.{maxStates, Set, union, meet, difference, image, firstStates, tabulate}
 use Rattle.model.specs.Tables.{coverOf}
-use Rattle.model.specs.Stores.{groupAt, setAt}
 use Rattle.table.specs.Rows.{successorsBy, meetHold, mapAt}
 
 unfoldable pub covers : ℕ → List Set → List Set
@@ -23,8 +21,12 @@ covers n L = tabulate maxStates (coverOf n L)
 unfoldable pub narrowed : List Set → Set → List Set
 narrowed rows Z = mapAt Z (λ row. meet row Z) [] rows
 
-unfoldable pub nextAdded : List ℕ → ℕ → Set → Set
-nextAdded store j Z = cond (eqb j 0) Z (setAt store (groupAt (j - 1)))
+unfoldable pub narrowedBy : List Set → List Set → List Set
+narrowedBy rows [] = rows
+narrowedBy rows (Z ∷ L) = narrowed (narrowedBy rows L) Z
+
+unfoldable pub outside : Set → Set
+outside Y = difference (firstStates maxStates) Y
 
 unfoldable pub coverBy : List Set → Set → Set
 coverBy rows X = image maxStates (λ s. getD rows s []) X

@@ -1,28 +1,30 @@
 // The rounds (the specification, "Rounds") and the call `decide`.
 //
-//   no_groups, next_added               the cover of the empty list, a row of words for each state; the set that is added to the list next
+//   narrow_word, narrow, narrow_by_groups
+//                                       the cover, a row of words for each state, after a set is added to the list; after the groups are
 //   expand, expand_word, look, joining, forward
 //                                       R, look by look: each expands the states that joined by the one before
+//   row_avoids, avoiding_bits, avoiding, meet_hold_within
+//                                       the states that stay in a smaller set
 //   backward                            S, by the states that stay in it
 //   conclude                            what a round comes to
-//   run                                 the rounds: the cover is narrowed by the groups, and by the Z of each round
+//   run                                 the rounds
 //   first_order                         the order in which the first round expands the states of R
 //   decide                              the call
 ghost use mathlib.Core.Path.{_≡_};
-ghost use mathlib.Core.Bool.{cond};
-ghost use mathlib.Core.List.{[], _∷_};
+ghost use mathlib.Core.List.{[]};
 ghost use Prim.Native.Nat.{_+_, _≤_, _<_};
 ghost use lib.ListN.{length, set};
 ghost use lib.Seq.{sets};
-ghost use Rattle.model.specs.Sets.{WORDS, maxStates, member, union, meet, difference, members, size};
+ghost use Rattle.model.specs.Sets.{WORDS, maxStates, union, meet, difference, subset, members, size};
 ghost use Rattle.state_set.specs.WordSets.{wordSet};
-ghost use Rattle.model.specs.Tables.{coverOf, notForbidden};
+ghost use Rattle.model.specs.Tables.{notForbidden};
 ghost use Rattle.model.specs.Rounds.{run as run·model};
 ghost use Rattle.model.specs.Stores.{storeWords, maxGroups, rowAt, setAt, tableOf, refuse};
 ghost use Rattle.model.specs.Calls.{decideGrounds};
 ghost use Rattle.model.specs.Promises.{IsLeast, IsGreatest};
-ghost use Rattle.table.specs.Rows.{successorsBy, meetHold};
-ghost use Rattle.rounds.specs.Steps.{covers, nextAdded, coverBy, forwardBy, backwardBy, IsCover};
+ghost use Rattle.table.specs.Rows.{successorsBy, meetHold, mapAt};
+ghost use Rattle.rounds.specs.Steps.{narrowed, narrowedBy, outside, coverBy, forwardBy, backwardBy, IsCover};
 ghost use Rattle.rounds.specs.Order.{orderBy, padded};
 ghost use Rattle.rounds.specs.Answers.{Concludes, outcomeOf, invariantOf, stepsIn, Called};
 ghost use Rattle.rounds.specs.OrderAnswers.{Ordered};
@@ -31,6 +33,7 @@ use paths::find_path;
 use state_set::StateSet;
 use state_set::WORDS;
 use table::MAX_STATES;
+use table::ROWS_AT;
 use table::Rows;
 use table::forbidden;
 use table::group_at;
@@ -43,23 +46,39 @@ use table::union_of;
 
 // ---- the cover
 
-// The cover of each state for the empty list: all n states.
-fn no_groups(n: usize) -> Rows
-    ensures { λ r. ⌜ r ≡ covers n [] ⌝ }
+// The cover of each state that `bits` has in word w is met with z.
+fn narrow_word(rows: &mut Rows, w: usize, bits: u64, z: StateSet)
+    requires { ⌜ w < WORDS ⌝ }
+    ensures { λ _. ⌜ now (rows .exit) ≡ mapAt (wordSet w bits) (λ row. meet row (z .words)) [] (now (rows .entry)) ⌝ }
 {
-    let words = StateSet::first_states(n).words;
-    [words; MAX_STATES]
+    let mut rest = bits;
+    while rest != 0 {
+        let s = 64 * w + u64::trailing_zeros(rest) as usize;
+        let words = row_of(rows, s).meet(z).words;
+        rows[s] = words;
+        rest &= rest - 1;
+    }
 }
 
-// The set that is added to the list next: the last of the j groups that are still to be added, or z where there is none.
-fn next_added(store: &[u64], j: usize, z: StateSet) -> StateSet
-    requires { ⌜ (j ≤ maxGroups) × (storeWords ≤ length (now store)) ⌝ }
-    ensures { λ r. ⌜ r .words ≡ nextAdded (now (store .entry)) j (z .words) ⌝ }
+// z is added to the list: the cover of each of its states is met with it.
+fn narrow(rows: &mut Rows, z: StateSet)
+    ensures { λ _. ⌜ now (rows .exit) ≡ narrowed (now (rows .entry)) (z .words) ⌝ }
 {
-    if j == 0 {
-        return z;
+    for w in 0..WORDS {
+        narrow_word(rows, w, z.words[w], z);
     }
-    group_at(store, j - 1)
+}
+
+// The g groups of a table, whatever its states are, are added to the list, from the last to the first.
+fn narrow_by_groups(store: &[u64], g: usize, rows: &mut Rows)
+    requires { ⌜ (g ≤ maxGroups) × (storeWords ≤ length (now store)) ⌝ }
+    ensures { λ _. ⌜ now (rows .exit) ≡ narrowedBy (now (rows .entry)) ((tableOf (now (store .entry)) 0 g) .groups) ⌝ }
+{
+    let mut j = g;
+    while 0 < j {
+        j -= 1;
+        narrow(rows, group_at(store, j));
+    }
 }
 
 // ---- R
@@ -175,22 +194,78 @@ pub struct Remaining {
     pub next: StateSet,
 }
 
-// The greatest x with x = cover(r meet hold(x)), where r is its own cover. A state of r that steps out of x once stays out, so only those
-// that stay are looked at again.
-fn backward(store: &[u64], rows: &Rows, r: StateSet) -> Remaining
-    requires { ⌜ (storeWords ≤ length (now store)) × IsCover (now rows) × (coverBy (now rows) (r .words) ≡ r .words) ⌝ }
+// State s steps to none of the states that `out` has in word v.
+fn row_avoids(store: &[u64], s: usize, v: usize, out: u64) -> bool
+    requires { ⌜ (s < maxStates) × (v < WORDS) × (storeWords ≤ length (now store)) ⌝ }
+    ensures { λ b. ⌜ b ≡ subset (setAt (now (store .entry)) (rowAt s)) (outside (wordSet v out)) ⌝ }
+{
+    store[ROWS_AT + WORDS * s + v] & out == 0
+}
+
+// Of the states that `bits` has in word w, those that step to none of the states that `out` has in word v, as bits.
+fn avoiding_bits(store: &[u64], w: usize, bits: u64, v: usize, out: u64) -> u64
+    requires { ⌜ (w < WORDS) × (v < WORDS) × (storeWords ≤ length (now store)) ⌝ }
+    ensures { λ r. ⌜ wordSet w r ≡ meetHold (now (store .entry)) (wordSet w bits) (outside (wordSet v out)) ⌝ }
+{
+    let mut kept = 0;
+    let mut rest = bits;
+    while rest != 0 {
+        let i = u64::trailing_zeros(rest) as usize;
+        if row_avoids(store, 64 * w + i, v, out) {
+            kept |= 1 << i;
+        }
+        rest &= rest - 1;
+    }
+    kept
+}
+
+// The states of x that step to none of the states that `out` has in word v: one word of each row is looked at.
+fn avoiding(store: &[u64], x: StateSet, v: usize, out: u64) -> StateSet
+    requires { ⌜ (v < WORDS) × (storeWords ≤ length (now store)) ⌝ }
+    ensures { λ r. ⌜ r .words ≡ meetHold (now (store .entry)) (x .words) (outside (wordSet v out)) ⌝ }
+{
+    let mut words = [0; WORDS];
+    for w in 0..WORDS {
+        words[w] = avoiding_bits(store, w, x.words[w], v, out);
+    }
+    StateSet { words }
+}
+
+// x meet hold(y), where every state of x is in hold(before). What `before` has more than y is often in one word.
+fn meet_hold_within(store: &[u64], x: StateSet, before: StateSet, y: StateSet) -> StateSet
+    requires { ⌜ (storeWords ≤ length (now store)) × (meetHold (now store) (x .words) (before .words) ≡ x .words) ⌝ }
+    ensures { λ r. ⌜ r .words ≡ meetHold (now (store .entry)) (x .words) (y .words) ⌝ }
+{
+    let gone = before.difference(y);
+    let v = gone.smallest() / 64;
+    if v < WORDS {
+        if gone.is_subset(StateSet::first_states(64 * v + 64)) {
+            return avoiding(store, x, v, gone.words[v]);
+        }
+    }
+    meet_hold(store, x, y)
+}
+
+// The greatest x with x = cover(r meet hold(x)), where r is its own cover, and every step from it leads into `entered`. A state of r that steps
+// out of x once stays out, so only those that stay are looked at again, and none where x has not changed.
+fn backward(store: &[u64], rows: &Rows, r: StateSet, entered: StateSet) -> Remaining
+    requires { ⌜ (storeWords ≤ length (now store)) × IsCover (now rows) × (coverBy (now rows) (r .words) ≡ r .words)
+        × (meetHold (now store) (r .words) (entered .words) ≡ r .words) ⌝ }
     ensures { λ x. ⌜ IsGreatest (backwardBy (now (store .entry)) (now (rows .entry)) (r .words)) (x .s .words)
         × (x .next .words ≡ meetHold (now (store .entry)) (x .s .words) (x .s .words)) ⌝ }
 {
+    let mut before = entered;
     let mut s = r;
     let mut staying = r;
     loop {
-        let still = meet_hold(store, staying, s);
-        if still.equals(staying) {
-            return Remaining { s, next: staying };
+        let still = meet_hold_within(store, staying, before, s);
+        let less = union_of(rows, still);
+        if less.equals(s) {
+            return Remaining { s, next: still };
         }
         staying = still;
-        s = union_of(rows, staying);
+        before = s;
+        s = less;
     }
 }
 
@@ -244,7 +319,7 @@ fn conclude(store: &[u64], rows: &Rows, initial: StateSet, z: StateSet) -> Concl
             set: r,
         };
     }
-    let held = backward(store, rows, r);
+    let held = backward(store, rows, r, entered);
     let s = held.s;
     let next = held.next;
     if !initial.is_subset(s) {
@@ -259,33 +334,20 @@ fn conclude(store: &[u64], rows: &Rows, initial: StateSet, z: StateSet) -> Concl
     }
 }
 
-// The rounds, from 0 on, till one of them says safe or unsafe or the allowance is used. Each turn of the outer loop adds a set to the list and
-// narrows the cover by it: first the groups, from the last to the first, then Z0 and the Z of each later round, with which that round begins.
+// The rounds, from 0 on, till one of them says safe or unsafe or the allowance is used. Each begins by adding its Z to the list. The cover is laid
+// out here and lent: as a value it would be copied.
 pub fn run(store: &[u64], n: usize, g: usize, allowance: usize) -> Ended
     requires { ⌜ (n ≤ maxStates) × (g ≤ maxGroups) × (storeWords ≤ length (now store)) ⌝ }
     ensures { λ r. ⌜ (outcomeOf r ≡ run·model (tableOf (now (store .entry)) n g) allowance) × (r .invariant .words ≡ invariantOf (outcomeOf r)) ⌝ }
 {
     let initial = set_at(store, 0);
-    let mut rows = no_groups(n);
+    let all = StateSet::first_states(n).words;
+    let mut rows = [all; MAX_STATES];
+    narrow_by_groups(store, g, &mut rows);
     let mut z = not_forbidden(store, n);
-    let mut j = g;
     let mut i = 0;
     loop {
-        let added = next_added(store, j, z);
-        for w in 0..WORDS {
-            let mut rest = added.words[w];
-            while rest != 0 {
-                let s = 64 * w + u64::trailing_zeros(rest) as usize;
-                let met = row_of(&rows, s).meet(added);
-                let words = met.words;
-                rows[s] = words;
-                rest &= rest - 1;
-            }
-        }
-        if 0 < j {
-            j -= 1;
-            continue;
-        }
+        narrow(&mut rows, z);
         let round = conclude(store, &rows, initial, z);
         let conclusion = round.conclusion;
         let set = round.set;
@@ -318,45 +380,6 @@ pub fn run(store: &[u64], n: usize, g: usize, allowance: usize) -> Ended
 
 // ---- the order of the first round
 
-// The cover of a state s whose cover is `row`, after z is added to the list.
-fn narrowed_row(row: StateSet, s: usize, z: StateSet) -> StateSet
-    ensures { λ r. ⌜ r .words ≡ cond (member (z .words) s) (meet (row .words) (z .words)) (row .words) ⌝ }
-{
-    if z.contains(s) {
-        return row.meet(z);
-    }
-    row
-}
-
-// The cover of state s for the table's groups and z.
-fn cover_of(store: &[u64], n: usize, g: usize, z: StateSet, s: usize) -> StateSet
-    requires { ⌜ (g ≤ maxGroups) × (storeWords ≤ length (now store)) ⌝ }
-    ensures { λ r. ⌜ r .words ≡ coverOf n (z .words ∷ (tableOf (now (store .entry)) n g) .groups) s ⌝ }
-{
-    let mut row = StateSet::first_states(n);
-    let mut k = g;
-    while 0 < k {
-        k -= 1;
-        row = narrowed_row(row, s, group_at(store, k));
-    }
-    narrowed_row(row, s, z)
-}
-
-// The cover of each state for the table's groups and z.
-fn first_cover(store: &[u64], n: usize, g: usize, z: StateSet) -> Rows
-    requires { ⌜ (g ≤ maxGroups) × (storeWords ≤ length (now store)) ⌝ }
-    ensures { λ r. ⌜ r ≡ covers n (z .words ∷ (tableOf (now (store .entry)) n g) .groups) ⌝ }
-{
-    let none = [0; WORDS];
-    let mut rows = [none; MAX_STATES];
-    for s in 0..MAX_STATES {
-        let row = cover_of(store, n, g, z, s);
-        let words = row.words;
-        rows[s] = words;
-    }
-    rows
-}
-
 // How many states were expanded, or the number of the ground on which the call is declined.
 pub enum Expansion {
     Listed(usize),
@@ -381,8 +404,11 @@ pub fn first_order(store: &[u64], n: usize, g: usize) -> FirstOrder
         };
     }
     let z = not_forbidden(store, n);
-    let rows = first_cover(store, n, g, z);
-    let reached = forward(store, &rows, set_at(store, 0), z);
+    let all = StateSet::first_states(n).words;
+    let mut cover = [all; MAX_STATES];
+    narrow_by_groups(store, g, &mut cover);
+    narrow(&mut cover, z);
+    let reached = forward(store, &cover, set_at(store, 0), z);
     let count = reached.count;
     let states = reached.order;
     FirstOrder {

@@ -1,18 +1,21 @@
--- `backward`: s is the cover of the states that stay.
-use mathlib.Core.Path.{sym, _∙_}
+-- `backward`: s is the cover of the states that stay, which step to none outside the set before it.
+use mathlib.Core.Path.{_≡_, sym, _∙_}
 use borrow.Author.Needs.{needs}
 use Rattle.model.specs.Sets.{size}
 use Rattle.state_set.proofs.Words.{proper}
+use Rattle.table.specs.Rows.{meetHold}
 use Rattle.rounds.specs.Steps.{coverBy}
+use Rattle.rounds.proofs.Leaving.{held-again}
 use Rattle.rounds.proofs.Staying.{Staying, staying-start, staying-less, staying-turn, staying-greatest, staying-next}
 use Rattle.rounds.proofs.backward.Statement.{statement}
 use Rattle.rounds.proofs.backward.Tie as tie
 
 abbrev Inv-loop : tie.InvT-loop
-Inv-loop store rows s₀ staying₀ s staying = Staying store rows (s₀ .words) (staying .words) (s .words)
+Inv-loop store rows before₀ s₀ staying₀ before s staying =
+    Staying store rows (s₀ .words) (staying .words) (s .words) × (meetHold store (staying .words) (before .words) ≡ staying .words)
 
 abbrev μ-loop : tie.MeasureT-loop
-μ-loop store rows s₀ staying₀ s staying = size (staying .words)
+μ-loop store rows before₀ s₀ staying₀ before s staying = size (s .words)
 
 pub backward-spec : {M : Type 1} → statement M
 unfolding coverBy
@@ -21,17 +24,24 @@ backward-spec =
     (tie.spec
     Inv-loop
     μ-loop
-    (λ c. staying-start _ _ _ (proper (search needs) (λ w. search needs)) (c .before .pre .2))
+    (λ c. let pre = c .before .pre in (staying-start _ _ _ (proper (search needs) (λ w. search needs)) (pre .2), pre .3))
+    (λ c κs. (search needs, c .loop .inv .1))
     (λ c κs. search needs)
     (λ c κs. search needs)
     (λ c.
-    let m = c .before .before in
-    let so = m .before .loop .inv in
+    let u = c .before .before in
+    let m = u .before in
+    let so = m .before .loop .inv .0 in
     let e = sym (c .before .equals .ensures) ∙ c .if1 .taken in
-    let pre = m .before .before .before .pre in
-    (staying-greatest _ _ _ so (m .meet-hold .ensures) (pre .1) (pre .2) e, staying-next _ _ _ so (m .meet-hold .ensures) (pre .1) (pre .2) e))
-    (λ c κs. search needs)
+    let pre = m .before .before .before .pre in (
+      staying-greatest _ _ _ so (m .meet-hold-within .ensures) (u .union-of .ensures) (pre .1) (pre .2) e,
+      staying-next _ _ _ so (m .meet-hold-within .ensures) (u .union-of .ensures) (pre .1) (pre .2) e,
+    ))
     (λ c.
-    let m = c .before .before .before in
-    staying-less _ _ _ (m .before .loop .inv) (m .meet-hold .ensures) (sym (c .before .before .equals .ensures) ∙ c .before .if1 .left))
-    (λ c. let m = c .before .before .before in staying-turn _ _ _ (m .before .loop .inv) (m .meet-hold .ensures) (c .union-of .ensures)))
+    let u = c .before .before in
+    let m = u .before in
+    staying-less _ _ _ (m .before .loop .inv .0) (m .meet-hold-within .ensures) (u .union-of .ensures) (sym (c .before .equals .ensures) ∙ c .if1 .left))
+    (λ c.
+    let u = c .before .before in
+    let m = u .before in
+    (staying-turn _ _ _ (m .before .loop .inv .0) (m .meet-hold-within .ensures) (u .union-of .ensures), held-again _ _ _ (m .meet-hold-within .ensures))))

@@ -5,6 +5,7 @@ use Rattle.model.specs.Sets.{Set, union, subset}
 use Rattle.table.specs.Rows.{successorsBy}
 use Rattle.rounds.specs.Answers.{setBeside}
 use Rattle.rounds.proofs.Bridge.{forward-closed, backward-greatest}
+use Rattle.rounds.proofs.Leaving.{entered-holds}
 use Rattle.rounds.proofs.Running.{conclude-safe, conclude-unsafe, conclude-open}
 use Rattle.rounds.proofs.conclude.Statement.{statement}
 use Rattle.rounds.proofs.conclude.Tie as tie
@@ -73,7 +74,12 @@ conclude-spec =
     (λ c κs. search needs)
     (λ c κs. search needs)
     safe-now
-    (λ c κs. let r = at-R (c .before) in (search needs, r .before .before .pre .1, forward-closed _ _ (r .before .before .pre .1) _ _ (r .forward .ensures .0)))
+    (λ c κs. let r = at-R (c .before) in (
+      search needs,
+      r .before .before .pre .1,
+      forward-closed _ _ (r .before .before .pre .1) _ _ (r .forward .ensures .0),
+      entered-holds _ _ _ _ (r .forward .ensures .0) (r .forward .ensures .3),
+    ))
     (λ c κs. search needs)
     (λ c κs. search needs)
     unsafe-now
