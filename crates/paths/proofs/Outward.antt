@@ -63,36 +63,36 @@ module _ (store : List ℕ) (X : Set) where
       kept : (Y : Set) (i : ℕ) → i < k → getD (set rows k Y) i [] ≡ layerOf store X i
       kept Y i b = getD-set-other rows k i Y [] (λ e. omega arith) ∙ so .filled i b
 
-      module _ {last : Set} (l : last ≡ meet layer (forbiddenBy store)) where
-        pub outward-turn : {found′ layer′ : Set} → subset last empty ≡ true → layer′ ≡ difference (successorsBy store layer) found
-            → found′ ≡ union found layer′ → Outward store X (k + 1) found′ layer′ (set rows k layer)
-        outward-turn {found′} {layer′} e p q =
-            subst (λ (j : ℕ). Outward store X j found′ layer′ (set rows k layer)) (sym (add-one k))
-            (record {
-              layered = layered-turn store X (so .layered) p q;
-              counted = omega (arith, so .counted, layered-less store X (so .layered) some);
-              clear =
-                  is-false _
-                  (λ m.
-                  let w = meets-in m in
-                  ⊎-elim (λ i. clash (in-meets i (w .2)) (so .clear))
-                  (λ i. empty-in (subset-in e (w .0) (⊆-of-eq (sym l) (w .0) (in-meet i (w .2)))))
-                  (layered-all store X (so .layered) (w .0) (⊆-of-eq (sym (so .layered .found-is)) (w .0) (w .1))));
-              long = length-set rows k layer ∙ so .long;
-              filled =
-                  λ i b. ⊎-elim (λ e. ap (λ (j : ℕ). getD (set rows k layer) j []) e ∙ written layer ∙ layer-is ∙ ap (layerOf store X) (sym e)) (kept layer i) (below-suc b);
-            })
+      pub outward-turn : {found′ layer′ : Set} → subset (meet layer (forbiddenBy store)) empty ≡ true → layer′ ≡ difference (successorsBy store layer) found
+          → found′ ≡ union found layer′ → Outward store X (k + 1) found′ layer′ (set rows k layer)
+      outward-turn {found′} {layer′} e p q =
+          subst (λ (j : ℕ). Outward store X j found′ layer′ (set rows k layer)) (sym (add-one k))
+          (record {
+            layered = layered-turn store X (so .layered) p q;
+            counted = omega (arith, so .counted, layered-less store X (so .layered) some);
+            clear =
+                is-false _
+                (λ m.
+                let w = meets-in m in
+                ⊎-elim (λ i. clash (in-meets i (w .2)) (so .clear))
+                (λ i. empty-in (subset-in e (w .0) (in-meet i (w .2))))
+                (layered-all store X (so .layered) (w .0) (⊆-of-eq (sym (so .layered .found-is)) (w .0) (w .1))));
+            long = length-set rows k layer ∙ so .long;
+            filled =
+                λ i b. ⊎-elim (λ e. ap (λ (j : ℕ). getD (set rows k layer) j []) e ∙ written layer ∙ layer-is ∙ ap (layerOf store X) (sym e)) (kept layer i) (below-suc b);
+          })
 
-        pub outward-hit : subset last empty ≡ false → (Steps k ≡ firstLayer store X) × LayersUpTo store X (Steps k) (set rows k last)
-        unfolding firstLayer
-        outward-hit e =
-            let w = subset-not last empty e in
-            let both = meet-in (⊆-of-eq l (w .0) (w .1)) in
-            let hit = in-meets (⊆-of-eq (so .layered .found-is) (w .0) (layer-in store X (so .layered) (w .0) (both .0) .0)) (both .1) in
-            let d = first-is _ maxStates k outward-below hit (λ j b. meets-none (forbiddenBy store) (before-mono store X (suc j) k b) (so .clear)) in (
-              rw (d, lt-ltb k maxStates outward-below),
-              (length-set rows k last ∙ so .long, kept last, written last ∙ l ∙ ap (λ (Y : Set). meet Y (forbiddenBy store)) layer-is),
-            )
+      pub outward-hit : {last : Set} → subset (meet layer (forbiddenBy store)) empty ≡ false → last ≡ meet layer (forbiddenBy store)
+          → (Steps k ≡ firstLayer store X) × LayersUpTo store X (Steps k) (set rows k last)
+      unfolding firstLayer
+      outward-hit {last} e l =
+          let w = subset-not (meet layer (forbiddenBy store)) empty e in
+          let both = meet-in (w .1) in
+          let hit = in-meets (⊆-of-eq (so .layered .found-is) (w .0) (layer-in store X (so .layered) (w .0) (both .0) .0)) (both .1) in
+          let d = first-is _ maxStates k outward-below hit (λ j b. meets-none (forbiddenBy store) (before-mono store X (suc j) k b) (so .clear)) in (
+            rw (d, lt-ltb k maxStates outward-below),
+            (length-set rows k last ∙ so .long, kept last, written last ∙ l ∙ ap (λ (Y : Set). meet Y (forbiddenBy store)) layer-is),
+          )
 
     pub outward-end : subset layer empty ≡ true → Nothing ≡ firstLayer store X
     unfolding firstLayer

@@ -35,6 +35,7 @@ use table::Rows;
 use table::forbidden;
 use table::forbidden_among;
 use table::meet_hold;
+use table::none_forbidden;
 use table::refusal;
 use table::row_at;
 use table::row_of;
@@ -173,9 +174,8 @@ fn first_layer(store: &[u64], from: StateSet, layers: &mut Rows) -> Found
     let mut layer = from;
     let mut steps = 0;
     while !layer.is_empty() {
-        let last = forbidden_among(store, layer);
-        if !last.is_empty() {
-            let words = last.words;
+        if !none_forbidden(store, layer) {
+            let words = forbidden_among(store, layer).words;
             layers[steps] = words;
             return Found::Steps(steps);
         }

@@ -2,17 +2,18 @@
 --
 --   dead-is                          no successor, as the code tests it
 --   forbidden-by, by-forbidden       a state of the table is among them exactly if it is among those of the words
---   among-is                         those of a set, as the code gathers them
+--   among-is                         those of a set, as the code gathers them; some-marked, none-marked: whether there is none
 --   marked-among                     the marked states and those among the table's states are all of them
 use Prim.Native.Nat.{ℕ, _<_}
-use mathlib.Core.Path.{_≡_, sym, _∙_}
+use mathlib.Core.Path.{_≡_, sym, _∙_, subst}
+use mathlib.Core.Bool.{true, false}
 use mathlib.Core.Logic.{inl, inr, ⊎-elim}
 use mathlib.Core.List.{List}
-use Rattle.model.specs.Sets.{maxStates, Set, member, empty, union, meet, difference, subset, firstStates}
+use Rattle.model.specs.Sets.{maxStates, Set, member, empty, union, meet, difference, subset, meets, firstStates}
 use Rattle.model.specs.Tables.{isDeadEnd}
 use Rattle.model.specs.Stores.{markedAt, restingAt, rowAt, setAt, tableOf}
 use Rattle.model.proofs.Bounds.{and-true, and-intro, is-false, clash, same-test}
-use Rattle.model.proofs.SetLaws.{setOf-proper, In, in-bound, in-setOf, setOf-in, empty-in, in-union, union-in, in-meet, meet-in, in-difference, difference-in, in-firstStates, firstStates-in, subset-in, in-subset, same-set}
+use Rattle.model.proofs.SetLaws.{setOf-proper, In, in-bound, in-setOf, setOf-in, empty-in, in-union, union-in, in-meet, meet-in, in-difference, difference-in, in-firstStates, firstStates-in, subset-in, in-subset, in-meets, meets-in, same-set}
 use Rattle.model.proofs.HangLaws.{dead-none, none-dead, in-hangs, hangs-in}
 use Rattle.model.proofs.StoreLaws.{row-is}
 use Rattle.table.specs.Rows.{meetHold, forbiddenBy}
@@ -92,3 +93,19 @@ module _ (store : List ℕ) where
       (in-setOf _ (in-bound h)
       (and-intro (member (difference X resting) s) _ (in-difference (both .0) (λ r. clash (r .is) (w .2)) .is) (dead-is rowIn s ∙ w .1))))
       (union-in (both .1))))
+
+  -- whether a set has none of them, by the marked states of it and by the others
+  module _ (X : Set) where
+    pub some-marked : meets X marked ≡ true → false ≡ subset (meet X (forbiddenBy store)) empty
+    some-marked e =
+        let w = meets-in e in
+        sym (is-false (subset (meet X (forbiddenBy store)) empty) (λ h. empty-in (subset-in h (w .0) (subst (λ (Z : Set). In Z (w .0)) (among-is X) (in-union (inl (in-meet (w .1) (w .2))))))))
+
+    pub none-marked : meets X marked ≡ false → subset (meetHold store (difference X resting) empty) empty ≡ subset (meet X (forbiddenBy store)) empty
+    none-marked e =
+        same-test _ _
+        (λ h.
+        in-subset
+        (λ s m.
+        ⊎-elim (λ k. let both = meet-in k in absurd (clash (in-meets (both .0) (both .1)) e)) (subset-in h s) (union-in (subst (λ (Z : Set). In Z s) (sym (among-is X)) m))))
+        (λ h. in-subset (λ s m. subset-in h s (subst (λ (Z : Set). In Z s) (among-is X) (in-union (inr m)))))

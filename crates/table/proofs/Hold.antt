@@ -5,7 +5,7 @@
 --   passed-take, passed-skip        one more state, which passes or does not
 --   word-with                       the states of a word with one bit more
 --   held, meetHold-is               the states of a set that are in hold, as an image
---   held-start, held-word           the bits of a word that are in hold: before the first; when all are gathered
+--   held-start, held-word           the bits of a word that are in hold: before the first; when all are gathered; held-joined: joined to those before
 use Prim.Native.Nat.{ℕ, _+_, _*_, _/_, _%_, _^_, _<_}
 use native.Mathlib.Omega.{arith}
 use mathlib.Core.Path.{_≡_, sym, ap, _∙_, subst}
@@ -26,6 +26,7 @@ use Rattle.model.proofs.CoverLaws.{image-proper}
 use Rattle.model.proofs.ImageLaws.{union-comm, union-empty}
 use Rattle.state_set.specs.WordSets.{wordSet}
 use Rattle.state_set.proofs.Bits.{bit-or, bit-power, one-shl}
+use Rattle.state_set.proofs.Tests.{Joined, joined-more}
 use Rattle.state_set.proofs.Words.{word-is}
 use Rattle.state_set.proofs.WordSets.{in-wordSet, wordSet-in, word-none}
 use Rattle.table.specs.Rows.{meetHold}
@@ -141,6 +142,12 @@ module _ (store : List ℕ) (Y : Set) where
       ∙ ap (λ (b : Bool). b && (member (wordSet w (getD X w 0)) (64 * w + i) && subset (setAt store (rowAt (64 * w + i))) Y)) (lt-ltb (64 * w + i) maxStates inside)
       ∙ ap (λ (b : Bool). b && subset (setAt store (rowAt (64 * w + i))) Y) (member-wordSet w (getD X w 0) i h l ∙ sym (member-at X w i h l)))
 
-  pub meetHold-long : (X : Set) → length (meetHold store X Y) ≡ WORDS
+  -- such a number joined to those of the words before
+  pub held-joined : (X : Set) (w x all : ℕ) → Joined (meetHold store X Y) w all → w < WORDS → Fits w64 x → wordSet w x ≡ meetHold store (wordSet w (getD X w 0)) Y
+      → Joined (meetHold store X Y) (w + 1) (bitOr all x)
+  held-joined X w x all so h f e =
+      subst (λ (v : ℕ). Joined (meetHold store X Y) (w + 1) (bitOr all v)) (sym (held-word X w x h f e)) (joined-more (meetHold store X Y) w all h so)
+
+  pub meetHold-proper : (X : Set) → Proper (meetHold store X Y)
   unfolding meetHold
-  meetHold-long X = setOf-proper _ .long
+  meetHold-proper X = setOf-proper _

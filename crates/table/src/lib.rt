@@ -2,8 +2,9 @@
 //
 //   set_at, group_at, row_at     a set of the store
 //   successors                   post: all successors of the states of a set
-//   meet_hold                    x meet hold(y): the states of a set whose every successor is in another
-//   forbidden_among, forbidden   the forbidden states of a set, those marked so and the hangs; those of a table
+//   meet_hold, none_held         x meet hold(y): the states of a set whose every successor is in another; whether there is none
+//   none_forbidden               whether a set has no forbidden state: none that is marked so, and no hang
+//   forbidden_among, forbidden   the forbidden states of a set; those of a table
 //   Rows, row_of, union_of       a row of words for each state, the set in one row, the union of the rows of a set's states
 //   refusal                      the first of the grounds 10, 14, 15 and 17 that holds, or 0
 //
@@ -14,7 +15,7 @@ ghost use mathlib.Core.Bool.{not, _&&_};
 ghost use lib.Dec.{eqb};
 ghost use lib.ListN.{length, getD};
 ghost use mathlib.Core.List.{[]};
-ghost use Rattle.model.specs.Sets.{WORDS, maxStates, any, union, meet, subset, image};
+ghost use Rattle.model.specs.Sets.{WORDS, maxStates, any, empty, union, meet, subset, image};
 ghost use Rattle.state_set.specs.WordSets.{wordSet};
 ghost use Rattle.model.specs.Stores.{storeWords, maxGroups, groupAt, rowAt, setAt, tableOf, beyond, nonZero, malformed, refuse, sharedGrounds};
 ghost use Rattle.table.specs.Rows.{successorsBy, meetHold, forbiddenBy};
@@ -128,6 +129,33 @@ pub fn meet_hold(store: &[u64], x: StateSet, y: StateSet) -> StateSet
         words[w] = held_bits(store, w, x.words[w], y);
     }
     StateSet { words }
+}
+
+// No state of x is in hold(y). No set is made of them: one that is written a word at a time and then read whole is slow.
+fn none_held(store: &[u64], x: StateSet, y: StateSet) -> bool
+    requires { ⌜ storeWords ≤ length (now store) ⌝ }
+    ensures { λ b. ⌜ b ≡ subset (meetHold (now (store .entry)) (x .words) (y .words)) empty ⌝ }
+{
+    let mut all = 0;
+    for w in 0..WORDS {
+        all |= held_bits(store, w, x.words[w], y);
+    }
+    all == 0
+}
+
+// No state of x is forbidden.
+pub fn none_forbidden(store: &[u64], x: StateSet) -> bool
+    requires { ⌜ storeWords ≤ length (now store) ⌝ }
+    ensures { λ b. ⌜ b ≡ subset (meet (x .words) (forbiddenBy (now (store .entry)))) empty ⌝ }
+{
+    if x.meets(set_at(store, MARKED_AT)) {
+        return false;
+    }
+    none_held(
+        store,
+        x.difference(set_at(store, RESTING_AT)),
+        StateSet::empty(),
+    )
 }
 
 // The forbidden states of x: those marked so, and the hangs, which step nowhere and are not resting.

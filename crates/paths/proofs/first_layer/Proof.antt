@@ -40,17 +40,17 @@ first-layer-spec =
     (λ c. below (c .before .before .before .before))
     (λ c.
     let d = c .before .before .before .before in
-    outward-hit _ _ (d .before .before .loop .inv) (some d) (c .before .before .before .forbidden-among .ensures)
-    (sym (c .before .before .is-empty2 .ensures) ∙ not-true _ (c .before .if2 .taken)))
-    (λ c. record { fits = omega (arith, below (c .before .before .before .before)) })
-    (λ c. below (c .before .before .before .before))
+    outward-hit _ _ (d .before .before .loop .inv) (some d) (sym (c .before .before .before .none-forbidden .ensures) ∙ not-true _ (c .before .before .if2 .taken))
+    (c .before .forbidden-among .ensures))
+    (λ c. record { fits = omega (arith, below (c .before .before .before)) })
+    (λ c. below (c .before .before .before))
     (λ c κs. search needs)
     (λ c κs. search needs)
-    (λ c. omega (arith, below (c .before .before .before .before .before .before)))
-    (λ c. let l = below (c .before .before .before .before .before .before) in omega arith)
+    (λ c. omega (arith, below (c .before .before .before .before .before)))
+    (λ c. let l = below (c .before .before .before .before .before) in omega arith)
     (λ c.
-    let d = c .before .before .before .before .before .before in
-    outward-turn _ _ (d .before .before .loop .inv) (some d) (c .before .before .before .before .before .forbidden-among .ensures)
-    (sym (c .before .before .before .before .is-empty2 .ensures) ∙ not-false _ (c .before .before .before .if2 .left))
+    let d = c .before .before .before .before .before in
+    outward-turn _ _ (d .before .before .loop .inv) (some d)
+    (sym (c .before .before .before .before .none-forbidden .ensures) ∙ not-false _ (c .before .before .before .if2 .left))
     (c .before .newly-reached .ensures) (c .union .ensures))
     (λ c. (outward-end _ _ (c .before .before .loop .inv) (sym (c .before .is-empty .ensures) ∙ not-false _ (c .if1 .left)), tt)))

@@ -5,7 +5,7 @@ use Rattle.model.specs.Sets.{WORDS}
 use Rattle.state_set.specs.WordSets.{wordSet}
 use Rattle.state_set.proofs.Words.{Filling, filling-none, filling-more, filling-all}
 use Rattle.table.specs.Rows.{meetHold}
-use Rattle.table.proofs.Hold.{held-word, meetHold-long}
+use Rattle.table.proofs.Hold.{held-word, meetHold-proper}
 use Rattle.rounds.specs.Steps.{outside}
 use Rattle.rounds.proofs.avoiding.Statement.{statement}
 use Rattle.rounds.proofs.avoiding.Tie as tie
@@ -22,7 +22,7 @@ avoiding-spec =
     (tie.spec
     Inv-loop
     μ-loop
-    (λ c. filling-none _ _ (meetHold-long _ _ _) (search needs))
+    (λ c. filling-none _ _ (meetHold-proper _ _ _ .long) (search needs))
     (λ c. search needs)
     (λ c. search needs)
     (λ c κs. search needs)

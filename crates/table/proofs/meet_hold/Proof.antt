@@ -4,7 +4,7 @@ use borrow.Author.Needs.{needs}
 use Rattle.model.specs.Sets.{WORDS}
 use Rattle.state_set.proofs.Words.{Filling, filling-none, filling-more, filling-all}
 use Rattle.table.specs.Rows.{meetHold}
-use Rattle.table.proofs.Hold.{held-word, meetHold-long}
+use Rattle.table.proofs.Hold.{held-word, meetHold-proper}
 use Rattle.table.proofs.meet_hold.Statement.{statement}
 use Rattle.table.proofs.meet_hold.Tie as tie
 
@@ -20,7 +20,7 @@ meet-hold-spec =
     (tie.spec
     Inv-loop
     μ-loop
-    (λ c. filling-none _ _ (meetHold-long _ _ _) (search needs))
+    (λ c. filling-none _ _ (meetHold-proper _ _ _ .long) (search needs))
     (λ c. search needs)
     (λ c. search needs)
     (λ c κs. search needs)
