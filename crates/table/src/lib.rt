@@ -151,11 +151,8 @@ pub fn none_forbidden(store: &[u64], x: StateSet) -> bool
     if x.meets(set_at(store, MARKED_AT)) {
         return false;
     }
-    none_held(
-        store,
-        x.difference(set_at(store, RESTING_AT)),
-        StateSet::empty(),
-    )
+    let others = x.difference(set_at(store, RESTING_AT));
+    none_held(store, others, StateSet::empty())
 }
 
 // The forbidden states of x: those marked so, and the hangs, which step nowhere and are not resting.
