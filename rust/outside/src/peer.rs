@@ -218,6 +218,15 @@ impl<'s> Table<'s> {
     fn holding(&self, among: Set, x: Set) -> Set {
         among.filter(|state| Set(self.rows[state]).inside(x))
     }
+
+    /// The states of a set that step to no state of x, by one word of each row where x has states in no other.
+    fn avoiding(&self, among: Set, x: Set) -> Set {
+        let word = x.first() / 64;
+        match word < WORDS && x.minus(Set::below(64 * word + 64)).is_empty() {
+            true => among.filter(|state| self.rows[state][word] & x.0[word] == 0),
+            false => among.filter(|state| Set(self.rows[state]).meet(x).is_empty()),
+        }
+    }
 }
 
 // ---- The rounds
@@ -258,8 +267,8 @@ fn forward(table: &Table, covers: &Covers, z: Set, looks: Looks) -> (Set, Set) {
     }
 }
 
-/// S, and S meet hold(S).
-fn backward(table: &Table, covers: &Covers, r: Set, looks: Looks) -> (Set, Set) {
+/// S, and S meet hold(S), where every step from R leads into `reached`.
+fn backward(table: &Table, covers: &Covers, r: Set, reached: Set, looks: Looks) -> (Set, Set) {
     match looks {
         Looks::Whole => {
             let mut s = Set::below(table.n);
@@ -271,17 +280,20 @@ fn backward(table: &Table, covers: &Covers, r: Set, looks: Looks) -> (Set, Set) 
                 s = next;
             }
         }
-        // S lies inside R, which is a cover, and a state that once stepped out of S stays out.
+        // S lies inside R, which is a cover, and a state that once stepped out of S stays out: one that
+        // stayed steps out only to what left S since.
         Looks::New => {
+            let mut before = reached;
             let mut s = r;
             let mut staying = r;
             loop {
-                let next = table.holding(staying, s);
-                if next == staying {
+                staying = table.avoiding(staying, before.minus(s));
+                let next = staying.gather(covers);
+                if next == s {
                     return (s, staying);
                 }
-                staying = next;
-                s = staying.gather(covers);
+                before = s;
+                s = next;
             }
         }
     }
@@ -302,7 +314,7 @@ fn rounds(table: &Table, allowance: usize, looks: Looks) -> (u32, usize, Set) {
         if reached.inside(z) {
             return (SAFE, count, r);
         }
-        let (s, next) = backward(table, &covers, r, looks);
+        let (s, next) = backward(table, &covers, r, reached, looks);
         if !table.initial.inside(s) {
             return (UNSAFE, count, Set::EMPTY);
         }
