@@ -1,14 +1,16 @@
 #!/usr/bin/env python3
 """What paths_test must print: writes the file stdout beside this one; with --check writes nothing, and fails if it differs.
 
-Made from the specification alone and not from the code under test. The code measures distances backward from the forbidden states over sets of
-words and then walks forward; this goes forward from the initial states over Python sets, with the smallest path to each state in hand.
+Made from the specification alone and not from the code under test. The code goes forward by layers of words, back through them with what leads on, and
+forward again for the path; this goes forward once, over Python sets, with the smallest path to each state in hand.
 """
 
 import sys
 from pathlib import Path
 
-GREATEST_N, GREATEST_G, STORE_WORDS, PATH_PLACES = 512, 64, 4632, 512
+WORDS, GREATEST_G, HEAD_SETS = 8, 64, 3
+GREATEST_N = PATH_PLACES = 64 * WORDS
+STORE_WORDS = WORDS * (HEAD_SETS + GREATEST_G + GREATEST_N)
 LINES = []
 
 

@@ -45,6 +45,13 @@ _Static_assert(64 * SHUNTBERRY_SET_WORDS == SHUNTBERRY_MAX_STATES, "words of a s
 
 enum { STATES = SHUNTBERRY_MAX_STATES, STACK = 1 << 20, PAINT = 0xa5, STACK_LIMIT = 256 * 1024 };
 
+/* The file of a table with as many states and no group: two numbers of two bytes, then its sets, in blocks of four bytes more. */
+enum {
+    CONTENT = 4 + STATES / 8 * (SHUNTBERRY_HEAD_SETS + STATES),
+    BLOCK_CONTENT = SHUNTBERRY_BLOCK_BYTES - 4,
+    FILE_BYTES = (CONTENT + BLOCK_CONTENT - 1) / BLOCK_CONTENT * SHUNTBERRY_BLOCK_BYTES
+};
+
 static uint64_t store[SHUNTBERRY_STORE_WORDS], other[SHUNTBERRY_STORE_WORDS];
 static uint64_t possible[SHUNTBERRY_POSSIBLE_WORDS];
 static uint8_t file[SHUNTBERRY_FILE_BYTES];
@@ -92,7 +99,7 @@ static void answers(void)
 {
     struct shuntberry_file written =
         shuntberry_write(store, SHUNTBERRY_STORE_WORDS, STATES, 0, 0, file, sizeof file);
-    require(written.refusal == SHUNTBERRY_ACCEPTED && written.length == 65 * SHUNTBERRY_BLOCK_BYTES, "write");
+    require(written.refusal == SHUNTBERRY_ACCEPTED && written.length == FILE_BYTES, "write");
     struct shuntberry_table table = shuntberry_read(file, written.length, 0, other, SHUNTBERRY_STORE_WORDS);
     require(table.refusal == SHUNTBERRY_ACCEPTED && table.n == STATES && table.g == 0, "read");
     require(memcmp(store, other, sizeof store) == 0, "read gives back what was written");

@@ -18,6 +18,7 @@ use test_support::digest_words;
 use test_support::generate;
 use test_support::groups_of;
 use test_support::labelled;
+use test_support::left_out;
 use test_support::line;
 use test_support::states_of;
 use test_support::unchanged_words;
@@ -39,6 +40,7 @@ fn holds(store: &[u64], at: usize, s: usize) -> bool {
             }
         }
     }
+    left_out();
     false
 }
 
@@ -49,6 +51,7 @@ fn is_dead_end(store: &[u64], s: usize) -> bool {
     if to <= store.len() {
         return unchanged_words(&store[from..to], 0, 0);
     }
+    left_out();
     false
 }
 
@@ -66,6 +69,7 @@ fn at(xs: &[usize], i: usize) -> usize {
     if i < xs.len() {
         return xs[i];
     }
+    left_out();
     NONE
 }
 
@@ -78,17 +82,20 @@ fn visit(
     end: usize,
     steps: &mut [usize],
 ) -> usize {
-    if wanted {
-        if s < steps.len() {
-            if end < queue.len() {
-                if steps[s] == NONE {
-                    steps[s] = d;
-                    queue[end] = s;
-                    return end + 1;
-                }
-            }
+    if !wanted {
+        return end;
+    }
+    if s < steps.len() {
+        if steps[s] != NONE {
+            return end;
+        }
+        if end < queue.len() {
+            steps[s] = d;
+            queue[end] = s;
+            return end + 1;
         }
     }
+    left_out();
     end
 }
 

@@ -7,8 +7,8 @@
 //   wide                                     a byte as a 64-bit number
 //   le16_at                                  the number whose two bytes stand at a place, low byte first
 //   copy_content                             the content of a block, copied
-//   MAX_SITE, check_of                       the greatest site number; the check of a block for a site
-//   whole_chunks                             the part of its sum that is taken in LANES, of as many bytes side by side
+//   MODULUS, MAX_SITE, check_of              the prime of the check; the greatest site number; the check of a block for a site
+//   whole_chunks                             the part of its sum that is taken a chunk at a time, LANES bytes side by side
 //   add_lanes, add_bytes                     a row of lanes, or a chunk of bytes, added to a row of lanes
 //   total, weighted, wide_lane               the sum of a row, and its weighted sum; a lane as a 32-bit number
 //   set_width, set_count                     the bytes of a set, and how many sets there are
@@ -55,7 +55,10 @@ const OLD_HEAD_SETS: usize = 2;
 // What is added to g in the second number of a file of the new form.
 const ADDED: usize = 32768;
 
-pub const MAX_SITE: usize = 65520;
+// The prime of the check.
+const MODULUS: u32 = 65521;
+
+pub const MAX_SITE: usize = MODULUS as usize - 1;
 
 // The old form has no resting states.
 pub enum Form {
@@ -178,7 +181,7 @@ pub fn check_of(block: &[u8], site: usize) -> u64
     for i in LANES * CHUNKS..CHECK_AT {
         sum += (i as u32 + 1) * (wide(block[i]) as u32);
     }
-    (sum % 65521) as u64
+    (sum % MODULUS) as u64
 }
 
 pub fn set_width(n: usize) -> usize

@@ -154,8 +154,8 @@ fn remainder(x: usize, n: usize, inverse: usize) -> usize
     if rest < n { rest } else { rest - n }
 }
 
-// The successors of state s: its numbers, each modulo n. The bits are set in the store itself: a set put together elsewhere would be read by wider words than it
-// was written by, which is slow.
+// The successors of state s: its numbers, each modulo n. The bits are set in the store itself, in words that are cleared for it: a set put
+// together elsewhere would be read by wider words than it was written by, which is slow.
 fn put_successors(numbers: &[u32], n: usize, inverse: usize, f: usize, s: usize, store: &mut [u64])
     requires { ⌜ (0 < n) × (n ≤ maxStates) × (inverse ≡ 2 ^ 32 / n) × (55 + s * f + f ≤ length (now numbers)) × (rowAt s + WORDS ≤ length (now store)) ⌝ }
     ensures { λ r. ⌜ now (store .exit) ≡ paste (now (store .entry)) (rowAt s) (successors (now (numbers .entry)) n f s) WORDS ⌝ }

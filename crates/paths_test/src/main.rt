@@ -13,6 +13,7 @@ use table::STORE_WORDS;
 use test_support::group;
 use test_support::initial;
 use test_support::labelled;
+use test_support::left_out;
 use test_support::line;
 use test_support::number;
 use test_support::places;
@@ -39,6 +40,7 @@ fn print_answer(answer: Shortest, path: &[u16]) -> usize {
                 places(path, steps + 1);
                 return steps + 1;
             }
+            left_out();
             0
         }
         Shortest::NoPath => {

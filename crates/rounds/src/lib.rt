@@ -10,7 +10,7 @@
 //   conclude                            what a round comes to
 //   run                                 the rounds
 //   first_order                         the order in which the first round expands the states of R
-//   decide                              the call
+//   steps_of, decide                    the steps of a path that was found; the call
 ghost use mathlib.Core.Path.{_≡_};
 ghost use mathlib.Core.List.{[]};
 ghost use Prim.Native.Nat.{_+_, _≤_, _<_};

@@ -6,6 +6,7 @@
 //   none_forbidden               whether a set has no forbidden state: none that is marked so, and no hang
 //   forbidden_among, forbidden   the forbidden states of a set; those of a table
 //   Rows, row_of, union_of       a row of words for each state, the set in one row, the union of the rows of a set's states
+//   any_beyond, non_zero         whether some of the store's sets have a state from n up; whether some of its words are not 0
 //   refusal                      the first of the grounds 10, 14, 15 and 17 that holds, or 0
 //
 // Functions below the calls ask for a store that is long enough; `refusal` asks for nothing.

@@ -38,7 +38,7 @@ use table::ROWS_AT;
 // ---- what does not fit
 
 // Said among what the program prints, where no expected output has it: nothing is left out silently.
-fn left_out() {
+pub fn left_out() {
     text(b"\nLEFT OUT\n");
 }
 

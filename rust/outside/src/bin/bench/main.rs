@@ -6,8 +6,8 @@
 //!
 //! In each repetition the library, the peer and the limit are measured in turn, in changing order, in the processor
 //! time of the thread; a ratio is of two times of one repetition. In brackets stands the range that holds 80 % of the
-//! ratios. Some calls are measured a second time beside others of the library's that answer the same: decide modal
-//! beside two calls of decide, each edit of a session beside opening the table again. `--peer` measures the peer
+//! ratios. Some calls are measured a second time beside others that answer the same: decide beside the plain peer,
+//! as tables grow, decide modal beside two calls of decide, each edit of a session beside opening the table again. `--peer` measures the peer
 //! against itself, which shows the noise; `--only` takes the rows that have the words in their call and family, as in
 //! 'decide | fan-out 2', and may be said again.
 

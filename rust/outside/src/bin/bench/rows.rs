@@ -49,6 +49,8 @@ impl Library {
 #[derive(Clone, Copy, PartialEq, Eq)]
 pub enum Call {
     Decide,
+    /// The plain peer's decide, whatever is measured.
+    DecidePlainly,
     ShortestPath,
     Distances,
     Within,
@@ -72,6 +74,7 @@ impl Call {
     pub fn name(self) -> &'static str {
         match self {
             Call::Decide => "decide",
+            Call::DecidePlainly => "the plain peer",
             Call::ShortestPath => "shortest path",
             Call::Distances => "distances",
             Call::Within => "within",
@@ -102,7 +105,8 @@ impl Call {
     pub fn bytes(self, case: &Case) -> (usize, usize) {
         let store = size_of::<[u64; STORE_WORDS]>();
         match self {
-            Call::Decide | Call::ShortestPath | Call::Within | Call::Acceptance => (store, 0),
+            Call::Decide | Call::DecidePlainly => (store, 0),
+            Call::ShortestPath | Call::Within | Call::Acceptance => (store, 0),
             Call::Edit(_) | Call::OpenAgain => (store, 0),
             Call::DecideModal | Call::DecideTwice => (store + size_of_val(&case.possible[..]), 0),
             Call::Distances => (store, size_of::<u16>() * case.n),
@@ -124,6 +128,10 @@ impl Call {
         match self {
             Call::Decide => {
                 Answer::Decision(calls.decide(store, n, g, MAX_ALLOWANCE, &mut buffers.places))
+            }
+            Call::DecidePlainly => {
+                let plain = Peer(Looks::Whole);
+                Answer::Decision(plain.decide(store, n, g, MAX_ALLOWANCE, &mut buffers.places))
             }
             Call::ShortestPath => {
                 Answer::Shortest(calls.shortest_path(store, n, g, &mut buffers.places))
@@ -372,6 +380,19 @@ pub fn rows(only: &[String]) -> Vec<Row> {
             });
         }
     }
+    for family in named
+        .iter()
+        .filter(|family| family.name.starts_with("growth"))
+    {
+        add_beside(
+            (Call::Decide, Some(Call::DecidePlainly)),
+            &family.name,
+            &mut || family.tables.iter().map(Case::of).collect(),
+        );
+    }
+    let mut add = |call, family: &str, cases: &mut dyn FnMut() -> Vec<Case>| {
+        add_beside((call, None), family, cases);
+    };
     for (family, n, fan_out) in loads() {
         add(Call::Generate, &family, &mut || seeds(n, fan_out));
     }

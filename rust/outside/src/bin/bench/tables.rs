@@ -105,7 +105,7 @@ pub fn print_calls(measured: &[Measured]) {
 /// The target of a call, and on how many families its median ratio is over that.
 fn target(rows: &[Measured]) -> String {
     let (row, _) = rows[0];
-    let Some(most) = row.call.target() else {
+    let Some(most) = row.call.target().filter(|_| row.beside.is_none()) else {
         return String::new();
     };
     match rows.iter().filter(|row| row.1.ratio.middle > most).count() {
