@@ -15,7 +15,8 @@ use lib.Dec.{eqb}
 use lib.ListN.{length}
 use Rattle.model.specs.Sets.{maxStates}
 use Rattle.model.specs.Rounds.{run}
-use Rattle.model.specs.Stores.{storeWords, tableOf, refuse}
+use Rattle.basics.specs.Refusals.{refuse}
+use Rattle.model.specs.Stores.{storeWords, tableOf}
 use Rattle.model.specs.Files.{maxFile}
 use Rattle.model.specs.Calls.{release, decideLimits, decideGrounds, decisionOf, declined, decideAnswer, badLength, fileGrounds, readGroundsAs, readAnswerAs, readAnswer, Written}
 use Rattle.model.specs.Promises.{Accepted}

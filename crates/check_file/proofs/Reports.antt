@@ -8,7 +8,7 @@ use mathlib.Core.List.{List}
 use lib.Dec.{eqb}
 use Rattle.model.specs.Stores.{storeWords}
 use Rattle.model.specs.Calls.{TableRead, readAnswer, readBuffer}
-use Rattle.model.proofs.Bounds.{not-true}
+use Rattle.basics.proofs.BoundLaws.{not-true}
 use Rattle.report.specs.Text.{refusedText}
 use Rattle.report.specs.Put.{Front}
 use Rattle.check_file.specs.CheckText.{zeroStore, tableText, checkText}

@@ -19,11 +19,12 @@ use mathlib.Core.List.{List, [], _∷_}
 use borrow.Author.Tests.{eq-eqb, ne-eqb, leb-false, lt-leb}
 use lib.Dec.{eqb, leb}
 use Rattle.model.specs.Sets.{Set, member, empty, single, union, firstStates}
-use Rattle.model.specs.Stores.{rowAt, setAt, tableOf, refuse, sharedGrounds}
+use Rattle.basics.specs.Refusals.{refuse}
+use Rattle.model.specs.Stores.{rowAt, setAt, tableOf, sharedGrounds}
 use Rattle.model.specs.Promises.{IsLeast}
-use Rattle.model.proofs.Bounds.{or-intro, or-false}
+use Rattle.basics.proofs.BoundLaws.{or-intro, or-false}
 use Rattle.model.proofs.SetLaws.{in-firstStates, single-in, in-subset, In}
-use Rattle.model.proofs.GroundLaws.{refuse-append, refuse-clear}
+use Rattle.basics.proofs.RefusalLaws.{refuse-append, refuse-clear}
 use Rattle.model.proofs.Acceptance.{Store, accepted-store, store-accepted, well-formed}
 use Rattle.reach.specs.Reached.{reachBy, reachable}
 use Rattle.reach.proofs.Walks.{reaching}

@@ -16,12 +16,13 @@ use lib.Dec.{eqb}
 use lib.ListN.{length, getD}
 use Rattle.model.specs.Sets.{maxStates, Set, member}
 use Rattle.model.specs.Tables.{Table}
-use Rattle.model.specs.Stores.{tableOf, refuse, sharedGrounds}
-use Rattle.model.proofs.Bounds.{and-true, is-false, clash, decided, same-test, by-cond}
+use Rattle.basics.specs.Refusals.{refuse}
+use Rattle.model.specs.Stores.{tableOf, sharedGrounds}
+use Rattle.basics.proofs.BoundLaws.{and-true, is-false, clash, decided, same-test, by-cond}
 use Rattle.model.proofs.SetLaws.{in-single, single-in, in-union, union-in, in-difference, difference-in}
 use Rattle.model.proofs.StoreLaws.{row-is}
 use Rattle.model.proofs.Acceptance.{Store, store-accepted, well-formed}
-use Rattle.model.proofs.GroundLaws.{refuse-none as refuse-end}
+use Rattle.basics.proofs.RefusalLaws.{refuse-none as refuse-end}
 use Rattle.reach.specs.Reached.{reachable}
 use Rattle.edit_session.specs.Edits.{Edit, add, remove, source, target, adds, hasStep, changesNothing, rowAfter, edited, opened, lit, Answer, noStates, editRefusal, editAnswer, editBuffer}
 use Rattle.edit_session.proofs.Rows.{Outside}

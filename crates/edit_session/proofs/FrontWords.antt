@@ -17,7 +17,7 @@ use lib.Seq.{ext-getD, getD-take, getD-drop, length-take-le}
 use Rattle.model.specs.Sets.{WORDS, maxStates, Set, member, empty}
 use Rattle.model.specs.Tables.{Table}
 use Rattle.model.specs.Stores.{storeWords, rowAt, setAt, tableOf}
-use Rattle.model.proofs.Bounds.{decided}
+use Rattle.basics.proofs.BoundLaws.{decided}
 use Rattle.model.proofs.StoreLaws.{row-is}
 use Rattle.model.proofs.Acceptance.{Store}
 use Rattle.model.proofs.FirstWords.{table-words, same-call}

@@ -17,11 +17,12 @@ use lib.Dec.{eqb, leb}
 use lib.ListN.{getD}
 use lib.Seq.{getD-set-other}
 use Rattle.model.specs.Sets.{WORDS, Set, member, empty, subset, firstStates}
-use Rattle.model.specs.Stores.{rowAt, tableOf, refuse, sharedGrounds, AcceptedStore}
+use Rattle.basics.specs.Refusals.{refuse}
+use Rattle.model.specs.Stores.{rowAt, tableOf, sharedGrounds, AcceptedStore}
 use Rattle.model.specs.RoundTrip.{Bounded}
-use Rattle.model.proofs.Bounds.{or-false, not-true, clash, decided, by-cond}
+use Rattle.basics.proofs.BoundLaws.{or-false, not-true, clash, decided, by-cond}
 use Rattle.model.proofs.SetLaws.{in-subset, in-union}
-use Rattle.model.proofs.GroundLaws.{refuse-none as refuse-end}
+use Rattle.basics.proofs.RefusalLaws.{refuse-none as refuse-end}
 use Rattle.model.proofs.Acceptance.{Store, accepted-store, store-accepted, well-formed}
 use Rattle.edit_session.specs.declared.Session.{Session}
 use Rattle.edit_session.specs.Edits.{Edit, add, remove, source, target, changesNothing, edited, opened, lit, Answer, openAnswer, noStates, editRefusal, editAnswer, editBuffer}

@@ -17,7 +17,7 @@ use lib.Seq.{ext-getD, getD-take, getD-drop, length-take-le, getD-set-same, getD
 use Rattle.model.specs.Sets.{WORDS, Set}
 use Rattle.model.specs.Stores.{rowAt, setAt}
 use Rattle.model.specs.Calls.{overwrite}
-use Rattle.model.proofs.Bounds.{decided, lt-or-ge}
+use Rattle.basics.proofs.BoundLaws.{decided, lt-or-ge}
 use Rattle.model.proofs.ListLaws.{getD-behind, length-overwrite, overwrite-front}
 use Rattle.model.proofs.StoreLaws.{length-setAt, getD-setAt}
 use Rattle.edit_session.specs.Edits.{withRow}

@@ -18,7 +18,7 @@ use lib.ListN.{length, getD, set}
 use Rattle.model.specs.Sets.{WORDS, maxStates, Set, single, union, difference}
 use Rattle.model.specs.Stores.{storeWords, rowAt, setAt, tableOf, beyond}
 use Rattle.model.specs.RoundTrip.{Bounded}
-use Rattle.model.proofs.Bounds.{decided, lt-or-ge}
+use Rattle.basics.proofs.BoundLaws.{decided, lt-or-ge}
 use Rattle.model.proofs.SetLaws.{Proper, setOf-proper, In, in-firstStates, in-single, single-in, in-union, union-in, difference-in, ⊆-of-eq}
 use Rattle.model.proofs.StoreLaws.{getD-setAt, setAt-proper, beyond-below, below-beyond, malformed-clean, clean-malformed, row-is}
 use Rattle.model.proofs.Acceptance.{Store}

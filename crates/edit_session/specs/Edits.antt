@@ -20,7 +20,8 @@ use lib.Dec.{eqb, leb}
 use lib.ListN.{take, drop}
 use Rattle.model.specs.Sets.{Set, member, empty, single, union, difference}
 use Rattle.model.specs.Tables.{Table}
-use Rattle.model.specs.Stores.{rowAt, setAt, tableOf, Ground, refuse, sharedGrounds}
+use Rattle.basics.specs.Refusals.{Ground, refuse}
+use Rattle.model.specs.Stores.{rowAt, setAt, tableOf, sharedGrounds}
 use Rattle.model.specs.Calls.{overwrite}
 use Rattle.reach.specs.Reached.{reachable}
 

@@ -15,7 +15,8 @@ use mathlib.Core.List.{List, [], _∷_}
 use lib.Dec.{eqb, leb, ltb}
 use lib.ListN.{length, getD, take, drop}
 use Rattle.model.specs.Sets.{WORDS, Set, member, empty, single, subset, firstStates}
-use Rattle.model.specs.Stores.{storeWords, rowAt, tableOf, refuse, sharedGrounds, AcceptedStore}
+use Rattle.basics.specs.Refusals.{refuse}
+use Rattle.model.specs.Stores.{storeWords, rowAt, tableOf, sharedGrounds, AcceptedStore}
 use Rattle.model.specs.RoundTrip.{Bounded}
 use Rattle.reach.specs.Reached.{reachable}
 use Rattle.edit_session.specs.declared.Session.{Session}

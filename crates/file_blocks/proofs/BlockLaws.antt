@@ -13,7 +13,7 @@ use Rattle.model.specs.Sets.{WORDS, maxStates}
 use Rattle.model.specs.Stores.{headSets, maxGroups}
 use Rattle.model.specs.Blocks.{contentBytes, blocksFor}
 use Rattle.model.specs.Contents.{newForm, headerBytes, contentLength}
-use Rattle.model.proofs.Bounds.{length-tabulate}
+use Rattle.basics.proofs.BoundLaws.{length-tabulate}
 use Rattle.file_blocks.specs.Places.{contentFrom}
 use Rattle.file_blocks.proofs.Overwriting.{Over, over-none, over-next}
 

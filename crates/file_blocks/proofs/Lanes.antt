@@ -10,9 +10,9 @@ use mathlib.Core.Path.{_≡_, sym, ap, ap₂, _∙_}
 use mathlib.Core.List.{List, _++_, append-nil}
 use lib.ListN.{length, getD, set, replicate, length-replicate, getD-replicate, drop-of-length-le}
 use lib.Seq.{getD-drop}
-use Rattle.model.specs.Sets.{tabulate}
+use Rattle.basics.specs.Bounds.{tabulate}
 use Rattle.model.specs.Calls.{overwrite}
-use Rattle.model.proofs.Bounds.{length-tabulate, getD-tabulate}
+use Rattle.basics.proofs.BoundLaws.{length-tabulate, getD-tabulate}
 use Rattle.model.proofs.ListLaws.{getD-behind}
 use Rattle.file_blocks.specs.Lanes.{lanes, byteMost, plus, Most}
 use Rattle.file_blocks.specs.Places.{contentFrom}

@@ -18,10 +18,11 @@ use mathlib.Core.List.{List, [], _∷_, _++_, append-nil}
 use borrow.Rule.Slice.PartMut.{putMid}
 use lib.ListN.{length, getD, set, take, drop, length-set, length-append, length-drop, drop-of-length-le, List·getD-append}
 use lib.Seq.{ext-getD, length-take-le, take-all, take-at, drop-at, getD-take, getD-drop, getD-append-add}
-use Rattle.model.specs.Sets.{WORDS, tabulate}
-use Rattle.model.specs.Stores.{setAt, concat}
+use Rattle.basics.specs.Bounds.{tabulate, concat}
+use Rattle.model.specs.Sets.{WORDS}
+use Rattle.model.specs.Stores.{setAt}
 use Rattle.model.specs.Calls.{overwrite}
-use Rattle.model.proofs.Bounds.{length-tabulate, getD-tabulate}
+use Rattle.basics.proofs.BoundLaws.{length-tabulate, getD-tabulate}
 use Rattle.model.proofs.ListLaws.{getD-behind, tabulate-next, length-concat, concat-next, length-overwrite, overwrite-more, overwrite-set}
 use Rattle.model.proofs.StoreLaws.{length-setAt, getD-setAt}
 use Rattle.file_blocks.specs.Places.{overwriteFrom}

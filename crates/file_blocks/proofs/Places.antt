@@ -11,7 +11,7 @@ use lib.Dec.{ltb}
 use Rattle.model.specs.Sets.{WORDS, maxStates}
 use Rattle.model.specs.Stores.{maxGroups, groupAt, rowAt, storeWords}
 use Rattle.model.specs.Contents.{Form, heads}
-use Rattle.model.proofs.Bounds.{by-cond}
+use Rattle.basics.proofs.BoundLaws.{by-cond}
 use Rattle.model.proofs.ContentLaws.{heads-most}
 use Rattle.file_blocks.specs.Places.{placeOf}
 

@@ -9,7 +9,7 @@ use Prim.Native.Nat.{ℕ, zero, suc, _+_, _/_, _≤_, _<_}
 use mathlib.Core.Path.{_≡_}
 use mathlib.Core.List.{List}
 use lib.ListN.{length, getD}
-use Rattle.model.specs.Sets.{tabulate}
+use Rattle.basics.specs.Bounds.{tabulate}
 use Rattle.model.specs.Blocks.{checkAt}
 
 abbrev pub lanes : ℕ

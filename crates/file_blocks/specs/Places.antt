@@ -11,7 +11,8 @@ use mathlib.Core.Bool.{cond}
 use mathlib.Core.List.{List, _++_}
 use lib.Dec.{ltb}
 use lib.ListN.{getD, take, drop}
-use Rattle.model.specs.Sets.{WORDS, tabulate}
+use Rattle.basics.specs.Bounds.{tabulate}
+use Rattle.model.specs.Sets.{WORDS}
 use Rattle.model.specs.Stores.{groupAt, rowAt}
 use Rattle.model.specs.Contents.{Form as FileForm, oldForm, newForm, heads}
 use Rattle.model.specs.Calls.{overwrite}

@@ -15,11 +15,12 @@ use borrow.Rule.Slice.PartMut.{putMid}
 use lib.Dec.{ltb}
 use lib.ListN.{length, getD, take, drop, length-drop, take-append-drop}
 use lib.Seq.{ext-getD, length-take-le, getD-drop}
-use Rattle.model.specs.Sets.{WORDS, maxStates, Set, empty, tabulate}
+use Rattle.basics.specs.Bounds.{tabulate}
+use Rattle.model.specs.Sets.{WORDS, maxStates, Set, empty}
 use Rattle.model.specs.Stores.{maxGroups, markedAt, restingAt, groupAt, rowAt, storeWords, setAt, layout}
 use Rattle.model.specs.Contents.{Form, heads, setWidth, headerBytes, setIn, setNumber, dialogueIn}
 use Rattle.model.specs.Calls.{overwrite}
-use Rattle.model.proofs.Bounds.{by-cond, below-suc, lt-or-ge, length-tabulate, getD-tabulate}
+use Rattle.basics.proofs.BoundLaws.{by-cond, below-suc, lt-or-ge, length-tabulate, getD-tabulate}
 use Rattle.model.proofs.ListLaws.{getD-behind, getD-past, length-overwrite, overwrite-front}
 use Rattle.model.proofs.ContentLaws.{heads-least, heads-most, by-resting, setIn-proper, dialogueIn-row}
 use Rattle.model.proofs.StoreLaws.{setAt-empty, Holds, holds-layout}

@@ -30,14 +30,16 @@ use mathlib.Core.List.{List, [], _∷_, _++_, append-nil}
 use borrow.Author.Tests.{lt-ltb, le-ltb, ltb-false, eq-eqb, ne-eqb, eqb-true, not-false}
 use lib.Dec.{eqb, ltb}
 use lib.ListN.{length, getD, take, drop}
-use Rattle.model.specs.Sets.{maxStates, any}
-use Rattle.model.specs.Stores.{maxGroups, storeWords, concat, layout, Ground, refuse, beyond, nonZero, storeGround}
+use Rattle.basics.specs.Bounds.{any, concat}
+use Rattle.model.specs.Sets.{maxStates}
+use Rattle.basics.specs.Refusals.{Ground, refuse}
+use Rattle.model.specs.Stores.{maxGroups, storeWords, layout, beyond, nonZero, storeGround}
 use Rattle.model.specs.Blocks.{blockBytes, contentBytes, checkAt, maxSite, siteGround, le16At, checkOf, blocksFor, part, contentsOf, blockGrounds}
 use Rattle.model.specs.Contents.{Form, heads, added, contentLength, setNumber, dialogueIn}
 use Rattle.model.specs.Files.{maxFile}
 use Rattle.model.specs.Calls.{overwrite, statesIn, groupsIn, badLength, badSecond, blocksGrounds, contentGrounds, fileGrounds, readGroundsAs, readAnswerAs, readBufferAs}
-use Rattle.model.proofs.Bounds.{or-false}
-use Rattle.model.proofs.GroundLaws.{Clear, refuse-none, refuse-skip, refuse-take, refuse-append, refuse-behind, clear-refuse, refuse-clear, clear-next, refuse-stop}
+use Rattle.basics.proofs.BoundLaws.{or-false}
+use Rattle.basics.proofs.RefusalLaws.{Clear, refuse-none, refuse-skip, refuse-take, refuse-append, refuse-behind, clear-refuse, refuse-clear, clear-next, refuse-stop}
 use Rattle.model.proofs.BlockLaws.{length-contentsOf, getD-contentsOf-at}
 use Rattle.model.proofs.CallLaws.{second-pass, right-block, blocks-clear, Readable, behind-length, readable, draft-refusal, read-answer, read-buffer, draft-says}
 use Rattle.model.proofs.Drafts.{draft-layout}

@@ -11,11 +11,11 @@ use mathlib.Core.Path.{_≡_, sym, ap, _∙_, subst}
 use mathlib.Core.List.{List}
 use lib.ListN.{length, getD, take, drop, replicate, length-append, length-drop, length-replicate}
 use lib.Seq.{ext-getD, length-take-le, getD-take, getD-drop}
-use Rattle.model.specs.Stores.{concat}
+use Rattle.basics.specs.Bounds.{concat}
 use Rattle.model.specs.Blocks.{blockBytes, contentBytes, contentAt, part, contentsOf}
 use Rattle.model.specs.Files.{maxFile}
 use Rattle.model.specs.Calls.{overwrite}
-use Rattle.model.proofs.Bounds.{getD-tabulate}
+use Rattle.basics.proofs.BoundLaws.{getD-tabulate}
 use Rattle.model.proofs.ListLaws.{concat-cong, take-overwrite}
 use Rattle.model.proofs.BlockLaws.{length-part, getD-part, length-contentsOf}
 use Rattle.file_blocks.specs.Places.{contentFrom}

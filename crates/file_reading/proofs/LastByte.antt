@@ -13,10 +13,11 @@ use borrow.Author.Tests.{eqb-true, eqb-false}
 use lib.Dec.{eqb}
 use lib.ListN.{getD}
 use lib.Pow.{shr-shr, shr-lt}
-use Rattle.model.specs.Sets.{maxStates, Set, bit, member, first}
+use Rattle.basics.specs.Bounds.{first}
+use Rattle.model.specs.Sets.{maxStates, Set, bit, member}
 use Rattle.model.specs.Stores.{beyond}
 use Rattle.model.specs.Contents.{setWidth, headerBytes, setIn, setNumber}
-use Rattle.model.proofs.Bounds.{clash, decided, first-passes, lt-or-ge}
+use Rattle.basics.proofs.BoundLaws.{clash, decided, first-passes, lt-or-ge}
 use Rattle.model.proofs.ContentLaws.{member-setIn, setIn-below}
 use Rattle.model.proofs.StoreLaws.{beyond-below, below-beyond}
 use Rattle.state_set.proofs.Bits.{bit-zero, first-bit}

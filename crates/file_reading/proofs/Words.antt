@@ -17,7 +17,7 @@ use mir.Syntax.{w8}
 use mir.Val.{Fits}
 use Rattle.model.specs.Sets.{WORDS, Set, member, number}
 use Rattle.model.specs.Contents.{Form, heads, setWidth, headerBytes, setIn}
-use Rattle.model.proofs.Bounds.{is-false}
+use Rattle.basics.proofs.BoundLaws.{is-false}
 use Rattle.model.proofs.SetLaws.{number-lt}
 use Rattle.model.proofs.ContentLaws.{number-none, number-append, word-number, number-setIn, setIn-proper, setIn-below}
 use Rattle.file_reading.specs.Reading.{SetInside, TableInside}

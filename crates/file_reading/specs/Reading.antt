@@ -12,8 +12,10 @@ use mathlib.Core.Bool.{cond}
 use mathlib.Core.List.{List, [], _∷_}
 use lib.Dec.{eqb}
 use lib.ListN.{length}
-use Rattle.model.specs.Sets.{maxStates, tabulate}
-use Rattle.model.specs.Stores.{maxGroups, storeWords, Ground, storeGround}
+use Rattle.basics.specs.Bounds.{tabulate}
+use Rattle.model.specs.Sets.{maxStates}
+use Rattle.basics.specs.Refusals.{Ground}
+use Rattle.model.specs.Stores.{maxGroups, storeWords, storeGround}
 use Rattle.model.specs.Blocks.{siteGround}
 use Rattle.model.specs.Contents.{Form, contentLength, setNumber}
 use Rattle.model.specs.Calls.{overwrite, badLength, blocksGrounds}

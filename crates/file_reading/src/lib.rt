@@ -13,8 +13,10 @@
 ghost use mathlib.Core.Path.{_≡_};
 ghost use Prim.Native.Nat.{_+_, _*_, _/_, _≤_, _<_};
 ghost use lib.ListN.{length, getD};
-ghost use Rattle.model.specs.Sets.{WORDS, member, number, any};
-ghost use Rattle.model.specs.Stores.{storeWords, layout, refuse, beyond, nonZero};
+ghost use Rattle.basics.specs.Bounds.{any};
+ghost use Rattle.model.specs.Sets.{WORDS, member, number};
+ghost use Rattle.basics.specs.Refusals.{refuse};
+ghost use Rattle.model.specs.Stores.{storeWords, layout, beyond, nonZero};
 ghost use Rattle.model.specs.Blocks.{blockBytes, contentBytes, maxSite, contentsOf, blockGrounds};
 ghost use Rattle.model.specs.Contents.{heads, setWidth, headerBytes, setIn, setNumber, dialogueIn};
 ghost use Rattle.model.specs.Calls.{overwrite, blocksGrounds, contentGrounds};

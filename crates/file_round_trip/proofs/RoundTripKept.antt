@@ -7,12 +7,12 @@ use mathlib.Core.List.{List}
 use borrow.Author.Tests.{eqb-true, eqb-false, not-false}
 use lib.Dec.{eqb}
 use lib.ListN.{length, take, drop, length-take, length-drop}
-use Rattle.model.specs.Stores.{refuse}
+use Rattle.basics.specs.Refusals.{refuse}
 use Rattle.model.specs.Blocks.{blockBytes, part, blockGrounds}
 use Rattle.model.specs.Contents.{newForm}
 use Rattle.model.specs.Calls.{readAnswer, readBuffer, writeAnswer, writeBuffer}
 use Rattle.model.specs.Calls.{TableRead as ReadNumbers, Written as WriteNumbers}
-use Rattle.model.proofs.Bounds.{not-true}
+use Rattle.basics.proofs.BoundLaws.{not-true}
 use Rattle.model.proofs.BlockLaws.{length-part}
 use Rattle.model.proofs.CallLaws.{write-refusal, writable, read-refusal}
 use Rattle.model.proofs.RoundTrips.{round-trips}

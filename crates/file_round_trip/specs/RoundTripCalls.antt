@@ -9,7 +9,9 @@ use mathlib.Core.Path.{_≡_}
 use mathlib.Core.Bool.{true, false}
 use mathlib.Core.List.{List}
 use lib.ListN.{length, take}
-use Rattle.model.specs.Stores.{storeWords, concat, refuse}
+use Rattle.basics.specs.Bounds.{concat}
+use Rattle.basics.specs.Refusals.{refuse}
+use Rattle.model.specs.Stores.{storeWords}
 use Rattle.model.specs.Blocks.{blockBytes, maxSite, part, blockGrounds}
 use Rattle.model.specs.Calls.{overwrite, badLength}
 use Rattle.model.specs.RoundTrip.{Bounded}

@@ -14,11 +14,12 @@ use mathlib.Core.List.{List, [], _++_}
 use lib.ListN.{length, getD, take, drop, replicate, length-replicate, List·getD-append}
 use lib.Seq.{getD-append-add, getD-drop}
 use Rattle.model.specs.Sets.{WORDS, maxStates, Set}
-use Rattle.model.specs.Stores.{headSets, maxGroups, markedAt, restingAt, setAt, dialogueOf, concat}
+use Rattle.basics.specs.Bounds.{concat}
+use Rattle.model.specs.Stores.{headSets, maxGroups, markedAt, restingAt, setAt, dialogueOf}
 use Rattle.model.specs.Blocks.{contentBytes, le16, blockOf}
 use Rattle.model.specs.Contents.{newForm, added, setWidth, setBytes, sets, contents, contentLength}
 use Rattle.model.specs.Calls.{overwrite}
-use Rattle.model.proofs.Bounds.{lt-or-ge, length-tabulate, getD-tabulate}
+use Rattle.basics.proofs.BoundLaws.{lt-or-ge, length-tabulate, getD-tabulate}
 use Rattle.model.proofs.ListLaws.{getD-past, concat-cong, length-overwrite}
 use Rattle.model.proofs.BlockLaws.{block-unique, blockOf-is}
 use Rattle.model.proofs.ContentLaws.{length-setBytes, heads-each, length-sets, sets-each, length-contents}

@@ -11,11 +11,11 @@ use mathlib.Core.Path.{_≡_, refl, sym, ap, ap₂, _∙_}
 use mathlib.Core.Logic.{⊎-elim}
 use mathlib.Core.List.{List, [], _∷_, _++_, append-nil, append-assoc}
 use lib.ListN.{set, length, getD}
-use Rattle.model.specs.Sets.{WORDS, Set, member, number, tabulate}
-use Rattle.model.specs.Stores.{concat}
+use Rattle.basics.specs.Bounds.{tabulate, concat}
+use Rattle.model.specs.Sets.{WORDS, Set, member, number}
 use Rattle.model.specs.Contents.{setBytes}
 use Rattle.model.specs.Calls.{overwrite}
-use Rattle.model.proofs.Bounds.{lt-or-ge, length-tabulate}
+use Rattle.basics.proofs.BoundLaws.{lt-or-ge, length-tabulate}
 use Rattle.model.proofs.ListLaws.{length-concat}
 use Rattle.model.proofs.ContentLaws.{byte-number}
 use Rattle.file_writing.specs.Writing.{wordBytes, wordsBytes}

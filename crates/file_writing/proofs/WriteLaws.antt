@@ -10,14 +10,16 @@ use mathlib.Core.Path.{_≡_, refl, sym, ap, _∙_}
 use mathlib.Core.List.{List, [], _∷_, _++_}
 use borrow.Author.Tests.{lt-ltb, ne-eqb}
 use lib.ListN.{set, length}
-use Rattle.model.specs.Stores.{storeWords, dialogueOf, concat, refuse, sharedGrounds}
+use Rattle.basics.specs.Bounds.{concat}
+use Rattle.basics.specs.Refusals.{refuse}
+use Rattle.model.specs.Stores.{storeWords, dialogueOf, sharedGrounds}
 use Rattle.model.specs.Blocks.{blockBytes, contentBytes, checkAt, maxSite, le16, blocksFor, checkOf, blockOf}
 use Rattle.model.specs.Contents.{newForm, contents, contentLength}
 use Rattle.model.specs.Files.{blockFile, fileOf, fileLength}
 use Rattle.model.specs.Calls.{overwrite, outputGround, writeGrounds, writeAnswer, writeBuffer}
-use Rattle.model.proofs.Bounds.{length-tabulate, getD-tabulate}
+use Rattle.basics.proofs.BoundLaws.{length-tabulate, getD-tabulate}
 use Rattle.model.proofs.ListLaws.{overwrite-front, overwrite-set}
-use Rattle.model.proofs.GroundLaws.{refuse-take, refuse-append}
+use Rattle.basics.proofs.RefusalLaws.{refuse-take, refuse-append}
 use Rattle.model.proofs.BlockLaws.{checkOf-cong, block-unique, framed-is, blockOf-is}
 use Rattle.model.proofs.ContentLaws.{length-contents}
 use Rattle.model.proofs.FileLaws.{file-draft, file-blocks, length-draft, length-blocks}

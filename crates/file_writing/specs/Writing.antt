@@ -6,7 +6,8 @@
 use Prim.Native.Nat.{ℕ, _*_, _/_, _%_, _^_, _≤_}
 use mathlib.Core.List.{List}
 use lib.ListN.{length, getD}
-use Rattle.model.specs.Sets.{maxStates, tabulate}
+use Rattle.basics.specs.Bounds.{tabulate}
+use Rattle.model.specs.Sets.{maxStates}
 use Rattle.model.specs.Stores.{maxGroups, storeWords, setAt}
 use Rattle.model.specs.Contents.{newForm, setBytes}
 use Rattle.file_blocks.specs.Places.{placeOf}

@@ -14,8 +14,8 @@ use mathlib.Core.List.{List}
 use borrow.Author.Tests.{leb-true, le-leb, eq-eqb, ne-eqb}
 use lib.Dec.{eqb, leb}
 use lib.ListN.{length, getD}
-use Rattle.model.specs.Sets.{all}
-use Rattle.model.proofs.Bounds.{and-true, and-intro, is-false, clash, lt-or-ge, all-at}
+use Rattle.basics.specs.Bounds.{all}
+use Rattle.basics.proofs.BoundLaws.{and-true, and-intro, is-false, clash, lt-or-ge, all-at}
 use Rattle.generate_file.specs.declared.Word.the-variants.{Number, Other}
 use Rattle.generate_file.specs.Words.{isDigit, isNumber, valueOf, limit, wordOf}
 

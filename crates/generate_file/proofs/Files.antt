@@ -10,12 +10,13 @@ use mathlib.Core.List.{List, []}
 use borrow.Author.Tests.{eqb-true, not-false, not-true}
 use lib.Dec.{eqb}
 use lib.ListN.{length}
-use Rattle.model.specs.Stores.{storeWords, dialogueOf, concat}
+use Rattle.basics.specs.Bounds.{concat}
+use Rattle.model.specs.Stores.{storeWords, dialogueOf}
 use Rattle.model.specs.Blocks.{blocksFor, blockOf}
 use Rattle.model.specs.Contents.{newForm}
 use Rattle.model.specs.Files.{blockFile, fileLength, fileOf, maxFile}
 use Rattle.model.specs.Calls.{overwrite, Written as WriteAnswer, writeAnswer, writeBuffer}
-use Rattle.model.proofs.Bounds.{length-tabulate}
+use Rattle.basics.proofs.BoundLaws.{length-tabulate}
 use Rattle.model.proofs.ContentLaws.{contents-cong}
 use Rattle.model.proofs.FileLaws.{length-blocks, fileLength-most}
 use Rattle.model.proofs.CallLaws.{write-refusal, writable, write-answer, write-buffer}

@@ -9,7 +9,7 @@ use mathlib.Core.Bool.{Bool, cond, not, _&&_}
 use mathlib.Core.List.{List}
 use lib.Dec.{eqb, leb}
 use lib.ListN.{length, getD}
-use Rattle.model.specs.Sets.{all}
+use Rattle.basics.specs.Bounds.{all}
 use Rattle.generate_file.specs.declared.Word.{Word}
 use Rattle.generate_file.specs.declared.Word.the-variants.{Number, Other}
 

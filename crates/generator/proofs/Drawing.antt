@@ -20,7 +20,8 @@ use lib.Dec.{eqb}
 use lib.Bits.{bitOr}
 use lib.ListN.{length, getD, set, length-set}
 use lib.Seq.{paste, length-paste}
-use Rattle.model.specs.Sets.{WORDS, maxStates, Set, any, setOf, empty, single, union, member}
+use Rattle.basics.specs.Bounds.{any}
+use Rattle.model.specs.Sets.{WORDS, maxStates, Set, setOf, empty, single, union, member}
 use Rattle.model.proofs.SetLaws.{member-setOf, Proper, setOf-proper, setOf-cong}
 use Rattle.model.proofs.StoreLaws.{empty-proper}
 use Rattle.state_set.proofs.Words.{with-bit}

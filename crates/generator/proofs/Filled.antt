@@ -12,10 +12,11 @@ use borrow.Author.Tests.{lt-ltb, le-ltb}
 use mathlib.Core.Logic.{⊎-elim}
 use lib.ListN.{length, getD, drop}
 use lib.Seq.{paste, length-paste, take-all}
-use Rattle.model.specs.Sets.{WORDS, maxStates, Set, empty, single, tabulate}
-use Rattle.model.specs.Stores.{markedAt, restingAt, groupAt, rowAt, storeWords, setAt, concat, layout}
+use Rattle.basics.specs.Bounds.{tabulate, concat}
+use Rattle.model.specs.Sets.{WORDS, maxStates, Set, empty, single}
+use Rattle.model.specs.Stores.{markedAt, restingAt, groupAt, rowAt, storeWords, setAt, layout}
 use Rattle.model.specs.Calls.{overwrite}
-use Rattle.model.proofs.Bounds.{lt-or-ge, length-tabulate, getD-tabulate}
+use Rattle.basics.proofs.BoundLaws.{lt-or-ge, length-tabulate, getD-tabulate}
 use Rattle.model.proofs.SetLaws.{setOf-proper}
 use Rattle.model.proofs.ListLaws.{Wide, length-concat, part-concat}
 use Rattle.model.proofs.StoreLaws.{empty-proper, setAt-empty, Holds, Laid}

@@ -12,10 +12,11 @@ use borrow.Author.Tests.{ltb-false, lt-ltb, le-ltb, eqb-false, eq-eqb, ne-eqb}
 use lib.Dec.{eqb, ltb}
 use lib.ListN.{length}
 use Rattle.model.specs.Sets.{maxStates}
-use Rattle.model.specs.Stores.{storeWords, layout, refuse}
+use Rattle.basics.specs.Refusals.{refuse}
+use Rattle.model.specs.Stores.{storeWords, layout}
 use Rattle.model.specs.Calls.{overwrite}
-use Rattle.model.proofs.Bounds.{or-false}
-use Rattle.model.proofs.GroundLaws.{refuse-clear}
+use Rattle.basics.proofs.BoundLaws.{or-false}
+use Rattle.basics.proofs.RefusalLaws.{refuse-clear}
 use Rattle.generator.specs.Load.{maxFanOut, numbers, loadFrom, load, generateGrounds, generateAnswer, generateBuffer}
 use Rattle.generator.specs.declared.Generated.the-variants.{Filled, Refused}
 use Rattle.generator.specs.Answers.{CalledGenerate}

@@ -12,11 +12,12 @@ use lib.Seq.{drop-at}
 use Rattle.model.specs.Sets.{maxStates, empty, single}
 use Rattle.model.specs.Rounds.{run}
 use Rattle.model.specs.Paths.{shortest, hasPath}
-use Rattle.model.specs.Stores.{storeWords, dialogueOf, tableOf, layout, refuse, beyond}
+use Rattle.basics.specs.Refusals.{refuse}
+use Rattle.model.specs.Stores.{storeWords, dialogueOf, tableOf, layout, beyond}
 use Rattle.model.specs.Contents.{newForm, sets}
 use Rattle.model.specs.Files.{fileLength}
 use Rattle.model.specs.Calls.{overwrite, maxAllowance, decideGrounds, decisionOf, declined, decideAnswer, Shortest, shortestGrounds, shortestAnswer}
-use Rattle.model.proofs.Bounds.{by-cond, any-find}
+use Rattle.basics.proofs.BoundLaws.{by-cond, any-find}
 use Rattle.model.proofs.SetLaws.{setOf-in, empty-in, single-in}
 use Rattle.model.proofs.ListLaws.{length-overwrite}
 use Rattle.model.proofs.StoreLaws.{Holds, length-layout, overwrite-holds, below-beyond, Clean, clean-malformed, holds-sets, holds-clean}

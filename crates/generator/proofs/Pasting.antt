@@ -19,7 +19,8 @@ use lib.ListN.{length, getD, set, take, drop, length-set, length-append, take-ap
 use lib.Seq.{paste, paste-zero, paste-suc, length-paste, length-paste-head, take-paste, drop-paste, length-take-le, take-all, take-append-add, take-at, drop-drop, getD-append-add, set-append-left}
 use Rattle.model.specs.Sets.{WORDS, Set}
 use Rattle.model.specs.Tables.{Dialogue}
-use Rattle.model.specs.Stores.{rowAt, storeWords, setAt, concat, layout}
+use Rattle.basics.specs.Bounds.{concat}
+use Rattle.model.specs.Stores.{rowAt, storeWords, setAt, layout}
 use Rattle.model.specs.Calls.{overwrite}
 use Rattle.model.proofs.ListLaws.{part-front, part-behind, length-concat, concat-next}
 use Rattle.model.proofs.StoreLaws.{Holds, Laid, holds-layout, length-layout}

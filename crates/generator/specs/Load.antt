@@ -11,9 +11,11 @@ use mathlib.Core.Bool.{cond, _||_}
 use mathlib.Core.List.{List, [], _∷_, _++_}
 use lib.Dec.{eqb, ltb}
 use lib.ListN.{length, getD}
-use Rattle.model.specs.Sets.{maxStates, Set, any, setOf, empty, single}
+use Rattle.basics.specs.Bounds.{any}
+use Rattle.model.specs.Sets.{maxStates, Set, setOf, empty, single}
 use Rattle.model.specs.Tables.{Dialogue}
-use Rattle.model.specs.Stores.{layout, Ground, refuse, storeGround}
+use Rattle.basics.specs.Refusals.{Ground, refuse}
+use Rattle.model.specs.Stores.{layout, storeGround}
 use Rattle.model.specs.Calls.{overwrite}
 
 abbrev pub maxFanOut : ℕ

@@ -15,14 +15,15 @@ use mathlib.Core.Bool.{true, false, not}
 use mathlib.Core.List.{List, [], _∷_}
 use borrow.Author.Tests.{ltb-true, eqb-true, eqb-false, not-false}
 use lib.Dec.{eqb, ltb}
-use Rattle.model.specs.Sets.{WORDS, maxStates, Set, any, member, empty, union, subset, size, firstStates}
+use Rattle.basics.specs.Bounds.{any}
+use Rattle.model.specs.Sets.{WORDS, maxStates, Set, member, empty, union, subset, size, firstStates}
 use Rattle.model.specs.Tables.{Table}
 use Rattle.model.specs.Rounds.{Outcome, safe, unsafe, undecided, run}
 use Rattle.model.specs.Paths.{leads, isPath, shortest, hasPath}
 use Rattle.model.specs.Stores.{markedAt, rowAt, setAt, tableOf, beyond, nonZero}
 use Rattle.model.specs.Calls.{release, Decision, decisionOf}
 use Rattle.model.specs.Promises.{IsInvariant}
-use Rattle.model.proofs.Bounds.{and-true, and-intro, or-false, any-none, by-cond, decided}
+use Rattle.basics.proofs.BoundLaws.{and-true, and-intro, or-false, any-none, by-cond, decided}
 use Rattle.model.proofs.SetLaws.{Proper, setOf-proper, in-bound, in-firstStates, union-in, empty-in, _⊆_, subset-in}
 use Rattle.model.proofs.HangLaws.{hangs-within}
 use Rattle.model.proofs.WellFormed.{WellFormed}

@@ -13,7 +13,8 @@ use lib.ListN.{length}
 use Rattle.model.specs.Sets.{maxStates, Set, empty, size}
 use Rattle.model.specs.Tables.{Table}
 use Rattle.model.specs.Paths.{shortest, hasPath, smallestPath}
-use Rattle.model.specs.Stores.{rowAt, refuse}
+use Rattle.basics.specs.Refusals.{refuse}
+use Rattle.model.specs.Stores.{rowAt}
 use Rattle.model.specs.Calls.{overwrite, Decision}
 use Rattle.model.proofs.WellFormed.{WellFormed}
 use Rattle.paths.specs.Answers.{foundIn, pathWritten}

@@ -17,10 +17,11 @@ use Rattle.model.specs.Sets.{WORDS, maxStates, Set, union}
 use Rattle.model.specs.Tables.{Table, hangs}
 use Rattle.model.specs.Rounds.{run}
 use Rattle.model.specs.Paths.{smallestPath}
-use Rattle.model.specs.Stores.{markedAt, restingAt, rowAt, setAt, dialogueOf, tableOf, refuse}
+use Rattle.basics.specs.Refusals.{refuse}
+use Rattle.model.specs.Stores.{markedAt, restingAt, rowAt, setAt, dialogueOf, tableOf}
 use Rattle.model.specs.Calls.{overwrite, release, Decision, decideGrounds, decideAnswer, decideBuffer, decideLimits}
-use Rattle.model.proofs.Bounds.{decided}
-use Rattle.model.proofs.GroundLaws.{refuse-skip, refuse-none}
+use Rattle.basics.proofs.BoundLaws.{decided}
+use Rattle.basics.proofs.RefusalLaws.{refuse-skip, refuse-none}
 use Rattle.model.proofs.Acceptance.{store-accepted}
 use Rattle.model.proofs.Kept.{not-refused}
 use Rattle.modal.specs.Modal.{rowsFrom, certainRow, possibleRow, tableWith, modalForbidden, modalTable, certainTable, possibleTable, releaseCheck, ModalAnswer, modalOf, modalWritten}

@@ -13,10 +13,12 @@ use mathlib.Core.List.{List, [], _∷_}
 use borrow.Author.Tests.{lt-ltb, le-ltb, ltb-false}
 use lib.Dec.{ltb}
 use lib.ListN.{length}
-use Rattle.model.specs.Sets.{WORDS, maxStates, Set, any, subset}
-use Rattle.model.specs.Stores.{maxGroups, storeWords, rowAt, setAt, refuse, beyond, nonZero, malformed, badStates, sharedGrounds}
-use Rattle.model.proofs.Bounds.{or-false, or-intro, any-intro, any-start, any-turn, any-end, any-cong, decided}
-use Rattle.model.proofs.GroundLaws.{refuse-clear, clear-refuse, refuse-none, refuse-skip, refuse-take}
+use Rattle.basics.specs.Bounds.{any}
+use Rattle.model.specs.Sets.{WORDS, maxStates, Set, subset}
+use Rattle.basics.specs.Refusals.{refuse}
+use Rattle.model.specs.Stores.{maxGroups, storeWords, rowAt, setAt, beyond, nonZero, malformed, badStates, sharedGrounds}
+use Rattle.basics.proofs.BoundLaws.{or-false, or-intro, any-intro, any-start, any-turn, any-end, any-cong, decided}
+use Rattle.basics.proofs.RefusalLaws.{refuse-clear, clear-refuse, refuse-none, refuse-skip, refuse-take}
 use Rattle.model.proofs.Acceptance.{Store, accepted-store, states-pass}
 use Rattle.modal.specs.Modal.{possibleWords, malformedRows, uncertain, modalGrounds}
 

@@ -19,10 +19,11 @@ use borrow.Author.Tests.{lt-ltb, le-ltb, ltb-true}
 use lib.Dec.{ltb, lit≤}
 use lib.ListN.{length, getD, set, length-set}
 use lib.Seq.{ext-getD, getD-set-same, getD-set-other, take-all}
-use Rattle.model.specs.Sets.{WORDS, maxStates, Set, empty, union, states, firstStates, tabulate}
+use Rattle.basics.specs.Bounds.{tabulate}
+use Rattle.model.specs.Sets.{WORDS, maxStates, Set, empty, union, states, firstStates}
 use Rattle.model.specs.Tables.{Dialogue, hangs, tableFrom}
 use Rattle.model.specs.Stores.{maxGroups, storeWords, markedAt, restingAt, groupAt, rowAt, setAt, dialogueOf, tableOf}
-use Rattle.model.proofs.Bounds.{clash, decided, length-tabulate, getD-tabulate, tabulate-cong}
+use Rattle.basics.proofs.BoundLaws.{clash, decided, length-tabulate, getD-tabulate, tabulate-cong}
 use Rattle.model.proofs.SetLaws.{Proper, setOf-proper, in-bound, in-firstStates, empty-in, same-set}
 use Rattle.model.proofs.ImageLaws.{union-empty}
 use Rattle.model.proofs.HangLaws.{hangs-in}

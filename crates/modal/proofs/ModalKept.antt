@@ -14,10 +14,12 @@ use mathlib.Core.List.{List}
 use borrow.Author.Tests.{eqb-true, eqb-false, ne-eqb, not-false}
 use lib.Dec.{eqb}
 use lib.ListN.{length, getD}
-use Rattle.model.specs.Sets.{WORDS, maxStates, any, empty}
-use Rattle.model.specs.Stores.{refuse, sharedGrounds}
+use Rattle.basics.specs.Bounds.{any}
+use Rattle.model.specs.Sets.{WORDS, maxStates, empty}
+use Rattle.basics.specs.Refusals.{refuse}
+use Rattle.model.specs.Stores.{sharedGrounds}
 use Rattle.model.specs.Calls.{release, Decision, decideAnswer, decideBuffer}
-use Rattle.model.proofs.Bounds.{by-cond, decided, not-true, any-start}
+use Rattle.basics.proofs.BoundLaws.{by-cond, decided, not-true, any-start}
 use Rattle.model.proofs.StoreLaws.{zero-nonZero}
 use Rattle.model.proofs.Drafts.{draft}
 use Rattle.table.proofs.Laws.{non-zero-hit}

@@ -7,9 +7,9 @@ use mathlib.Core.List.{List}
 use borrow.Author.Tests.{eqb-true}
 use lib.Dec.{eqb}
 use Rattle.model.specs.Sets.{Set, maxStates}
-use Rattle.model.specs.Stores.{refuse}
+use Rattle.basics.specs.Refusals.{refuse}
 use Rattle.model.specs.Calls.{release, Decision}
-use Rattle.model.proofs.Bounds.{by-cond}
+use Rattle.basics.proofs.BoundLaws.{by-cond}
 use Rattle.model.proofs.Ranges.{DecisionRange, run-range}
 use Rattle.modal.specs.Modal.{certainRow, possibleRow, modalTable, releaseCheck, modalGrounds, ModalAnswer, modalOf, modalDeclined, modalAnswer}
 use Rattle.modal.proofs.Grounds.{ModalHeld, accepted}

@@ -14,8 +14,9 @@ use lib.Dec.{eqb, ltb}
 use lib.ListN.{length, take}
 use Rattle.model.specs.Sets.{WORDS, maxStates, Set, union, subset}
 use Rattle.model.specs.Tables.{Table, Dialogue, hangs}
-use Rattle.model.specs.Stores.{maxGroups, storeWords, rowAt, setAt, dialogueOf, refuse, beyond, badStates}
-use Rattle.model.proofs.Bounds.{decided, any-cong}
+use Rattle.basics.specs.Refusals.{refuse}
+use Rattle.model.specs.Stores.{maxGroups, storeWords, rowAt, setAt, dialogueOf, beyond, badStates}
+use Rattle.basics.proofs.BoundLaws.{decided, any-cong}
 use Rattle.model.proofs.FirstWords.{same-word, same-part, nonZero-cong, states-le, dialogue-words, malformed-same}
 use Rattle.modal.specs.Modal.{possibleWords, rowsFrom, certainRow, possibleRow, tableWith, modalForbidden, modalTable, certainTable, possibleTable, malformedRows, uncertain, releaseCheck, modalGrounds, ModalAnswer, modalOf, modalDeclined, modalAnswer, modalWritten, modalBuffer}
 use Rattle.modal.proofs.Grounds.{accepted}

@@ -10,7 +10,8 @@ use mathlib.Core.Bool.{cond}
 use mathlib.Core.List.{List}
 use lib.Dec.{ltb}
 use lib.ListN.{length, getD}
-use Rattle.model.specs.Sets.{Set, tabulate}
+use Rattle.basics.specs.Bounds.{tabulate}
+use Rattle.model.specs.Sets.{Set}
 use Rattle.model.specs.Stores.{storeWords, markedAt, restingAt, groupAt, rowAt}
 use Rattle.modal.specs.Modal.{possibleWords}
 

@@ -16,11 +16,13 @@ use mathlib.Core.Bool.{Bool, cond, not, _||_}
 use mathlib.Core.List.{List, [], _∷_}
 use lib.Dec.{eqb, ltb}
 use lib.ListN.{length}
-use Rattle.model.specs.Sets.{WORDS, maxStates, Set, any, empty, union, subset}
+use Rattle.basics.specs.Bounds.{any}
+use Rattle.model.specs.Sets.{WORDS, maxStates, Set, empty, union, subset}
 use Rattle.model.specs.Tables.{Table, hangs}
 use Rattle.model.specs.Rounds.{run}
 use Rattle.model.specs.Paths.{smallestPath}
-use Rattle.model.specs.Stores.{maxGroups, storeWords, rowAt, setAt, dialogueOf, Ground, refuse, beyond, nonZero, malformed, badStates}
+use Rattle.basics.specs.Refusals.{Ground, refuse}
+use Rattle.model.specs.Stores.{maxGroups, storeWords, rowAt, setAt, dialogueOf, beyond, nonZero, malformed, badStates}
 use Rattle.model.specs.Calls.{overwrite, release, Decision, decisionOf, pathGround}
 
 -- ---- the two rows of a state

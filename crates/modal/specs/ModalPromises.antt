@@ -17,7 +17,8 @@ use lib.ListN.{length, getD, take}
 use Rattle.model.specs.Sets.{WORDS, maxStates, Set, empty, subset}
 use Rattle.model.specs.Tables.{Table}
 use Rattle.model.specs.Paths.{isPath, smallestPath}
-use Rattle.model.specs.Stores.{storeWords, rowAt, setAt, refuse, sharedGrounds}
+use Rattle.basics.specs.Refusals.{refuse}
+use Rattle.model.specs.Stores.{storeWords, rowAt, setAt, sharedGrounds}
 use Rattle.model.specs.Calls.{overwrite, release, Decision, decideAnswer, decideBuffer}
 use Rattle.model.specs.Promises.{IsInvariant, IsSmallest}
 use Rattle.modal.specs.Modal.{possibleWords, certainRow, possibleRow, modalTable, certainTable, possibleTable, releaseCheck, modalGrounds, ModalAnswer, modalAnswer, modalBuffer}

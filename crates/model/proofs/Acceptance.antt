@@ -1,26 +1,25 @@
--- What a call that is not declined knows of its arguments.
+-- What a call that is answered knows of its arguments.
 --
 --   Store                  a store that holds a table: grounds 10, 14, 15 and 17 do not hold; well-formed: its table is well formed
 --   accepted-store         from the grounds that the calls share; store-accepted: and back
---   Check, check-of        the same with grounds 20 and 21, of an accepted check
+--   Check, check-of        the same with grounds 20 and 21, of a check that is answered
 use Prim.Native.Nat.{ℕ, _≤_}
-use mathlib.Core.Path.{_≡_, refl, sym, ap, subst}
+use mathlib.Core.Path.{_≡_, refl, sym, subst}
 use mathlib.Core.Logic.{⊎-elim}
-use mathlib.Core.Bool.{Bool, true, false, not, _&&_, cond}
+use mathlib.Core.Bool.{true, false, not, _&&_}
 use mathlib.Core.List.{List, [], _++_}
 use borrow.Author.Tests.{ltb-false, le-ltb, eqb-true, eq-eqb, not-false}
 use lib.Dec.{eqb, ltb}
 use lib.ListN.{length}
 use Rattle.model.specs.Sets.{maxStates, Set, firstStates}
-use Rattle.model.specs.Tables.{Table}
-use Rattle.model.specs.Stores.{maxGroups, storeWords, markedAt, rowAt, setAt, tableOf, Ground, refuse, beyond, malformed, badStates, sharedGrounds}
-use Rattle.model.specs.Calls.{release, decideLimits, decideGrounds, decisionOf, declined, decideAnswer}
-use Rattle.model.specs.Rounds.{Outcome, run}
-use Rattle.model.specs.Promises.{Accepted}
-use Rattle.model.proofs.Bounds.{or-false, decided}
+use Rattle.basics.specs.Refusals.{Ground, refuse, answered}
+use Rattle.model.specs.Stores.{maxGroups, storeWords, markedAt, rowAt, setAt, tableOf, beyond, malformed, badStates, sharedGrounds}
+use Rattle.model.specs.Calls.{release, Decision, decideLimits, decideGrounds, decisionOf, decideAnswer}
+use Rattle.model.specs.Rounds.{run}
+use Rattle.basics.proofs.BoundLaws.{or-false, decided}
 use Rattle.model.proofs.SetLaws.{in-bound, in-firstStates, union-in, _⊆_}
 use Rattle.model.proofs.HangLaws.{hangs-within}
-use Rattle.model.proofs.GroundLaws.{refuse-behind, refuse-clear}
+use Rattle.basics.proofs.RefusalLaws.{refuse-behind, clear-refuse, refuse-clear, answered-clear, answered-value}
 use Rattle.model.proofs.StoreLaws.{beyond-below, malformed-clean, row-is}
 use Rattle.model.proofs.WellFormed.{WellFormed}
 
@@ -78,28 +77,24 @@ well-formed store n g s =
     inside : (X : Set) → beyond n X ≡ false → X ⊆ firstStates n
     inside X e x h = in-firstStates (in-bound h) (beyond-below n X e x h)
 
--- ---- an accepted check
+-- ---- a check that is answered
 
-pub record Check (store : List ℕ) (n g allowance room : ℕ) : Type 0 where
+pub record Check (store : List ℕ) (n g allowance room : ℕ) (a : Decision) : Type 0 where
   pub held : Store store n g
   pub within : allowance ≤ release
   pub roomy : maxStates ≤ room
-  pub answer : decideAnswer store n g allowance room ≡ decisionOf (tableOf store n g) (run (tableOf store n g) allowance)
+  pub answer : a ≡ decisionOf (tableOf store n g) (run (tableOf store n g) allowance)
 
--- an answer with refusal 0 is that of the rounds
-answered : (t : Table) (o : Outcome) (k : ℕ) → (cond (eqb k 0) (decisionOf t o) (declined k)) .refusal ≡ 0 → k ≡ 0
-unfolding declined
-answered t o k e = ⊎-elim (λ q. eqb-true k 0 q) (λ q. subst (λ (b : Bool). (cond b (decisionOf t o) (declined k)) .refusal ≡ 0) q e) (decided (eqb k 0))
-
-pub check-of : (store : List ℕ) (n g allowance room : ℕ) → Accepted store n g allowance room → Check store n g allowance room
+pub check-of : (store : List ℕ) (n g allowance room : ℕ) {a : Decision} → decideAnswer store n g allowance room ≡ answered a
+    → Check store n g allowance room a
 unfolding decideAnswer decideGrounds
-check-of store n g allowance room a =
-    let none = answered (tableOf store n g) (run (tableOf store n g) allowance) (refuse (decideGrounds store n g allowance room)) (a .accepted) in
-    let parts = accepted-store store n g (decideLimits allowance room) none in
+check-of store n g allowance room e =
+    let grounds = decideGrounds store n g allowance room in
+    let parts = accepted-store store n g (decideLimits allowance room) (clear-refuse grounds (answered-clear grounds _ e)) in
     let limits = refuse-clear (decideLimits allowance room) [] refl (parts .1) .0 in
     record {
       held = parts .0;
       within = ltb-false release allowance (limits .0);
       roomy = ltb-false room maxStates (limits .1 .0);
-      answer = ap (λ (k : ℕ). cond (eqb k 0) (decisionOf (tableOf store n g) (run (tableOf store n g) allowance)) (declined k)) none;
+      answer = answered-value grounds _ e;
     }

@@ -20,11 +20,11 @@ use mathlib.Core.List.{List}
 use borrow.Author.Tests.{ltb-true, ltb-false, lt-ltb, eqb-true, eqb-false, eq-eqb, ne-eqb}
 use lib.Dec.{eqb, ltb}
 use lib.ListN.{getD}
-use Rattle.model.specs.Sets.{all}
-use Rattle.model.specs.Stores.{refuse}
+use Rattle.basics.specs.Bounds.{all}
+use Rattle.basics.specs.Refusals.{refuse}
 use Rattle.model.specs.Blocks.{blockBytes, checkAt, modulus, le16At, weighted, checkOf, blockGrounds}
 use Rattle.model.specs.Intact.{Intact, Block, DifferInOne, Exchanged, Detects}
-use Rattle.model.proofs.Bounds.{or-true, not-true, is-false, decided, by-cond, lt-or-ge, below-suc, all-at}
+use Rattle.basics.proofs.BoundLaws.{or-true, not-true, is-false, decided, by-cond, lt-or-ge, below-suc, all-at}
 use Rattle.model.proofs.ListLaws.{getD-past}
 
 -- ---- multiples of the modulus

@@ -18,10 +18,10 @@ use mathlib.Core.Logic.{⊎-elim}
 use mathlib.Core.List.{List, [], _∷_, _++_}
 use lib.ListN.{length, getD, take, drop, replicate, length-append, length-replicate, length-take, length-drop, List·getD-append}
 use lib.Seq.{ext-getD, getD-take, getD-drop, length-take-le, take-all}
-use Rattle.model.specs.Stores.{concat}
+use Rattle.basics.specs.Bounds.{concat}
 use Rattle.model.specs.Blocks.{blockBytes, contentBytes, contentAt, checkAt, modulus, le16, le16At, weighted, checkOf, blockOf, part, contentsOf}
 use Rattle.model.specs.RoundTrip.{Bounded}
-use Rattle.model.proofs.Bounds.{lt-or-ge}
+use Rattle.basics.proofs.BoundLaws.{lt-or-ge}
 use Rattle.model.proofs.ListLaws.{getD-behind, getD-past, Wide, length-concat, getD-concat, concat-cong, concat-parts}
 
 -- ---- numbers below a bound

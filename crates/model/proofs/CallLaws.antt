@@ -1,8 +1,9 @@
--- Read and write where they decline on no ground: the grounds as facts, what is returned, and what is left in the buffer.
+-- Read and write where no ground holds: the grounds as facts, what is returned, and what is left in the buffer.
 --
 --   Writable, writable                          no ground of write holds
 --   write-over, write-behind                    a site over the greatest; else the grounds behind it
---   write-refusal, write-answer, write-buffer   the refusal of any answer; the answer and the output where nothing is refused
+--   write-refused, written                      a ground holds; the facts from an answer
+--   write-answer, write-buffer                  the answer and the output where nothing is refused
 --   second-pass, second-passes                  ground 15 of a file: the test and the facts
 --   Readable                                    no ground of read holds of a file with a block, and n and g are those of the input
 --   blocks-clear                                no ground of the blocks holds, if nothing is refused
@@ -10,7 +11,8 @@
 --   read-over                                   a site over the greatest; behind-length: the grounds of a file behind 11
 --   readable                                    where nothing is refused the input has no bytes or is readable
 --   draft-refusal, readable-refusal             and back
---   read-refusal, read-answer, read-buffer      the refusal of any answer; the answer and the store where nothing is refused
+--   read-refused, read-none                     a ground holds; what an answer says
+--   read-answer, read-buffer                    the answer and the store where nothing is refused
 --   no-bytes, draft-says                        what an input of no bytes says
 use Prim.Native.Nat.{ℕ, _+_, _*_, _-_, _/_, _%_, _≤_, _<_}
 use native.Mathlib.Omega.{arith}
@@ -22,19 +24,17 @@ use borrow.Author.Tests.{ltb-false, lt-ltb, le-ltb, eqb-true, eqb-false, eq-eqb,
 use lib.Dec.{eqb, ltb}
 use lib.ListN.{length, getD}
 use Rattle.model.specs.Sets.{maxStates, number}
-use Rattle.model.specs.Stores.{maxGroups, storeWords, dialogueOf, concat, layout, Ground, refuse, beyond, storeGround, sharedGrounds}
+use Rattle.basics.specs.Bounds.{concat}
+use Rattle.basics.specs.Refusals.{Ground, refuse, refused, answered, unlessRefused}
+use Rattle.model.specs.Stores.{maxGroups, storeWords, dialogueOf, layout, beyond, storeGround, sharedGrounds}
 use Rattle.model.specs.Blocks.{blockBytes, contentBytes, checkAt, maxSite, siteGround, le16At, checkOf, blocksFor, part, contentsOf, blockGrounds}
 use Rattle.model.specs.Contents.{Form, newForm, heads, added, contentLength, setNumber, dialogueIn}
 use Rattle.model.specs.Files.{fileOf, fileLength, maxFile}
-use Rattle.model.specs.Calls.{overwrite, TableRead, statesIn, secondIn, groupsIn, badLength, badSecond, blocksGrounds, contentGrounds, fileGrounds, readGroundsAs, readAnswerAs, readBufferAs, Written, outputGround, writeGrounds, writeAnswer, writeBuffer}
-use Rattle.model.proofs.Bounds.{by-cond, decided, any-none, or-false, no-any}
-use Rattle.model.proofs.GroundLaws.{Clear, refuse-none, refuse-skip, refuse-take, clear-refuse, refuse-clear, clear-append, clear-concat, concat-clear, numbered-concat}
+use Rattle.model.specs.Calls.{overwrite, TableRead, statesIn, secondIn, groupsIn, badLength, badSecond, blocksGrounds, contentGrounds, fileGrounds, readGroundsAs, readAnswerAs, readBufferAs, outputGround, writeGrounds, writeAnswer, writeBuffer}
+use Rattle.basics.proofs.BoundLaws.{by-cond, decided, any-none, or-false, no-any}
+use Rattle.basics.proofs.RefusalLaws.{Clear, refuse-none, refuse-skip, refuse-take, clear-refuse, numbered, refuse-clear, clear-append, clear-concat, concat-clear, numbered-append, numbered-concat, answer-refused, answer-none, answered-clear, answered-value}
 use Rattle.model.proofs.StoreLaws.{nonZero-zero, zero-nonZero}
 use Rattle.model.proofs.Acceptance.{Store, accepted-store, store-accepted}
-
--- what is given where nothing is refused
-chosen : {A : Type 0} (k : ℕ) (x y : A) → k ≡ 0 → cond (eqb k 0) x y ≡ x
-chosen k x y e = by-cond (λ z. z ≡ x) (eqb k 0) x y (λ q. refl) (λ q. absurd (eqb-false k 0 q e))
 
 -- ---- write
 
@@ -56,11 +56,9 @@ module _ (store : List ℕ) (n g site room : ℕ) where
         let fits = le-ltb (length store) storeWords long in
         refuse-skip _ 10 _ fits ∙ refuse-skip _ 24 _ (le-ltb maxSite site h) ∙ sym (refuse-skip _ 10 _ fits)
 
-  pub write-refusal : (writeAnswer store n g site room) .refusal ≡ refuse (writeGrounds store n g site room)
+  pub write-refused : {k : ℕ} → refuse (writeGrounds store n g site room) ≡ k → (k ≡ 0 → ⊥) → writeAnswer store n g site room ≡ refused k
   unfolding writeAnswer
-  write-refusal =
-      let k = refuse (writeGrounds store n g site room) in
-      by-cond (λ (a : Written). a .refusal ≡ k) (eqb k 0) _ _ (λ q. sym (eqb-true k 0 q)) (λ q. refl)
+  write-refused e = answer-refused (writeGrounds store n g site room) _ (sym e)
 
   pub writable : refuse (writeGrounds store n g site room) ≡ 0 → Writable store n g site room
   unfolding writeGrounds
@@ -71,10 +69,17 @@ module _ (store : List ℕ) (n g site room : ℕ) where
       let parts = accepted-store store n g (outputGround n g room ∷ []) (sym (write-behind long known) ∙ e) in
       record { held = parts .0; known = known; fits = ltb-false room (fileLength newForm n g) (refuse-clear (outputGround n g room ∷ []) [] refl (parts .1) .0 .0) }
 
-  pub write-answer : Writable store n g site room → writeAnswer store n g site room ≡ record { refusal = 0; length = fileLength newForm n g }
+  -- the same from an answer, whose length is that of the file
+  pub written : {l : ℕ} → writeAnswer store n g site room ≡ answered l → Writable store n g site room × (l ≡ fileLength newForm n g)
   unfolding writeAnswer
+  written e =
+      let grounds = writeGrounds store n g site room in
+      (writable (clear-refuse grounds (answered-clear grounds _ e)), answered-value grounds _ e)
+
+  pub write-answer : Writable store n g site room → writeAnswer store n g site room ≡ answered (fileLength newForm n g)
+  unfolding writeAnswer writeGrounds
   write-answer w =
-      chosen (refuse (writeGrounds store n g site room)) _ _
+      answer-none (writeGrounds store n g site room) _ refl
       (write-behind (w .held .long) (w .known)
       ∙ store-accepted store n g (outputGround n g room ∷ []) (w .held)
       ∙ refuse-skip _ 19 _ (le-ltb room (fileLength newForm n g) (w .fits))
@@ -83,7 +88,7 @@ module _ (store : List ℕ) (n g site room : ℕ) where
 pub write-buffer : (store : List ℕ) (n g site : ℕ) (out : List ℕ) → Writable store n g site (length out) → writeBuffer store n g site out ≡ overwrite (fileOf newForm site (dialogueOf store n g)) out
 unfolding writeBuffer
 write-buffer store n g site out w =
-    chosen ((writeAnswer store n g site (length out)) .refusal) _ out (ap (λ (a : Written). a .refusal) (write-answer store n g site (length out) w))
+    ap (unlessRefused out (λ (l : ℕ). overwrite (fileOf newForm site (dialogueOf store n g)) out)) (write-answer store n g site (length out) w)
 
 -- ---- read
 
@@ -128,16 +133,23 @@ module _ (site : ℕ) (block : List ℕ) (k : ℕ) where
   unfolding blockGrounds
   right-block p q = (ap not (eq-eqb (le16At block 0) k p), (ap not (eq-eqb (le16At block checkAt) (checkOf site block) q), tt))
 
-pub blocks-clear : (input : List ℕ) (site : ℕ) (later : List Ground) → refuse (blocksGrounds input site ++ later) ≡ 0 → Clear (blocksGrounds input site) × (refuse later ≡ 0)
+blocks-numbered : (input : List ℕ) (site : ℕ) → numbered (blocksGrounds input site) ≡ true
 unfolding blocksGrounds blockGrounds
-blocks-clear input site later = refuse-clear (blocksGrounds input site) later (numbered-concat (λ k. blockGrounds site (part input k) k) (λ k. refl) (length input / blockBytes))
+blocks-numbered input site = numbered-concat (λ k. blockGrounds site (part input k) k) (λ k. refl) (length input / blockBytes)
+
+pub blocks-clear : (input : List ℕ) (site : ℕ) (later : List Ground) → refuse (blocksGrounds input site ++ later) ≡ 0 → Clear (blocksGrounds input site) × (refuse later ≡ 0)
+blocks-clear input site later = refuse-clear (blocksGrounds input site) later (blocks-numbered input site)
 
 module _ (form : Form) (input : List ℕ) (site room : ℕ) where
-  pub read-refusal : (readAnswerAs form input site room) .refusal ≡ refuse (readGroundsAs form input site room)
+  pub read-refused : {k : ℕ} → refuse (readGroundsAs form input site room) ≡ k → (k ≡ 0 → ⊥) → readAnswerAs form input site room ≡ refused k
   unfolding readAnswerAs
-  read-refusal =
-      let k = refuse (readGroundsAs form input site room) in
-      by-cond (λ (a : TableRead). a .refusal ≡ k) (eqb k 0) _ _ (λ q. sym (eqb-true k 0 q)) (λ q. refl)
+  read-refused e = answer-refused (readGroundsAs form input site room) _ (sym e)
+
+  pub read-numbered : numbered (readGroundsAs form input site room) ≡ true
+  unfolding readGroundsAs fileGrounds contentGrounds
+  read-numbered =
+      by-cond (λ gs. numbered gs ≡ true) (eqb (length input) 0) [] (fileGrounds form input site) (λ q. refl)
+      (λ q. numbered-append (blocksGrounds input site) (contentGrounds form input (statesIn input) (secondIn input)) (blocks-numbered input site) refl)
 
   pub read-over : storeWords ≤ room → maxSite < site → refuse (readGroundsAs form input site room) ≡ 24
   unfolding readGroundsAs
@@ -236,14 +248,25 @@ module _ (form : Form) (input : List ℕ) (site room : ℕ) where
         ),
       )
 
-  pub read-answer : refuse (readGroundsAs form input site room) ≡ 0 → readAnswerAs form input site room ≡ record { refusal = 0; n = statesIn input; g = groupsIn form input }
+  pub read-answer : refuse (readGroundsAs form input site room) ≡ 0
+      → readAnswerAs form input site room ≡ answered (record { n = statesIn input; g = groupsIn form input })
   unfolding readAnswerAs
-  read-answer e = chosen (refuse (readGroundsAs form input site room)) _ _ e
+  read-answer e = answer-none (readGroundsAs form input site room) _ read-numbered e
+
+  -- and from an answer: nothing is refused, and n and g are those of the input
+  pub read-none : {a : TableRead} → readAnswerAs form input site room ≡ answered a
+      → (refuse (readGroundsAs form input site room) ≡ 0) × (a ≡ record { n = statesIn input; g = groupsIn form input })
+  unfolding readAnswerAs
+  read-none e =
+      let grounds = readGroundsAs form input site room in
+      (clear-refuse grounds (answered-clear grounds _ e), answered-value grounds _ e)
 
 pub read-buffer : (form : Form) (input : List ℕ) (site : ℕ) (store : List ℕ) → refuse (readGroundsAs form input site (length store)) ≡ 0
     → readBufferAs form input site store ≡ overwrite (layout (dialogueIn form (contentsOf input) (statesIn input) (groupsIn form input))) store
 unfolding readBufferAs
-read-buffer form input site store e = chosen (refuse (readGroundsAs form input site (length store))) _ store e
+read-buffer form input site store e =
+    ap (unlessRefused store (λ (a : TableRead). overwrite (layout (dialogueIn form (contentsOf input) (a .n) (a .g))) store))
+    (read-answer form input site (length store) e)
 
 -- ---- an input of no bytes
 

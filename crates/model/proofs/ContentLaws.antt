@@ -29,13 +29,14 @@ use lib.Dec.{eqb, ltb}
 use lib.Pow.{field, mod-mod-pow, shr-shr}
 use lib.ListN.{length, getD, length-append, List·getD-append}
 use lib.Seq.{getD-append-add}
-use Rattle.model.specs.Sets.{WORDS, maxStates, Set, tabulate, bit, member, number, empty}
+use Rattle.basics.specs.Bounds.{tabulate, concat}
+use Rattle.model.specs.Sets.{WORDS, maxStates, Set, bit, member, number, empty}
 use Rattle.model.specs.Tables.{Dialogue}
-use Rattle.model.specs.Stores.{headSets, maxGroups, concat}
+use Rattle.model.specs.Stores.{headSets, maxGroups}
 use Rattle.model.specs.Blocks.{le16, le16At}
 use Rattle.model.specs.Contents.{Form, oldForm, newForm, heads, added, setWidth, setBytes, headsOf, sets, headerBytes, contents, contentLength, setIn, setNumber, restingIn, dialogueIn}
 use Rattle.model.specs.RoundTrip.{Bounded}
-use Rattle.model.proofs.Bounds.{and-true, is-false, lt-or-ge, length-tabulate, getD-tabulate}
+use Rattle.basics.proofs.BoundLaws.{and-true, is-false, lt-or-ge, length-tabulate, getD-tabulate}
 use Rattle.model.proofs.SetLaws.{bit-number, number-lt, member-setOf, Proper, setOf-proper, bits-eq, member-at, ext, In, setOf-in}
 use Rattle.model.proofs.ListLaws.{div-below, mod-below, Wide, length-concat, getD-concat}
 use Rattle.model.proofs.BlockLaws.{le16-le16At}

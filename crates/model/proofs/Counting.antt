@@ -13,8 +13,9 @@ use mathlib.Core.Logic.{_⊎_, inl, inr, ⊎-elim}
 use mathlib.Core.Bool.{Bool, true, false, cond}
 use mathlib.Core.List.{[], _∷_}
 use lib.ListN.{length, length-append}
-use Rattle.model.specs.Sets.{maxStates, Set, filter, member, empty, subset, firstStates, members, size}
-use Rattle.model.proofs.Bounds.{is-false, decided, below-suc}
+use Rattle.basics.specs.Bounds.{filter}
+use Rattle.model.specs.Sets.{maxStates, Set, member, empty, subset, firstStates, members, size}
+use Rattle.basics.proofs.BoundLaws.{is-false, decided, below-suc}
 use Rattle.model.proofs.SetLaws.{In, in-bound, empty-in, states-in, _⊆_, subset-in, subset-not}
 
 -- ---- picked numbers

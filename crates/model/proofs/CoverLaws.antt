@@ -23,7 +23,7 @@ use Rattle.model.specs.Sets.{maxStates, Set, member, empty, union, meet,
 use Rattle.model.specs.Tables.{Table, post, hold, coverOf, cover, notForbidden}
 use Rattle.model.specs.Rounds.{forwardStep, backwardStep}
 use Rattle.model.specs.Promises.{CoverIs}
-use Rattle.model.proofs.Bounds.{not-true, by-cond, clash}
+use Rattle.basics.proofs.BoundLaws.{not-true, by-cond, clash}
 use Rattle.model.proofs.SetLaws.{Proper, setOf-proper, In, in-bound, in-union, union-in, in-meet, meet-in, in-states, states-in, states-within, in-firstStates, firstStates-in, _⊆_, subset-in, in-subset, in-image, image-in}
 
 -- ---- the states of the table

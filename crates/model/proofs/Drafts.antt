@@ -9,30 +9,32 @@ use native.Mathlib.Omega.{arith}
 use mathlib.Core.Path.{_≡_, refl, sym, ap, ap₂, _∙_}
 use mathlib.Core.Bool.{Bool, true, false, cond}
 use mathlib.Core.List.{List, [], _++_, append-nil}
-use borrow.Author.Tests.{le-ltb, eqb-false, eq-eqb, ne-eqb}
+use borrow.Author.Tests.{le-ltb, eq-eqb, ne-eqb}
 use lib.Dec.{eqb}
 use lib.ListN.{length}
 use lib.Seq.{take-all}
-use Rattle.model.specs.Sets.{WORDS, maxStates, Set, filter, member, empty, image, members, size, tabulate}
+use Rattle.basics.specs.Bounds.{filter, tabulate}
+use Rattle.model.specs.Sets.{WORDS, maxStates, Set, member, empty, image, members, size}
 use Rattle.model.specs.Tables.{post}
 use Rattle.model.specs.Rounds.{iterate, forward, isSafe, roundOf, firstRound, safe, settle, rounds, run}
 use Rattle.model.specs.Paths.{shortest, hasPath, smallestPath}
-use Rattle.model.specs.Stores.{markedAt, restingAt, groupAt, rowAt, storeWords, setAt, dialogueOf, tableOf, layout, Ground, refuse, badStates, sharedGrounds}
+use Rattle.basics.specs.Refusals.{Ground, refuse, answered, unlessRefused}
+use Rattle.model.specs.Stores.{markedAt, restingAt, groupAt, rowAt, storeWords, setAt, dialogueOf, tableOf, layout, badStates, sharedGrounds}
 use Rattle.model.specs.Blocks.{contentsOf}
 use Rattle.model.specs.Contents.{Form, newForm, heads, setIn, setNumber, dialogueIn}
-use Rattle.model.specs.Calls.{overwrite, Decision, decisionOf, decideBuffer, Shortest, shortestGrounds, shortestAnswer, shortestBuffer, TableRead, statesIn, blocksGrounds, contentGrounds, readBuffer, Written, writeAnswer}
+use Rattle.model.specs.Calls.{overwrite, Decision, decisionOf, decideBuffer, Shortest, pathFound, shortestGrounds, shortestAnswer, shortestBuffer, statesIn, blocksGrounds, contentGrounds, readGrounds, readAnswer, readBuffer}
 use Rattle.model.specs.Draft.{Draft}
-use Rattle.model.proofs.Bounds.{is-false, by-cond, length-tabulate, getD-tabulate}
+use Rattle.basics.proofs.BoundLaws.{is-false, length-tabulate, getD-tabulate}
 use Rattle.model.proofs.SetLaws.{setOf-cong, empty-in, firstStates-in}
 use Rattle.model.proofs.Fixpoints.{backward-is}
 use Rattle.model.proofs.ListLaws.{getD-past}
-use Rattle.model.proofs.GroundLaws.{refuse-none, refuse-skip, refuse-take, refuse-behind}
+use Rattle.basics.proofs.RefusalLaws.{refuse-none, refuse-skip, refuse-take, refuse-behind, answered-value}
 use Rattle.model.proofs.ContentLaws.{by-resting}
 use Rattle.model.proofs.StoreLaws.{setAt-empty, Holds, holds-layout}
 use Rattle.model.proofs.FileLaws.{file-draft, length-draft}
 use Rattle.model.proofs.RoundLaws.{isSafe-intro}
 use Rattle.model.proofs.Acceptance.{Store, accepted-store, store-accepted, well-formed, check-of}
-use Rattle.model.proofs.CallLaws.{Writable, write-refusal, write-behind, writable, write-answer, write-buffer, blocks-clear, read-refusal, behind-length, draft-refusal, read-answer, read-buffer, draft-says}
+use Rattle.model.proofs.CallLaws.{Writable, written, write-refused, write-behind, write-answer, write-buffer, blocks-clear, read-refused, behind-length, draft-refusal, read-answer, read-buffer, draft-says}
 use Rattle.model.proofs.RoundTrips.{round-trips}
 
 -- ---- words that are 0
@@ -103,6 +105,11 @@ groups-alone : (store : List ℕ) (g : ℕ) (later : List Ground) → storeWords
 unfolding badStates
 groups-alone store g later h f = refuse-skip _ 10 _ (le-ltb (length store) storeWords h) ∙ refuse-take _ 14 _ (rw (ne-eqb g 0 f))
 
+draft-answer : (site room : ℕ) → refuse (readGrounds [] site room) ≡ 0 → readAnswer [] site room ≡ answered (record { n = 0; g = 0 })
+draft-answer site room none =
+    let says = draft-says newForm [] refl in
+    read-answer newForm [] site room none ∙ ap₂ (λ (a b : ℕ). answered (record { n = a; g = b })) (says .0) (says .1)
+
 pub draft : Draft
 unfolding decisionOf decideBuffer shortestAnswer shortestBuffer overwrite dialogueOf contentGrounds
 draft =
@@ -110,46 +117,41 @@ draft =
       read = λ site store k h.
           let none = draft-refusal newForm [] site (length store) h k refl in
           let says = draft-says newForm [] refl in (
-            read-answer newForm [] site (length store) none ∙ ap₂ (λ (a b : ℕ). record { refusal = 0; n = a; g = b }) (says .0) (says .1),
+            draft-answer site (length store) none,
             read-buffer newForm [] site store none
                 ∙ ap₂ (λ (a b : ℕ). overwrite (layout (dialogueIn newForm (contentsOf []) a b)) store) (says .0) (says .1)
                 ∙ ap (λ xs. overwrite xs store) (draft-layout newForm (contentsOf [])),
           );
       read-accepted = λ site store k h.
           let none = draft-refusal newForm [] site (length store) h k refl in
-          let back = round-trips .read-write [] site store [] (λ i. omega arith) (omega arith) (read-refusal newForm [] site (length store) ∙ none) in
-          let numbers = read-answer newForm [] site (length store) none ∙ ap₂ (λ (a b : ℕ). record { refusal = 0; n = a; g = b }) (draft-says newForm [] refl .0) (draft-says newForm [] refl .1) in
-          let answer = ap (λ (a : TableRead). (writeAnswer (readBuffer [] site store) (a .n) (a .g) site 0) .refusal) (sym numbers) ∙ ap (λ (a : Written). a .refusal) (back .answer) in
-          store-accepted (readBuffer [] site store) 0 0 []
-          (writable (readBuffer [] site store) 0 0 site 0 (sym (write-refusal (readBuffer [] site store) 0 0 site 0) ∙ answer) .held)
-          ∙ refuse-none;
-      decide = λ store allowance path e.
+          let back = round-trips .read-write [] site store [] _ (λ i. omega arith) (omega arith) (draft-answer site (length store) none) in
+          store-accepted (readBuffer [] site store) 0 0 [] (written (readBuffer [] site store) 0 0 site 0 (back .answer) .0 .held) ∙ refuse-none;
+      decide = λ store allowance path a e.
           let t = tableOf store 0 0 in
-          let check = check-of store 0 0 allowance (length path) (record { accepted = e }) in
-          let answer =
+          let check = check-of store 0 0 allowance (length path) e in
+          let is =
           check .answer
           ∙ ap (decisionOf t) (draft-run store (check .held) allowance)
-          ∙ ap (λ (m : ℕ). record { refusal = 0; verdict = 0; count = 0; invariant = empty; size = m; steps = 0 }) size-empty in
-          (answer, ap (λ (a : Decision). cond (eqb (a .verdict) 1) (overwrite (smallestPath t) path) path) answer);
+          ∙ ap (λ (m : ℕ). record { verdict = 0; count = 0; invariant = empty; size = m; steps = 0 }) size-empty in
+          (is, ap (unlessRefused path (λ (b : Decision). cond (eqb (b .verdict) 1) (overwrite (smallestPath t) path) path)) (e ∙ ap answered is));
       backward-number = λ t e. omega (arith, backward-is t .bounded);
-      shortest-path = λ store path e.
-          let k = refuse (shortestGrounds store 0 0 (length path)) in
-          let answer : shortestAnswer store 0 0 (length path) ≡ record { refusal = 0; found = 0; steps = 0 } =
-          by-cond (λ (a : Shortest). a .refusal ≡ 0 → a ≡ record { refusal = 0; found = 0; steps = 0 }) (eqb k 0) _ _
-          (λ q r. rw (no-path store)) (λ q r. absurd (eqb-false k 0 q r)) e in
-          (answer, ap (λ (a : Shortest). cond (eqb (a .found) 1) (overwrite (smallestPath (tableOf store 0 0)) path) path) answer);
+      shortest-path = λ store path a e.
+          let t = tableOf store 0 0 in
+          let is = answered-value (shortestGrounds store 0 0 (length path)) _ e ∙ ap (pathFound t) (no-path store) in
+          (is, ap (unlessRefused path (λ (b : Shortest). cond (eqb (b .found) 1) (overwrite (smallestPath t) path) path)) (e ∙ ap answered is));
       write = λ store site output k e.
           let w : Writable store 0 0 site (length output) =
           record { held = accepted-store store 0 0 [] e .0; known = k; fits = omega (arith, length-draft newForm 0 0 refl) } in (
-            write-answer store 0 0 site (length output) w ∙ ap (λ (l : ℕ). record { refusal = 0; length = l }) (length-draft newForm 0 0 refl),
+            write-answer store 0 0 site (length output) w ∙ ap answered (length-draft newForm 0 0 refl),
             write-buffer store 0 0 site output w ∙ ap (λ xs. overwrite xs output) (file-draft newForm site (dialogueOf store 0 0) refl),
           );
       groups-alone = groups-alone;
       groups-written = λ store g site room h k f.
-          write-refusal store 0 g site room ∙ write-behind store 0 g site room h k ∙ groups-alone store g _ h f;
+          write-refused store 0 g site room (write-behind store 0 g site room h k ∙ groups-alone store g _ h f) (λ z. omega arith);
       block-without-states = λ input site room h k some whole blocks none.
-          read-refusal newForm input site room
-          ∙ behind-length newForm input site room h k some whole
+          read-refused newForm input site room
+          (behind-length newForm input site room h k some whole
           ∙ refuse-behind (blocksGrounds input site) _ (blocks-clear input site [] (ap refuse (append-nil (blocksGrounds input site)) ∙ blocks) .0)
-          ∙ refuse-take _ 14 _ (rw (eq-eqb (statesIn input) 0 none));
+          ∙ refuse-take _ 14 _ (rw (eq-eqb (statesIn input) 0 none)))
+          (λ z. omega arith);
     }

@@ -3,7 +3,7 @@
 --   same-word, same-part                    words and sets of two buffers that are alike in their first words
 --   dialogue-words, table-words             the dialogue and the table of two such stores
 --   malformed-same, grounds-same            ground 17, and the shared grounds, of both
---   same-dialogue, same-call                what is made of the grounds and, where none holds, of the dialogue or of the table, is the same
+--   same-dialogue, same-call                a call whose answer is made of the dialogue or of the table answers the same; same-buffer: and leaves the same
 --   same-write                              the same of write
 --   first-words                             specs/Promises
 use Prim.Native.Nat.{ℕ, _+_, _≤_, _<_}
@@ -11,7 +11,7 @@ use native.Mathlib.Omega.{arith}
 use mathlib.Core.Path.{_≡_, refl, sym, ap, ap₂, _∙_, fun-ext}
 use mathlib.Core.Logic.{⊎-elim}
 use mathlib.Core.Bool.{true, false, cond, not, _&&_, _||_}
-use mathlib.Core.List.{List, _++_}
+use mathlib.Core.List.{List, [], _∷_, _++_}
 use borrow.Author.Tests.{ltb-true, ltb-false, le-ltb, eqb-true}
 use lib.Dec.{eqb, leb, ltb, lit≤}
 use lib.ListN.{length, getD, take, drop, take-append-drop}
@@ -19,17 +19,19 @@ use lib.Seq.{length-take-le, getD-take}
 use Rattle.model.specs.Sets.{WORDS, maxStates, empty}
 use Rattle.model.specs.Tables.{Table, Dialogue, tableFrom}
 use Rattle.model.specs.Rounds.{run}
-use Rattle.model.specs.Paths.{shortest, hasPath, smallestPath}
-use Rattle.model.specs.Stores.{maxGroups, storeWords, markedAt, restingAt, groupAt, rowAt, setAt, dialogueOf, tableOf, Ground, refuse, beyond, nonZero, malformed, badStates, sharedGrounds}
+use Rattle.model.specs.Paths.{hasPath, smallestPath}
+use Rattle.basics.specs.Refusals.{Ground, refuse, answer, unlessRefused}
+use Rattle.model.specs.Stores.{maxGroups, storeWords, markedAt, restingAt, groupAt, rowAt, setAt, dialogueOf, tableOf, beyond, nonZero, malformed, badStates, sharedGrounds}
 use Rattle.model.specs.Blocks.{maxSite}
 use Rattle.model.specs.Contents.{newForm}
 use Rattle.model.specs.Files.{fileOf, fileLength}
-use Rattle.model.specs.Calls.{overwrite, Decision, decideGrounds, decisionOf, declined, decideAnswer, decideBuffer, Shortest, shortestGrounds, shortestAnswer, shortestBuffer, Written, writeGrounds, writeAnswer, writeBuffer}
+use Rattle.model.specs.Calls.{overwrite, Decision, decideLimits, decideGrounds, decisionOf, decideAnswer, decideBuffer, Shortest, pathGround, pathFound, shortestGrounds, shortestAnswer, shortestBuffer, outputGround, writeGrounds, writeAnswer, writeBuffer}
 use Rattle.model.specs.Promises.{FirstWords}
-use Rattle.model.proofs.Bounds.{or-false, decided, lt-or-ge, any-cong, tabulate-cong}
+use Rattle.basics.proofs.BoundLaws.{or-false, decided, lt-or-ge, any-cong, tabulate-cong}
+use Rattle.basics.proofs.RefusalLaws.{numbered, unless-value, answer-cong}
 use Rattle.model.proofs.ListLaws.{part-front}
 use Rattle.model.proofs.Acceptance.{accepted-store}
-use Rattle.model.proofs.CallLaws.{write-over, write-behind}
+use Rattle.model.proofs.CallLaws.{write-over, write-behind, writable}
 
 pub nonZero-cong : (xs ys : List ℕ) (from to : ℕ) → ((i : ℕ) → i < to → getD xs i 0 ≡ getD ys i 0) → nonZero xs from to ≡ nonZero ys from to
 unfolding nonZero
@@ -107,63 +109,59 @@ module _ (store other : List ℕ) (long : storeWords ≤ length store) (long′ 
       (decided (ltb maxGroups g)))
       (decided (badStates n g)))
 
-  -- f is given the first ground that holds, and the dialogue, which it reads only where there is none
-  same-dialogue : {A : Type 0} (f : ℕ → Dialogue → A) (n g : ℕ) (later : List Ground) → ((k : ℕ) (d e : Dialogue) → eqb k 0 ≡ false → f k d ≡ f k e)
-      → f (refuse (sharedGrounds store n g ++ later)) (dialogueOf store n g) ≡ f (refuse (sharedGrounds other n g ++ later)) (dialogueOf other n g)
-  same-dialogue f n g later only =
-      let k = refuse (sharedGrounds store n g ++ later) in
-      ⊎-elim
-      (λ (q : eqb k 0 ≡ true). let held = accepted-store store n g later (eqb-true k 0 q) .0 in ap (f k) (dialogue-words n g (held .small) (held .few)))
-      (λ (q : eqb k 0 ≡ false). only k _ _ q)
-      (decided (eqb k 0))
-      ∙ ap (λ (m : ℕ). f m (dialogueOf other n g)) (grounds-same n g later)
+  -- a call that is refused on the shared grounds and others of its own, and whose answer is made of the dialogue
+  same-dialogue : {A : Type 0} (f : Dialogue → A) (n g : ℕ) (later : List Ground) → numbered later ≡ true
+      → answer (sharedGrounds store n g ++ later) (f (dialogueOf store n g)) ≡ answer (sharedGrounds other n g ++ later) (f (dialogueOf other n g))
+  same-dialogue f n g later m =
+      answer-cong (sharedGrounds store n g ++ later) (sharedGrounds other n g ++ later) _ _ m m (grounds-same n g later)
+      (λ z. let held = accepted-store store n g later z .0 in ap f (dialogue-words n g (held .small) (held .few)))
 
-  -- or the table
-  pub same-call : {A : Type 0} (f : ℕ → Table → A) (n g : ℕ) (later : List Ground) → ((k : ℕ) (t u : Table) → eqb k 0 ≡ false → f k t ≡ f k u)
-      → f (refuse (sharedGrounds store n g ++ later)) (tableOf store n g) ≡ f (refuse (sharedGrounds other n g ++ later)) (tableOf other n g)
+  -- or of the table
+  pub same-call : {A : Type 0} (f : Table → A) (n g : ℕ) (later : List Ground) → numbered later ≡ true
+      → answer (sharedGrounds store n g ++ later) (f (tableOf store n g)) ≡ answer (sharedGrounds other n g ++ later) (f (tableOf other n g))
   unfolding tableOf
-  same-call f n g later only = same-dialogue (λ k d. f k (tableFrom d)) n g later (λ k d e q. only k (tableFrom d) (tableFrom e) q)
+  same-call f = same-dialogue (λ d. f (tableFrom d))
+
+  -- and what is left in its buffer
+  pub same-buffer : {A : Type 0} (f : Table → A) (left : Table → A → List ℕ) (buffer : List ℕ) (n g : ℕ) (later : List Ground) → numbered later ≡ true
+      → unlessRefused buffer (left (tableOf store n g)) (answer (sharedGrounds store n g ++ later) (f (tableOf store n g)))
+      ≡ unlessRefused buffer (left (tableOf other n g)) (answer (sharedGrounds other n g ++ later) (f (tableOf other n g)))
+  same-buffer f left buffer n g later m =
+      unless-value (sharedGrounds store n g ++ later) buffer (left (tableOf store n g)) (f (tableOf store n g))
+      ∙ ap (unlessRefused buffer (λ xs. xs)) (same-call (λ t. left t (f t)) n g later m)
+      ∙ sym (unless-value (sharedGrounds other n g ++ later) buffer (left (tableOf other n g)) (f (tableOf other n g)))
 
   -- the same of write, which looks at the site behind the store's length
-  same-write : {A : Type 0} (f : ℕ → Dialogue → A) (n g site room : ℕ) → ((k : ℕ) (d e : Dialogue) → eqb k 0 ≡ false → f k d ≡ f k e)
-      → f (refuse (writeGrounds store n g site room)) (dialogueOf store n g) ≡ f (refuse (writeGrounds other n g site room)) (dialogueOf other n g)
-  same-write f n g site room only =
-      ⊎-elim
-      (λ (h : maxSite < site).
-      ap (λ (k : ℕ). f k (dialogueOf store n g)) (write-over store n g site room long h)
-      ∙ only 24 _ _ refl
-      ∙ sym (ap (λ (k : ℕ). f k (dialogueOf other n g)) (write-over other n g site room long′ h)))
+  same-write : {A : Type 0} (f : Dialogue → A) (n g site room : ℕ)
+      → answer (writeGrounds store n g site room) (f (dialogueOf store n g)) ≡ answer (writeGrounds other n g site room) (f (dialogueOf other n g))
+  unfolding writeGrounds
+  same-write f n g site room =
+      answer-cong (writeGrounds store n g site room) (writeGrounds other n g site room) _ _ refl refl
+      (⊎-elim
+      (λ (h : maxSite < site). write-over store n g site room long h ∙ sym (write-over other n g site room long′ h))
       (λ (h : site ≤ maxSite).
-      ap (λ (k : ℕ). f k (dialogueOf store n g)) (write-behind store n g site room long h)
-      ∙ same-dialogue f n g _ only
-      ∙ sym (ap (λ (k : ℕ). f k (dialogueOf other n g)) (write-behind other n g site room long′ h)))
-      (lt-or-ge maxSite site)
+      write-behind store n g site room long h ∙ grounds-same n g (outputGround n g room ∷ []) ∙ sym (write-behind other n g site room long′ h))
+      (lt-or-ge maxSite site))
+      (λ z. let held = writable store n g site room z .held in ap f (dialogue-words n g (held .small) (held .few)))
 
   pub first-words : FirstWords store other
-  unfolding decideAnswer decideBuffer decideGrounds declined shortestAnswer shortestBuffer shortestGrounds writeAnswer writeBuffer
+  unfolding decideAnswer decideBuffer decideGrounds shortestAnswer shortestBuffer shortestGrounds writeAnswer writeBuffer
   first-words =
       record {
-        decide = λ n g allowance path. (
-          same-call (decided-by allowance) n g _ (λ k t u q. rw q),
-          same-call (λ k t. cond (eqb ((decided-by allowance k t) .verdict) 1) (overwrite (smallestPath t) path) path) n g _ (λ k t u q. rw q),
-        );
-        shortest-path = λ n g path. (
-          same-call found-by n g _ (λ k t u q. rw q),
-          same-call (λ k t. cond (eqb ((found-by k t) .found) 1) (overwrite (smallestPath t) path) path) n g _ (λ k t u q. rw q),
-        );
+        decide = λ n g allowance path.
+            let decided : Table → Decision = λ t. decisionOf t (run t allowance) in (
+              same-call decided n g (decideLimits allowance (length path)) refl,
+              same-buffer decided (λ t a. cond (eqb (a .verdict) 1) (overwrite (smallestPath t) path) path) path n g (decideLimits allowance (length path)) refl,
+            );
+        shortest-path = λ n g path.
+            let found : Table → Shortest = λ t. pathFound t (hasPath t) in (
+              same-call found n g (pathGround (length path) ∷ []) refl,
+              same-buffer found (λ t a. cond (eqb (a .found) 1) (overwrite (smallestPath t) path) path) path n g (pathGround (length path) ∷ []) refl,
+            );
         write = λ n g site output. (
-          same-write (λ k d. written-by n g k) n g site (length output) (λ k d e q. refl),
-          same-write (λ k d. cond (eqb ((written-by n g k) .refusal) 0) (overwrite (fileOf newForm site d) output) output) n g site (length output) (λ k d e q. rw (q, q)),
+          same-write (λ d. fileLength newForm n g) n g site (length output),
+          unless-value (writeGrounds store n g site (length output)) output _ (fileLength newForm n g)
+              ∙ ap (unlessRefused output (λ xs. xs)) (same-write (λ d. overwrite (fileOf newForm site d) output) n g site (length output))
+              ∙ sym (unless-value (writeGrounds other n g site (length output)) output _ (fileLength newForm n g)),
         );
       }
-    where
-      decided-by : ℕ → ℕ → Table → Decision
-      decided-by allowance k t = cond (eqb k 0) (decisionOf t (run t allowance)) (declined k)
-
-      found-by : ℕ → Table → Shortest
-      found-by k t =
-          cond (eqb k 0) (cond (hasPath t) (record { refusal = 0; found = 1; steps = shortest t }) (record { refusal = 0; found = 0; steps = 0 }))
-          (record { refusal = k; found = 0; steps = 0 })
-
-      written-by : ℕ → ℕ → ℕ → Written
-      written-by n g k = cond (eqb k 0) (record { refusal = 0; length = fileLength newForm n g }) (record { refusal = k; length = 0 })

@@ -18,7 +18,7 @@ use Rattle.model.specs.Sets.{Set, empty, meet, same, states, firstStates
 use Rattle.model.specs.Tables.{Table, notForbidden}
 use Rattle.model.specs.Rounds.{iterate, eliminationStep, eliminated, backwardNumber}
 use Rattle.model.specs.Promises.{IsLeast, IsGreatest, BackwardIs}
-use Rattle.model.proofs.Bounds.{first-found, first-before, first-le}
+use Rattle.basics.proofs.BoundLaws.{first-found, first-before, first-le}
 use Rattle.model.proofs.SetLaws.{Proper, setOf-proper, empty-in, meet-in, _⊆_, subset-in, in-subset, same-set, same-eq, eq-same, ⊆-of-eq, states-within}
 use Rattle.model.proofs.Counting.{size-bound, all-or-fewer}
 

@@ -9,10 +9,11 @@ use native.Mathlib.Nat.{not-le-of-lt}
 use mathlib.Core.Path.{_≡_, sym, ap, _∙_}
 use mathlib.Core.Logic.{inl, inr, ⊎-elim}
 use mathlib.Core.Bool.{true, false, not}
-use Rattle.model.specs.Sets.{maxStates, Set, any, member, single, union, firstStates}
+use Rattle.basics.specs.Bounds.{any}
+use Rattle.model.specs.Sets.{maxStates, Set, member, single, union, firstStates}
 use Rattle.model.specs.Tables.{Dialogue, isDeadEnd, isHang, hangs, tableFrom}
 use Rattle.model.specs.Resting.{Dead, rested, ForbiddenIs}
-use Rattle.model.proofs.Bounds.{and-true, and-intro, not-true, is-false, clash, decided, same-test, any-intro, no-any}
+use Rattle.basics.proofs.BoundLaws.{and-true, and-intro, not-true, is-false, clash, decided, same-test, any-intro, no-any}
 use Rattle.model.proofs.SetLaws.{Proper, setOf-proper, In, in-bound, single-in, in-union, union-in, in-states, states-in, states-within, same-set, _⊆_}
 
 -- ---- dead ends and hangs

@@ -6,8 +6,7 @@
 --   bufferFor               the path buffer that belongs to an answer
 --   outcome-*               a promise for each outcome of the rounds
 --   path-answer             the call shortest path
---   not-refused             what the rounds decide is no refusal
---   promises, untouched, declines     all of specs/Promises
+--   promises, untouched     all of specs/Promises
 --   sizes                   all of specs/Sizes
 use Prim.Native.Nat.{ℕ, suc, _≤_, _<_}
 use native.Mathlib.Omega.{arith}
@@ -23,13 +22,15 @@ use Rattle.model.specs.Sets.{Set, member, firstStates}
 use Rattle.model.specs.Tables.{Table, coverOf, cover}
 use Rattle.model.specs.Rounds.{Outcome, safe, unsafe, undecided, run, backwardNumber}
 use Rattle.model.specs.Paths.{isPath, shortest, hasPath, smallestPath}
-use Rattle.model.specs.Stores.{groupAt, setAt, tableOf, beyond, refuse}
+use Rattle.basics.specs.Refusals.{answered, unlessRefused}
+use Rattle.model.specs.Stores.{groupAt, setAt, tableOf, beyond}
 use Rattle.model.specs.Contents.{newForm}
 use Rattle.model.specs.Files.{fileLength}
-use Rattle.model.specs.Calls.{overwrite, Decision, release, decideGrounds, decisionOf, declined, decideAnswer, decideBuffer, Shortest, shortestGrounds, shortestAnswer, shortestBuffer, TableRead, statesIn, groupsIn, readGrounds, readAnswerAs, readBufferAs, Written, writeGrounds, writeAnswer, writeBuffer}
-use Rattle.model.specs.Promises.{Operations, StopsFirst, IsSmallest, Carries, Demand2, Demand3, SameAnswer, PathAnswer, Accepted, Promises, Untouched, Declined}
+use Rattle.model.specs.Calls.{overwrite, Decision, release, decideGrounds, decisionOf, decideAnswer, decideBuffer, Shortest, pathFound, shortestGrounds, shortestAnswer, shortestBuffer, readGrounds, readAnswerAs, readBufferAs, writeGrounds, writeAnswer, writeBuffer}
+use Rattle.model.specs.Promises.{Operations, StopsFirst, IsSmallest, Carries, Demand2, Demand3, SameAnswer, PathAnswer, Promises, Untouched}
 use Rattle.model.specs.Sizes.{Sizes}
-use Rattle.model.proofs.Bounds.{decided, by-cond, clash, in-tabulate}
+use Rattle.basics.proofs.BoundLaws.{clash, in-tabulate}
+use Rattle.basics.proofs.RefusalLaws.{clear-refuse, answered-clear, answered-value, refused-is}
 use Rattle.model.proofs.SetLaws.{In, in-bound, in-image, image-in, in-firstStates, firstStates-in, _⊆_}
 use Rattle.model.proofs.Fixpoints.{backward-is}
 use Rattle.model.proofs.WellFormed.{WellFormed}
@@ -37,7 +38,6 @@ use Rattle.model.proofs.CoverLaws.{in-post, post-in, in-hold, hold-in, 
 use Rattle.model.proofs.RoundLaws.{round-first, round-next, round-is, listed-within, first-stop, countOf, count-backward, undecided-count, undecided-short, larger-run, safe-invariant, safe-no-path, unsafe-long, unsafe-path}
 use Rattle.model.proofs.PathLaws.{has-path, path-of, smallest-is, length-smallest}
 use Rattle.model.proofs.StoreLaws.{beyond-below, malformed-clean}
-use Rattle.model.proofs.CallLaws.{read-refusal}
 use Rattle.model.proofs.FirstWords.{table-words, first-words}
 use Rattle.model.proofs.Acceptance.{Store, accepted-store, well-formed, Check, check-of}
 
@@ -187,9 +187,6 @@ larger-stores t u e a b x y p q ea eb h d =
 
 -- ---- the call shortest path
 
-abbrev pathFound : Table → Bool → Shortest
-pathFound t b = cond b (record { refusal = 0; found = 1; steps = shortest t }) (record { refusal = 0; found = 0; steps = 0 })
-
 path-found : (t : Table) → WellFormed t → (path : List ℕ) (b : Bool) → hasPath t ≡ b
     → PathAnswer t (pathFound t b) path (cond (eqb ((pathFound t b) .found) 1) (overwrite (smallestPath t) path) path)
 path-found t w path true h =
@@ -207,29 +204,31 @@ path-found t w path false h =
       without-path = λ e. (refl, refl);
     }
 
-path-answer : (store : List ℕ) (n g : ℕ) (path : List ℕ) → (shortestAnswer store n g (length path)) .refusal ≡ 0
-    → PathAnswer (tableOf store n g) (shortestAnswer store n g (length path)) path (shortestBuffer store n g path)
+path-answer : (store : List ℕ) (n g : ℕ) (path : List ℕ) (a : Shortest) → shortestAnswer store n g (length path) ≡ answered a
+    → PathAnswer (tableOf store n g) a path (shortestBuffer store n g path)
 unfolding shortestAnswer shortestBuffer shortestGrounds
-path-answer store n g path e =
+path-answer store n g path a e =
     let t = tableOf store n g in
-    let k = refuse (shortestGrounds store n g (length path)) in
-    let none : k ≡ 0 =
-    ⊎-elim (λ q. eqb-true k 0 q) (λ q. subst (λ (b : Bool). (cond b (pathFound t (hasPath t)) (record { refusal = k; found = 0; steps = 0 })) .refusal ≡ 0) q e)
-    (decided (eqb k 0)) in
-    subst (λ (a : Shortest). PathAnswer t a path (cond (eqb (a .found) 1) (overwrite (smallestPath t) path) path))
-    (sym (ap (λ (m : ℕ). cond (eqb m 0) (pathFound t (hasPath t)) (record { refusal = m; found = 0; steps = 0 })) none))
-    (path-found t (well-formed store n g (accepted-store store n g _ none .0)) path (hasPath t) refl)
+    let grounds = shortestGrounds store n g (length path) in
+    let held = accepted-store store n g _ (clear-refuse grounds (answered-clear grounds _ e)) .0 in
+    let left : Shortest → List ℕ = λ b. cond (eqb (b .found) 1) (overwrite (smallestPath t) path) path in
+    subst (PathAnswer t a path) (sym (ap (unlessRefused path left) e))
+    (subst (λ (b : Shortest). PathAnswer t b path (left b)) (sym (answered-value grounds _ e)) (path-found t (well-formed store n g held) path (hasPath t) refl))
 
 -- ---- the promises
 
--- an accepted check
-module _ (store : List ℕ) (n g allowance : ℕ) (path : List ℕ) (ok : Accepted store n g allowance (length path)) where
-  check : Check store n g allowance (length path)
-  check = check-of store n g allowance (length path) ok
+-- a check that is answered
+module _ (store : List ℕ) (n g allowance : ℕ) (path : List ℕ) (a : Decision) (e : decideAnswer store n g allowance (length path) ≡ answered a) where
+  check : Check store n g allowance (length path) a
+  check = check-of store n g allowance (length path) e
 
   -- what holds of the rounds' decision holds of the answer
-  of-answer : (P : Decision → Type 0) → P (decisionOf (tableOf store n g) (run (tableOf store n g) allowance)) → P (decideAnswer store n g allowance (length path))
+  of-answer : (P : Decision → Type 0) → P (decisionOf (tableOf store n g) (run (tableOf store n g) allowance)) → P a
   of-answer P h = subst P (sym (check .answer)) h
+
+  buffer-is : decideBuffer store n g allowance path ≡ bufferFor (tableOf store n g) a path
+  unfolding decideBuffer
+  buffer-is = ap (unlessRefused path (λ (b : Decision). bufferFor (tableOf store n g) b path)) e
 
 groups-within : (store : List ℕ) (n g : ℕ) → Store store n g → (Z : Set) → List·Memᴰ Z ((tableOf store n g) .groups) → Z ⊆ firstStates n
 unfolding tableOf
@@ -249,86 +248,45 @@ promises =
       first-stop = first-stop;
       backward-number = backward-is;
       demand3 = λ t allowance. outcome-3 t allowance _ refl;
-      answer = λ store n g allowance path ok. check store n g allowance path ok .answer;
-      stops = λ store n g allowance path ok.
+      answer = λ store n g allowance path a e. check store n g allowance path a e .answer;
+      stops = λ store n g allowance path a e.
           let t = tableOf store n g in
-          of-answer store n g allowance path ok (StopsFirst t allowance) (outcome-stops t allowance);
-      covers = λ store n g allowance path ok i.
-          let held = check store n g allowance path ok .held in
+          of-answer store n g allowance path a e (StopsFirst t allowance) (outcome-stops t allowance);
+      covers = λ store n g allowance path a e i.
+          let held = check store n g allowance path a e .held in
           cover-is n _ (held .small) (listed-within (tableOf store n g) (groups-within store n g held) i);
-      carries = λ store n g allowance path ok.
+      carries = λ store n g allowance path a e.
           let t = tableOf store n g in
-          let held = check store n g allowance path ok .held in
-          of-answer store n g allowance path ok (λ a. Carries t allowance a path (bufferFor t a path))
-          (outcome-carries t allowance (well-formed store n g held) path _ refl);
-      demand2 = λ store n g path ok.
+          let held = check store n g allowance path a e .held in
+          subst (Carries t allowance a path) (sym (buffer-is store n g allowance path a e))
+          (of-answer store n g allowance path a e (λ b. Carries t allowance b path (bufferFor t b path))
+          (outcome-carries t allowance (well-formed store n g held) path _ refl));
+      demand2 = λ store n g path a e.
           let t = tableOf store n g in
-          let held = check store n g release path ok .held in
-          of-answer store n g release path ok (λ a. Demand2 t a (bufferFor t a path)) (outcome-2 t release (well-formed store n g held) (held .small) path _ refl);
-      larger = λ store other n g allowance more p q ok ok′ same.
-          let c = check store n g allowance p ok in
-          let c′ = check other n g more q ok′ in
+          let held = check store n g release path a e .held in
+          subst (Demand2 t a) (sym (buffer-is store n g release path a e))
+          (of-answer store n g release path a e (λ b. Demand2 t b (bufferFor t b path)) (outcome-2 t release (well-formed store n g held) (held .small) path _ refl));
+      larger = λ store other n g allowance more p q a b ea eb same h d.
+          let c = check store n g allowance p a ea in
+          let c′ = check other n g more q b eb in
           let tables = table-words store other (c .held .long) (c′ .held .long) same n g (c .held .small) (c .held .few) in
-          larger-stores (tableOf store n g) (tableOf other n g) tables _ _ allowance more p q (c .answer) (c′ .answer);
+          subst (λ (xs : List ℕ). SameAnswer a b xs (decideBuffer other n g more q)) (sym (buffer-is store n g allowance p a ea))
+          (subst (SameAnswer a b (bufferFor (tableOf store n g) a p)) (sym (buffer-is other n g more q b eb))
+          (larger-stores (tableOf store n g) (tableOf other n g) tables a b allowance more p q (c .answer) (c′ .answer) h d));
       first-words = first-words;
       shortest-path = path-answer;
     }
 
--- ---- what a call that declines leaves
-
-pub not-refused : (t : Table) (o : Outcome) → (decisionOf t o) .refusal ≡ 0
-unfolding decisionOf
-not-refused t (safe i X) = refl
-not-refused t (unsafe i) = refl
-not-refused t (undecided i) = refl
-
-path-not-refused : (t : Table) (b : Bool) → (pathFound t b) .refusal ≡ 0
-path-not-refused t true = refl
-path-not-refused t false = refl
+-- ---- what a refused call leaves
 
 pub untouched : Untouched
-unfolding decideAnswer decideBuffer declined shortestAnswer shortestBuffer readBufferAs writeBuffer
+unfolding decideAnswer decideBuffer shortestAnswer shortestBuffer readAnswerAs readBufferAs writeAnswer writeBuffer
 untouched =
     record {
-      decide = λ store n g allowance path.
-          by-cond (λ (a : Decision). (a .refusal ≡ 0 → ⊥) → bufferFor (tableOf store n g) a path ≡ path)
-          (eqb (refuse (decideGrounds store n g allowance (length path))) 0) _ _
-          (λ q f. absurd (f (not-refused (tableOf store n g) (run (tableOf store n g) allowance)))) (λ q f. refl);
-      shortest-path = λ store n g path.
-          by-cond (λ (a : Shortest). (a .refusal ≡ 0 → ⊥) → cond (eqb (a .found) 1) (overwrite (smallestPath (tableOf store n g)) path) path ≡ path)
-          (eqb (refuse (shortestGrounds store n g (length path))) 0) _ _
-          (by-cond (λ (a : Shortest). eqb (refuse (shortestGrounds store n g (length path))) 0 ≡ true → (a .refusal ≡ 0 → ⊥) → cond (eqb (a .found) 1) (overwrite (smallestPath (tableOf store n g)) path) path ≡ path)
-          (hasPath (tableOf store n g)) _ _ (λ h q f. absurd (f refl)) (λ h q f. refl))
-          (λ q f. refl);
-      read = λ input site store f. rw (ne-eqb (refuse (readGrounds input site (length store))) 0 (λ e. f (read-refusal newForm input site (length store) ∙ e)));
-      write = λ store n g site output f. rw (ne-eqb ((writeAnswer store n g site (length output)) .refusal) 0 f);
-    }
-
--- what is chosen where k is not 0, given that an answer with refusal 0 is chosen where it is
-declining : {A : Type 0} (refusal : A → ℕ) (k : ℕ) (given other : A) → refusal given ≡ 0
-    → (refusal (cond (eqb k 0) given other) ≡ 0 → ⊥) → cond (eqb k 0) given other ≡ other
-declining refusal k given other e =
-    by-cond (λ a. (refusal a ≡ 0 → ⊥) → a ≡ other) (eqb k 0) given other (λ q f. absurd (f e)) (λ q f. refl)
-
-pub declines : Declined
-unfolding decideAnswer declined shortestAnswer readAnswerAs writeAnswer
-declines =
-    record {
-      decide = λ store n g allowance room.
-          let t = tableOf store n g in
-          let k = refuse (decideGrounds store n g allowance room) in
-          declining (λ (a : Decision). a .refusal) k (decisionOf t (run t allowance)) (declined k) (not-refused t (run t allowance));
-      shortest-path = λ store n g room.
-          let t = tableOf store n g in
-          let k = refuse (shortestGrounds store n g room) in
-          declining (λ (a : Shortest). a .refusal) k (pathFound t (hasPath t)) (record { refusal = k; found = 0; steps = 0 })
-          (path-not-refused t (hasPath t));
-      read = λ input site room.
-          let k = refuse (readGrounds input site room) in
-          declining (λ (a : TableRead). a .refusal) k (record { refusal = 0; n = statesIn input; g = groupsIn newForm input }) (record { refusal = k; n = 0; g = 0 }) refl;
-      write = λ store n g site room.
-          let k = refuse (writeGrounds store n g site room) in
-          declining (λ (a : Written). a .refusal) k (record { refusal = 0; length = fileLength newForm n g }) (record { refusal = k; length = 0 }) refl;
+      decide = λ store n g allowance path k e. (refused-is (decideGrounds store n g allowance (length path)) _ e, ap (unlessRefused path _) e);
+      shortest-path = λ store n g path k e. (refused-is (shortestGrounds store n g (length path)) _ e, ap (unlessRefused path _) e);
+      read = λ input site store k e. (refused-is (readGrounds input site (length store)) _ e, ap (unlessRefused store _) e);
+      write = λ store n g site output k e. (refused-is (writeGrounds store n g site (length output)) _ e, ap (unlessRefused output _) e);
     }
 
 pub sizes : Sizes

@@ -1,4 +1,3 @@
-pub mod Bounds
 pub mod SetLaws
 pub mod Counting
 pub mod Fixpoints
@@ -9,7 +8,6 @@ pub mod WellFormed
 pub mod RoundLaws
 pub mod PathLaws
 pub mod ListLaws
-pub mod GroundLaws
 pub mod BlockLaws
 pub mod ContentLaws
 pub mod StoreLaws

@@ -21,10 +21,9 @@ use mathlib.Core.Logic.{⊎-elim}
 use mathlib.Core.List.{List, [], _∷_, _++_, append-assoc}
 use lib.ListN.{set, length, getD, take, drop, length-append, length-drop, List·getD-append, List·getD-eq-default}
 use lib.Seq.{take-all, take-at, drop-at, take-append-le, drop-append-le, getD-append-add, getD-take, getD-drop, drop-drop, take-add, drop-cons, set-at}
-use Rattle.model.specs.Sets.{tabulate}
-use Rattle.model.specs.Stores.{concat}
+use Rattle.basics.specs.Bounds.{tabulate, concat}
 use Rattle.model.specs.Calls.{overwrite}
-use Rattle.model.proofs.Bounds.{below-suc}
+use Rattle.basics.proofs.BoundLaws.{below-suc}
 
 -- ---- the part of w elements from `at` on
 

@@ -21,15 +21,17 @@ use mathlib.Core.List.{List, [], _++_}
 use borrow.Author.Tests.{ltb-true, ltb-false}
 use lib.Dec.{ltb}
 use lib.ListN.{length, getD, take}
-use Rattle.model.specs.Sets.{WORDS, maxStates, Set, tabulate, member, number, empty}
+use Rattle.basics.specs.Bounds.{tabulate, concat}
+use Rattle.model.specs.Sets.{WORDS, maxStates, Set, member, number, empty}
 use Rattle.model.specs.Tables.{Dialogue}
-use Rattle.model.specs.Stores.{maxGroups, markedAt, restingAt, groupAt, rowAt, storeWords, setAt, dialogueOf, concat, layout, refuse, beyond}
+use Rattle.basics.specs.Refusals.{refuse, answered}
+use Rattle.model.specs.Stores.{maxGroups, markedAt, restingAt, groupAt, rowAt, storeWords, setAt, dialogueOf, layout, beyond}
 use Rattle.model.specs.Blocks.{blockBytes, contentBytes, checkAt, maxSite, le16, le16At, checkOf, blocksFor, blockOf, part, contentsOf}
 use Rattle.model.specs.Contents.{Form, oldForm, newForm, heads, added, setWidth, sets, headerBytes, contents, contentLength, setNumber, dialogueIn}
 use Rattle.model.specs.Files.{blockFile, blockFileLength, fileOf, fileLength, maxFile}
-use Rattle.model.specs.Calls.{overwrite, TableRead, statesIn, secondIn, groupsIn, readGroundsAs, readGrounds, readAnswerAs, readBufferAs, readBuffer, Written, writeBuffer}
+use Rattle.model.specs.Calls.{overwrite, TableRead, statesIn, secondIn, groupsIn, readGroundsAs, readGrounds, readAnswerAs, readBufferAs, readBuffer, writeBuffer}
 use Rattle.model.specs.RoundTrip.{Bounded, WriteRead, ReadWrite, RoundTrips, FileSizes}
-use Rattle.model.proofs.Bounds.{by-cond, lt-or-ge, length-tabulate, getD-tabulate}
+use Rattle.basics.proofs.BoundLaws.{by-cond, lt-or-ge, length-tabulate, getD-tabulate}
 use Rattle.model.proofs.SetLaws.{In, empty-in}
 use Rattle.model.proofs.ListLaws.{getD-past, concat-cong, length-overwrite, take-overwrite}
 use Rattle.model.proofs.BlockLaws.{le16At-le16, IsBlock, block-unique, block-number, block-check, is-block, blockOf-is, length-part, part-bounded, concat-part, length-contentsOf, getD-contentsOf, contentsOf-bounded}
@@ -37,7 +39,7 @@ use Rattle.model.proofs.ContentLaws.{setIn-proper, setIn-below, dialogu
 use Rattle.model.proofs.FileLaws.{length-blockFile, part-blockFile, contentsOf-blockFile, file-draft, file-blocks, length-draft, length-blocks, length-fileOf, fileLength-most}
 use Rattle.model.proofs.StoreLaws.{setAt-proper, dialogueOf-row, empty-proper, setAt-empty, Holds, holds-layout, Laid, length-layout, overwrite-holds, holds-sets, Within, beyond-below, below-beyond, malformed-clean, clean-malformed, holds-clean}
 use Rattle.model.proofs.Acceptance.{Store}
-use Rattle.model.proofs.CallLaws.{Writable, write-refusal, writable, write-answer, write-buffer, Readable, read-refusal, readable, draft-refusal, readable-refusal, read-answer, read-buffer, no-bytes, draft-says}
+use Rattle.model.proofs.CallLaws.{Writable, written, write-answer, write-buffer, Readable, read-none, readable, draft-refusal, readable-refusal, read-answer, read-buffer, no-bytes, draft-says}
 
 -- ---- the file of a table, read
 
@@ -169,7 +171,7 @@ file-is store n g site out w =
 
 -- the file of a store in a form, read in that form into another store, gives back n, g and the words of the table
 pub record ReadsBack (form : Form) (store : List ℕ) (n g site : ℕ) (file other : List ℕ) : Type 0 where
-  pub answer : readAnswerAs form file site (length other) ≡ record { refusal = 0; n = n; g = g }
+  pub answer : readAnswerAs form file site (length other) ≡ answered (record { n = n; g = g })
   pub buffer : readBufferAs form file site other ≡ overwrite (take storeWords store) other
 
 module _ (form : Form) (store : List ℕ) (n g site : ℕ) (other : List ℕ) (held : Store store n g) (known : site ≤ maxSite) (ok : Storable form (dialogueOf store n g) g) (bare : heads form ≤ 2 → setAt store restingAt ≡ empty) where
@@ -178,7 +180,7 @@ module _ (form : Form) (store : List ℕ) (n g site : ℕ) (other : List ℕ) (h
       → ((k : ℕ) → k < heads form + g + n → setNumber (contentsOf file) n k ≡ getD (sets form (dialogueOf store n g)) k []) → ReadsBack form store n g site file other
   reads-back file e p q sets-are =
       record {
-        answer = read-answer form file site (length other) e ∙ ap₂ (λ (a b : ℕ). record { refusal = 0; n = a; g = b }) p q;
+        answer = read-answer form file site (length other) e ∙ ap₂ (λ (a b : ℕ). answered (record { n = a; g = b })) p q;
         buffer =
             read-buffer form file site other e
             ∙ ap₂ (λ (a b : ℕ). overwrite (layout (dialogueIn form (contentsOf file) a b)) other) p q
@@ -353,7 +355,7 @@ module _ (input store : List ℕ) (n g : ℕ) (small : n ≤ maxStates) (few : g
   writes-back site out known h held size file =
       let w : Writable left n g site (length out) = record { held = held; known = known; fits = omega arith } in
       record {
-        answer = write-answer left n g site (length out) w ∙ ap (λ (l : ℕ). record { refusal = 0; length = l }) size;
+        answer = write-answer left n g site (length out) w ∙ ap answered size;
         buffer = write-buffer left n g site out w ∙ ap (λ xs. overwrite xs out) file;
       }
 
@@ -393,14 +395,14 @@ module _ (input : List ℕ) (site : ℕ) (store out : List ℕ) (u : Bounded 256
 pub round-trips : RoundTrips
 round-trips =
     record {
-      write-read = λ store n g site out other words h e.
-          let w = writable store n g site (length out) (sym (write-refusal store n g site (length out)) ∙ e) in
-          subst (λ (a : Written). WriteRead store n g site (take (a .length) (writeBuffer store n g site out)) other) (sym (write-answer store n g site (length out) w))
-          (write-read store n g site out other words w h);
-      read-write = λ input site store out u h e.
-          let none = sym (read-refusal newForm input site (length store)) ∙ e in
-          subst (λ (a : TableRead). ReadWrite (readBuffer input site store) (a .n) (a .g) site input out) (sym (read-answer newForm input site (length store) none))
-          (read-write input site store out u h none);
+      write-read = λ store n g site out other l words h e.
+          let w = written store n g site (length out) e in
+          subst (λ (m : ℕ). WriteRead store n g site (take m (writeBuffer store n g site out)) other) (sym (w .1))
+          (write-read store n g site out other words (w .0) h);
+      read-write = λ input site store out a u h e.
+          let r = read-none newForm input site (length store) e in
+          subst (λ (b : TableRead). ReadWrite (readBuffer input site store) (b .n) (b .g) site input out) (sym (r .1))
+          (read-write input site store out u h (r .0));
     }
 
 pub file-sizes : FileSizes

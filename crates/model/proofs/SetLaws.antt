@@ -17,8 +17,9 @@ use borrow.Author.Tests.{ltb-true, lt-ltb, eqb-true, eqb-false, eq-eqb}
 use lib.Dec.{eqb, ltb}
 use lib.ListN.{length, getD}
 use lib.Seq.{ext-getD}
-use Rattle.model.specs.Sets.{WORDS, maxStates, Set, tabulate, bit, member, number, setOf, empty, single, union, meet, difference, subset, same, meets, states, firstStates, smallest, image}
-use Rattle.model.proofs.Bounds.{and-true, and-intro, or-true, or-intro, not-true, is-false, clash, decided, same-test, by-cond, any-intro, any-find, all-at, all-intro, all-not, first-passes, first-before, below-suc, length-tabulate, getD-tabulate}
+use Rattle.basics.specs.Bounds.{tabulate}
+use Rattle.model.specs.Sets.{WORDS, maxStates, Set, bit, member, number, setOf, empty, single, union, meet, difference, subset, same, meets, states, firstStates, smallest, image}
+use Rattle.basics.proofs.BoundLaws.{and-true, and-intro, or-true, or-intro, not-true, is-false, clash, decided, same-test, by-cond, any-intro, any-find, all-at, all-intro, all-not, first-passes, first-before, below-suc, length-tabulate, getD-tabulate}
 
 -- ---- bits
 

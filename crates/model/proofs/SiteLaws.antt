@@ -14,17 +14,19 @@ use mathlib.Core.List.{List, [], _∷_, _++_, append-nil}
 use borrow.Author.Tests.{eq-eqb, ne-eqb}
 use lib.Dec.{eqb}
 use lib.ListN.{length, take, drop, replicate}
-use Rattle.model.specs.Stores.{storeWords, dialogueOf, concat, Ground, refuse}
+use Rattle.basics.specs.Bounds.{concat}
+use Rattle.basics.specs.Refusals.{Ground, refuse, refused, answered}
+use Rattle.model.specs.Stores.{storeWords, dialogueOf}
 use Rattle.model.specs.Blocks.{blockBytes, contentBytes, checkAt, modulus, maxSite, le16, le16At, weighted, checkOf, blockOf, part, blockGrounds}
 use Rattle.model.specs.Contents.{newForm, contents}
 use Rattle.model.specs.Files.{fileLength}
-use Rattle.model.specs.Calls.{badLength, blocksGrounds, readGroundsAs, readAnswer, Written, writeGrounds, writeAnswer, writeBuffer}
+use Rattle.model.specs.Calls.{badLength, blocksGrounds, readGroundsAs, readAnswer, writeGrounds, writeAnswer, writeBuffer}
 use Rattle.model.specs.Sites.{Sites}
-use Rattle.model.proofs.Bounds.{length-tabulate}
-use Rattle.model.proofs.GroundLaws.{refuse-skip, refuse-take, refuse-append, clear-refuse, refuse-clear, numbered-concat, refuse-stop}
+use Rattle.basics.proofs.BoundLaws.{length-tabulate}
+use Rattle.basics.proofs.RefusalLaws.{refuse-skip, refuse-take, refuse-append, clear-refuse, refuse-clear, numbered-concat, refuse-stop}
 use Rattle.model.proofs.BlockLaws.{block-number, block-check, blockOf-is}
 use Rattle.model.proofs.FileLaws.{part-blockFile, file-blocks, length-draft, length-blocks, fileLength-most}
-use Rattle.model.proofs.CallLaws.{Writable, write-over, write-refusal, writable, write-answer, clear-block, right-block, read-refusal, read-over, behind-length}
+use Rattle.model.proofs.CallLaws.{Writable, write-over, write-refused, written, clear-block, right-block, read-refused, read-over, behind-length}
 use Rattle.model.proofs.RoundTrips.{file-is}
 
 -- ---- a block of another site
@@ -47,16 +49,16 @@ module _ (a b : ℕ) (h : a ≤ maxSite) (l : b ≤ maxSite) (apart : a ≡ b �
 
   foreign-block : (input : List ℕ) (room k : ℕ) → storeWords ≤ room → badLength input ≡ false → k < length input / blockBytes
       → refuse (concat k (λ j. blockGrounds b (part input j) j)) ≡ 0 → refuse (blockGrounds a (part input k) k) ≡ 0
-      → (readAnswer input b room) .refusal ≡ 13
+      → readAnswer input b room ≡ refused 13
   unfolding blocksGrounds blockGrounds
   foreign-block input room k fits whole inside before own =
       let grounds : ℕ → List Ground = λ j. blockGrounds b (part input j) j in
       let passed = refuse-clear (concat k grounds) [] (numbered-concat grounds (λ j. refl) k) (ap refuse (append-nil (concat k grounds)) ∙ before) .0 in
       let first : 13 ≡ refuse (blocksGrounds input b) =
       refuse-stop grounds (length input / blockBytes) k inside passed (sym (foreign-fault (part input k) k own)) (λ z. omega arith) in
-      read-refusal newForm input b room
-      ∙ behind-length newForm input b room fits l (λ z. omega arith) whole
-      ∙ sym (refuse-append (blocksGrounds input b) _ first (λ z. omega arith))
+      read-refused newForm input b room
+      (behind-length newForm input b room fits l (λ z. omega arith) whole ∙ sym (refuse-append (blocksGrounds input b) _ first (λ z. omega arith)))
+      (λ z. omega arith)
 
 -- ---- a block of the same site
 
@@ -72,15 +74,14 @@ module _ (store : List ℕ) (n g site : ℕ) (out : List ℕ) (k : ℕ) (w : Wri
       ∙ ap (λ (b : List ℕ). refuse (blockGrounds site b k)) (part-blockFile newForm site t (length-tabulate _ g) k (omega (arith, length-blocks newForm n g some)))
       ∙ clear-refuse _ (right-block site _ k (block-number block (omega arith)) (block-check block))
 
-own-block : (store : List ℕ) (n g site : ℕ) (out : List ℕ) (k : ℕ)
-    → (writeAnswer store n g site (length out)) .refusal ≡ 0
-    → k < (writeAnswer store n g site (length out)) .length / blockBytes
-    → refuse (blockGrounds site (part (take ((writeAnswer store n g site (length out)) .length) (writeBuffer store n g site out)) k) k) ≡ 0
-own-block store n g site out k e =
-    let w = writable store n g site (length out) (sym (write-refusal store n g site (length out)) ∙ e) in
-    subst
-    (λ (a : Written). k < a .length / blockBytes → refuse (blockGrounds site (part (take (a .length) (writeBuffer store n g site out)) k) k) ≡ 0)
-    (sym (write-answer store n g site (length out) w)) (written-block store n g site out k w)
+own-block : (store : List ℕ) (n g site : ℕ) (out : List ℕ) (l k : ℕ)
+    → writeAnswer store n g site (length out) ≡ answered l
+    → k < l / blockBytes
+    → refuse (blockGrounds site (part (take l (writeBuffer store n g site out)) k) k) ≡ 0
+own-block store n g site out l k e =
+    let w = written store n g site (length out) e in
+    subst (λ (m : ℕ). k < m / blockBytes → refuse (blockGrounds site (part (take m (writeBuffer store n g site out)) k) k) ≡ 0) (sym (w .1))
+    (written-block store n g site out k (w .0))
 
 -- ---- site 0
 
@@ -109,6 +110,6 @@ sites =
       write-zero = λ store n g room. refl;
       own-block = own-block;
       foreign-block = foreign-block;
-      read-over = λ input site room h l. read-refusal newForm input site room ∙ read-over newForm input site room h l;
-      write-over = λ store n g site room h l. write-refusal store n g site room ∙ write-over store n g site room h l;
+      read-over = λ input site room h l. read-refused newForm input site room (read-over newForm input site room h l) (λ z. omega arith);
+      write-over = λ store n g site room h l. write-refused store n g site room (write-over store n g site room h l) (λ z. omega arith);
     }

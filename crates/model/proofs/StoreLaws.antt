@@ -24,13 +24,14 @@ use borrow.Author.Tests.{ltb-true, ltb-false, lt-ltb, le-ltb, leb-true, le-leb, 
 use lib.Dec.{eqb, ltb, leb}
 use lib.ListN.{length, getD, take, drop, length-append, length-drop}
 use lib.Seq.{ext-getD, getD-take, getD-drop, length-take-le, take-add, drop-drop, take-at}
-use Rattle.model.specs.Sets.{WORDS, maxStates, Set, any, tabulate, member, setOf, empty}
+use Rattle.basics.specs.Bounds.{any, tabulate, concat}
+use Rattle.model.specs.Sets.{WORDS, maxStates, Set, member, setOf, empty}
 use Rattle.model.specs.Tables.{Dialogue}
-use Rattle.model.specs.Stores.{maxGroups, markedAt, restingAt, groupAt, rowAt, storeWords, setAt, dialogueOf, tableOf, concat, layout, beyond, nonZero, malformed}
+use Rattle.model.specs.Stores.{maxGroups, markedAt, restingAt, groupAt, rowAt, storeWords, setAt, dialogueOf, tableOf, layout, beyond, nonZero, malformed}
 use Rattle.model.specs.Contents.{newForm, sets}
 use Rattle.model.specs.Calls.{overwrite}
 use Rattle.model.specs.RoundTrip.{Bounded}
-use Rattle.model.proofs.Bounds.{and-true, and-intro, not-true, is-false, clash, decided, by-cond, lt-or-ge, any-intro, any-find, any-none, length-tabulate, getD-tabulate, tabulate-cong, or-false, no-any}
+use Rattle.basics.proofs.BoundLaws.{and-true, and-intro, not-true, is-false, clash, decided, by-cond, lt-or-ge, any-intro, any-find, any-none, length-tabulate, getD-tabulate, tabulate-cong, or-false, no-any}
 use Rattle.model.proofs.SetLaws.{Proper, setOf-proper, In, in-bound}
 use Rattle.model.proofs.ListLaws.{part-front, part-behind, getD-past, Wide, length-concat, part-concat, concat-cong, concat-parts}
 use Rattle.model.proofs.ContentLaws.{number-none}

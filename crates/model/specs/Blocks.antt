@@ -14,7 +14,8 @@ use mathlib.Core.Bool.{not}
 use mathlib.Core.List.{List, [], _∷_, _++_}
 use lib.Dec.{eqb, ltb}
 use lib.ListN.{length, getD, take, drop, replicate}
-use Rattle.model.specs.Stores.{concat, Ground}
+use Rattle.basics.specs.Bounds.{concat}
+use Rattle.basics.specs.Refusals.{Ground}
 
 abbrev pub blockBytes : ℕ
 blockBytes = 512

@@ -1,27 +1,28 @@
 -- The four calls: what each returns and leaves in its buffer, refusals included (the specification, "Paths", "Files" and "Refusals"). An
--- answer has the specification's numbers; `refusal` is 0 where the call is not declined, and every other field is 0 (the invariant empty)
--- where it is.
+-- answer has the specification's numbers. A refused call gives its number and no answer, and leaves every buffer as it was.
 --
 --   maxAllowance, release                  the greatest allowance, which is that of a release check
 --   overwrite xs old                       xs at the front of a buffer that held old, the rest of it untouched
 --   Decision, decideAnswer, decideBuffer   decide: the grounds in order, the answer, the path buffer at exit
---   Shortest, shortestAnswer, shortestBuffer
+--   Shortest, shortestAnswer, shortestBuffer           shortest path; pathFound: with a path and without
 --   statesIn, groupsIn                     n and g, as an input says; secondIn: the second number
 --   TableRead, readAnswer, readBuffer      read: the grounds in order, the answer; the buffer is the store (..As form: of either form)
---   Written, writeAnswer, writeBuffer      write: the buffer is the output
+--   writeAnswer, writeBuffer               write: the answer is the file's length, the buffer is the output
 --
 -- A buffer's length is the length of the list that it holds. Decide, shortest path and write are lent the store to read only. Read and write are
 -- given the site of the file, any number.
 use Prim.Native.Nat.{ℕ, _+_, _*_, _-_, _/_, _%_}
-use mathlib.Core.Bool.{Bool, cond, not, _||_}
+use mathlib.Core.Bool.{Bool, true, false, cond, not, _||_}
 use mathlib.Core.List.{List, [], _∷_, _++_}
 use lib.Dec.{eqb, ltb}
 use lib.ListN.{length, drop}
-use Rattle.model.specs.Sets.{maxStates, Set, empty, size, any}
+use Rattle.basics.specs.Bounds.{any, concat}
+use Rattle.model.specs.Sets.{maxStates, Set, empty, size}
 use Rattle.model.specs.Tables.{Table}
 use Rattle.model.specs.Rounds.{Outcome, safe, unsafe, undecided, run}
 use Rattle.model.specs.Paths.{shortest, hasPath, smallestPath}
-use Rattle.model.specs.Stores.{maxGroups, dialogueOf, tableOf, concat, layout, Ground, refuse, beyond, nonZero, storeGround, tableGrounds, sharedGrounds}
+use Rattle.basics.specs.Refusals.{Ground, Answered, answer, unlessRefused}
+use Rattle.model.specs.Stores.{maxGroups, dialogueOf, tableOf, layout, beyond, nonZero, storeGround, tableGrounds, sharedGrounds}
 use Rattle.model.specs.Blocks.{blockBytes, contentBytes, siteGround, le16At, blocksFor, part, contentsOf, blockGrounds}
 use Rattle.model.specs.Contents.{Form, newForm, heads, added, contentLength, setNumber, dialogueIn}
 use Rattle.model.specs.Files.{fileOf, fileLength, maxFile}
@@ -39,8 +40,7 @@ abbrev pub release : ℕ
 release = maxAllowance
 
 pub record Decision : Type 0 where
-  pub refusal : ℕ
-  pub verdict : ℕ  -- 0 safe, 1 unsafe, 2 undecided, where refusal is 0
+  pub verdict : ℕ  -- 0 safe, 1 unsafe, 2 undecided
   pub count : ℕ  -- of refinements
   pub invariant : Set  -- empty unless safe
   pub size : ℕ  -- of the invariant
@@ -58,52 +58,46 @@ unfoldable pub decideGrounds : List ℕ → ℕ → ℕ → ℕ → ℕ → List
 decideGrounds store n g allowance room = sharedGrounds store n g ++ decideLimits allowance room
 
 unfoldable pub decisionOf : Table → Outcome → Decision
-decisionOf t (safe i R) = record { refusal = 0; verdict = 0; count = i; invariant = R; size = size R; steps = 0 }
-decisionOf t (unsafe i) = record { refusal = 0; verdict = 1; count = i; invariant = empty; size = 0; steps = shortest t }
-decisionOf t (undecided i) = record { refusal = 0; verdict = 2; count = i; invariant = empty; size = 0; steps = 0 }
+decisionOf t (safe i R) = record { verdict = 0; count = i; invariant = R; size = size R; steps = 0 }
+decisionOf t (unsafe i) = record { verdict = 1; count = i; invariant = empty; size = 0; steps = shortest t }
+decisionOf t (undecided i) = record { verdict = 2; count = i; invariant = empty; size = 0; steps = 0 }
 
-unfoldable pub declined : ℕ → Decision
-declined k = record { refusal = k; verdict = 0; count = 0; invariant = empty; size = 0; steps = 0 }
-
-unfoldable pub decideAnswer : List ℕ → ℕ → ℕ → ℕ → ℕ → Decision
+unfoldable pub decideAnswer : List ℕ → ℕ → ℕ → ℕ → ℕ → Answered Decision
 decideAnswer store n g allowance room =
     let t = tableOf store n g in
-    let k = refuse (decideGrounds store n g allowance room) in
-    let decided = decisionOf t (run t allowance) in
-    cond (eqb k 0) decided (declined k)
+    answer (decideGrounds store n g allowance room) (decisionOf t (run t allowance))
 
 unfoldable pub decideBuffer : List ℕ → ℕ → ℕ → ℕ → List ℕ → List ℕ
 decideBuffer store n g allowance path =
     let found = overwrite (smallestPath (tableOf store n g)) path in
-    cond (eqb ((decideAnswer store n g allowance (length path)) .verdict) 1) found path
+    unlessRefused path (λ a. cond (eqb (a .verdict) 1) found path) (decideAnswer store n g allowance (length path))
 
 -- ---- shortest path
 
 pub record Shortest : Type 0 where
-  pub refusal : ℕ
   pub found : ℕ  -- 1 if there is a path, 0 if not
   pub steps : ℕ  -- d, 0 if there is none
 
 unfoldable pub shortestGrounds : List ℕ → ℕ → ℕ → ℕ → List Ground
 shortestGrounds store n g room = sharedGrounds store n g ++ (pathGround room ∷ [])
 
-unfoldable pub shortestAnswer : List ℕ → ℕ → ℕ → ℕ → Shortest
+abbrev pub pathFound : Table → Bool → Shortest
+pathFound t true = record { found = 1; steps = shortest t }
+pathFound t false = record { found = 0; steps = 0 }
+
+unfoldable pub shortestAnswer : List ℕ → ℕ → ℕ → ℕ → Answered Shortest
 shortestAnswer store n g room =
     let t = tableOf store n g in
-    let k = refuse (shortestGrounds store n g room) in
-    let path : Shortest = record { refusal = 0; found = 1; steps = shortest t } in
-    let none : Shortest = record { refusal = 0; found = 0; steps = 0 } in
-    cond (eqb k 0) (cond (hasPath t) path none) (record { refusal = k; found = 0; steps = 0 })
+    answer (shortestGrounds store n g room) (pathFound t (hasPath t))
 
 unfoldable pub shortestBuffer : List ℕ → ℕ → ℕ → List ℕ → List ℕ
 shortestBuffer store n g path =
     let found = overwrite (smallestPath (tableOf store n g)) path in
-    cond (eqb ((shortestAnswer store n g (length path)) .found) 1) found path
+    unlessRefused path (λ a. cond (eqb (a .found) 1) found path) (shortestAnswer store n g (length path))
 
 -- ---- read
 
 pub record TableRead : Type 0 where
-  pub refusal : ℕ
   pub n : ℕ
   pub g : ℕ
 
@@ -150,32 +144,26 @@ fileGrounds form input site =
 unfoldable pub readGroundsAs : Form → List ℕ → ℕ → ℕ → List Ground
 readGroundsAs form input site room = storeGround room ∷ siteGround site ∷ cond (eqb (length input) 0) [] (fileGrounds form input site)
 
-unfoldable pub readAnswerAs : Form → List ℕ → ℕ → ℕ → TableRead
+unfoldable pub readAnswerAs : Form → List ℕ → ℕ → ℕ → Answered TableRead
 readAnswerAs form input site room =
-    let k = refuse (readGroundsAs form input site room) in
-    let table : TableRead = record { refusal = 0; n = statesIn input; g = groupsIn form input } in
-    cond (eqb k 0) table (record { refusal = k; n = 0; g = 0 })
+    answer (readGroundsAs form input site room) (record { n = statesIn input; g = groupsIn form input })
 
 unfoldable pub readBufferAs : Form → List ℕ → ℕ → List ℕ → List ℕ
 readBufferAs form input site store =
-    let filled = overwrite (layout (dialogueIn form (contentsOf input) (statesIn input) (groupsIn form input))) store in
-    cond (eqb (refuse (readGroundsAs form input site (length store))) 0) filled store
+    unlessRefused store (λ a. overwrite (layout (dialogueIn form (contentsOf input) (a .n) (a .g))) store)
+    (readAnswerAs form input site (length store))
 
 -- The call reads the new form.
 abbrev pub readGrounds : List ℕ → ℕ → ℕ → List Ground
 readGrounds = readGroundsAs newForm
 
-abbrev pub readAnswer : List ℕ → ℕ → ℕ → TableRead
+abbrev pub readAnswer : List ℕ → ℕ → ℕ → Answered TableRead
 readAnswer = readAnswerAs newForm
 
 abbrev pub readBuffer : List ℕ → ℕ → List ℕ → List ℕ
 readBuffer = readBufferAs newForm
 
 -- ---- write
-
-pub record Written : Type 0 where
-  pub refusal : ℕ
-  pub length : ℕ
 
 -- The call writes the new form. For an output of `room` bytes.
 abbrev pub outputGround : ℕ → ℕ → ℕ → Ground
@@ -184,12 +172,10 @@ outputGround n g room = (ltb room (fileLength newForm n g), 19)
 unfoldable pub writeGrounds : List ℕ → ℕ → ℕ → ℕ → ℕ → List Ground
 writeGrounds store n g site room = storeGround (length store) ∷ siteGround site ∷ (tableGrounds store n g ++ (outputGround n g room ∷ []))
 
-unfoldable pub writeAnswer : List ℕ → ℕ → ℕ → ℕ → ℕ → Written
-writeAnswer store n g site room =
-    let k = refuse (writeGrounds store n g site room) in
-    cond (eqb k 0) (record { refusal = 0; length = fileLength newForm n g }) (record { refusal = k; length = 0 })
+-- The length of the file.
+unfoldable pub writeAnswer : List ℕ → ℕ → ℕ → ℕ → ℕ → Answered ℕ
+writeAnswer store n g site room = answer (writeGrounds store n g site room) (fileLength newForm n g)
 
 unfoldable pub writeBuffer : List ℕ → ℕ → ℕ → ℕ → List ℕ → List ℕ
 writeBuffer store n g site output =
-    let written = overwrite (fileOf newForm site (dialogueOf store n g)) output in
-    cond (eqb ((writeAnswer store n g site (length output)) .refusal) 0) written output
+    unlessRefused output (λ l. overwrite (fileOf newForm site (dialogueOf store n g)) output) (writeAnswer store n g site (length output))

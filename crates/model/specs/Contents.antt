@@ -13,9 +13,10 @@ use mathlib.Core.Bool.{cond, _&&_}
 use mathlib.Core.List.{List, [], _∷_, _++_}
 use lib.Dec.{ltb}
 use lib.ListN.{length, getD}
-use Rattle.model.specs.Sets.{Set, bit, member, number, setOf, empty, tabulate}
+use Rattle.basics.specs.Bounds.{tabulate, concat}
+use Rattle.model.specs.Sets.{Set, bit, member, number, setOf, empty}
 use Rattle.model.specs.Tables.{Dialogue}
-use Rattle.model.specs.Stores.{headSets, concat}
+use Rattle.model.specs.Stores.{headSets}
 use Rattle.model.specs.Blocks.{le16}
 
 pub data Form : Type 0 where

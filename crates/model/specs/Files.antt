@@ -10,7 +10,8 @@ use lib.Dec.{eqb}
 use lib.ListN.{length}
 use Rattle.model.specs.Sets.{maxStates}
 use Rattle.model.specs.Tables.{Dialogue}
-use Rattle.model.specs.Stores.{maxGroups, concat}
+use Rattle.basics.specs.Bounds.{concat}
+use Rattle.model.specs.Stores.{maxGroups}
 use Rattle.model.specs.Blocks.{blockBytes, blocksFor, blockOf}
 use Rattle.model.specs.Contents.{Form, newForm, contents, contentLength}
 

@@ -12,7 +12,7 @@ use mathlib.Core.Path.{_≡_}
 use mathlib.Core.Logic.{_↔_}
 use mathlib.Core.List.{List}
 use lib.ListN.{length, getD}
-use Rattle.model.specs.Stores.{refuse}
+use Rattle.basics.specs.Refusals.{refuse}
 use Rattle.model.specs.Blocks.{blockBytes, checkAt, le16At, checkOf, blockGrounds}
 
 pub record Intact (site : ℕ) (block : List ℕ) : Type 0 where

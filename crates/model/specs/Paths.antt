@@ -13,7 +13,8 @@ use Prim.Native.Nat.{ℕ, zero, suc}
 use mathlib.Core.Bool.{Bool, false, cond, _&&_}
 use mathlib.Core.List.{List, [], _∷_}
 use lib.Dec.{ltb}
-use Rattle.model.specs.Sets.{Set, member, union, meet, meets, states, smallest, first}
+use Rattle.basics.specs.Bounds.{first}
+use Rattle.model.specs.Sets.{Set, member, union, meet, meets, states, smallest}
 use Rattle.model.specs.Tables.{Table}
 
 unfoldable pub leads : Table → ℕ → List ℕ → Bool

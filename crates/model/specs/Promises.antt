@@ -13,10 +13,9 @@
 --   Carries                    what an answer carries with its verdict, and what is left in the path buffer
 --   Demand2, Demand3           the demands, of one answer; SameAnswer: of two
 --   PathAnswer                 what the call shortest path returns and leaves in the path buffer
---   Accepted, Promises         all of it, of every table and of every accepted call
+--   Promises                   all of it, of every table and of every call that is answered
 --   FirstWords                 two stores that no call tells apart
---   Untouched                  a call that declines leaves its buffer as it was
---   Declined                   and answers with its refusal number and nothing else
+--   Untouched                  a refused call leaves its buffer as it was, and its number is that of the first ground that holds
 use Prim.Native.Nat.{ℕ, zero, suc, _≤_, _<_}
 use mathlib.Core.Path.{_≡_}
 use mathlib.Core.Logic.{_⊎_, _↔_}
@@ -27,7 +26,8 @@ use Rattle.model.specs.Sets.{maxStates, Set, member, empty, meet, subset
 use Rattle.model.specs.Tables.{Table, post, hold, coverOf, cover, notForbidden}
 use Rattle.model.specs.Rounds.{Round, forwardStep, backwardStep, firstRound, nextRound, isSafe, isUnsafe, safe, unsafe, undecided, run, eliminated, backwardNumber}
 use Rattle.model.specs.Paths.{isPath, smallestPath}
-use Rattle.model.specs.Stores.{storeWords, tableOf, refuse}
+use Rattle.basics.specs.Refusals.{refuse, refused, answered}
+use Rattle.model.specs.Stores.{storeWords, tableOf}
 use Rattle.model.specs.Calls.{overwrite, Decision, release, decideGrounds, decisionOf, decideAnswer, decideBuffer, Shortest, shortestGrounds, shortestAnswer, shortestBuffer, readGrounds, readAnswer, readBuffer, writeGrounds, writeAnswer, writeBuffer}
 
 -- ---- the operations, for states that a set can hold
@@ -177,10 +177,6 @@ pub record PathAnswer (t : Table) (a : Shortest) (before after : List ℕ) : Typ
 
 -- ---- the promises
 
--- Decide declines on no ground.
-pub record Accepted (store : List ℕ) (n g allowance room : ℕ) : Type 0 where
-  pub accepted : (decideAnswer store n g allowance room) .refusal ≡ 0
-
 -- What every call reads of a store: its first words. (Read is lent a store to fill; `readAnswer` is given its length alone.)
 pub record FirstWords (store other : List ℕ) : Type 0 where
   pub decide : (n g allowance : ℕ) (path : List ℕ)
@@ -202,64 +198,51 @@ pub record Promises : Type 0 where
   pub first-stop : (t : Table) (allowance : ℕ) → FirstStop t allowance
   pub backward-number : (t : Table) → BackwardIs t (backwardNumber t)
   pub demand3 : (t : Table) (allowance : ℕ) → Demand3 t allowance (decisionOf t (run t allowance))
-  -- of every accepted check: the answer is that of the rounds
-  pub answer : (store : List ℕ) (n g allowance : ℕ) (path : List ℕ)
-      → Accepted store n g allowance (length path)
-      → decideAnswer store n g allowance (length path) ≡ decisionOf (tableOf store n g) (run (tableOf store n g) allowance)
-  pub stops : (store : List ℕ) (n g allowance : ℕ) (path : List ℕ)
-      → Accepted store n g allowance (length path)
-      → StopsFirst (tableOf store n g) allowance (decideAnswer store n g allowance (length path))
+  -- of every check that is answered: the answer is that of the rounds
+  pub answer : (store : List ℕ) (n g allowance : ℕ) (path : List ℕ) (a : Decision)
+      → decideAnswer store n g allowance (length path) ≡ answered a
+      → a ≡ decisionOf (tableOf store n g) (run (tableOf store n g) allowance)
+  pub stops : (store : List ℕ) (n g allowance : ℕ) (path : List ℕ) (a : Decision)
+      → decideAnswer store n g allowance (length path) ≡ answered a
+      → StopsFirst (tableOf store n g) allowance a
   -- with covers as they are kept in round i
-  pub covers : (store : List ℕ) (n g allowance : ℕ) (path : List ℕ)
-      → Accepted store n g allowance (length path)
+  pub covers : (store : List ℕ) (n g allowance : ℕ) (path : List ℕ) (a : Decision)
+      → decideAnswer store n g allowance (length path) ≡ answered a
       → (i s : ℕ) → CoverIs n ((roundAt (tableOf store n g) i) .list) s
-  pub carries : (store : List ℕ) (n g allowance : ℕ) (path : List ℕ)
-      → Accepted store n g allowance (length path)
-      → Carries (tableOf store n g) allowance (decideAnswer store n g allowance (length path)) path (decideBuffer store n g allowance path)
-  pub demand2 : (store : List ℕ) (n g : ℕ) (path : List ℕ)
-      → Accepted store n g release (length path)
-      → Demand2 (tableOf store n g) (decideAnswer store n g release (length path)) (decideBuffer store n g release path)
-  -- of every two accepted checks of one table, which lies in the first words of both stores: a larger allowance never changes a verdict
-  -- given
-  pub larger : (store other : List ℕ) (n g allowance more : ℕ) (p q : List ℕ)
-      → Accepted store n g allowance (length p)
-      → Accepted other n g more (length q)
+  pub carries : (store : List ℕ) (n g allowance : ℕ) (path : List ℕ) (a : Decision)
+      → decideAnswer store n g allowance (length path) ≡ answered a
+      → Carries (tableOf store n g) allowance a path (decideBuffer store n g allowance path)
+  pub demand2 : (store : List ℕ) (n g : ℕ) (path : List ℕ) (a : Decision)
+      → decideAnswer store n g release (length path) ≡ answered a
+      → Demand2 (tableOf store n g) a (decideBuffer store n g release path)
+  -- of every two checks of one table that are answered, which lies in the first words of both stores: a larger allowance never changes a
+  -- verdict given
+  pub larger : (store other : List ℕ) (n g allowance more : ℕ) (p q : List ℕ) (a b : Decision)
+      → decideAnswer store n g allowance (length p) ≡ answered a
+      → decideAnswer other n g more (length q) ≡ answered b
       → take storeWords store ≡ take storeWords other
       → allowance ≤ more
-      → ((decideAnswer store n g allowance (length p)) .verdict ≡ 2 → ⊥)
-      → SameAnswer (decideAnswer store n g allowance (length p)) (decideAnswer other n g more (length q))
-      (decideBuffer store n g allowance p) (decideBuffer other n g more q)
+      → (a .verdict ≡ 2 → ⊥)
+      → SameAnswer a b (decideBuffer store n g allowance p) (decideBuffer other n g more q)
   -- of every call of decide, shortest path and write, on two stores that are alike in their first words: none after them is read
   pub first-words : (store other : List ℕ) → storeWords ≤ length store → storeWords ≤ length other → take storeWords store ≡ take storeWords other
       → FirstWords store other
-  -- of every call of shortest path that is not declined
-  pub shortest-path : (store : List ℕ) (n g : ℕ) (path : List ℕ)
-      → (shortestAnswer store n g (length path)) .refusal ≡ 0
-      → PathAnswer (tableOf store n g) (shortestAnswer store n g (length path)) path (shortestBuffer store n g path)
+  -- of every call of shortest path that is answered
+  pub shortest-path : (store : List ℕ) (n g : ℕ) (path : List ℕ) (a : Shortest)
+      → shortestAnswer store n g (length path) ≡ answered a
+      → PathAnswer (tableOf store n g) a path (shortestBuffer store n g path)
 
--- What every call that declines leaves.
+-- Of every refused call: the number is that of the first ground that holds, and the buffer is as it was.
 pub record Untouched : Type 0 where
-  pub decide : (store : List ℕ) (n g allowance : ℕ) (path : List ℕ)
-      → ((decideAnswer store n g allowance (length path)) .refusal ≡ 0 → ⊥) → decideBuffer store n g allowance path ≡ path
-  pub shortest-path : (store : List ℕ) (n g : ℕ) (path : List ℕ)
-      → ((shortestAnswer store n g (length path)) .refusal ≡ 0 → ⊥) → shortestBuffer store n g path ≡ path
-  pub read : (input : List ℕ) (site : ℕ) (store : List ℕ)
-      → ((readAnswer input site (length store)) .refusal ≡ 0 → ⊥) → readBuffer input site store ≡ store
-  pub write : (store : List ℕ) (n g site : ℕ) (output : List ℕ)
-      → ((writeAnswer store n g site (length output)) .refusal ≡ 0 → ⊥) → writeBuffer store n g site output ≡ output
-
--- What every call that declines answers: the number of the first ground that holds, and 0 in every other field, the invariant empty.
-pub record Declined : Type 0 where
-  pub decide : (store : List ℕ) (n g allowance room : ℕ)
-      → ((decideAnswer store n g allowance room) .refusal ≡ 0 → ⊥)
-      → decideAnswer store n g allowance room
-      ≡ record { refusal = refuse (decideGrounds store n g allowance room); verdict = 0; count = 0; invariant = empty; size = 0; steps = 0 }
-  pub shortest-path : (store : List ℕ) (n g room : ℕ)
-      → ((shortestAnswer store n g room) .refusal ≡ 0 → ⊥)
-      → shortestAnswer store n g room ≡ record { refusal = refuse (shortestGrounds store n g room); found = 0; steps = 0 }
-  pub read : (input : List ℕ) (site room : ℕ)
-      → ((readAnswer input site room) .refusal ≡ 0 → ⊥)
-      → readAnswer input site room ≡ record { refusal = refuse (readGrounds input site room); n = 0; g = 0 }
-  pub write : (store : List ℕ) (n g site room : ℕ)
-      → ((writeAnswer store n g site room) .refusal ≡ 0 → ⊥)
-      → writeAnswer store n g site room ≡ record { refusal = refuse (writeGrounds store n g site room); length = 0 }
+  pub decide : (store : List ℕ) (n g allowance : ℕ) (path : List ℕ) (k : ℕ)
+      → decideAnswer store n g allowance (length path) ≡ refused k
+      → (k ≡ refuse (decideGrounds store n g allowance (length path))) × (decideBuffer store n g allowance path ≡ path)
+  pub shortest-path : (store : List ℕ) (n g : ℕ) (path : List ℕ) (k : ℕ)
+      → shortestAnswer store n g (length path) ≡ refused k
+      → (k ≡ refuse (shortestGrounds store n g (length path))) × (shortestBuffer store n g path ≡ path)
+  pub read : (input : List ℕ) (site : ℕ) (store : List ℕ) (k : ℕ)
+      → readAnswer input site (length store) ≡ refused k
+      → (k ≡ refuse (readGrounds input site (length store))) × (readBuffer input site store ≡ store)
+  pub write : (store : List ℕ) (n g site : ℕ) (output : List ℕ) (k : ℕ)
+      → writeAnswer store n g site (length output) ≡ refused k
+      → (k ≡ refuse (writeGrounds store n g site (length output))) × (writeBuffer store n g site output ≡ output)

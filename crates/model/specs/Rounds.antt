@@ -16,7 +16,8 @@
 use Prim.Native.Nat.{ℕ, zero, suc}
 use mathlib.Core.Bool.{Bool, cond, not}
 use mathlib.Core.List.{List, _∷_}
-use Rattle.model.specs.Sets.{Set, empty, union, meet, subset, same, first, firstStates}
+use Rattle.basics.specs.Bounds.{first}
+use Rattle.model.specs.Sets.{Set, empty, union, meet, subset, same, firstStates}
 use Rattle.model.specs.Tables.{Table, post, hold, cover, notForbidden}
 
 unfoldable pub iterate : (Set → Set) → Set → ℕ → Set

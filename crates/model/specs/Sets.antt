@@ -11,14 +11,12 @@
 --   members X        the states of X, rising; size X: how many (that they are the ones in its words is a theorem)
 --   smallest X       its least state, or maxStates if it has none
 --   image n f X      the union of f x over the states x of X below n
---
--- Tests over the numbers below a bound: any, all, first (the least that passes, else the bound), filter (those that pass, rising);
--- tabulate n f is the list f 0, .., f (n − 1).
 use Prim.Native.Nat.{ℕ, zero, suc, _+_, _*_, _/_, _%_, _^_}
 use mathlib.Core.Bool.{Bool, true, false, cond, not, _&&_, _||_}
 use mathlib.Core.List.{List, [], _∷_, _++_}
 use lib.Dec.{eqb, ltb}
 use lib.ListN.{length, getD}
+use Rattle.basics.specs.Bounds.{any, all, first, filter, tabulate}
 
 -- The one place that says how wide a set is.
 abbrev pub WORDS : ℕ
@@ -29,29 +27,6 @@ maxStates = 64 * WORDS
 
 abbrev pub Set : Type 0
 Set = List ℕ
-
--- ---- tests over the numbers below a bound
-
-unfoldable pub any : ℕ → (ℕ → Bool) → Bool
-any zero p = false
-any (suc n) p = any n p || p n
-
-unfoldable pub all : ℕ → (ℕ → Bool) → Bool
-all zero p = true
-all (suc n) p = all n p && p n
-
-unfoldable pub first : ℕ → (ℕ → Bool) → ℕ
-first zero p = zero
-first (suc n) p = cond (p zero) zero (suc (first n (λ k. p (suc k))))
-
-unfoldable pub filter : ℕ → (ℕ → Bool) → List ℕ
-filter zero p = []
-filter (suc n) p = filter n p ++ cond (p n) (n ∷ []) []
-
--- The list f 0, f 1, .., f (n − 1).
-unfoldable pub tabulate : {A : Type 0} → ℕ → (ℕ → A) → List A
-tabulate zero f = []
-tabulate (suc n) f = tabulate n f ++ (f n ∷ [])
 
 -- ---- membership and comprehension
 

@@ -9,8 +9,6 @@
 --   layout d                   the words of a dialogue, those of unused groups and rows 0
 --   beyond n X                 X has a state from n up
 --   malformed store n g        ground 17 of a store
---   Ground                     a ground of refusal: whether it holds, and its number (the error code)
---   refuse grounds             the number of the first ground that holds, or 0 for none
 --   storeGround room           ground 10; tableGrounds store n g: those of a table in a store, 14, 15 and 17
 --   sharedGrounds store n g    the grounds that every call on a table in a store looks at first, in order
 --   AcceptedStore store n g    none of them holds
@@ -20,7 +18,9 @@ use mathlib.Core.Bool.{Bool, cond, not, _&&_, _||_}
 use mathlib.Core.List.{List, [], _∷_, _++_}
 use lib.Dec.{eqb, leb, ltb}
 use lib.ListN.{length, getD, take, drop}
-use Rattle.model.specs.Sets.{WORDS, maxStates, Set, member, empty, any, tabulate}
+use Rattle.basics.specs.Bounds.{any, tabulate, concat}
+use Rattle.basics.specs.Refusals.{Ground, refuse}
+use Rattle.model.specs.Sets.{WORDS, maxStates, Set, member, empty}
 use Rattle.model.specs.Tables.{Table, Dialogue, tableFrom}
 
 -- The one place that says how many groups a table can have. The greatest n is maxStates.
@@ -64,11 +64,6 @@ unfoldable pub tableOf : List ℕ → ℕ → ℕ → Table
 unfolding tableFrom dialogueOf
 tableOf store n g = tableFrom (dialogueOf store n g)
 
--- The lists f 0, f 1, .., f (n − 1), one after the other.
-unfoldable pub concat : {A : Type 0} → ℕ → (ℕ → List A) → List A
-concat zero f = []
-concat (suc n) f = concat n f ++ f n
-
 unfoldable pub layout : Dialogue → List ℕ
 layout d =
     d .initial
@@ -78,13 +73,6 @@ layout d =
     ++ concat maxStates (λ s. cond (ltb s (d .n)) (d .row s) empty))))
 
 -- ---- refusals
-
-abbrev pub Ground : Type 0
-Ground = Bool × ℕ
-
-unfoldable pub refuse : List Ground → ℕ
-refuse [] = 0
-refuse (ground ∷ later) = cond (ground .0) (ground .1) (refuse later)
 
 unfoldable pub beyond : ℕ → Set → Bool
 beyond n X = any maxStates (λ s. leb n s && member X s)

@@ -16,7 +16,8 @@
 use Prim.Native.Nat.{ℕ}
 use mathlib.Core.Bool.{Bool, cond, not, _&&_}
 use mathlib.Core.List.{List, [], _∷_}
-use Rattle.model.specs.Sets.{maxStates, Set, any, member, union, meet, subset, states, firstStates, image}
+use Rattle.basics.specs.Bounds.{any}
+use Rattle.model.specs.Sets.{maxStates, Set, member, union, meet, subset, states, firstStates, image}
 
 pub record Table : Type 0 where
   pub n : ℕ

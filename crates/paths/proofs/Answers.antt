@@ -15,10 +15,11 @@ use lib.Dec.{eqb}
 use lib.ListN.{length}
 use Rattle.model.specs.Sets.{maxStates}
 use Rattle.model.specs.Paths.{hasPath}
-use Rattle.model.specs.Stores.{tableOf, refuse, sharedGrounds}
+use Rattle.basics.specs.Refusals.{refuse}
+use Rattle.model.specs.Stores.{tableOf, sharedGrounds}
 use Rattle.model.specs.Calls.{pathGround, shortestGrounds, shortestAnswer, shortestBuffer}
-use Rattle.model.proofs.Bounds.{decided}
-use Rattle.model.proofs.GroundLaws.{refuse-append}
+use Rattle.basics.proofs.BoundLaws.{decided}
+use Rattle.basics.proofs.RefusalLaws.{refuse-append}
 use Rattle.model.proofs.Acceptance.{Store, accepted-store, store-accepted}
 use Rattle.paths.specs.Answers.{foundIn, pathWritten, shortestOf, isRefused}
 use Rattle.paths.specs.declared.Found.{Found}

@@ -3,7 +3,7 @@ use mathlib.Core.Path.{sym, _∙_, subst₂}
 use borrow.Author.Tests.{not-false, eqb-true, eqb-false}
 use Rattle.model.specs.Stores.{tableOf}
 use Rattle.model.specs.Promises.{PathAnswer}
-use Rattle.model.proofs.Bounds.{not-true}
+use Rattle.basics.proofs.BoundLaws.{not-true}
 use Rattle.model.proofs.Kept.{promises, untouched}
 use Rattle.paths.specs.Demands.{Demands}
 

@@ -10,12 +10,14 @@ use mathlib.Core.List.{List, [], _∷_}
 use borrow.Author.Tests.{ne-eqb, lt-ltb, le-ltb}
 use lib.Dec.{ltb}
 use lib.ListN.{length, getD}
-use Rattle.model.specs.Sets.{maxStates, tabulate}
+use Rattle.basics.specs.Bounds.{tabulate}
+use Rattle.model.specs.Sets.{maxStates}
 use Rattle.model.specs.Paths.{distance}
-use Rattle.model.specs.Stores.{tableOf, refuse, sharedGrounds}
+use Rattle.basics.specs.Refusals.{refuse}
+use Rattle.model.specs.Stores.{tableOf, sharedGrounds}
 use Rattle.model.specs.Calls.{overwrite}
-use Rattle.model.proofs.Bounds.{getD-tabulate, tabulate-cong}
-use Rattle.model.proofs.GroundLaws.{refuse-append}
+use Rattle.basics.proofs.BoundLaws.{getD-tabulate, tabulate-cong}
+use Rattle.basics.proofs.RefusalLaws.{refuse-append}
 use Rattle.model.proofs.Acceptance.{Store, store-accepted}
 use Rattle.paths.specs.Distances.{distancesRefusal, distancesBuffer, CalledDistances}
 use Rattle.paths.specs.Within.{isWithin, withinAnswer, CalledWithin}

@@ -16,17 +16,19 @@ use borrow.Author.Tests.{not-false, eqb-true, eqb-false, ne-eqb, leb-true, le-le
 use lib.Dec.{eqb, leb, ltb}
 use lib.ListN.{length, getD, drop}
 use lib.Seq.{getD-drop}
-use Rattle.model.specs.Sets.{maxStates, tabulate, member}
+use Rattle.basics.specs.Bounds.{tabulate}
+use Rattle.model.specs.Sets.{maxStates, member}
 use Rattle.model.specs.Tables.{Table}
 use Rattle.model.specs.Paths.{leads, isPath, reaching, unreachable, distance}
-use Rattle.model.specs.Stores.{tableOf, refuse, sharedGrounds}
+use Rattle.basics.specs.Refusals.{refuse}
+use Rattle.model.specs.Stores.{tableOf, sharedGrounds}
 use Rattle.model.specs.Calls.{overwrite}
-use Rattle.model.proofs.Bounds.{and-true, and-intro, not-true, by-cond, any-intro, any-find, length-tabulate, getD-tabulate}
+use Rattle.basics.proofs.BoundLaws.{and-true, and-intro, not-true, by-cond, any-intro, any-find, length-tabulate, getD-tabulate}
 use Rattle.model.proofs.ListLaws.{getD-behind, length-overwrite, overwrite-front}
 use Rattle.model.proofs.SetLaws.{In, in-bound, in-firstStates, firstStates-in, in-meets, meets-in}
 use Rattle.model.proofs.WellFormed.{WellFormed}
 use Rattle.model.proofs.PathLaws.{reaching-leads, leads-reaching, reaching-mono}
-use Rattle.model.proofs.GroundLaws.{refuse-clear}
+use Rattle.basics.proofs.RefusalLaws.{refuse-clear}
 use Rattle.model.proofs.Acceptance.{Store, accepted-store, store-accepted, well-formed}
 use Rattle.model.proofs.FirstWords.{same-call}
 use Rattle.paths.specs.Distances.{distancesRefusal, distancesBuffer, isRefused, CalledDistances}

@@ -19,7 +19,7 @@ use Rattle.model.specs.Tables.{Table}
 use Rattle.model.specs.Rounds.{iterate}
 use Rattle.model.specs.Paths.{reaching, unreachable, distance, shortest, hasPath}
 use Rattle.model.specs.Stores.{setAt, tableOf}
-use Rattle.model.proofs.Bounds.{and-true, and-intro, not-true, is-false, clash, decided, same-test, by-cond, any-intro, any-find, first-is, first-none}
+use Rattle.basics.proofs.BoundLaws.{and-true, and-intro, not-true, is-false, clash, decided, same-test, by-cond, any-intro, any-find, first-is, first-none}
 use Rattle.model.proofs.SetLaws.{In, in-bound, empty-in, in-union, union-in, in-firstStates, firstStates-in, _⊆_, in-meets, meets-in}
 use Rattle.model.proofs.CoverLaws.{post-in}
 use Rattle.model.proofs.WellFormed.{WellFormed}

@@ -16,7 +16,7 @@ use Rattle.model.specs.Tables.{Table}
 use Rattle.model.specs.Paths.{shortest, hasPath, walk, smallestPath}
 use Rattle.model.specs.Stores.{setAt, tableOf}
 use Rattle.model.specs.Calls.{overwrite}
-use Rattle.model.proofs.Bounds.{by-cond}
+use Rattle.basics.proofs.BoundLaws.{by-cond}
 use Rattle.model.proofs.PathLaws.{Nearest, shortest-nearest, length-smallest, smallest-below}
 use Rattle.paths.specs.Search.{HoldsTable, firstLayer, LayersUpTo, narrowedBack, walkBy, Writable}
 use Rattle.paths.specs.Answers.{foundIn, pathWritten}

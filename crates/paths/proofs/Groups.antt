@@ -8,7 +8,8 @@ use mathlib.Core.Path.{_≡_, refl, ap, ap₂, _∙_, fun-ext}
 use mathlib.Core.Bool.{Bool, cond}
 use mathlib.Core.List.{List, [], _∷_}
 use lib.Dec.{ltb}
-use Rattle.model.specs.Sets.{Set, first, member, union, meet, meets, states, smallest}
+use Rattle.basics.specs.Bounds.{first}
+use Rattle.model.specs.Sets.{Set, member, union, meet, meets, states, smallest}
 use Rattle.model.specs.Paths.{reaching, unreachable, distance, shortest, hasPath, walk, smallestPath}
 use Rattle.model.specs.Stores.{tableOf}
 use Rattle.model.specs.Calls.{overwrite}

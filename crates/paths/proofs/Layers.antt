@@ -17,11 +17,12 @@ use mathlib.Core.List.{List, []}
 use borrow.Author.Tests.{not-false, eqb-true, eq-eqb, ltb-true, ltb-false, lt-ltb, le-ltb}
 use lib.Dec.{ltb}
 use lib.ListN.{getD, replicate}
-use Rattle.model.specs.Sets.{maxStates, Set, tabulate, member, empty, meet, difference, subset, firstStates, states, image}
+use Rattle.basics.specs.Bounds.{tabulate}
+use Rattle.model.specs.Sets.{maxStates, Set, member, empty, meet, difference, subset, firstStates, states, image}
 use Rattle.model.specs.Tables.{Table}
 use Rattle.model.specs.Paths.{reaching, unreachable, distance}
 use Rattle.model.specs.Stores.{rowAt, setAt, tableOf}
-use Rattle.model.proofs.Bounds.{and-true, and-intro, not-true, clash, by-cond, lt-or-ge, getD-tabulate, tabulate-cong, tabulate-const}
+use Rattle.basics.proofs.BoundLaws.{and-true, and-intro, not-true, clash, by-cond, lt-or-ge, getD-tabulate, tabulate-cong, tabulate-const}
 use Rattle.model.proofs.SetLaws.{Proper, setOf-proper, In, in-bound, in-setOf, setOf-in, empty-in, in-meet, meet-in, in-difference, difference-in, in-states, states-in, in-firstStates, firstStates-in, _⊆_, ⊆-of-eq, subset-in, in-subset, subset-not, same-set, in-image, image-in, meets-in}
 use Rattle.model.proofs.WellFormed.{WellFormed}
 use Rattle.model.proofs.PathLaws.{At, in-reaching, reaching-in, reaching-at, nearest-at, at-row, at-lt, reaching-states, distance-is, distance-unreachable}

@@ -22,7 +22,7 @@ use Rattle.model.specs.Tables.{Table}
 use Rattle.model.specs.Rounds.{iterate}
 use Rattle.model.specs.Paths.{reaching, walk}
 use Rattle.model.specs.Stores.{rowAt, setAt, tableOf}
-use Rattle.model.proofs.Bounds.{and-true, and-intro, clash, decided, lt-or-ge}
+use Rattle.basics.proofs.BoundLaws.{and-true, and-intro, clash, decided, lt-or-ge}
 use Rattle.model.proofs.SetLaws.{setOf-proper, In, in-bound, in-setOf, setOf-in, empty-in, in-meet, meet-in, in-difference, difference-in, in-firstStates, firstStates-in, _⊆_, ⊆-of-eq, subset-in, in-subset, same-set, in-meets, meets-in}
 use Rattle.model.proofs.WellFormed.{WellFormed}
 use Rattle.model.proofs.PathLaws.{Nearest, pick, pick-at, at-row, in-reaching, reaching-in}

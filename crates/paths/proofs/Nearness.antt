@@ -9,7 +9,7 @@ use mathlib.Core.Logic.{⊎-elim}
 use Rattle.model.specs.Sets.{maxStates}
 use Rattle.model.specs.Tables.{Table}
 use Rattle.model.specs.Paths.{reaching, unreachable, distance}
-use Rattle.model.proofs.Bounds.{lt-or-ge}
+use Rattle.basics.proofs.BoundLaws.{lt-or-ge}
 use Rattle.model.proofs.SetLaws.{In}
 use Rattle.model.proofs.WellFormed.{WellFormed}
 use Rattle.model.proofs.PathLaws.{at-lt, reaching-at, reaching-mono, distance-is, distance-unreachable, distance-reaching, reaching-distance}

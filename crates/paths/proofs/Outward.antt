@@ -16,7 +16,7 @@ use lib.ListN.{length, getD, set, length-set}
 use lib.Seq.{getD-set-same, getD-set-other}
 use Rattle.model.specs.Sets.{maxStates, Set, empty, union, meet, difference, subset, meets, size}
 use Rattle.model.specs.Rounds.{iterate}
-use Rattle.model.proofs.Bounds.{is-false, clash, lt-or-ge, below-suc, first-is, first-none}
+use Rattle.basics.proofs.BoundLaws.{is-false, clash, lt-or-ge, below-suc, first-is, first-none}
 use Rattle.model.proofs.SetLaws.{Proper, empty-in, in-meet, meet-in, _⊆_, ⊆-of-eq, subset-in, subset-not, in-meets, meets-in}
 use Rattle.model.proofs.Counting.{size-most}
 use Rattle.table.specs.Rows.{successorsBy, forbiddenBy}

@@ -10,9 +10,10 @@ use mathlib.Core.Logic.{_⊎_, inl, inr, ⊎-elim}
 use mathlib.Core.Bool.{Bool, true, cond}
 use mathlib.Core.List.{List, []}
 use lib.ListN.{replicate}
-use Rattle.model.specs.Sets.{WORDS, maxStates, Set, tabulate, number, setOf, member, single, union, states}
+use Rattle.basics.specs.Bounds.{tabulate}
+use Rattle.model.specs.Sets.{WORDS, maxStates, Set, number, setOf, member, single, union, states}
 use Rattle.model.specs.Stores.{rowAt, setAt}
-use Rattle.model.proofs.Bounds.{clash, by-cond, below-suc, tabulate-cong}
+use Rattle.basics.proofs.BoundLaws.{clash, by-cond, below-suc, tabulate-cong}
 use Rattle.model.proofs.SetLaws.{setOf-proper, In, in-bound, in-single, single-in, in-union, union-in, in-states, states-in, same-set}
 use Rattle.table.specs.Rows.{mapAt}
 use Rattle.table.proofs.MapAt.{mapAt-tabulate}

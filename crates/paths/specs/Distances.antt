@@ -10,9 +10,10 @@ use mathlib.Core.Bool.{Bool, true, false, cond, not}
 use mathlib.Core.List.{List, [], _∷_, _++_}
 use lib.Dec.{eqb, ltb}
 use lib.ListN.{length}
-use Rattle.model.specs.Sets.{tabulate}
+use Rattle.basics.specs.Bounds.{tabulate}
 use Rattle.model.specs.Paths.{distance}
-use Rattle.model.specs.Stores.{tableOf, refuse, sharedGrounds}
+use Rattle.basics.specs.Refusals.{refuse}
+use Rattle.model.specs.Stores.{tableOf, sharedGrounds}
 use Rattle.model.specs.Calls.{overwrite}
 use Rattle.paths.specs.declared.DistancesAnswer.{DistancesAnswer}
 use Rattle.paths.specs.declared.DistancesAnswer.the-variants.{Written, Refused}

@@ -19,7 +19,8 @@ use mathlib.Core.Bool.{cond, _&&_}
 use mathlib.Core.List.{List, [], _∷_}
 use lib.Dec.{eqb, ltb}
 use lib.ListN.{length, getD, set}
-use Rattle.model.specs.Sets.{maxStates, Set, first, tabulate, member, setOf, empty, meet, difference, meets, states, smallest}
+use Rattle.basics.specs.Bounds.{first, tabulate}
+use Rattle.model.specs.Sets.{maxStates, Set, member, setOf, empty, meet, difference, meets, states, smallest}
 use Rattle.model.specs.Tables.{Table}
 use Rattle.model.specs.Rounds.{iterate}
 use Rattle.model.specs.Paths.{unreachable, distance}

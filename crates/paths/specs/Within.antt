@@ -10,10 +10,12 @@ use mathlib.Core.Path.{_≡_}
 use mathlib.Core.Bool.{Bool, true, false, cond, not, _&&_}
 use mathlib.Core.List.{List}
 use lib.Dec.{eqb, leb}
-use Rattle.model.specs.Sets.{maxStates, any, member}
+use Rattle.basics.specs.Bounds.{any}
+use Rattle.model.specs.Sets.{maxStates, member}
 use Rattle.model.specs.Tables.{Table}
 use Rattle.model.specs.Paths.{unreachable, distance}
-use Rattle.model.specs.Stores.{tableOf, refuse, sharedGrounds}
+use Rattle.basics.specs.Refusals.{refuse}
+use Rattle.model.specs.Stores.{tableOf, sharedGrounds}
 use Rattle.paths.specs.declared.WithinAnswer.{WithinAnswer}
 use Rattle.paths.specs.declared.WithinAnswer.the-variants.{Yes, No, Refused}
 

@@ -17,7 +17,7 @@ use Rattle.model.specs.Tables.{Table, post}
 use Rattle.model.specs.Rounds.{iterate}
 use Rattle.model.specs.Stores.{tableOf}
 use Rattle.model.specs.Promises.{IsLeast}
-use Rattle.model.proofs.Bounds.{and-true, and-intro}
+use Rattle.basics.proofs.BoundLaws.{and-true, and-intro}
 use Rattle.model.proofs.SetLaws.{Proper, setOf-proper, In, empty-in, in-union, union-in, firstStates-in, _⊆_, ⊆-of-eq, subset-in, in-subset, same-set}
 use Rattle.model.proofs.WellFormed.{WellFormed}
 use Rattle.model.proofs.Acceptance.{accepted-store, well-formed}

@@ -13,7 +13,7 @@ use mathlib.Core.Logic.{inl, inr, ⊎-elim}
 use mathlib.Core.List.{List, [], _∷_, _++_, List·Memᴰ, List·Memᴰ·head, List·Memᴰ·tail, List·Memᴰ·cases-cons, List·Memᴰ·append-cases, Memᴰ·append-left, Memᴰ·append-right, List·Permᴰ, List·Permᴰ·nil, List·Permᴰ·cons, List·Permᴰ·swap, List·Permᴰ·trans, Permᴰ·symm}
 use Rattle.model.specs.Sets.{Set, member, union, meet, states, firstStates}
 use Rattle.model.specs.Tables.{coverOf}
-use Rattle.model.proofs.Bounds.{by-cond}
+use Rattle.basics.proofs.BoundLaws.{by-cond}
 use Rattle.model.proofs.SetLaws.{Proper, setOf-proper, in-union, union-in, in-meet, meet-in, _⊆_, same-set}
 use Rattle.model.proofs.CoverLaws.{in-coverOf, coverOf-within, Closed, listed-closed}
 use Rattle.regrouping.specs.Regrouping.{SameCovers, Rewriting, reordered, repeated, with-union, with-overlap, undone, followed}

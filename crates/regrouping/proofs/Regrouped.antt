@@ -14,7 +14,8 @@ use Rattle.model.specs.Sets.{Set, empty}
 use Rattle.model.specs.Tables.{Table}
 use Rattle.model.specs.Rounds.{Outcome, safe, unsafe, undecided, run}
 use Rattle.model.specs.Paths.{smallestPath}
-use Rattle.model.specs.Stores.{tableOf, refuse, AcceptedStore}
+use Rattle.basics.specs.Refusals.{refuse}
+use Rattle.model.specs.Stores.{tableOf, AcceptedStore}
 use Rattle.model.specs.Calls.{overwrite, Decision, decideLimits, decideGrounds, decisionOf, declined, decideAnswer, decideBuffer}
 use Rattle.model.proofs.Acceptance.{accepted-store, store-accepted}
 use Rattle.regrouping.specs.Regrouping.{Alike, SameCovers, firstList, SameDecisions, Regrouping}

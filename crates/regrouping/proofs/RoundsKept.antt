@@ -10,7 +10,8 @@ use Prim.Native.Nat.{ℕ, zero, suc}
 use mathlib.Core.Path.{_≡_, refl, ap, _∙_, subst, fun-ext}
 use mathlib.Core.Bool.{cond}
 use mathlib.Core.List.{List, [], _∷_}
-use Rattle.model.specs.Sets.{Set, member, empty, union, meet, meets, states, smallest, first, firstStates}
+use Rattle.basics.specs.Bounds.{first}
+use Rattle.model.specs.Sets.{Set, member, empty, union, meet, meets, states, smallest, firstStates}
 use Rattle.model.specs.Tables.{Table, hold, coverOf, cover}
 use Rattle.model.specs.Rounds.{iterate, Round, forwardStep, forward, backwardStep, backward, roundOf, firstRound, nextRound, isSafe, isUnsafe, Outcome, undecided, settle, rounds, run}
 use Rattle.model.specs.Paths.{reaching, shortest, walk, smallestPath}

@@ -14,11 +14,12 @@ use borrow.Author.Tests.{eqb-true, eqb-false, ne-eqb, eq-eqb, ltb-false, lt-ltb,
 use lib.Dec.{eqb}
 use lib.ListN.{length}
 use Rattle.model.specs.Sets.{maxStates, Set, size}
-use Rattle.model.specs.Stores.{setAt, tableOf, refuse, sharedGrounds}
+use Rattle.basics.specs.Refusals.{refuse}
+use Rattle.model.specs.Stores.{setAt, tableOf, sharedGrounds}
 use Rattle.model.specs.Promises.{IsLeast}
 use Rattle.model.proofs.SetLaws.{in-subset}
-use Rattle.model.proofs.Bounds.{by-cond}
-use Rattle.model.proofs.GroundLaws.{refuse-append, refuse-clear}
+use Rattle.basics.proofs.BoundLaws.{by-cond}
+use Rattle.basics.proofs.RefusalLaws.{refuse-append, refuse-clear}
 use Rattle.model.proofs.Acceptance.{Store, accepted-store, store-accepted, well-formed}
 use Rattle.model.proofs.StoreLaws.{row-is}
 use Rattle.reach.specs.Reached.{reachBy}

@@ -18,7 +18,7 @@ use lib.ListN.{getD, set, replicate}
 use Rattle.model.specs.Sets.{WORDS, maxStates, Set, member, single, union}
 use Rattle.model.specs.Tables.{Table}
 use Rattle.model.specs.Stores.{storeWords, rowAt, setAt, tableOf}
-use Rattle.model.proofs.Bounds.{below-suc, first-is, first-none}
+use Rattle.basics.proofs.BoundLaws.{below-suc, first-is, first-none}
 use Rattle.model.proofs.SetLaws.{Proper, setOf-proper, in-bound}
 use Rattle.model.proofs.StoreLaws.{row-is}
 use Rattle.state_set.proofs.Words.{with-bit}

@@ -13,7 +13,7 @@ use lib.ListN.{length, getD, take}
 use lib.Seq.{length-take-le, getD-take}
 use Rattle.model.specs.Sets.{Set, member}
 use Rattle.model.specs.Tables.{Table}
-use Rattle.model.proofs.Bounds.{and-true, and-intro, length-tabulate, getD-tabulate}
+use Rattle.basics.proofs.BoundLaws.{and-true, and-intro, length-tabulate, getD-tabulate}
 use Rattle.reach.specs.Reached.{walks}
 use Rattle.replay.specs.Logs.{entryCount, entry, mayHold}
 use Rattle.replay.specs.Promises.{entries, obeys}

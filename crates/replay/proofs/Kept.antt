@@ -19,9 +19,10 @@ use lib.Dec.{eqb}
 use lib.ListN.{length}
 use Rattle.model.specs.Sets.{member}
 use Rattle.model.specs.Tables.{Table}
-use Rattle.model.specs.Stores.{tableOf, refuse}
+use Rattle.basics.specs.Refusals.{refuse}
+use Rattle.model.specs.Stores.{tableOf}
 use Rattle.model.specs.Promises.{IsInvariant}
-use Rattle.model.proofs.Bounds.{not-true, lt-or-ge}
+use Rattle.basics.proofs.BoundLaws.{not-true, lt-or-ge}
 use Rattle.model.proofs.Acceptance.{well-formed}
 use Rattle.model.proofs.FirstWords.{same-call}
 use Rattle.rounds.proofs.DemandsKept.{demands}

@@ -11,7 +11,7 @@ use lib.Dec.{eqb}
 use lib.ListN.{length}
 use Rattle.model.specs.Sets.{maxStates}
 use Rattle.model.specs.Stores.{tableOf}
-use Rattle.model.proofs.Bounds.{by-cond}
+use Rattle.basics.proofs.BoundLaws.{by-cond}
 use Rattle.model.proofs.Counting.{size-most}
 use Rattle.model.proofs.Acceptance.{well-formed}
 use Rattle.reach.specs.Reached.{reachable}

@@ -18,10 +18,11 @@ use borrow.Author.Tests.{not-false, lt-ltb, eqb-true, eq-eqb}
 use lib.Bits.{bitAnd}
 use lib.Dec.{eqb, ltb}
 use lib.ListN.{getD, replicate}
-use Rattle.model.specs.Sets.{WORDS, maxStates, Set, tabulate, any, first, member, number, setOf, single, union, firstStates}
+use Rattle.basics.specs.Bounds.{tabulate, any, first}
+use Rattle.model.specs.Sets.{WORDS, maxStates, Set, member, number, setOf, single, union, firstStates}
 use Rattle.model.specs.Tables.{Table}
 use Rattle.model.specs.Stores.{setAt}
-use Rattle.model.proofs.Bounds.{any-intro, any-find, first-le, first-passes, first-least, first-is, first-none}
+use Rattle.basics.proofs.BoundLaws.{any-intro, any-find, first-le, first-passes, first-least, first-is, first-none}
 use Rattle.model.proofs.SetLaws.{member-setOf, setOf-cong, In, in-setOf, setOf-in, firstStates-in}
 use Rattle.model.proofs.StoreLaws.{getD-setAt}
 use Rattle.model.proofs.WellFormed.{WellFormed}

@@ -17,7 +17,7 @@ use lib.Dec.{eqb}
 use lib.ListN.{length, take}
 use Rattle.model.specs.Sets.{maxStates, Set, member, members, size}
 use Rattle.model.specs.Tables.{Table}
-use Rattle.model.proofs.Bounds.{not-true, clash, by-cond, lt-or-ge, first-le, first-passes}
+use Rattle.basics.proofs.BoundLaws.{not-true, clash, by-cond, lt-or-ge, first-le, first-passes}
 use Rattle.model.proofs.SetLaws.{In, in-bound, in-union, firstStates-in, _⊆_, ⊆-of-eq, in-subset}
 use Rattle.model.proofs.Counting.{filter-le, size-bound}
 use Rattle.model.proofs.WellFormed.{WellFormed}

@@ -17,9 +17,11 @@ use mathlib.Core.Bool.{cond, not}
 use mathlib.Core.List.{List, [], _∷_, _++_}
 use lib.Dec.{eqb, ltb}
 use lib.ListN.{length}
-use Rattle.model.specs.Sets.{Set, any, first, member, setOf, size}
+use Rattle.basics.specs.Bounds.{any, first}
+use Rattle.model.specs.Sets.{Set, member, setOf, size}
 use Rattle.model.specs.Tables.{Table}
-use Rattle.model.specs.Stores.{tableOf, Ground, refuse, sharedGrounds}
+use Rattle.basics.specs.Refusals.{Ground, refuse}
+use Rattle.model.specs.Stores.{tableOf, sharedGrounds}
 use Rattle.model.specs.Blocks.{le16At}
 use Rattle.reach.specs.Reached.{reachable}
 

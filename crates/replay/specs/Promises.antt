@@ -13,9 +13,11 @@ use mathlib.Core.Logic.{_↔_}
 use mathlib.Core.Bool.{Bool, true, false, _&&_}
 use mathlib.Core.List.{List, [], _∷_}
 use lib.ListN.{length, take}
-use Rattle.model.specs.Sets.{tabulate, member, size}
+use Rattle.basics.specs.Bounds.{tabulate}
+use Rattle.model.specs.Sets.{member, size}
 use Rattle.model.specs.Tables.{Table}
-use Rattle.model.specs.Stores.{storeWords, tableOf, refuse, sharedGrounds}
+use Rattle.basics.specs.Refusals.{refuse}
+use Rattle.model.specs.Stores.{storeWords, tableOf, sharedGrounds}
 use Rattle.reach.specs.Reached.{reachable, walks, ReachableIs}
 use Rattle.rounds.specs.declared.Decision.{Decision}
 use Rattle.rounds.specs.Answers.{answerOf, isRefused as declinesCheck, Called as CalledDecide}

@@ -15,7 +15,7 @@ use borrow.Author.Tests.{ltb-true, ltb-false, lt-ltb}
 use lib.Dec.{ltb}
 use Rattle.io.specs.Digits.{glyph, Fewest}
 use Rattle.io.specs.Digits.{digits as digitsIn}
-use Rattle.model.proofs.Bounds.{by-cond, lt-or-ge}
+use Rattle.basics.proofs.BoundLaws.{by-cond, lt-or-ge}
 use Rattle.report.specs.Text.{digits, decimal}
 
 pub fewest-le : (m n k : ℕ) → 0 < m → n < 10 ^ m → Fewest 10 1 n k → k ≤ m

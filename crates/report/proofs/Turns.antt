@@ -9,7 +9,7 @@ use mathlib.Core.Bool.{Bool, cond}
 use mathlib.Core.List.{List, [], _∷_, _++_, append-assoc}
 use lib.ListN.{length, take, getD}
 use lib.Seq.{take-suc}
-use Rattle.model.specs.Sets.{filter}
+use Rattle.basics.specs.Bounds.{filter}
 use Rattle.report.specs.Text.{ascii, decimal, spaced}
 
 pub take-more : (xs : List ℕ) (i : ℕ) → i < length xs → take (i + 1) xs ≡ take i xs ++ (getD xs i 0 ∷ [])

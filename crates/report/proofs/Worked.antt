@@ -3,7 +3,8 @@
 use Prim.Native.Nat.{ℕ}
 use mathlib.Core.Path.{_≡_, refl}
 use mathlib.Core.List.{[], _∷_}
-use Rattle.model.specs.Sets.{Set, tabulate, bit, member, number, setOf, empty, single, filter, members, size}
+use Rattle.basics.specs.Bounds.{tabulate, filter}
+use Rattle.model.specs.Sets.{Set, bit, member, number, setOf, empty, single, members, size}
 use Rattle.model.specs.Calls.{Decision}
 use Rattle.report.specs.Text.{ascii, digits, decimal, spaced, statesLine, verdictLine, invariantLine, pathLine, reportText, refusedText}
 

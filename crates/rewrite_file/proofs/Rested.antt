@@ -18,7 +18,7 @@ use Rattle.model.specs.Stores.{storeWords, markedAt, restingAt, groupAt, rowAt,
 use Rattle.model.specs.Contents.{oldForm, newForm}
 use Rattle.model.specs.Files.{fileOf, maxFile}
 use Rattle.model.specs.Calls.{overwrite, statesIn, groupsIn}
-use Rattle.model.proofs.Bounds.{and-true, and-intro}
+use Rattle.basics.proofs.BoundLaws.{and-true, and-intro}
 use Rattle.model.proofs.SetLaws.{Proper, setOf-proper, in-bound, in-setOf, setOf-in, in-states, states-in, in-firstStates, firstStates-in, same-set}
 use Rattle.model.proofs.ListLaws.{length-overwrite}
 use Rattle.model.proofs.StoreLaws.{Holds, Laid, length-layout, overwrite-holds}

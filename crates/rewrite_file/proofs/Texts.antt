@@ -9,11 +9,12 @@ use mathlib.Core.Bool.{true, not}
 use mathlib.Core.List.{List}
 use lib.Dec.{eqb}
 use lib.ListN.{length}
-use Rattle.model.specs.Stores.{storeWords, dialogueOf, layout, refuse}
+use Rattle.basics.specs.Refusals.{refuse}
+use Rattle.model.specs.Stores.{storeWords, dialogueOf, layout}
 use Rattle.model.specs.Contents.{oldForm, newForm}
 use Rattle.model.specs.Files.{fileOf, fileLength, maxFile}
 use Rattle.model.specs.Calls.{overwrite, TableRead, statesIn, groupsIn, readGroundsAs, readAnswerAs, readBufferAs, Written, writeAnswer, writeBuffer}
-use Rattle.model.proofs.Bounds.{not-true, length-tabulate}
+use Rattle.basics.proofs.BoundLaws.{not-true, length-tabulate}
 use Rattle.model.proofs.ListLaws.{length-overwrite}
 use Rattle.model.proofs.FileLaws.{length-fileOf}
 use Rattle.model.proofs.CallLaws.{write-refusal, writable, write-answer, write-buffer, read-refusal, read-answer, read-buffer}

@@ -9,7 +9,8 @@ use mathlib.Core.List.{List}
 use lib.Dec.{eqb}
 use lib.ListN.{replicate}
 use Rattle.model.specs.Sets.{firstStates, empty}
-use Rattle.model.specs.Stores.{storeWords, restingAt, dialogueOf, refuse}
+use Rattle.basics.specs.Refusals.{refuse}
+use Rattle.model.specs.Stores.{storeWords, restingAt, dialogueOf}
 use Rattle.model.specs.Contents.{oldForm, newForm}
 use Rattle.model.specs.Files.{fileOf}
 use Rattle.model.specs.Calls.{readGroundsAs, writeAnswer}

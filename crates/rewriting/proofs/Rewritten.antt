@@ -19,18 +19,19 @@ use Rattle.model.specs.Sets.{maxStates, Set, member, states, union, empty}
 use Rattle.model.specs.Tables.{Table, Dialogue, hangs, tableFrom}
 use Rattle.model.specs.Rounds.{run}
 use Rattle.model.specs.Paths.{smallestPath}
-use Rattle.model.specs.Stores.{storeWords, dialogueOf, tableOf, layout, refuse, beyond}
+use Rattle.basics.specs.Refusals.{refuse}
+use Rattle.model.specs.Stores.{storeWords, dialogueOf, tableOf, layout, beyond}
 use Rattle.model.specs.Blocks.{contentsOf}
 use Rattle.model.specs.Contents.{oldForm, newForm, heads, setWidth, headerBytes, setNumber}
 use Rattle.model.specs.Files.{fileOf}
 use Rattle.model.specs.Calls.{overwrite, maxAllowance, Decision, decideGrounds, decideLimits, decideAnswer, decideBuffer, decisionOf, declined, statesIn, groupsIn, readBuffer}
 use Rattle.model.specs.Resting.{Dead}
 use Rattle.model.specs.RoundTrip.{WriteRead}
-use Rattle.model.proofs.Bounds.{clash, same-test, getD-tabulate}
+use Rattle.basics.proofs.BoundLaws.{clash, same-test, getD-tabulate}
 use Rattle.model.proofs.SetLaws.{Proper, setOf-proper, In, in-bound, in-union, union-in, in-states, states-in, same-set}
 use Rattle.model.proofs.HangLaws.{dead-none, none-dead, hangs-in}
 use Rattle.model.proofs.ListLaws.{length-overwrite}
-use Rattle.model.proofs.GroundLaws.{refuse-none, refuse-skip}
+use Rattle.basics.proofs.RefusalLaws.{refuse-none, refuse-skip}
 use Rattle.model.proofs.ContentLaws.{setIn-proper, dialogueIn-row, heads-each, sets-each}
 use Rattle.model.proofs.StoreLaws.{Holds, Laid, length-layout, overwrite-holds, holds-layout, Within, beyond-below, below-beyond, clean-malformed, holds-clean, holds-dialogue}
 use Rattle.model.proofs.Acceptance.{Store, accepted-store, store-accepted}

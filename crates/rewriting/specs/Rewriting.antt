@@ -18,7 +18,8 @@ use Rattle.model.specs.Sets.{maxStates, Set, member, empty, states}
 use Rattle.model.specs.Tables.{Table, Dialogue, isDeadEnd, tableFrom}
 use Rattle.model.specs.Rounds.{run}
 use Rattle.model.specs.Paths.{smallestPath}
-use Rattle.model.specs.Stores.{storeWords, restingAt, setAt, dialogueOf, layout, refuse, AcceptedStore}
+use Rattle.basics.specs.Refusals.{refuse}
+use Rattle.model.specs.Stores.{storeWords, restingAt, setAt, dialogueOf, layout, AcceptedStore}
 use Rattle.model.specs.Blocks.{contentsOf}
 use Rattle.model.specs.Contents.{oldForm, newForm, dialogueIn}
 use Rattle.model.specs.Files.{fileOf}

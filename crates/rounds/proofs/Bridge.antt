@@ -19,7 +19,7 @@ use Rattle.model.specs.Sets.{maxStates, Set, member, empty, union, meet, differ
 use Rattle.model.specs.Tables.{post, hold, coverOf, cover, notForbidden}
 use Rattle.model.specs.Rounds.{iterate, forwardStep, forward, backwardStep, backward}
 use Rattle.model.specs.Stores.{rowAt, setAt, tableOf}
-use Rattle.model.proofs.Bounds.{and-true, and-intro, is-false, clash, getD-tabulate, tabulate-const}
+use Rattle.basics.proofs.BoundLaws.{and-true, and-intro, is-false, clash, getD-tabulate, tabulate-const}
 use Rattle.model.proofs.SetLaws.{Proper, setOf-proper, In, in-bound, in-setOf, setOf-in, in-union, union-in, in-meet, meet-in, in-difference, difference-in, firstStates-in, _⊆_, subset-in, in-subset, same-set, empty-in, in-image, image-in}
 use Rattle.model.specs.Promises.{IsLeast, IsGreatest}
 use Rattle.model.proofs.Fixpoints.{iterate-has, from-below, from-above}

@@ -12,9 +12,10 @@ use lib.ListN.{length}
 use Rattle.model.specs.Sets.{maxStates, Set, empty, size}
 use Rattle.model.specs.Rounds.{Outcome, safe, unsafe, undecided, run}
 use Rattle.model.specs.Paths.{shortest, hasPath, smallestPath}
-use Rattle.model.specs.Stores.{tableOf, refuse, sharedGrounds}
+use Rattle.basics.specs.Refusals.{refuse}
+use Rattle.model.specs.Stores.{tableOf, sharedGrounds}
 use Rattle.model.specs.Calls.{overwrite, maxAllowance, Decision as Answer, decideLimits, decideGrounds, decisionOf, declined, decideAnswer, decideBuffer}
-use Rattle.model.proofs.GroundLaws.{refuse-append, refuse-clear}
+use Rattle.basics.proofs.RefusalLaws.{refuse-append, refuse-clear}
 use Rattle.model.proofs.Acceptance.{Store, accepted-store, store-accepted, well-formed}
 use Rattle.model.proofs.RoundLaws.{unsafe-path}
 use Rattle.model.proofs.PathLaws.{has-path}

@@ -10,7 +10,7 @@ use Rattle.model.specs.Calls.{release, decisionOf, decideAnswer, decideBuffer}
 use Rattle.model.specs.Calls.{Decision as Answer}
 use Rattle.model.specs.Rounds.{run}
 use Rattle.model.specs.Promises.{StopsFirst, Carries, Demand2, Demand3, SameAnswer, Accepted}
-use Rattle.model.proofs.Bounds.{not-true}
+use Rattle.basics.proofs.BoundLaws.{not-true}
 use Rattle.model.proofs.Kept.{promises, untouched}
 use Rattle.rounds.specs.declared.Decision.{Decision}
 use Rattle.rounds.specs.Answers.{answerOf, isRefused, Called}

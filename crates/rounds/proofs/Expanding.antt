@@ -16,7 +16,7 @@ use lib.Count.{trailingZeros}
 use lib.ListN.{length, getD, set, drop, replicate, length-append, length-replicate}
 use lib.Seq.{sets, sets-eq}
 use Rattle.model.specs.Sets.{WORDS, maxStates, Set, member, empty, union, meet, difference, subset, members, size, firstStates}
-use Rattle.model.specs.Stores.{concat}
+use Rattle.basics.specs.Bounds.{concat}
 use Rattle.model.specs.Calls.{overwrite}
 use Rattle.model.specs.Promises.{IsLeast}
 use Rattle.model.proofs.SetLaws.{Proper, setOf-proper, empty-in, in-difference, difference-in, _⊆_, subset-in, in-subset, subset-not, ⊆-of-eq, same-set, in-image, image-in}

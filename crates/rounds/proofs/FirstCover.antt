@@ -12,12 +12,14 @@ use mathlib.Core.List.{List, [], _∷_}
 use borrow.Author.Tests.{ne-eqb}
 use lib.ListN.{length, drop, replicate, drop-of-length-le}
 use lib.Seq.{drop-cons}
-use Rattle.model.specs.Sets.{maxStates, Set, empty, meet, members, firstStates, tabulate}
+use Rattle.basics.specs.Bounds.{tabulate}
+use Rattle.model.specs.Sets.{maxStates, Set, empty, meet, members, firstStates}
 use Rattle.model.specs.Tables.{notForbidden}
 use Rattle.model.specs.Rounds.{iterate, roundOf, firstRound}
-use Rattle.model.specs.Stores.{setAt, tableOf, refuse, sharedGrounds}
+use Rattle.basics.specs.Refusals.{refuse}
+use Rattle.model.specs.Stores.{setAt, tableOf, sharedGrounds}
 use Rattle.model.specs.Calls.{overwrite}
-use Rattle.model.proofs.Bounds.{length-tabulate, getD-tabulate}
+use Rattle.basics.proofs.BoundLaws.{length-tabulate, getD-tabulate}
 use Rattle.model.proofs.ListLaws.{concat-cong}
 use Rattle.model.proofs.SetLaws.{_⊆_, meet-in, difference-in}
 use Rattle.model.proofs.CoverLaws.{notForbidden-within}

@@ -16,7 +16,7 @@ use lib.ListN.{getD}
 use Rattle.model.specs.Sets.{WORDS, maxStates, Set, bit, member, union, difference, subset, smallest, firstStates}
 use Rattle.model.specs.Stores.{rowAt, setAt}
 use Rattle.model.specs.Promises.{IsLeast}
-use Rattle.model.proofs.Bounds.{and-true, and-intro, decided, same-test, clash}
+use Rattle.basics.proofs.BoundLaws.{and-true, and-intro, decided, same-test, clash}
 use Rattle.model.proofs.SetLaws.{Proper, setOf-proper, In, in-bound, in-or-out, in-union, in-difference, difference-in, in-firstStates, firstStates-in, _⊆_, subset-in, in-subset, ⊆-of-eq, same-set, member-at, smallest-le, in-image}
 use Rattle.model.proofs.StoreLaws.{getD-setAt}
 use Rattle.state_set.specs.WordSets.{wordSet}

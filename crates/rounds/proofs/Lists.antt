@@ -17,8 +17,9 @@ use borrow.Author.Tests.{eq-eqb, ne-eqb, eqb-true, eqb-false, lt-ltb, le-ltb, lt
 use lib.Dec.{eqb, ltb}
 use lib.ListN.{length, getD, length-append, List·getD-append}
 use lib.Seq.{sets, getD-append-add}
-use Rattle.model.specs.Sets.{WORDS, maxStates, Set, filter, member, single, union, difference, members, size}
-use Rattle.model.proofs.Bounds.{and-true, and-intro, is-false, decided, same-test, below-suc, lt-or-ge, or-intro, or-true}
+use Rattle.basics.specs.Bounds.{filter}
+use Rattle.model.specs.Sets.{WORDS, maxStates, Set, member, single, union, difference, members, size}
+use Rattle.basics.proofs.BoundLaws.{and-true, and-intro, is-false, decided, same-test, below-suc, lt-or-ge, or-intro, or-true}
 use Rattle.model.proofs.SetLaws.{In, in-bound, in-single, single-in, in-union, union-in, in-difference, difference-in, in-or-out}
 use Rattle.state_set.specs.WordSets.{wordSet, wordsBelow}
 use Rattle.state_set.proofs.WordSets.{wordSet-in, words-in, words-more}

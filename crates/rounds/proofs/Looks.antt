@@ -15,11 +15,11 @@ use mathlib.Core.Logic.{inl, inr, ⊎-elim}
 use mathlib.Core.Bool.{Bool, true, false, cond, not, _&&_, _||_}
 use mathlib.Core.List.{List, _++_, append-nil}
 use lib.ListN.{length, length-append}
-use Rattle.model.specs.Sets.{maxStates, Set, member, empty, union, meet, difference, members, size, image, any}
+use Rattle.basics.specs.Bounds.{any, concat}
+use Rattle.model.specs.Sets.{maxStates, Set, member, empty, union, meet, difference, members, size, image}
 use Rattle.model.specs.Tables.{Table, post, cover, coverOf}
 use Rattle.model.specs.Rounds.{iterate, forwardStep, forward}
-use Rattle.model.specs.Stores.{concat}
-use Rattle.model.proofs.Bounds.{is-false, same-test, or-intro, or-true, and-true, and-intro, decided, clash, not-true}
+use Rattle.basics.proofs.BoundLaws.{is-false, same-test, or-intro, or-true, and-true, and-intro, decided, clash, not-true}
 use Rattle.model.proofs.SetLaws.{Proper, setOf-proper, In, in-or-out, empty-in, in-union, union-in, in-meet, meet-in, in-difference, difference-in, _⊆_, in-subset, ⊆-of-eq, same-set}
 use Rattle.model.proofs.ImageLaws.{image-none, image-union, union-comm, union-empty}
 use Rattle.model.proofs.Fixpoints.{iterate-still}

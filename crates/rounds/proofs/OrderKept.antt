@@ -11,9 +11,10 @@ use lib.Seq.{take-at}
 use Rattle.model.specs.Sets.{maxStates}
 use Rattle.model.specs.Tables.{Table}
 use Rattle.model.specs.Rounds.{firstRound}
-use Rattle.model.specs.Stores.{tableOf, refuse, sharedGrounds}
+use Rattle.basics.specs.Refusals.{refuse}
+use Rattle.model.specs.Stores.{tableOf, sharedGrounds}
 use Rattle.model.specs.Calls.{overwrite}
-use Rattle.model.proofs.Bounds.{decided, clash}
+use Rattle.basics.proofs.BoundLaws.{decided, clash}
 use Rattle.model.proofs.SetLaws.{subset-in}
 use Rattle.model.proofs.FirstWords.{same-call}
 use Rattle.rounds.specs.Order.{forwardOrder, padded, InOrder}

@@ -23,7 +23,7 @@ use Rattle.model.specs.Tables.{Table, hold, notForbidden}
 use Rattle.model.specs.Rounds.{iterate, forwardStep, forward, backwardStep, backward, Round, roundOf, firstRound, nextRound, isSafe, isUnsafe, safe, unsafe, undecided, run}
 use Rattle.model.specs.Stores.{setAt, tableOf}
 use Rattle.model.specs.Promises.{IsLeast, IsGreatest, roundAt, Continues}
-use Rattle.model.proofs.Bounds.{below-suc, not-true}
+use Rattle.basics.proofs.BoundLaws.{below-suc, not-true}
 use Rattle.model.proofs.SetLaws.{empty-in, meet-in, _⊆_, ⊆-of-eq}
 use Rattle.model.proofs.Fixpoints.{iterate-has, least-unique, greatest-unique}
 use Rattle.model.proofs.CoverLaws.{hold-within, notForbidden-within, forwardStep-within, backwardStep-within}

@@ -10,7 +10,7 @@ use mathlib.Core.List.{List}
 use Rattle.model.specs.Sets.{maxStates, Set, subset, same, size, firstStates}
 use Rattle.model.specs.Stores.{rowAt, setAt}
 use Rattle.model.specs.Promises.{IsGreatest}
-use Rattle.model.proofs.Bounds.{and-intro, clash}
+use Rattle.basics.proofs.BoundLaws.{and-intro, clash}
 use Rattle.model.proofs.SetLaws.{Proper, setOf-proper, In, _⊆_, in-subset, ⊆-of-eq, same-set, same-eq}
 use Rattle.model.proofs.Counting.{all-or-fewer}
 use Rattle.model.proofs.CoverLaws.{image-proper}

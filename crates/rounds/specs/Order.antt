@@ -15,10 +15,10 @@ use mathlib.Core.Bool.{cond, not, _&&_}
 use mathlib.Core.List.{List, [], _∷_}
 use lib.Dec.{eqb}
 use lib.ListN.{length, getD, replicate}
-use Rattle.model.specs.Sets.{maxStates, Set, member, empty, union, meet, difference, members, any}
+use Rattle.basics.specs.Bounds.{any, concat}
+use Rattle.model.specs.Sets.{maxStates, Set, member, empty, union, meet, difference, members}
 use Rattle.model.specs.Tables.{Table, post, cover}
 use Rattle.model.specs.Rounds.{forward}
-use Rattle.model.specs.Stores.{concat}
 use Rattle.model.specs.Calls.{overwrite}
 use Rattle.table.specs.Rows.{successorsBy}
 use Rattle.rounds.specs.Steps.{coverBy}

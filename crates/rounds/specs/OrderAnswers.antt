@@ -10,7 +10,8 @@ use mathlib.Core.List.{List, []}
 use lib.Dec.{eqb}
 use lib.ListN.{length}
 use Rattle.model.specs.Rounds.{firstRound}
-use Rattle.model.specs.Stores.{tableOf, refuse, sharedGrounds}
+use Rattle.basics.specs.Refusals.{refuse}
+use Rattle.model.specs.Stores.{tableOf, sharedGrounds}
 use Rattle.rounds.specs.Order.{forwardOrder, padded}
 use Rattle.rounds.specs.declared.Expansion.{Expansion}
 use Rattle.rounds.specs.declared.Expansion.the-variants.{Listed, Refused}

@@ -11,7 +11,8 @@ use Prim.Native.Nat.{ℕ}
 use mathlib.Core.Path.{_≡_}
 use mathlib.Core.List.{List, [], _∷_}
 use lib.ListN.{getD}
-use Rattle.model.specs.Sets.{maxStates, Set, union, meet, difference, image, firstStates, tabulate}
+use Rattle.basics.specs.Bounds.{tabulate}
+use Rattle.model.specs.Sets.{maxStates, Set, union, meet, difference, image, firstStates}
 use Rattle.model.specs.Tables.{coverOf}
 use Rattle.table.specs.Rows.{successorsBy, meetHold, mapAt}
 

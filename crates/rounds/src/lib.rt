@@ -20,7 +20,8 @@ ghost use Rattle.model.specs.Sets.{WORDS, maxStates, union, meet, difference, s
 ghost use Rattle.state_set.specs.WordSets.{wordSet};
 ghost use Rattle.model.specs.Tables.{notForbidden};
 ghost use Rattle.model.specs.Rounds.{run as run·model};
-ghost use Rattle.model.specs.Stores.{storeWords, maxGroups, rowAt, setAt, tableOf, refuse};
+ghost use Rattle.basics.specs.Refusals.{refuse};
+ghost use Rattle.model.specs.Stores.{storeWords, maxGroups, rowAt, setAt, tableOf};
 ghost use Rattle.model.specs.Calls.{decideGrounds};
 ghost use Rattle.model.specs.Promises.{IsLeast, IsGreatest};
 ghost use Rattle.table.specs.Rows.{successorsBy, meetHold, mapAt};

@@ -22,8 +22,9 @@ use lib.Pow.{pow-pos, mod-pow-add, shl-exact}
 use lib.ListN.{length, length-append}
 use lib.Bits.{bitAnd, bitOr, and-shr, or-shr, and-mod, or-mod}
 use lib.Count.{ones, ones-cat, under, trailingZeros}
-use Rattle.model.specs.Sets.{first, filter, bit}
-use Rattle.model.proofs.Bounds.{decided, first-least, lt-or-ge}
+use Rattle.basics.specs.Bounds.{first, filter}
+use Rattle.model.specs.Sets.{bit}
+use Rattle.basics.proofs.BoundLaws.{decided, first-least, lt-or-ge}
 use Rattle.model.proofs.SetLaws.{shift-bit, bits-eq}
 
 -- what holds of 0 and of 1 holds of any digit

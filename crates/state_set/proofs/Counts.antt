@@ -12,7 +12,8 @@ use lib.ListN.{length, getD}
 use lib.Count.{ones, ones-le}
 use mir.Syntax.{w64}
 use mir.Val.{Fits}
-use Rattle.model.specs.Sets.{WORDS, maxStates, Set, filter, member, members, size}
+use Rattle.basics.specs.Bounds.{filter}
+use Rattle.model.specs.Sets.{WORDS, maxStates, Set, member, members, size}
 use Rattle.model.proofs.SetLaws.{Proper, member-at}
 use Rattle.state_set.specs.WordSets.{onesIn}
 use Rattle.state_set.proofs.Bits.{ones-filter}

@@ -16,7 +16,7 @@ use lib.Dec.{eqb}
 use lib.ListN.{length, getD}
 use lib.Seq.{ext-getD}
 use Rattle.model.specs.Sets.{WORDS, Set, empty, meet, difference, subset, same, meets}
-use Rattle.model.proofs.Bounds.{and-true, and-intro, not-true, is-false, same-test}
+use Rattle.basics.proofs.BoundLaws.{and-true, and-intro, not-true, is-false, same-test}
 use Rattle.model.proofs.SetLaws.{Proper, setOf-proper, in-or-out, empty-in, in-meet, meet-in, in-difference, difference-in, subset-in, in-subset, subset-not, ⊆-of-eq, same-set, in-meets, meets-in}
 use Rattle.state_set.proofs.Bits.{bit-zero}
 use Rattle.state_set.proofs.Words.{word-is}

@@ -20,7 +20,7 @@ use lib.Bits.{bitAnd, and-le-r}
 use lib.Count.{trailingZeros}
 use lib.ListN.{getD}
 use Rattle.model.specs.Sets.{WORDS, maxStates, Set, bit, member, empty, single, union, difference, smallest}
-use Rattle.model.proofs.Bounds.{and-true, and-intro, not-true, is-false, clash, first-passes, first-before, first-is, first-none, lt-or-ge}
+use Rattle.basics.proofs.BoundLaws.{and-true, and-intro, not-true, is-false, clash, first-passes, first-before, first-is, first-none, lt-or-ge}
 use Rattle.model.proofs.SetLaws.{Proper, setOf-proper, In, in-bound, in-setOf, setOf-in, empty-in, in-single, single-in, in-union, union-in, in-difference, difference-in, member-at, same-set}
 use Rattle.state_set.specs.WordSets.{wordSet, wordsBelow}
 use Rattle.state_set.proofs.Bits.{bit-zero, trailing-first, first-bit, bit-lowest}

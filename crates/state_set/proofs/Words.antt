@@ -26,7 +26,7 @@ use lib.Seq.{take-suc, take-all, length-take-le, drop-cons, set-at, getD-at, app
 use mir.Syntax.{w64}
 use mir.Val.{Fits}
 use Rattle.model.specs.Sets.{WORDS, maxStates, Set, bit, member, number, setOf, single, union, difference, states, firstStates}
-use Rattle.model.proofs.Bounds.{decided, same-test, getD-tabulate}
+use Rattle.basics.proofs.BoundLaws.{decided, same-test, getD-tabulate}
 use Rattle.model.proofs.SetLaws.{Proper, setOf-proper, bits-eq, bit-number, number-lt, member-at, in-bound, in-union, union-in, single-in, same-set}
 use Rattle.state_set.proofs.Bits.{bit-and, bit-or, bit-not, one-shl, bit-zero, bit-power}
 

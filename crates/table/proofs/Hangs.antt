@@ -12,7 +12,7 @@ use mathlib.Core.List.{List}
 use Rattle.model.specs.Sets.{maxStates, Set, member, empty, union, meet, difference, subset, meets, firstStates}
 use Rattle.model.specs.Tables.{isDeadEnd}
 use Rattle.model.specs.Stores.{markedAt, restingAt, rowAt, setAt, tableOf}
-use Rattle.model.proofs.Bounds.{and-true, and-intro, is-false, clash, same-test}
+use Rattle.basics.proofs.BoundLaws.{and-true, and-intro, is-false, clash, same-test}
 use Rattle.model.proofs.SetLaws.{setOf-proper, In, in-bound, in-setOf, setOf-in, empty-in, in-union, union-in, in-meet, meet-in, in-difference, difference-in, in-firstStates, firstStates-in, subset-in, in-subset, in-meets, meets-in, same-set}
 use Rattle.model.proofs.HangLaws.{dead-none, none-dead, in-hangs, hangs-in}
 use Rattle.model.proofs.StoreLaws.{row-is}

@@ -20,7 +20,7 @@ use mir.Syntax.{w64}
 use mir.Val.{Fits}
 use Rattle.model.specs.Sets.{WORDS, maxStates, Set, bit, member, setOf, empty, single, union, subset, image}
 use Rattle.model.specs.Stores.{rowAt, setAt}
-use Rattle.model.proofs.Bounds.{and-true, and-intro, or-intro, or-true as or-cases, by-cond}
+use Rattle.basics.proofs.BoundLaws.{and-true, and-intro, or-intro, or-true as or-cases, by-cond}
 use Rattle.model.proofs.SetLaws.{Proper, setOf-proper, In, in-bound, in-setOf, setOf-in, empty-in, in-single, single-in, in-union, union-in, same-set, in-image, image-in, member-setOf, member-at}
 use Rattle.model.proofs.CoverLaws.{image-proper}
 use Rattle.model.proofs.ImageLaws.{union-comm, union-empty}

@@ -21,9 +21,10 @@ use lib.Bits.{bitOr, or-add-and, and-le-r}
 use lib.Dec.{eqb, leb}
 use lib.ListN.{length, getD, set, take, drop, length-set, length-take, length-drop}
 use lib.Seq.{ext-getD, getD-take, getD-drop, getD-set-same, getD-set-other}
-use Rattle.model.specs.Sets.{WORDS, maxStates, Set, member, subset, firstStates, any, empty, union}
+use Rattle.basics.specs.Bounds.{any}
+use Rattle.model.specs.Sets.{WORDS, maxStates, Set, member, subset, firstStates, empty, union}
 use Rattle.model.specs.Stores.{maxGroups, markedAt, restingAt, groupAt, rowAt, storeWords, setAt, beyond, nonZero, malformed}
-use Rattle.model.proofs.Bounds.{and-true, and-intro, or-intro, or-true as or-cases, is-false, same-test, lt-or-ge, clash, decided, any-intro, any-find, no-any, not-true}
+use Rattle.basics.proofs.BoundLaws.{and-true, and-intro, or-intro, or-true as or-cases, is-false, same-test, lt-or-ge, clash, decided, any-intro, any-find, no-any, not-true}
 use Rattle.model.proofs.SetLaws.{In, in-bound, empty-in, in-firstStates, firstStates-in, in-union, union-in, subset-in, subset-not}
 
 -- ---- a set copied out of the store

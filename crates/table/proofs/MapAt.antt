@@ -16,8 +16,9 @@ use lib.Bits.{bitAnd}
 use lib.Count.{trailingZeros}
 use lib.ListN.{length, getD, set, length-set}
 use lib.Seq.{ext-getD, getD-set-same, getD-set-other}
-use Rattle.model.specs.Sets.{WORDS, Set, tabulate, member, single, union, difference, empty}
-use Rattle.model.proofs.Bounds.{is-false, same-test, length-tabulate, getD-tabulate, tabulate-cong}
+use Rattle.basics.specs.Bounds.{tabulate}
+use Rattle.model.specs.Sets.{WORDS, Set, member, single, union, difference, empty}
+use Rattle.basics.proofs.BoundLaws.{is-false, same-test, length-tabulate, getD-tabulate, tabulate-cong}
 use Rattle.model.proofs.SetLaws.{Proper, In, in-bound, in-or-out, empty-in, in-single, single-in, in-union, union-in, in-difference, difference-in}
 use Rattle.state_set.specs.WordSets.{wordSet, wordsBelow}
 use Rattle.state_set.proofs.WordSets.{word-lowest, word-rest, word-less, word-none, words-none, words-more, words-apart, words-all}

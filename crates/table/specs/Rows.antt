@@ -8,7 +8,8 @@ use Prim.Native.Nat.{ℕ}
 use mathlib.Core.Bool.{cond, _&&_}
 use mathlib.Core.List.{List}
 use lib.ListN.{length, getD}
-use Rattle.model.specs.Sets.{maxStates, Set, tabulate, member, setOf, union, subset, image}
+use Rattle.basics.specs.Bounds.{tabulate}
+use Rattle.model.specs.Sets.{maxStates, Set, member, setOf, union, subset, image}
 use Rattle.model.specs.Tables.{hangs}
 use Rattle.model.specs.Stores.{markedAt, restingAt, rowAt, setAt}
 

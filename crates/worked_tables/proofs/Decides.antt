@@ -16,13 +16,15 @@ use mathlib.Core.List.{List, [], _∷_}
 use borrow.Author.Tests.{eqb-true, eq-eqb, leb-true, le-ltb}
 use lib.Dec.{eqb, ltb}
 use lib.ListN.{length, getD, drop}
-use Rattle.model.specs.Sets.{maxStates, any}
+use Rattle.basics.specs.Bounds.{any}
+use Rattle.model.specs.Sets.{maxStates}
 use Rattle.model.specs.Tables.{Dialogue}
 use Rattle.model.specs.Rounds.{run}
 use Rattle.model.specs.Paths.{smallestPath}
-use Rattle.model.specs.Stores.{maxGroups, markedAt, restingAt, groupAt, rowAt, storeWords, setAt, tableOf, layout, refuse, beyond, nonZero, malformed, badStates}
+use Rattle.basics.specs.Refusals.{refuse}
+use Rattle.model.specs.Stores.{maxGroups, markedAt, restingAt, groupAt, rowAt, storeWords, setAt, tableOf, layout, beyond, nonZero, malformed, badStates}
 use Rattle.model.specs.Calls.{release, overwrite, Decision, decisionOf, decideGrounds, decideAnswer, decideBuffer}
-use Rattle.model.proofs.Bounds.{and-true, not-true, is-false, clash, any-find}
+use Rattle.basics.proofs.BoundLaws.{and-true, not-true, is-false, clash, any-find}
 use Rattle.worked_tables.specs.Worked.{stored, Decides}
 
 -- ---- unused words

@@ -4,11 +4,13 @@
 --   a, .., g      the lines
 --   worked        the fact
 use mathlib.Core.Path.{refl}
-use Rattle.model.specs.Sets.{any, all, first, filter, tabulate, bit, member, number, setOf, empty, union, meet, subset, same, meets, states, firstStates, members, size, smallest, image}
+use Rattle.basics.specs.Bounds.{any, all, first, filter, tabulate, concat}
+use Rattle.model.specs.Sets.{bit, member, number, setOf, empty, union, meet, subset, same, meets, states, firstStates, members, size, smallest, image}
 use Rattle.model.specs.Tables.{isDeadEnd, isHang, hangs, post, hold, coverOf, cover, notForbidden}
 use Rattle.model.specs.Rounds.{iterate, forwardStep, forward, backwardStep, backward, roundOf, firstRound, nextRound, isSafe, isUnsafe, settle, rounds, run, eliminationStep, eliminated, backwardNumber}
 use Rattle.model.specs.Paths.{reaching, shortest, walk, smallestPath}
-use Rattle.model.specs.Stores.{setAt, dialogueOf, tableOf, concat, layout, refuse, beyond, nonZero, badStates}
+use Rattle.basics.specs.Refusals.{refuse}
+use Rattle.model.specs.Stores.{setAt, dialogueOf, tableOf, layout, beyond, nonZero, badStates}
 use Rattle.model.specs.Blocks.{weighted, checkOf, blockOf}
 use Rattle.model.specs.Contents.{setBytes, sets, contents}
 use Rattle.model.specs.Calls.{release, decisionOf}

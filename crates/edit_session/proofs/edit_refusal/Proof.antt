@@ -3,7 +3,8 @@ use mathlib.Core.Path.{_≡_, sym, _∙_}
 use mathlib.Core.Logic.{inl, inr}
 use borrow.Author.Needs.{needs}
 use borrow.Author.Tests.{le-leb}
-use Rattle.model.specs.Stores.{refuse, sharedGrounds}
+use Rattle.basics.specs.Refusals.{refuse}
+use Rattle.model.specs.Stores.{sharedGrounds}
 use Rattle.edit_session.proofs.Answering.{refuse-shared, refuse-27, refuse-none}
 use Rattle.edit_session.proofs.edit_refusal.Statement.{statement}
 use Rattle.edit_session.proofs.edit_refusal.Tie as tie

@@ -3,10 +3,10 @@ use Prim.Native.Nat.{_-_, _≤_}
 use mathlib.Core.Path.{_≡_, sym, _∙_}
 use mathlib.Core.Bool.{false}
 use borrow.Author.Needs.{needs}
-use Rattle.model.specs.Sets.{any}
+use Rattle.basics.specs.Bounds.{any}
 use Rattle.model.specs.Stores.{beyond}
 use Rattle.model.specs.Contents.{setNumber}
-use Rattle.model.proofs.Bounds.{any-start, any-turn, any-intro, any-end}
+use Rattle.basics.proofs.BoundLaws.{any-start, any-turn, any-intro, any-end}
 use Rattle.file_reading.proofs.Words.{set-inside}
 use Rattle.file_reading.proofs.any_beyond.Statement.{statement}
 use Rattle.file_reading.proofs.any_beyond.Tie as tie

@@ -2,7 +2,7 @@
 use Prim.Native.Nat.{_-_, _≤_}
 use mathlib.Core.Path.{refl}
 use borrow.Author.Needs.{needs}
-use Rattle.model.specs.Sets.{tabulate}
+use Rattle.basics.specs.Bounds.{tabulate}
 use Rattle.model.specs.Stores.{storeWords}
 use Rattle.file_reading.specs.Reading.{cleared}
 use Rattle.file_blocks.proofs.Overwriting.{Over, over-none, over-next, over-all}

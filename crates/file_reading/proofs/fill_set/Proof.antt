@@ -2,7 +2,8 @@
 use Prim.Native.Nat.{_-_, _≤_}
 use borrow.Author.Needs.{needs}
 use lib.ListN.{getD}
-use Rattle.model.specs.Sets.{WORDS, tabulate}
+use Rattle.basics.specs.Bounds.{tabulate}
+use Rattle.model.specs.Sets.{WORDS}
 use Rattle.model.specs.Contents.{setIn}
 use Rattle.model.proofs.ContentLaws.{setIn-proper}
 use Rattle.file_blocks.proofs.Overwriting.{Over, over-none, over-next, over-list}

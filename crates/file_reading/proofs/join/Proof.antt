@@ -2,7 +2,7 @@
 use Prim.Native.Nat.{_/_, _-_, _≤_}
 use borrow.Author.Needs.{needs}
 use lib.ListN.{length}
-use Rattle.model.specs.Stores.{concat}
+use Rattle.basics.specs.Bounds.{concat}
 use Rattle.model.specs.Blocks.{blockBytes, contentBytes}
 use Rattle.file_blocks.proofs.BlockLaws.{length-contentFrom}
 use Rattle.file_blocks.proofs.Overwriting.{Over, parts-none, parts-more}

@@ -4,7 +4,7 @@ use native.Mathlib.Omega.{arith}
 use mathlib.Core.Path.{_≡_, refl, sym, ap₂}
 use borrow.Author.Needs.{needs}
 use lib.ListN.{length}
-use Rattle.model.specs.Stores.{refuse}
+use Rattle.basics.specs.Refusals.{refuse}
 use Rattle.model.specs.Blocks.{blockBytes}
 use Rattle.model.specs.Calls.{readGroundsAs}
 use Rattle.file_blocks.specs.Places.{formOf}

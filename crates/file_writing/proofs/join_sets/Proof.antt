@@ -3,7 +3,8 @@ use Prim.Native.Nat.{_+_, _-_, _≤_}
 use native.Mathlib.Omega.{arith}
 use borrow.Author.Needs.{needs}
 use lib.ListN.{length-take, length-drop}
-use Rattle.model.specs.Stores.{headSets, concat}
+use Rattle.basics.specs.Bounds.{concat}
+use Rattle.model.specs.Stores.{headSets}
 use Rattle.file_writing.specs.Writing.{placedSet}
 use Rattle.file_blocks.proofs.Overwriting.{Over, parts-none}
 use Rattle.file_blocks.proofs.BlockLaws.{sets-fit}

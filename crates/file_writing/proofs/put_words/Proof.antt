@@ -1,7 +1,7 @@
 -- `put_words`: the words passed are written.
 use Prim.Native.Nat.{_-_, _≤_}
 use borrow.Author.Needs.{needs}
-use Rattle.model.specs.Stores.{concat}
+use Rattle.basics.specs.Bounds.{concat}
 use Rattle.file_writing.specs.Writing.{wordsBytes}
 use Rattle.file_blocks.proofs.Overwriting.{Over, parts-none, parts-all}
 use Rattle.file_writing.proofs.SetBytes.{words-more}

@@ -1,7 +1,7 @@
 -- `write_blocks`: the blocks passed are written.
 use Prim.Native.Nat.{_-_, _≤_}
 use borrow.Author.Needs.{needs}
-use Rattle.model.specs.Stores.{concat}
+use Rattle.basics.specs.Bounds.{concat}
 use Rattle.model.specs.Blocks.{blockBytes, blockOf}
 use Rattle.model.proofs.BlockLaws.{blockOf-is}
 use Rattle.file_blocks.proofs.Overwriting.{Over, parts-none, parts-more, parts-all}

@@ -2,9 +2,9 @@
 use Prim.Native.Nat.{_-_}
 use native.Mathlib.Omega.{arith}
 use borrow.Author.Needs.{needs}
-use Rattle.model.specs.Sets.{tabulate}
+use Rattle.basics.specs.Bounds.{tabulate}
 use Rattle.model.specs.Stores.{storeWords}
-use Rattle.model.proofs.Bounds.{length-tabulate}
+use Rattle.basics.proofs.BoundLaws.{length-tabulate}
 use Rattle.generator.proofs.Filled.{zero-word}
 use Rattle.generator.proofs.Pasting.{Pasting, pasting-none, pasting-more, pasting-all}
 use Rattle.generator.proofs.clear.Statement.{statement}

@@ -5,7 +5,7 @@ use borrow.Author.Needs.{needs}
 use borrow.Author.Tests.{not-false}
 use lib.ListN.{length}
 use Rattle.model.specs.Sets.{maxStates}
-use Rattle.model.proofs.Bounds.{not-true}
+use Rattle.basics.proofs.BoundLaws.{not-true}
 use Rattle.modal.proofs.Grounds.{ModalHeld, accepted}
 use Rattle.modal.proofs.Deciding.{refused-answer, certain-ready, possible-ready, safe-answer, unsafe-answer, depends-answer}
 use Rattle.modal.proofs.decide_modal.Statement.{statement}

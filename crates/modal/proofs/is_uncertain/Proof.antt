@@ -4,7 +4,7 @@ use mathlib.Core.Path.{_≡_, sym}
 use mathlib.Core.Bool.{false}
 use borrow.Author.Needs.{needs}
 use borrow.Author.Tests.{not-false}
-use Rattle.model.proofs.Bounds.{not-true}
+use Rattle.basics.proofs.BoundLaws.{not-true}
 use Rattle.modal.specs.Modal.{uncertain}
 use Rattle.modal.proofs.Grounds.{uncertain-start, uncertain-hit, uncertain-pass, uncertain-end}
 use Rattle.modal.proofs.is_uncertain.Statement.{statement}

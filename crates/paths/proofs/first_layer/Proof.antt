@@ -7,7 +7,7 @@ use mathlib.Core.Bool.{false}
 use borrow.Author.Needs.{needs}
 use borrow.Author.Tests.{not-false}
 use Rattle.model.specs.Sets.{maxStates, empty, subset}
-use Rattle.model.proofs.Bounds.{not-true}
+use Rattle.basics.proofs.BoundLaws.{not-true}
 use Rattle.state_set.proofs.Words.{proper}
 use Rattle.paths.proofs.Outward.{Outward, outward-start, outward-below, outward-turn, outward-hit, outward-end}
 use Rattle.paths.proofs.first_layer.Statement.{statement}

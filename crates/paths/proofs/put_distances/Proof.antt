@@ -5,9 +5,9 @@ use mathlib.Core.Path.{_≡_, refl, sym, ap, _∙_}
 use borrow.Author.Needs.{needs}
 use mathlib.Core.List.{List}
 use lib.ListN.{length, getD, set, length-set}
-use Rattle.model.specs.Sets.{tabulate}
+use Rattle.basics.specs.Bounds.{tabulate}
 use Rattle.model.specs.Calls.{overwrite}
-use Rattle.model.proofs.Bounds.{length-tabulate}
+use Rattle.basics.proofs.BoundLaws.{length-tabulate}
 use Rattle.model.proofs.ListLaws.{tabulate-next, overwrite-set}
 use Rattle.paths.proofs.put_distances.Statement.{statement}
 use Rattle.paths.proofs.put_distances.Tie as tie

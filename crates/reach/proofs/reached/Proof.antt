@@ -5,7 +5,7 @@ use mathlib.Core.Path.{sym, ap, _∙_}
 use borrow.Author.Needs.{needs}
 use borrow.Author.Tests.{not-false}
 use Rattle.model.specs.Sets.{maxStates, difference, size}
-use Rattle.model.proofs.Bounds.{not-true}
+use Rattle.basics.proofs.BoundLaws.{not-true}
 use Rattle.model.proofs.Counting.{size-most}
 use Rattle.state_set.proofs.Words.{proper}
 use Rattle.reach.proofs.Layers.{before, Layered, layered-start, layered-turn, layered-less, layered-expanded, layered-end}

@@ -1,7 +1,8 @@
 -- `replay_refusal`: the grounds in their order.
 use mathlib.Core.Path.{_≡_, sym, _∙_}
 use borrow.Author.Needs.{needs}
-use Rattle.model.specs.Stores.{refuse, sharedGrounds}
+use Rattle.basics.specs.Refusals.{refuse}
+use Rattle.model.specs.Stores.{sharedGrounds}
 use Rattle.replay.proofs.Answering.{refuse-shared, refuse-25, refuse-26, refuse-none}
 use Rattle.replay.proofs.replay_refusal.Statement.{statement}
 use Rattle.replay.proofs.replay_refusal.Tie as tie

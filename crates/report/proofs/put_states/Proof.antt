@@ -3,7 +3,8 @@ use Prim.Native.Nat.{_-_, _*_, _≤_}
 use native.Mathlib.Omega.{arith}
 use mathlib.Core.Path.{_≡_}
 use borrow.Author.Needs.{needs}
-use Rattle.model.specs.Sets.{maxStates, member, members, filter}
+use Rattle.basics.specs.Bounds.{filter}
+use Rattle.model.specs.Sets.{maxStates, member, members}
 use Rattle.report.specs.Text.{spaced}
 use Rattle.report.specs.Put.{spacedBytes, Put}
 use Rattle.report.proofs.Putting.{put-none, put-then, put-most}

@@ -3,7 +3,8 @@ use Prim.Native.Nat.{_-_, _≤_}
 use mathlib.Core.Path.{refl}
 use borrow.Author.Needs.{needs}
 use lib.ListN.{getD}
-use Rattle.model.specs.Sets.{WORDS, tabulate}
+use Rattle.basics.specs.Bounds.{tabulate}
+use Rattle.model.specs.Sets.{WORDS}
 use Rattle.file_blocks.proofs.Overwriting.{Over, over-none, over-next, over-list}
 use Rattle.rewrite_file.proofs.put_set.Statement.{statement}
 use Rattle.rewrite_file.proofs.put_set.Tie as tie

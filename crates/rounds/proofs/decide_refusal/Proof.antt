@@ -1,7 +1,8 @@
 -- `decide_refusal`: the grounds in their order.
 use mathlib.Core.Path.{_≡_, sym, _∙_}
 use borrow.Author.Needs.{needs}
-use Rattle.model.specs.Stores.{refuse, sharedGrounds}
+use Rattle.basics.specs.Refusals.{refuse}
+use Rattle.model.specs.Stores.{sharedGrounds}
 use Rattle.rounds.proofs.Deciding.{refuse-shared, refuse-20, refuse-21, refuse-none}
 use Rattle.rounds.proofs.decide_refusal.Statement.{statement}
 use Rattle.rounds.proofs.decide_refusal.Tie as tie

@@ -3,7 +3,8 @@ use native.Mathlib.Omega.{arith}
 use mathlib.Core.Path.{_≡_, sym, _∙_}
 use mathlib.Core.List.{[], _∷_}
 use borrow.Author.Needs.{needs}
-use Rattle.model.specs.Stores.{tableOf, refuse, sharedGrounds}
+use Rattle.basics.specs.Refusals.{refuse}
+use Rattle.model.specs.Stores.{tableOf, sharedGrounds}
 use Rattle.model.proofs.Acceptance.{Store, accepted-store}
 use Rattle.rounds.specs.Steps.{covers}
 use Rattle.rounds.proofs.FirstCover.{first-cover, order-refused, order-listed}

@@ -5,7 +5,7 @@ use mathlib.Core.Bool.{false}
 use borrow.Author.Needs.{needs}
 use borrow.Author.Tests.{not-false}
 use Rattle.model.specs.Sets.{maxStates, empty, subset}
-use Rattle.model.proofs.Bounds.{not-true}
+use Rattle.basics.proofs.BoundLaws.{not-true}
 use Rattle.state_set.proofs.Words.{proper}
 use Rattle.rounds.specs.Steps.{coverBy}
 use Rattle.rounds.proofs.Expanding.{Looking, looking-start, looking-room, looking-less, looking-turn, looking-least, looking-order, looking-count, looking-entered}

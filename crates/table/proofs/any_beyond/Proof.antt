@@ -2,9 +2,10 @@
 use Prim.Native.Nat.{_+_, _*_, _-_, _≤_}
 use mathlib.Core.Path.{_≡_, sym, ap, _∙_}
 use borrow.Author.Needs.{needs}
-use Rattle.model.specs.Sets.{WORDS, any}
+use Rattle.basics.specs.Bounds.{any}
+use Rattle.model.specs.Sets.{WORDS}
 use Rattle.model.specs.Stores.{setAt, beyond}
-use Rattle.model.proofs.Bounds.{any-start}
+use Rattle.basics.proofs.BoundLaws.{any-start}
 use Rattle.table.proofs.Laws.{all-states, beyond-none, beyond-turn, beyond-end}
 use Rattle.table.proofs.any_beyond.Statement.{statement}
 use Rattle.table.proofs.any_beyond.Tie as tie

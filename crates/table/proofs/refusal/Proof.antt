@@ -4,7 +4,7 @@ use lib.ListN.{length}
 use borrow.Author.Needs.{needs}
 use borrow.Author.Tests.{lt-ltb, le-ltb}
 use Rattle.model.specs.Stores.{storeWords, maxGroups}
-use Rattle.model.proofs.GroundLaws.{refuse-none, refuse-skip, refuse-take}
+use Rattle.basics.proofs.RefusalLaws.{refuse-none, refuse-skip, refuse-take}
 use Rattle.table.proofs.States.{bad-many, bad-alone, not-bad}
 use Rattle.table.proofs.refusal.Statement.{statement}
 use Rattle.table.proofs.refusal.Tie as tie

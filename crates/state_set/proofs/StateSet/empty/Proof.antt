@@ -1,6 +1,7 @@
 -- `StateSet::empty`: the comprehension of nothing computes to words of 0.
 use mathlib.Core.Path.{refl}
-use Rattle.model.specs.Sets.{tabulate, number, setOf, empty}
+use Rattle.basics.specs.Bounds.{tabulate}
+use Rattle.model.specs.Sets.{number, setOf, empty}
 use Rattle.state_set.proofs.StateSet.empty.Statement.{statement}
 use Rattle.state_set.proofs.StateSet.empty.Tie as tie
 

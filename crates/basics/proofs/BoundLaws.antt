@@ -18,7 +18,7 @@ use mathlib.Core.Bool.{Bool, true, false, not, _&&_, _||_, cond, true≢false, f
 use mathlib.Core.List.{[], _∷_, _++_, List·Memᴰ, List·Memᴰ·not-nil, List·Memᴰ·append-cases, List·Memᴰ·eq-of-singleton}
 use lib.ListN.{length, getD, length-append, List·getD-append, replicate, length-replicate, getD-replicate}
 use lib.Seq.{getD-at, ext-getD}
-use Rattle.model.specs.Sets.{any, all, first, tabulate}
+use Rattle.basics.specs.Bounds.{any, all, first, tabulate}
 
 -- ---- Booleans
 

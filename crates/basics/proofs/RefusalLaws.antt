@@ -1,4 +1,4 @@
--- Laws of grounds of refusal: the number of the first that holds, over any list of them.
+-- Laws of grounds of refusal: the number of the first that holds, over any list of them, and what is answered.
 --
 --   refuse-none, refuse-skip, refuse-take     no ground is left; one that does not hold; one that does
 --   refuse-append                             a ground that holds decides, whatever grounds come after
@@ -7,6 +7,12 @@
 --   numbered, refuse-clear                    where nothing is refused, no ground holds whose number is not 0, and the rest refuse nothing
 --   clear-append, append-clear                two lists joined
 --   clear-concat, concat-clear                lists joined, one for each number below a bound; numbered-concat
+--   answer-refused, answer-clear              a ground holds: its number refuses; none does: the answer is given
+--   answer-none                               the same where nothing is refused by a number
+--   answered-clear, answered-is               where a call is answered no ground holds, and it is that answer
+--   refused-is                                where it is refused the number is that of the first ground that holds
+--   unless-value                              what is made of an answer, made before it is given
+--   answer-cong                               two calls that are refused alike, and answered alike where they are not
 --   clear-next, refuse-stop                   a loop over such lists: past one that is clear; it returns what the first other one refuses
 use Prim.Native.Nat.{ℕ, zero, suc, _+_, _<_}
 use native.Mathlib.Nat.{not-suc-le-zero}
@@ -14,12 +20,13 @@ use native.Mathlib.Numerals.{add-one}
 use native.Mathlib.Omega.{arith}
 use mathlib.Core.Path.{_≡_, refl, sym, ap, _∙_, subst}
 use mathlib.Core.Logic.{⊎-elim}
-use mathlib.Core.Bool.{Bool, true, false, not, _&&_}
-use mathlib.Core.List.{List, [], _∷_, _++_}
-use borrow.Author.Tests.{eqb-false}
+use mathlib.Core.Bool.{Bool, true, false, not, _&&_, false≢true}
+use mathlib.Core.List.{List, [], _∷_, _++_, append-nil}
+use borrow.Author.Tests.{eqb-true, eqb-false}
 use lib.Dec.{eqb}
-use Rattle.model.specs.Stores.{concat, Ground, refuse}
-use Rattle.model.proofs.Bounds.{and-true, and-intro, not-true, by-cond, below-suc}
+use Rattle.basics.specs.Bounds.{concat}
+use Rattle.basics.specs.Refusals.{Ground, refuse, Answered, refused, answered, answer, unlessRefused}
+use Rattle.basics.proofs.BoundLaws.{and-true, and-intro, not-true, decided, by-cond, below-suc}
 
 -- ---- one ground after the other
 
@@ -81,7 +88,7 @@ append-clear : (xs ys : List Ground) → Clear (xs ++ ys) → Clear xs × Clear 
 append-clear [] ys c = (tt, c)
 append-clear (ground ∷ xs) ys c = let rest = append-clear xs ys (c .1) in ((c .0, rest .0), rest .1)
 
-numbered-append : (xs ys : List Ground) → numbered xs ≡ true → numbered ys ≡ true → numbered (xs ++ ys) ≡ true
+pub numbered-append : (xs ys : List Ground) → numbered xs ≡ true → numbered ys ≡ true → numbered (xs ++ ys) ≡ true
 numbered-append [] ys m l = l
 numbered-append (ground ∷ xs) ys m l =
     let parts = and-true (not (eqb (ground .1) 0)) (numbered xs) m in
@@ -117,3 +124,65 @@ module _ (f : ℕ → List Ground) where
       (λ q. e ∙ ap (λ (j : ℕ). refuse (f j)) q ∙ sym (refuse-behind (concat m f) (f m) (subst (λ (j : ℕ). Clear (concat j f)) q c)))
       (λ l. refuse-append (concat m f) (f m) (refuse-stop m k l c e z) z)
       (below-suc h)
+
+-- ---- answers
+
+module _ {A : Type 0} where
+  pub answer-refused : {k : ℕ} (gs : List Ground) (a : A) → k ≡ refuse gs → (k ≡ 0 → ⊥) → answer gs a ≡ refused k
+  unfolding refuse answer
+  answer-refused [] a e f = absurd (f e)
+  answer-refused ((true, j) ∷ gs) a e f = ap refused (sym e)
+  answer-refused ((false, j) ∷ gs) a e f = answer-refused gs a e f
+
+  pub answer-clear : (gs : List Ground) (a : A) → Clear gs → answer gs a ≡ answered a
+  unfolding answer
+  answer-clear [] a c = refl
+  answer-clear (ground ∷ gs) a c = rw (c .0) (answer-clear gs a (c .1))
+
+  pub answer-none : (gs : List Ground) (a : A) → numbered gs ≡ true → refuse gs ≡ 0 → answer gs a ≡ answered a
+  answer-none gs a m e = answer-clear gs a (refuse-clear gs [] m (ap refuse (append-nil gs) ∙ e) .0)
+
+  pub answered-not-refused : {a : A} {k : ℕ} → answered a ≡ refused k → ⊥
+  answered-not-refused e = false≢true (sym (ap (unlessRefused false (λ c. true)) e))
+
+  pub answered-clear : (gs : List Ground) (b : A) {a : A} → answer gs b ≡ answered a → Clear gs
+  unfolding answer
+  answered-clear [] b e = tt
+  answered-clear ((true, j) ∷ gs) b e = absurd (answered-not-refused (sym e))
+  answered-clear ((false, j) ∷ gs) b e = (refl, answered-clear gs b e)
+
+  pub answered-is : {a b : A} → answered a ≡ answered b → a ≡ b
+  answered-is {a} e = ap (unlessRefused a (λ c. c)) e
+
+  -- the answer that a call gives is the one that its definition names
+  pub answered-value : (gs : List Ground) (b : A) {a : A} → answer gs b ≡ answered a → a ≡ b
+  answered-value gs b e = answered-is (sym e ∙ answer-clear gs b (answered-clear gs b e))
+
+  pub refused-is : (gs : List Ground) (b : A) {k : ℕ} → answer gs b ≡ refused k → k ≡ refuse gs
+  unfolding refuse answer
+  refused-is [] b e = absurd (answered-not-refused e)
+  refused-is ((true, j) ∷ gs) b {k} e = sym (ap number e)
+    where
+      number : Answered A → ℕ
+      number (refused i) = i
+      number (answered c) = k
+  refused-is ((false, j) ∷ gs) b e = refused-is gs b e
+
+-- what is made of an answer, made before it is given
+pub unless-value : {A B : Type 0} (gs : List Ground) (b : B) (f : A → B) (a : A) → unlessRefused b f (answer gs a) ≡ unlessRefused b (λ c. c) (answer gs (f a))
+unfolding answer
+unless-value [] b f a = refl
+unless-value ((true, j) ∷ gs) b f a = refl
+unless-value ((false, j) ∷ gs) b f a = unless-value gs b f a
+
+pub answer-cong : {A : Type 0} (xs ys : List Ground) (a b : A) → numbered xs ≡ true → numbered ys ≡ true → refuse xs ≡ refuse ys
+    → (refuse xs ≡ 0 → a ≡ b) → answer xs a ≡ answer ys b
+answer-cong xs ys a b m l e f =
+    ⊎-elim
+    (λ (q : eqb (refuse xs) 0 ≡ true).
+    let z = eqb-true (refuse xs) 0 q in
+    answer-none xs a m z ∙ ap answered (f z) ∙ sym (answer-none ys b l (sym e ∙ z)))
+    (λ (q : eqb (refuse xs) 0 ≡ false).
+    let z = eqb-false (refuse xs) 0 q in
+    answer-refused xs a refl z ∙ sym (answer-refused ys b e z))
+    (decided (eqb (refuse xs) 0))
