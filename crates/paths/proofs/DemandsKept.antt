@@ -8,9 +8,9 @@ use Rattle.paths.specs.Demands.{Demands}
 pub demands : Demands
 demands =
     record {
-      untouched = λ store n g before r after k c e.
-          let u = untouched .shortest-path store n g before k (sym (c .0) ∙ e) in
-          (u .0, c .1 ∙ u .1);
+      refusal = λ store n g before r after k c e.
+          let left = untouched .shortest-path store n g before k (sym (c .0) ∙ e) in
+          (left .0, c .1 ∙ left .1);
       path = λ store n g before r after a c e.
           subst (PathAnswer (tableOf store n g) a before) (sym (c .1)) (promises .shortest-path store n g before a (sym (c .0) ∙ e));
     }

@@ -31,7 +31,7 @@ use Rattle.model.proofs.PathLaws.{reaching-leads, leads-reaching, reaching-mono
 use Rattle.basics.proofs.RefusalLaws.{refuse-none, clear-refuse, refuse-clear, answer-none, answered-clear, answered-is, answered-value, refused-is}
 use Rattle.model.proofs.Acceptance.{Store, accepted-store, store-accepted, well-formed}
 use Rattle.model.proofs.FirstWords.{same-call, same-buffer}
-use Rattle.paths.specs.Distances.{distancesGrounds, distancesAnswer, distancesBuffer, answerOf as distancesOf, CalledDistances}
+use Rattle.paths.specs.Distances.{distancesGrounds, distancesAnswer, distancesBuffer, distancesOf, CalledDistances}
 use Rattle.paths.specs.Within.{canReach, isWithin, withinAnswer}
 use Rattle.paths.specs.DistancePromises.{DistanceIs, Measured, WithinIs, DistancePromises}
 use Rattle.paths.specs.declared.DistancesAnswer.{DistancesAnswer}
@@ -159,7 +159,7 @@ pub promises : DistancePromises
 unfolding distancesGrounds distancesAnswer distancesBuffer withinAnswer tableOf
 promises =
     record {
-      untouched = λ store n g before r after k c e.
+      refusal = λ store n g before r after k c e.
           let gives = sym (c .0) ∙ e in
           (refused-is (distancesGrounds store n g (length before)) tt gives, c .1 ∙ ap (unlessRefused before _) gives);
       distances = λ store n g before r after c e. measured store n g before after (written store n g before r after c e);

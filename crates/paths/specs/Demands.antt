@@ -15,7 +15,8 @@ use Rattle.paths.specs.declared.Shortest.{Shortest}
 use Rattle.paths.specs.Answers.{shortestOf, Called}
 
 pub record Demands : Type 0 where
-  pub untouched : (store : List ℕ) (n g : ℕ) (before : List ℕ) (r : Shortest) (after : List ℕ) (k : ℕ)
+  -- a refused call: the number is that of the first ground that holds, and the buffer is as it was
+  pub refusal : (store : List ℕ) (n g : ℕ) (before : List ℕ) (r : Shortest) (after : List ℕ) (k : ℕ)
       → Called store n g before r after → shortestOf r ≡ refused k
       → (k ≡ refuse (shortestGrounds store n g (length before))) × (after ≡ before)
   -- a path is found exactly where there is one, and it is the smallest of the shortest

@@ -16,7 +16,7 @@ use Rattle.model.specs.Tables.{Table}
 use Rattle.model.specs.Paths.{leads, isPath, unreachable}
 use Rattle.basics.specs.Refusals.{refuse, refused, answered}
 use Rattle.model.specs.Stores.{storeWords, tableOf}
-use Rattle.paths.specs.Distances.{distancesGrounds, distancesAnswer, distancesBuffer, answerOf as distancesOf, CalledDistances}
+use Rattle.paths.specs.Distances.{distancesGrounds, distancesAnswer, distancesBuffer, distancesOf, CalledDistances}
 use Rattle.paths.specs.Within.{withinAnswer, answerOf as withinOf, CalledWithin}
 use Rattle.paths.specs.declared.DistancesAnswer.{DistancesAnswer}
 use Rattle.paths.specs.declared.WithinAnswer.{WithinAnswer}
@@ -45,7 +45,7 @@ pub record FirstWords (store other : List ℕ) : Type 0 where
 
 pub record DistancePromises : Type 0 where
   -- a refused call gives the number of the first ground that holds, and leaves its buffer
-  pub untouched : (store : List ℕ) (n g : ℕ) (before : List ℕ) (r : DistancesAnswer) (after : List ℕ) (k : ℕ)
+  pub refusal : (store : List ℕ) (n g : ℕ) (before : List ℕ) (r : DistancesAnswer) (after : List ℕ) (k : ℕ)
       → CalledDistances store n g before r after → distancesOf r ≡ refused k
       → (k ≡ refuse (distancesGrounds store n g (length before))) × (after ≡ before)
   pub distances : (store : List ℕ) (n g : ℕ) (before : List ℕ) (r : DistancesAnswer) (after : List ℕ)

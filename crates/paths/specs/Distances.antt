@@ -3,7 +3,7 @@
 --   distancesGrounds     the grounds in order; `room` is the places that the buffer has
 --   distancesAnswer      the answer, which has no value
 --   distancesBuffer      the buffer at exit: the distances of the n states at its front, the places past n untouched
---   answerOf             each case of the answer
+--   distancesOf          each case of the answer
 --   CalledDistances      a call and what it gave: the contract of `distances`
 use Prim.Native.Nat.{ℕ}
 use mathlib.Core.Path.{_≡_}
@@ -28,10 +28,10 @@ unfoldable pub distancesBuffer : List ℕ → ℕ → ℕ → List ℕ → List 
 distancesBuffer store n g before =
     unlessRefused before (λ done. overwrite (tabulate n (distance (tableOf store n g))) before) (distancesAnswer store n g (length before))
 
-abbrev pub answerOf : DistancesAnswer → Answered (Unit {0})
-answerOf Written = answered tt
-answerOf (Refused k) = refused k
+abbrev pub distancesOf : DistancesAnswer → Answered (Unit {0})
+distancesOf Written = answered tt
+distancesOf (Refused k) = refused k
 
 abbrev pub CalledDistances : List ℕ → ℕ → ℕ → List ℕ → DistancesAnswer → List ℕ → Type 0
 CalledDistances store n g before r after =
-    (answerOf r ≡ distancesAnswer store n g (length before)) × (after ≡ distancesBuffer store n g before)
+    (distancesOf r ≡ distancesAnswer store n g (length before)) × (after ≡ distancesBuffer store n g before)
