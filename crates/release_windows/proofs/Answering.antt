@@ -5,7 +5,6 @@
 --   opened, never-opens       else the first open minute, or never
 --   opens, shuts              the same of a call that is answered
 use Prim.Native.Nat.{ℕ, _+_, _≤_, _<_}
-use native.Mathlib.Omega.{arith}
 use mathlib.Core.Path.{_≡_, refl, sym, _∙_}
 use mathlib.Core.Bool.{false}
 use mathlib.Core.List.{List, []}
