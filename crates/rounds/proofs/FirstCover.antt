@@ -15,7 +15,7 @@ use Rattle.basics.specs.Bounds.{tabulate}
 use Rattle.model.specs.Sets.{maxStates, Set, empty, meet, members, firstStates}
 use Rattle.model.specs.Tables.{notForbidden}
 use Rattle.model.specs.Rounds.{iterate, roundOf, firstRound}
-use Rattle.basics.specs.Refusals.{refuse, answered, unlessRefused}
+use Rattle.basics.specs.Refusals.{refuse, Answered, answered, unlessRefused}
 use Rattle.model.specs.Stores.{setAt, tableOf, sharedGrounds}
 use Rattle.model.specs.Calls.{overwrite}
 use Rattle.basics.proofs.BoundLaws.{length-tabulate, getD-tabulate}
@@ -129,7 +129,8 @@ module _ (store : List ℕ) (n g : ℕ) where
         ap₂ (λ (R : List Set) (X : Set). orderBy store R X Z) c i
         ∙ ap (λ (X : Set). orderBy store (covers n (X ∷ t .groups)) (setAt store 0) X) z
         ∙ order-is store n g few (Z0 ∷ t .groups) Z0 (notForbidden-within n ((tableOf store n 0) .forbidden)) in
+        let listed : ℕ → List ℕ → Answered OrderAnswer = λ k xs. answered (record { count = k; states = xs }) in
         let gives =
-        ap₂ (λ (k : ℕ) (xs : List ℕ). answered (record { count = k; states = xs })) (m ∙ ap length same) (o ∙ ap padded same)
+        ap₂ listed (m ∙ ap length same) (o ∙ ap padded same)
         ∙ sym (answer-none (sharedGrounds store n g) _ refl none) in
         (gives, ap (unlessRefused (padded []) (λ (a : OrderAnswer). a .states)) gives)
