@@ -59,8 +59,11 @@ use state_set::WORDS;
 
 // What stands where a refused call has no answer (specs/Fields).
 const NO_VERDICT: u32 = 255;
+
 const NO_ANSWER: u32 = 255;
+
 const NO_TABLE: u32 = 65_535;
+
 const NO_MINUTE: u32 = 4_294_967_295;
 
 // ---- decide
@@ -80,8 +83,9 @@ fn refused_decision(refusal: u8) -> DecisionFields
     ensures { λ r. ⌜ r ≡ decisionFields (refused refusal) ⌝ }
 {
     let none = StateSet::empty();
+    let invariant = none.words;
     DecisionFields {
-        invariant: none.words,
+        invariant,
         refusal: refusal as u32,
         verdict: NO_VERDICT,
         count: 0,
@@ -467,8 +471,9 @@ fn refused_modal(refusal: u8) -> ModalFields
     ensures { λ r. ⌜ r ≡ modalFields (refused refusal) ⌝ }
 {
     let none = StateSet::empty();
+    let invariant = none.words;
     ModalFields {
-        invariant: none.words,
+        invariant,
         refusal: refusal as u32,
         verdict: NO_VERDICT,
         size: 0,

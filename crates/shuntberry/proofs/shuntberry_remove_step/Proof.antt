@@ -1,7 +1,6 @@
 -- `shuntberry_remove_step`: the answer of `remove_step`, laid out.
-use mathlib.Core.Path.{ap₂, _∙_}
+use mathlib.Core.Path.{_∙_}
 use borrow.Author.Needs.{needs}
-use Rattle.shuntberry.specs.Fields.{sessionFields}
 use Rattle.shuntberry.proofs.Answering.{beside}
 use Rattle.shuntberry.proofs.shuntberry_remove_step.Statement.{statement}
 use Rattle.shuntberry.proofs.shuntberry_remove_step.Tie as tie
@@ -15,4 +14,4 @@ shuntberry-remove-step-spec =
     (λ c. search needs)
     (λ c.
     let edited = c .before .before .before .remove-step .ensures in
-    (c .lay-out-session .ensures ∙ ap₂ sessionFields (edited .1) (edited .0) ∙ beside _ _, edited .2)))
+    (c .lay-out-session .ensures ∙ beside (c .before .before .before .before .before .before .before .args .reachable .words) (edited .0) (edited .1), edited .2)))

@@ -1,11 +1,10 @@
 -- `shuntberry_write`: the answer of `write`, whose length is small, laid out.
-use mathlib.Core.Path.{sym, ap, _∙_, subst}
+use mathlib.Core.Path.{ap, _∙_}
 use borrow.Author.Needs.{needs}
 use Prim.Native.Nat.{ℕ, _≤_}
 use Rattle.model.specs.Files.{maxFile}
 use Rattle.model.proofs.Ranges.{write-range}
 use Rattle.shuntberry.specs.Fields.{fileFields}
-use Rattle.shuntberry.specs.Small.{WhereAnswered}
 use Rattle.shuntberry.proofs.Answering.{where-answered}
 use Rattle.shuntberry.proofs.shuntberry_write.Statement.{statement}
 use Rattle.shuntberry.proofs.shuntberry_write.Tie as tie
@@ -15,6 +14,6 @@ shuntberry-write-spec =
     tie.close
     (tie.spec
     (λ c κs. search needs)
-    (λ c κs. subst (WhereAnswered (λ (l : ℕ). l ≤ maxFile)) (sym (c .before .before .write .ensures .0)) (where-answered (λ (l : ℕ). l ≤ maxFile) _ (write-range _ _ _ _ _)))
+    (λ c κs. where-answered (λ (l : ℕ). l ≤ maxFile) (c .before .before .write .ensures .0) (λ a e. write-range _ _ _ _ _ e))
     (λ c. search needs)
     (λ c. let written = c .before .before .before .write .ensures in (c .lay-out-file .ensures ∙ ap fileFields (written .0), written .1)))
