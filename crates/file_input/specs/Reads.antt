@@ -3,8 +3,8 @@
 --   readResult    what one read means, by the number that C's read returned and the room that it was lent
 --   Within        what reading a whole input may answer, in a room of so many bytes
 --
--- No contract says what C's read returns on which input, nor which bytes it puts into the room. So `Within` has what every run of reads allows
--- and no more: that the answer is the one for the reads that were made is tested (tests/input).
+-- No contract says what C's read returns on which input, nor which bytes it puts into the room. So `Within` is what holds for every run of reads;
+-- that the answer is the one for the reads that were made is tested (tests/draft, tests/rewrite, tests/input).
 use Prim.Native.Nat.{ℕ, zero, suc, _<_}
 use mathlib.Core.Bool.{cond}
 use lib.Dec.{leb}
