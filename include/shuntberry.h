@@ -34,7 +34,7 @@
  * A REFUSED call has a refusal number in `refusal`, and every buffer is as it was before. Its other fields
  * hold no answer, so that one who forgets to test `refusal` does not take them for one:
  *  - a verdict is SHUNTBERRY_NO_VERDICT; `found`, `within` and `never` are SHUNTBERRY_NO_ANSWER;
- *  - n and g of a refused read are SHUNTBERRY_NO_TABLE, which every call refuses;
+ *  - n and g of a refused read are SHUNTBERRY_NO_TABLE, which every call that takes n refuses;
  *  - `minute` is SHUNTBERRY_NO_MINUTE, which is later than any open minute;
  *  - a set is empty, but a refused edit of a session gives back the set that it was handed;
  *  - counts, sizes, steps and coverage are 0, and so is `length` of write: a greater one would invite its
@@ -203,7 +203,7 @@ static inline const char *shuntberry_refusal_text(uint32_t refusal)
 
 #define SHUNTBERRY_NO_VERDICT 255 /* for a verdict (decide, decide modal) */
 #define SHUNTBERRY_NO_ANSWER 255  /* for a yes or no, 1 or 0: found, within, never */
-#define SHUNTBERRY_NO_TABLE 65535 /* for n and g (read). Every call refuses this n, with 14 unless 10 or 24 comes before */
+#define SHUNTBERRY_NO_TABLE 65535 /* for n and g (read). Every call that takes n refuses this one, with 14 unless 10 or 24 comes before */
 #define SHUNTBERRY_NO_MINUTE 4294967295u /* for the minute (next open), also where none is ever open: later than any that is */
 
 /* ---- The calls ---- */
