@@ -10,77 +10,58 @@
  *     seen 2 states
  *     coverage 50 % remainder 0
  *
- * The first line ends after `entries` where all are followed. What a call refuses is printed as `refused`
- * with its number; of a file that is too long only so much is read that it is refused. The status is 0 where
- * the log was walked to its end and all was printed, 1 where it breaks or is refused, and 2 where the program
- * was called wrongly, or could not read or print.
+ * The first line ends after `entries` where all are followed. What a call refuses is printed as `refused` with its
+ * number. It ends with 0 where all of the log is followed and all was printed, 1 where the log breaks, 2 where a call
+ * refuses, 3 for anything else, and 4 where the log has no entries or the table no states: nothing was walked.
  */
-#include <stdio.h>
+#include "common.h"
 
-#include "shuntberry.h"
+/* One entry more than a log can have, so that a longer one is seen to be too long. */
+static uint8_t log_bytes[SHUNTBERRY_MAX_LOG + 2];
 
-/* The bytes of a file at the front of a buffer, as many as fit; -1 if it cannot be read. */
-static long contents(const char *name, uint8_t *bytes, size_t room)
+/* Reads a log. One that is too long is cut to a length that is too long still, and odd if the log's is. */
+static enum status read_log(const char *name, size_t *length)
 {
-    FILE *file = fopen(name, "rb");
-    if (file == NULL) {
-        perror(name);
-        return -1;
-    }
-    size_t length = fread(bytes, 1, room, file);
-    int failed = ferror(file);
-    fclose(file);
-    if (failed) {
-        fprintf(stderr, "%s: cannot be read\n", name);
-        return -1;
-    }
-    return (long)length;
+    FILE *file = opened(name, log_bytes, sizeof log_bytes, length);
+    if (file == NULL)
+        return FAILED;
+    if (*length == sizeof log_bytes)
+        for (int odd = 1; getc(file) != EOF; odd = !odd)
+            *length = sizeof log_bytes - (size_t)odd;
+    return closed(file, name);
 }
 
-/* The status: the one given if all could be printed, else 2. */
-static int printed(const char *program, int status)
+/* Walks the log that was read; WELL if all of it is followed. */
+static enum status walk(const uint64_t *store, struct shuntberry_table table, size_t length)
 {
-    if (fflush(stdout) != 0 || ferror(stdout)) {
-        fprintf(stderr, "%s: cannot print\n", program);
-        return 2;
-    }
-    return status;
-}
+    struct shuntberry_replay walked =
+        shuntberry_replay(store, SHUNTBERRY_STORE_WORDS, table.n, table.g, log_bytes, length);
+    const unsigned entries = (unsigned)length / 2;
 
-static int print_refused(const char *program, uint32_t refusal)
-{
-    printf("refused %u\n", (unsigned)refusal);
-    return printed(program, 1);
+    if (walked.refusal != SHUNTBERRY_ACCEPTED)
+        return print_refused(walked.refusal);
+    printf("followed %u of %u entries", (unsigned)walked.followed, entries);
+    if (walked.followed < entries)
+        printf(", broken by %u", log_bytes[2 * walked.followed] + 256u * log_bytes[2 * walked.followed + 1]);
+    printf("\nseen %u states\n", (unsigned)walked.seen);
+    printf("coverage %u %% remainder %u\n", (unsigned)walked.percent, (unsigned)walked.remainder);
+    if (walked.followed < entries)
+        return NO;
+    return entries > 0 ? WELL : EMPTY;
 }
 
 int main(int argc, char **argv)
 {
-    /* One byte more than a file can have, and one entry more than a log can: longer ones are seen to be too long. */
-    static uint8_t input[SHUNTBERRY_FILE_BYTES + 1], log[SHUNTBERRY_MAX_LOG + 2];
     static uint64_t store[SHUNTBERRY_STORE_WORDS];
+    struct shuntberry_table table;
+    size_t length;
 
     if (argc != 3) {
-        fprintf(stderr, "usage: %s TABLE LOG\n", argv[0]);
-        return 2;
+        fprintf(stderr, "usage: coverage TABLE LOG\n");
+        return FAILED;
     }
-    long length = contents(argv[1], input, sizeof input);
-    long bytes = contents(argv[2], log, sizeof log);
-    if (length < 0 || bytes < 0)
-        return 2;
-
-    struct shuntberry_table table = shuntberry_read(input, (size_t)length, 0, store, SHUNTBERRY_STORE_WORDS);
-    if (table.refusal != SHUNTBERRY_ACCEPTED)
-        return print_refused(argv[0], table.refusal);
-    struct shuntberry_replay walk =
-        shuntberry_replay(store, SHUNTBERRY_STORE_WORDS, table.n, table.g, log, (size_t)bytes);
-    if (walk.refusal != SHUNTBERRY_ACCEPTED)
-        return print_refused(argv[0], walk.refusal);
-
-    unsigned entries = (unsigned)bytes / 2;
-    printf("followed %u of %u entries", (unsigned)walk.followed, entries);
-    if (walk.followed < entries)
-        printf(", broken by %u", log[2 * walk.followed] + 256u * log[2 * walk.followed + 1]);
-    printf("\nseen %u states\n", (unsigned)walk.seen);
-    printf("coverage %u %% remainder %u\n", (unsigned)walk.percent, (unsigned)walk.remainder);
-    return printed(argv[0], walk.followed < entries);
+    enum status status = read_log(argv[2], &length);
+    if (status == WELL)
+        status = read_table(argv[1], store, &table);
+    return printed(status == WELL ? walk(store, table, length) : status);
 }

@@ -2,11 +2,12 @@
  * Reads a table's file, decides it, and prints what the program `check` prints.
  *
  *     cc -Iinclude examples/decide.c target/staticlib/libshuntberry.a -o decide
- *     ./decide tables/e.table
+ *     ./decide tables/e.table && echo release
+ *
+ * It ends with 0 where the table is safe and all was printed, 1 where it is unsafe, 2 where a call refuses, 3 for
+ * anything else, and 4 where it is undecided or has no states.
  */
-#include <stdio.h>
-
-#include "shuntberry.h"
+#include "common.h"
 
 static int contains(const uint64_t set[SHUNTBERRY_SET_WORDS], unsigned state)
 {
@@ -30,58 +31,41 @@ static void print_unsafe(const struct shuntberry_decision *decision, const uint1
     puts("");
 }
 
-static void print_refused(uint32_t refusal)
+/* Decides a table that was read; WELL if it has states and is safe. */
+static enum status decide(const uint64_t *store, struct shuntberry_table table)
 {
-    printf("refused %u\n", (unsigned)refusal);
+    static uint16_t path[SHUNTBERRY_PATH_PLACES];
+    struct shuntberry_decision decision = shuntberry_decide(
+        store, SHUNTBERRY_STORE_WORDS, table.n, table.g, SHUNTBERRY_MAX_ALLOWANCE, path, SHUNTBERRY_PATH_PLACES);
+
+    if (decision.refusal != SHUNTBERRY_ACCEPTED)
+        return print_refused(decision.refusal);
+    printf("states %u groups %u\n", (unsigned)table.n, (unsigned)table.g);
+    if (shuntberry_is_safe(decision)) {
+        print_safe(&decision);
+        return table.n > 0 ? WELL : EMPTY;
+    }
+    if (decision.verdict == SHUNTBERRY_UNSAFE) {
+        print_unsafe(&decision, path);
+        return NO;
+    }
+    if (decision.verdict == SHUNTBERRY_UNDECIDED) { /* never with SHUNTBERRY_MAX_ALLOWANCE */
+        printf("undecided refinements %u\n", (unsigned)decision.count);
+        return EMPTY;
+    }
+    fprintf(stderr, "unknown verdict %u\n", (unsigned)decision.verdict);
+    return FAILED;
 }
 
 int main(int argc, char **argv)
 {
-    static uint8_t input[SHUNTBERRY_FILE_BYTES + 1]; /* one more, so that a longer file is seen to be too long */
     static uint64_t store[SHUNTBERRY_STORE_WORDS];
-    static uint16_t path[SHUNTBERRY_PATH_PLACES];
+    struct shuntberry_table table;
 
     if (argc != 2) {
-        fprintf(stderr, "usage: %s FILE\n", argv[0]);
-        return 2;
+        fprintf(stderr, "usage: decide FILE\n");
+        return FAILED;
     }
-    FILE *file = fopen(argv[1], "rb");
-    if (file == NULL) {
-        perror(argv[1]);
-        return 1;
-    }
-    size_t length = fread(input, 1, sizeof input, file);
-    int failed = ferror(file);
-    fclose(file);
-    if (failed) {
-        fprintf(stderr, "%s: cannot be read\n", argv[1]);
-        return 1;
-    }
-
-    struct shuntberry_table table = shuntberry_read(input, length, 0, store, SHUNTBERRY_STORE_WORDS);
-    if (table.refusal != SHUNTBERRY_ACCEPTED) {
-        print_refused(table.refusal);
-        return 0;
-    }
-    struct shuntberry_decision decision = shuntberry_decide(
-        store, SHUNTBERRY_STORE_WORDS, table.n, table.g, SHUNTBERRY_MAX_ALLOWANCE, path, SHUNTBERRY_PATH_PLACES);
-    if (decision.refusal != SHUNTBERRY_ACCEPTED) {
-        print_refused(decision.refusal);
-        return 0;
-    }
-    printf("states %u groups %u\n", (unsigned)table.n, (unsigned)table.g);
-    switch (decision.verdict) {
-    case SHUNTBERRY_SAFE:
-        print_safe(&decision);
-        return 0;
-    case SHUNTBERRY_UNSAFE:
-        print_unsafe(&decision, path);
-        return 0;
-    case SHUNTBERRY_UNDECIDED: /* never with SHUNTBERRY_MAX_ALLOWANCE */
-        printf("undecided refinements %u\n", (unsigned)decision.count);
-        return 0;
-    default:
-        fprintf(stderr, "%s: unknown verdict %u\n", argv[1], (unsigned)decision.verdict);
-        return 1;
-    }
+    enum status status = read_table(argv[1], store, &table);
+    return printed(status == WELL ? decide(store, table) : status);
 }

@@ -14,14 +14,13 @@
  *     5+0 refused 27
  *
  * An edit that is refused counts as none; a table that is refused is printed as `refused` with the number alone.
- * The status is 0 where all was accepted and printed, 1 where something was refused, and 2 where the program
- * was called wrongly, or could not read or print.
+ * It ends with 0 where all was accepted and printed, 2 where a call refuses, 3 for anything else, and 4 where the
+ * table has no states.
  */
 #include <ctype.h>
-#include <stdio.h>
 #include <stdlib.h>
 
-#include "shuntberry.h"
+#include "common.h"
 
 struct step {
     size_t from, to;
@@ -59,51 +58,31 @@ static void print_reached(struct shuntberry_set set)
     printf("\n");
 }
 
-/* What a call of the session gave; 1 if it was refused. */
-static int print_session(struct shuntberry_session now)
+/* Prints what a call of the session gave. */
+static enum status print_session(struct shuntberry_session now)
 {
-    if (now.refusal == SHUNTBERRY_ACCEPTED)
-        print_reached(now.reachable);
-    else
-        printf("refused %u\n", (unsigned)now.refusal);
-    return now.refusal != SHUNTBERRY_ACCEPTED;
+    if (now.refusal != SHUNTBERRY_ACCEPTED)
+        return print_refused(now.refusal);
+    print_reached(now.reachable);
+    return WELL;
 }
 
-/* The table that a file holds, in the store; its refusal is a number of read, or -1 where there is no file to read. */
-static long table_in(const char *name, struct shuntberry_table *table, uint64_t *store)
-{
-    static uint8_t input[SHUNTBERRY_FILE_BYTES + 1]; /* one byte more, so that a longer file is seen to be too long */
-    FILE *file = fopen(name, "rb");
-    if (file == NULL) {
-        perror(name);
-        return -1;
-    }
-    size_t length = fread(input, 1, sizeof input, file);
-    int failed = ferror(file);
-    fclose(file);
-    if (failed) {
-        fprintf(stderr, "%s: cannot be read\n", name);
-        return -1;
-    }
-    *table = shuntberry_read(input, length, 0, store, SHUNTBERRY_STORE_WORDS);
-    return (long)table->refusal;
-}
-
-/* Opens the table and makes the edits; 1 if one was refused. */
-static int edit(uint64_t *store, struct shuntberry_table table, int words, char **word)
+/* Opens a table that was read and makes the edits; WELL if it has states and no call refuses. */
+static enum status edit(uint64_t *store, struct shuntberry_table table, int words, char **word)
 {
     const size_t length = SHUNTBERRY_STORE_WORDS;
     struct shuntberry_session now = shuntberry_open(store, length, table.n, table.g);
-    int refused = print_session(now);
+    enum status status = print_session(now);
     for (int k = 0; k < words; k++) {
         struct step step;
         step_of(word[k], &step);
         now = step.sign == '+' ? shuntberry_add_step(store, length, table.n, table.g, now.reachable, step.from, step.to)
                                : shuntberry_remove_step(store, length, table.n, table.g, now.reachable, step.from, step.to);
         printf("%s ", word[k]);
-        refused |= print_session(now);
+        if (print_session(now) != WELL)
+            status = REFUSED;
     }
-    return refused;
+    return status == WELL && table.n == 0 ? EMPTY : status;
 }
 
 int main(int argc, char **argv)
@@ -111,24 +90,14 @@ int main(int argc, char **argv)
     static uint64_t store[SHUNTBERRY_STORE_WORDS];
     struct shuntberry_table table;
     struct step step;
-    int called_right = argc >= 2, status = 1;
+    int called_right = argc >= 2;
 
     for (int k = 2; k < argc; k++)
         called_right &= step_of(argv[k], &step);
     if (!called_right) {
-        fprintf(stderr, "usage: %s TABLE [FROM+TO | FROM-TO]..\n", argv[0]);
-        return 2;
+        fprintf(stderr, "usage: edits TABLE [FROM+TO | FROM-TO]..\n");
+        return FAILED;
     }
-    long refusal = table_in(argv[1], &table, store);
-    if (refusal < 0)
-        return 2;
-    if (refusal != SHUNTBERRY_ACCEPTED)
-        printf("refused %ld\n", refusal);
-    else
-        status = edit(store, table, argc - 2, argv + 2);
-    if (fflush(stdout) != 0 || ferror(stdout)) {
-        fprintf(stderr, "%s: cannot print\n", argv[0]);
-        return 2;
-    }
-    return status;
+    enum status status = read_table(argv[1], store, &table);
+    return printed(status == WELL ? edit(store, table, argc - 2, argv + 2) : status);
 }

@@ -31,10 +31,16 @@
  * be anything, null included (tests/outside tries it). Beyond that a call may be given anything: what
  * it does not accept, it refuses.
  *
- * A REFUSED call has a refusal number in `refusal`, 0 in all other fields, and every buffer is as it
- * was before. (distances and generate return the number itself; a refused edit of a session gives back the
- * set that it was handed.) Where several grounds apply, the one that
- * the call's comment names first is given; for 12 and 13 the blocks are taken in order, 12 before 13 in each.
+ * A REFUSED call has a refusal number in `refusal`, and every buffer is as it was before. Its other fields
+ * hold no answer, so that one who forgets to test `refusal` does not take them for one:
+ *  - a verdict is SHUNTBERRY_NO_VERDICT; `found`, `within` and `never` are SHUNTBERRY_NO_ANSWER;
+ *  - n and g of a refused read are SHUNTBERRY_NO_TABLE, which every call that takes n refuses;
+ *  - `minute` is SHUNTBERRY_NO_MINUTE, which is later than any open minute;
+ *  - a set is empty, but a refused edit of a session gives back the set that it was handed;
+ *  - counts, sizes, steps and coverage are 0, and so is `length` of write: a greater one would invite its
+ *    caller to read past the buffer.
+ * distances and generate return the number alone. Where several grounds apply, the one that the call's comment
+ * names first is given; for 12 and 13 the blocks are taken in order, 12 before 13 in each.
  */
 #ifndef SHUNTBERRY_H
 #define SHUNTBERRY_H
@@ -65,9 +71,13 @@ extern "C" {
  *    resting, may be unsafe where it was safe;
  *  - files have another form. One of the form before gets SHUNTBERRY_GROUPS from shuntberry_read; of one of
  *    site 0 `./rewrite` makes a new one, in which its dead ends rest, so that decide answers as it did.
+ *
+ * From 5 on a refused call has no answer in its other fields, where it had 0, which is SHUNTBERRY_SAFE too:
+ * SHUNTBERRY_NO_VERDICT, SHUNTBERRY_NO_ANSWER, SHUNTBERRY_NO_TABLE and SHUNTBERRY_NO_MINUTE. The last is also the
+ * minute of `never`. What an accepted call gives is else as it was, and so are signatures and files.
  */
-#define SHUNTBERRY_VERSION 4
-#define SHUNTBERRY_VERSION_TEXT "4.0.0" /* all of it: that number, then one for what is new, and one for the rest */
+#define SHUNTBERRY_VERSION 5
+#define SHUNTBERRY_VERSION_TEXT "5.0.0" /* all of it: that number, then one for what is new, and one for the rest */
 
 /* ---- Sizes ---- */
 
@@ -126,20 +136,92 @@ extern "C" {
 #define SHUNTBERRY_TOO_MANY 30          /* over 32 windows, or over 64 closed days (next open) */
 #define SHUNTBERRY_TIME 31              /* the time is over 2^31 - 1 (next open) */
 
-/* ---- Verdicts: only where `refusal` is 0. A refused call has 0 here too, so test `refusal` first. ---- */
+/*
+ * The ground of a refusal, in words; of a number that is none, 0 included, that it is none. The words are those
+ * of `check --explain` and of the manual page.
+ */
+static inline const char *shuntberry_refusal_text(uint32_t refusal)
+{
+    switch (refusal) {
+    case SHUNTBERRY_STORE_SHORT:
+        return "the store has under 4,632 words, or the possible steps under 4,096";
+    case SHUNTBERRY_INPUT_LENGTH:
+        return "the input's length is no multiple of 512, or over 37,376";
+    case SHUNTBERRY_BLOCK_NUMBER:
+        return "a block does not hold its own number";
+    case SHUNTBERRY_BLOCK_CHECK:
+        return "a block's stored check is not its check for the site";
+    case SHUNTBERRY_STATES:
+        return "n is over 512, or 0 with groups, in a block or in a load";
+    case SHUNTBERRY_GROUPS:
+        return "g is over 64, or a file's second number is not g + 32,768, as in the old form";
+    case SHUNTBERRY_BLOCK_COUNT:
+        return "the number of blocks is not that of a file with this n and g";
+    case SHUNTBERRY_STRAY_BIT:
+        return "a set, the resting one included, holds a state from n up, or a word of an unused group or row is not 0, also of the possible steps";
+    case SHUNTBERRY_FILLER:
+        return "a filler byte is not 0";
+    case SHUNTBERRY_OUTPUT_SHORT:
+        return "the output is shorter than the file";
+    case SHUNTBERRY_ALLOWANCE:
+        return "the allowance is over 512";
+    case SHUNTBERRY_PATH_SHORT:
+        return "the path buffer has under 512 places";
+    case SHUNTBERRY_FAN_OUT:
+        return "the fan-out is over 16";
+    case SHUNTBERRY_DISTANCES_SHORT:
+        return "the distance buffer has fewer than n places";
+    case SHUNTBERRY_SITE:
+        return "the site is over 65,520";
+    case SHUNTBERRY_LOG_ODD:
+        return "the log's length is odd";
+    case SHUNTBERRY_LOG_LONG:
+        return "the log has over 32,768 bytes";
+    case SHUNTBERRY_STEP_STATE:
+        return "a state number of an edit is n or more";
+    case SHUNTBERRY_NOT_POSSIBLE:
+        return "a certain step is not possible";
+    case SHUNTBERRY_WINDOW_RANGE:
+        return "a window starts past minute 10,079 of the week, or is 0 or over 10,080 minutes long";
+    case SHUNTBERRY_TOO_MANY:
+        return "there are over 32 windows or over 64 closed days";
+    case SHUNTBERRY_TIME:
+        return "the time is over 2^31 - 1";
+    default:
+        return "no ground that this version of the header knows";
+    }
+}
+
+/* ---- Verdicts ---- */
 
 #define SHUNTBERRY_SAFE 0      /* no forbidden state can be reached from an initial one (decide modal: in no choice) */
 #define SHUNTBERRY_UNSAFE 1    /* one can: the path buffer holds how (decide modal: in every choice) */
 #define SHUNTBERRY_UNDECIDED 2 /* the allowance was used up before either was known (decide) */
 #define SHUNTBERRY_DEPENDS 3   /* with the certain steps alone none can, with all possible steps one can: the path buffer holds how (decide modal) */
 
+/* ---- What a refused call has in place of an answer ---- */
+
+#define SHUNTBERRY_NO_VERDICT 255 /* for a verdict (decide, decide modal) */
+#define SHUNTBERRY_NO_ANSWER 255  /* for a yes or no, 1 or 0: found, within, never */
+#define SHUNTBERRY_NO_TABLE 65535 /* for n and g (read). Every call that takes n refuses this one, with 14 unless 10 or 24 comes before */
+#define SHUNTBERRY_NO_MINUTE 4294967295u /* for the minute (next open), also where none is ever open: later than any that is */
+
 /* ---- The calls ---- */
+
+/* Stands at each call: a compiler that knows how to warns where the result, and with it a refusal, is not looked at. */
+#if (defined(__cplusplus) && __cplusplus >= 201703L) || (defined(__STDC_VERSION__) && __STDC_VERSION__ > 201710L)
+#define SHUNTBERRY_NODISCARD [[nodiscard]]
+#elif defined(__GNUC__)
+#define SHUNTBERRY_NODISCARD __attribute__((warn_unused_result))
+#else
+#define SHUNTBERRY_NODISCARD
+#endif
 
 /* What shuntberry_decide answers. */
 struct shuntberry_decision {
     uint64_t invariant[SHUNTBERRY_SET_WORDS]; /* if safe, a set with the initial states, the successors of each of its states, and no forbidden state; else empty */
     uint32_t refusal;      /* 0, or the number of the refusal */
-    uint32_t verdict;      /* where refusal is 0: SHUNTBERRY_SAFE, SHUNTBERRY_UNSAFE or SHUNTBERRY_UNDECIDED; else 0, which is no verdict */
+    uint32_t verdict;      /* SHUNTBERRY_SAFE, SHUNTBERRY_UNSAFE or SHUNTBERRY_UNDECIDED; of a refused call SHUNTBERRY_NO_VERDICT */
     uint32_t count;        /* the number of refinements made */
     uint32_t size;         /* the number of states in the invariant */
     uint32_t steps;        /* if unsafe, the number of steps of the path; else 0 */
@@ -157,13 +239,20 @@ struct shuntberry_decision {
  *
  * Refuses with 10, 14, 15, 17, 20 or 21.
  */
+SHUNTBERRY_NODISCARD
 struct shuntberry_decision shuntberry_decide(const uint64_t *store, size_t store_len, size_t n, size_t g,
                                              size_t allowance, uint16_t *path, size_t path_len);
+
+/* Whether the call was accepted and the verdict is safe: 1 or 0. */
+static inline int shuntberry_is_safe(struct shuntberry_decision decision)
+{
+    return decision.refusal == SHUNTBERRY_ACCEPTED && decision.verdict == SHUNTBERRY_SAFE;
+}
 
 /* What shuntberry_shortest_path answers. */
 struct shuntberry_shortest {
     uint32_t refusal; /* 0, or the number of the refusal */
-    uint32_t found;   /* 1 if there is a path, else 0 */
+    uint32_t found;   /* 1 if there is a path, 0 if there is none; of a refused call SHUNTBERRY_NO_ANSWER */
     uint32_t steps;   /* the number of its steps, 0 if there is none */
 };
 
@@ -173,6 +262,7 @@ struct shuntberry_shortest {
  *
  * Refuses with 10, 14, 15, 17 or 21.
  */
+SHUNTBERRY_NODISCARD
 struct shuntberry_shortest shuntberry_shortest_path(const uint64_t *store, size_t store_len, size_t n, size_t g,
                                                     uint16_t *path, size_t path_len);
 
@@ -185,13 +275,14 @@ struct shuntberry_shortest shuntberry_shortest_path(const uint64_t *store, size_
  *
  * Refuses with 10, 14, 15, 17 or 23.
  */
+SHUNTBERRY_NODISCARD
 uint32_t shuntberry_distances(const uint64_t *store, size_t store_len, size_t n, size_t g, uint16_t *distances,
                               size_t distances_len);
 
 /* What shuntberry_within answers. */
 struct shuntberry_within {
     uint32_t refusal; /* 0, or the number of the refusal */
-    uint32_t within;  /* where refusal is 0: 1 if there is a path of at most k steps, else 0. A refused call has 0 here too */
+    uint32_t within;  /* 1 if there is a path of at most k steps, 0 if there is none; of a refused call SHUNTBERRY_NO_ANSWER */
 };
 
 /*
@@ -202,13 +293,14 @@ struct shuntberry_within {
  *
  * Refuses with 10, 14, 15 or 17.
  */
+SHUNTBERRY_NODISCARD
 struct shuntberry_within shuntberry_within(const uint64_t *store, size_t store_len, size_t n, size_t g, size_t k);
 
 /* What shuntberry_read answers. */
 struct shuntberry_table {
     uint32_t refusal; /* 0, or the number of the refusal */
-    uint32_t n;       /* the table's number of states */
-    uint32_t g;       /* the table's number of groups */
+    uint32_t n;       /* the table's number of states; of a refused call SHUNTBERRY_NO_TABLE */
+    uint32_t g;       /* the table's number of groups; of a refused call SHUNTBERRY_NO_TABLE */
 };
 
 /*
@@ -220,21 +312,26 @@ struct shuntberry_table {
  *
  * Refuses with 10, 24, 11, 12, 13, 14, 15, 16, 17 (of set bytes only) or 18.
  */
+SHUNTBERRY_NODISCARD
 struct shuntberry_table shuntberry_read(const uint8_t *input, size_t input_len, size_t site, uint64_t *store,
                                         size_t store_len);
 
 /* What shuntberry_write answers. */
 struct shuntberry_file {
     uint32_t refusal; /* 0, or the number of the refusal */
-    uint32_t length;  /* the length of the file in bytes, a multiple of 512; 0 for a draft */
+    uint32_t length;  /* the length of the file in bytes, a multiple of 512; 0 for a draft, and of a refused call */
 };
 
 /*
  * Writes the table as a block file for a site at the front of `output`, and no other byte. An output of
  * SHUNTBERRY_FILE_BYTES is always long enough. The store is never changed.
  *
+ * A refused call has the length of a draft, 0, since any other would invite a read past the output. A file of no
+ * bytes is a table, and safe: so test `refusal` before anything is written to a disk.
+ *
  * Refuses with 10, 24, 14, 15, 17 or 19.
  */
+SHUNTBERRY_NODISCARD
 struct shuntberry_file shuntberry_write(const uint64_t *store, size_t store_len, size_t n, size_t g, size_t site,
                                         uint8_t *output, size_t output_len);
 
@@ -246,8 +343,10 @@ struct shuntberry_file shuntberry_write(const uint64_t *store, size_t store_len,
  * seed, each of the next 54 the one before plus 2,654,435,769, and each from the 56th on the sum of the
  * numbers 24 and 55 places back, all modulo 2^32; the states take those from the 56th on.
  *
- * Returns 0, or refuses with 10, 14 or 22; the store is then as it was before.
+ * Returns 0, or refuses with 10, 14 or 22; the store is then as it was before, so one that was zeroed still holds a
+ * draft. There is no other field that could say so: look at what is returned.
  */
+SHUNTBERRY_NODISCARD
 uint32_t shuntberry_generate(uint32_t seed, size_t n, size_t fan_out, uint64_t *store, size_t store_len);
 
 /* What shuntberry_replay answers. */
@@ -267,6 +366,7 @@ struct shuntberry_replay {
  *
  * Refuses with 10, 14, 15, 17, 25 or 26.
  */
+SHUNTBERRY_NODISCARD
 struct shuntberry_replay shuntberry_replay(const uint64_t *store, size_t store_len, size_t n, size_t g,
                                            const uint8_t *log, size_t log_len);
 
@@ -295,6 +395,7 @@ struct shuntberry_session {
  *
  * Refuses with 10, 14, 15 or 17.
  */
+SHUNTBERRY_NODISCARD
 struct shuntberry_session shuntberry_open(const uint64_t *store, size_t store_len, size_t n, size_t g);
 
 /*
@@ -315,8 +416,10 @@ struct shuntberry_session shuntberry_open(const uint64_t *store, size_t store_le
  *
  * Both refuse with 10, 14, 15, 17 or 27; store and set are then as they were before.
  */
+SHUNTBERRY_NODISCARD
 struct shuntberry_session shuntberry_add_step(uint64_t *store, size_t store_len, size_t n, size_t g,
                                               struct shuntberry_set reachable, size_t from, size_t to);
+SHUNTBERRY_NODISCARD
 struct shuntberry_session shuntberry_remove_step(uint64_t *store, size_t store_len, size_t n, size_t g,
                                                  struct shuntberry_set reachable, size_t from, size_t to);
 
@@ -324,7 +427,7 @@ struct shuntberry_session shuntberry_remove_step(uint64_t *store, size_t store_l
 struct shuntberry_modal {
     uint64_t invariant[SHUNTBERRY_SET_WORDS]; /* if safe, that of a release check on the possible steps, which is one of every choice; if it depends, that on the certain steps; else empty */
     uint32_t refusal; /* 0, or the number of the refusal */
-    uint32_t verdict; /* where refusal is 0: SHUNTBERRY_SAFE, SHUNTBERRY_UNSAFE or SHUNTBERRY_DEPENDS; else 0, which is no verdict */
+    uint32_t verdict; /* SHUNTBERRY_SAFE, SHUNTBERRY_UNSAFE or SHUNTBERRY_DEPENDS; of a refused call SHUNTBERRY_NO_VERDICT */
     uint32_t size;    /* the number of states in the invariant */
     uint32_t steps;   /* if unsafe or if it depends, the number of steps of the path; else 0 */
 };
@@ -355,9 +458,16 @@ struct shuntberry_modal {
  *
  * Refuses with 10 (either buffer), 14, 15, 17 (either buffer), 28 or 21.
  */
+SHUNTBERRY_NODISCARD
 struct shuntberry_modal shuntberry_decide_modal(const uint64_t *store, size_t store_len, size_t n, size_t g,
                                                 const uint64_t *possible, size_t possible_len, uint16_t *path,
                                                 size_t path_len);
+
+/* Whether the call was accepted and every choice is safe: 1 or 0. */
+static inline int shuntberry_modal_is_safe(struct shuntberry_modal decision)
+{
+    return decision.refusal == SHUNTBERRY_ACCEPTED && decision.verdict == SHUNTBERRY_SAFE;
+}
 
 /* ---- When a release may be loaded ---- */
 
@@ -376,8 +486,8 @@ static inline uint64_t shuntberry_window(uint64_t start, uint64_t length)
 /* What shuntberry_next_open answers. */
 struct shuntberry_minute {
     uint32_t refusal; /* 0, or the number of the refusal */
-    uint32_t never;   /* 1 if there is no window, so that no minute is ever open; else 0 */
-    uint32_t minute;  /* the first open minute; 0, which is no answer, where `refusal` or `never` is not 0 */
+    uint32_t never;   /* 1 if there is no window, so that no minute is ever open; else 0; of a refused call SHUNTBERRY_NO_ANSWER */
+    uint32_t minute;  /* the first open minute; SHUNTBERRY_NO_MINUTE where there is none, or the call is refused */
 };
 
 /*
@@ -392,6 +502,7 @@ struct shuntberry_minute {
  *
  * Refuses with 31, 30 or 29, in this order.
  */
+SHUNTBERRY_NODISCARD
 struct shuntberry_minute shuntberry_next_open(size_t time, const uint64_t *windows, size_t windows_len,
                                               const uint32_t *closed_days, size_t closed_days_len);
 

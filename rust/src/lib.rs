@@ -15,7 +15,8 @@
 //! no way out. A marked state is forbidden also where it rests, and a state with successors may rest or not.
 //!
 //! ```
-//! use shuntberry::{INITIAL, MARKED, MAX_ALLOWANCE, PATH_PLACES, RESTING, STORE_WORDS, Verdict, decide, row};
+//! use shuntberry::{INITIAL, MARKED, MAX_ALLOWANCE, PATH_PLACES, RESTING, STORE_WORDS};
+//! use shuntberry::{Refused, Verdict, decide, row};
 //!
 //! // Three states; 0 is initial, 2 is marked forbidden; steps 0 → 0 and 1 → 2.
 //! let mut store = [0; STORE_WORDS];
@@ -46,6 +47,7 @@
 //!
 //! // A table of 513 states is refused.
 //! let refused = decide(&store, 513, 0, MAX_ALLOWANCE, &mut path).unwrap_err();
+//! assert_eq!(refused, Refused::STATES);
 //! assert_eq!(refused.to_string(), "refused 14: n is over 512, or 0 with groups, in a block or in a load");
 //! # Ok::<(), shuntberry::Refused>(())
 //! ```
@@ -178,6 +180,18 @@ pub struct Window(u64);
 impl Window {
     /// A window of `length` minutes from minute `start` of the week on. A number that does not fit 32 bits
     /// is taken for the greatest that does, which is out of range too: [`next_open`] refuses it.
+    ///
+    /// ```
+    /// use shuntberry::{Refused, Window, next_open};
+    ///
+    /// // Cut to 32 bits these would be the window from minute 540 on, of 120 minutes.
+    /// let beyond = 1 << 32;
+    /// for window in [Window::new(beyond + 540, 120), Window::new(540, beyond + 120)] {
+    ///     assert_eq!(next_open(0, &[window], &[]), Err(Refused::WINDOW_RANGE));
+    /// }
+    /// assert_eq!(Window::new(u64::MAX, beyond).start(), u32::MAX);
+    /// assert_eq!(Window::new(u64::MAX, beyond).length(), u32::MAX);
+    /// ```
     pub const fn new(start: u64, length: u64) -> Window {
         Window(saturated(start) | saturated(length) << 32)
     }
@@ -202,39 +216,56 @@ const fn saturated(number: u64) -> u64 {
 #[derive(Clone, Copy, Debug, PartialEq, Eq, Hash)]
 pub struct Refused(pub u32);
 
-impl Refused {
-    /// The ground on which the call was refused.
-    pub fn message(self) -> &'static str {
-        match self.0 {
-            10 => "the store has under 4,632 words, or the possible steps under 4,096",
-            11 => "the input's length is no multiple of 512, or over 37,376",
-            12 => "a block does not hold its own number",
-            13 => "a block's stored check is not its check for the site",
-            14 => "n is over 512, or 0 with groups, in a block or in a load",
-            15 => "g is over 64, or a file's second number is not g + 32,768, as in the old form",
-            16 => "the number of blocks is not that of a file with this n and g",
-            17 => {
-                "a set, the resting one included, holds a state from n up, or a word of an unused group or row is not 0, also of the possible steps"
+/// Each ground by name, with its number and its words: as in the header, of which each constant has the name.
+macro_rules! refusals {
+    ($($name:ident = $number:literal, $ground:literal;)*) => {
+        impl Refused {
+            $(
+                #[doc = concat!($number, ": ", $ground, ".")]
+                pub const $name: Refused = Refused($number);
+            )*
+
+            /// The ground on which the call was refused.
+            pub fn message(self) -> &'static str {
+                match self {
+                    $(Refused::$name => $ground,)*
+                    Refused::UNKNOWN_ANSWER => "the library answered with a number that this version of the wrapper does not know",
+                    _ => "no ground that this version of the wrapper knows",
+                }
             }
-            18 => "a filler byte is not 0",
-            19 => "the output is shorter than the file",
-            20 => "the allowance is over 512",
-            21 => "the path buffer has under 512 places",
-            22 => "the fan-out is over 16",
-            23 => "the distance buffer has fewer than n places",
-            24 => "the site is over 65,520",
-            25 => "the log's length is odd",
-            26 => "the log has over 32,768 bytes",
-            27 => "a state number of an edit is n or more",
-            28 => "a certain step is not possible",
-            29 => {
-                "a window starts past minute 10,079 of the week, or is 0 or over 10,080 minutes long"
-            }
-            30 => "there are over 32 windows or over 64 closed days",
-            31 => "the time is over 2^31 - 1",
-            _ => "no ground that this version of the wrapper knows",
         }
-    }
+    };
+}
+
+refusals! {
+    STORE_SHORT = 10, "the store has under 4,632 words, or the possible steps under 4,096";
+    INPUT_LENGTH = 11, "the input's length is no multiple of 512, or over 37,376";
+    BLOCK_NUMBER = 12, "a block does not hold its own number";
+    BLOCK_CHECK = 13, "a block's stored check is not its check for the site";
+    STATES = 14, "n is over 512, or 0 with groups, in a block or in a load";
+    GROUPS = 15, "g is over 64, or a file's second number is not g + 32,768, as in the old form";
+    BLOCK_COUNT = 16, "the number of blocks is not that of a file with this n and g";
+    STRAY_BIT = 17, "a set, the resting one included, holds a state from n up, or a word of an unused group or row is not 0, also of the possible steps";
+    FILLER = 18, "a filler byte is not 0";
+    OUTPUT_SHORT = 19, "the output is shorter than the file";
+    ALLOWANCE = 20, "the allowance is over 512";
+    PATH_SHORT = 21, "the path buffer has under 512 places";
+    FAN_OUT = 22, "the fan-out is over 16";
+    DISTANCES_SHORT = 23, "the distance buffer has fewer than n places";
+    SITE = 24, "the site is over 65,520";
+    LOG_ODD = 25, "the log's length is odd";
+    LOG_LONG = 26, "the log has over 32,768 bytes";
+    STEP_STATE = 27, "a state number of an edit is n or more";
+    NOT_POSSIBLE = 28, "a certain step is not possible";
+    WINDOW_RANGE = 29, "a window starts past minute 10,079 of the week, or is 0 or over 10,080 minutes long";
+    TOO_MANY = 30, "there are over 32 windows or over 64 closed days";
+    TIME = 31, "the time is over 2^31 - 1";
+}
+
+impl Refused {
+    /// No ground of the library's: it accepted the call, and then answered with a number that stands for nothing that this
+    /// version of the wrapper knows, as a library of a later version might. The proved library gives none.
+    pub const UNKNOWN_ANSWER: Refused = Refused(u32::MAX);
 }
 
 impl fmt::Display for Refused {
@@ -269,19 +300,25 @@ pub fn decide<'p>(
             path.len(),
         )
     };
+    verdict(decision, path)
+}
+
+/// The verdict that the fields of a decision stand for, with the path at the front of its buffer.
+fn verdict(decision: raw::Decision, path: &[u16]) -> Result<Verdict<'_>, Refused> {
     accepted(decision.refusal)?;
     let count = decision.count;
-    Ok(match decision.verdict {
-        0 => Verdict::Safe {
+    match decision.verdict {
+        raw::SAFE => Ok(Verdict::Safe {
             count,
             invariant: StateSet(decision.invariant),
-        },
-        1 => Verdict::Unsafe {
+        }),
+        raw::UNSAFE => Ok(Verdict::Unsafe {
             count,
             path: states_of_path(path, decision.steps),
-        },
-        _ => Verdict::Undecided { count },
-    })
+        }),
+        raw::UNDECIDED => Ok(Verdict::Undecided { count }),
+        _ => Err(Refused::UNKNOWN_ANSWER),
+    }
 }
 
 /// The smallest of the shortest paths from an initial to a forbidden state, at the front of `path`;
@@ -326,7 +363,7 @@ pub fn shortest_path<'p>(
         )
     };
     accepted(shortest.refusal)?;
-    Ok((shortest.found != 0).then(|| states_of_path(path, shortest.steps)))
+    Ok(is_yes(shortest.found)?.then(|| states_of_path(path, shortest.steps)))
 }
 
 /// The distance of each state, the number of steps to the nearest forbidden one, at the front of
@@ -380,7 +417,7 @@ pub fn within(store: &[u64], n: usize, g: usize, k: usize) -> Result<bool, Refus
     // SAFETY: the pointer and the length are those of a slice.
     let answer = unsafe { raw::shuntberry_within(store.as_ptr(), store.len(), n, g, k) };
     accepted(answer.refusal)?;
-    Ok(answer.within != 0)
+    is_yes(answer.within)
 }
 
 /// Reads a block file of a site, 0 to [`MAX_SITE`], into the first [`STORE_WORDS`] words of `store`; no other word is touched. An
@@ -414,7 +451,7 @@ pub fn read(input: &[u8], site: usize, store: &mut [u64]) -> Result<TableRead, R
 /// Refused with 10, 24, 14, 15, 17 or 19.
 ///
 /// ```
-/// use shuntberry::{FILE_BYTES, STORE_WORDS, TableRead, read, write};
+/// use shuntberry::{FILE_BYTES, Refused, STORE_WORDS, TableRead, read, write};
 ///
 /// let mut store = [0; STORE_WORDS];
 /// store[shuntberry::row(1)] = 0b101; // steps 1 → 0 and 1 → 2
@@ -425,8 +462,8 @@ pub fn read(input: &[u8], site: usize, store: &mut [u64]) -> Result<TableRead, R
 /// let mut copy = [0; STORE_WORDS];
 /// assert_eq!(read(file, 17, &mut copy)?, TableRead { n: 3, g: 0 });
 /// assert_eq!(copy, store);
-/// // At another site it is turned away.
-/// assert_eq!(read(file, 18, &mut copy).unwrap_err().0, 13);
+/// // At another site it is refused.
+/// assert_eq!(read(file, 18, &mut copy), Err(Refused::BLOCK_CHECK));
 /// # Ok::<(), shuntberry::Refused>(())
 /// ```
 pub fn write<'o>(
@@ -612,7 +649,7 @@ pub fn remove_step(
 /// assert!(session.reachable().states().eq([0, 1, 2, 3]));
 /// session.remove_step(0, 1)?;
 /// assert!(session.reachable().states().eq([0]));
-/// assert_eq!(session.add_step(0, 4), Err(Refused(27)));
+/// assert_eq!(session.add_step(0, 4), Err(Refused::STEP_STATE));
 /// assert!(session.reachable().states().eq([0]));
 /// # Ok::<(), shuntberry::Refused>(())
 /// ```
@@ -694,7 +731,7 @@ pub enum ModalVerdict<'p> {
 /// first [`POSSIBLE_WORDS`] are not read. Refused with 10 (either buffer), 14, 15, 17 (either buffer), 28 or 21.
 ///
 /// ```
-/// use shuntberry::{INITIAL, MARKED, ModalVerdict, PATH_PLACES, POSSIBLE_WORDS, STORE_WORDS};
+/// use shuntberry::{INITIAL, MARKED, ModalVerdict, PATH_PLACES, POSSIBLE_WORDS, Refused, STORE_WORDS};
 /// use shuntberry::{decide_modal, possible_row, row};
 ///
 /// // 0 is initial, 2 is marked; 0 → 0 and 1 → 2 are certain, and with an option bought there is a step 0 → 1.
@@ -725,7 +762,7 @@ pub enum ModalVerdict<'p> {
 ///
 /// // Every certain step must be possible.
 /// possible[possible_row(1)] = 0;
-/// assert_eq!(decide_modal(&store, 3, 0, &possible, &mut path).unwrap_err().0, 28);
+/// assert_eq!(decide_modal(&store, 3, 0, &possible, &mut path), Err(Refused::NOT_POSSIBLE));
 /// # Ok::<(), shuntberry::Refused>(())
 /// ```
 pub fn decide_modal<'p>(
@@ -748,18 +785,24 @@ pub fn decide_modal<'p>(
             path.len(),
         )
     };
+    modal_verdict(decision, path)
+}
+
+/// The verdict that the fields of a modal decision stand for, with the path at the front of its buffer.
+fn modal_verdict(decision: raw::Modal, path: &[u16]) -> Result<ModalVerdict<'_>, Refused> {
     accepted(decision.refusal)?;
     let invariant = StateSet(decision.invariant);
-    Ok(match decision.verdict {
-        0 => ModalVerdict::Safe { invariant },
-        1 => ModalVerdict::Unsafe {
+    match decision.verdict {
+        raw::SAFE => Ok(ModalVerdict::Safe { invariant }),
+        raw::UNSAFE => Ok(ModalVerdict::Unsafe {
             path: states_of_path(path, decision.steps),
-        },
-        _ => ModalVerdict::Depends {
+        }),
+        raw::DEPENDS => Ok(ModalVerdict::Depends {
             invariant,
             path: states_of_path(path, decision.steps),
-        },
-    })
+        }),
+        _ => Err(Refused::UNKNOWN_ANSWER),
+    }
 }
 
 /// The first minute at or after `time` that lies in one of the windows, and not on a closed day; `None`,
@@ -772,7 +815,7 @@ pub fn decide_modal<'p>(
 /// Refused with 31, 30 or 29, in this order.
 ///
 /// ```
-/// use shuntberry::{Window, next_open};
+/// use shuntberry::{Refused, Window, next_open};
 ///
 /// // Saturdays from 09:00 to 11:00, and Tuesdays from 22:00 to Wednesdays 02:00.
 /// let windows = [Window::new(540, 120), Window::new(3 * 1440 + 1320, 240)];
@@ -782,8 +825,7 @@ pub fn decide_modal<'p>(
 /// assert_eq!(next_open(660, &windows, &[3])?, Some(4 * 1440));
 /// assert_eq!(next_open(660, &[], &[])?, None);
 ///
-/// let refused = next_open(0, &[Window::new(10_080, 1)], &[]).unwrap_err();
-/// assert_eq!(refused.0, 29);
+/// assert_eq!(next_open(0, &[Window::new(10_080, 1)], &[]), Err(Refused::WINDOW_RANGE));
 /// # Ok::<(), shuntberry::Refused>(())
 /// ```
 pub fn next_open(
@@ -802,7 +844,7 @@ pub fn next_open(
         )
     };
     accepted(answer.refusal)?;
-    Ok((answer.never == 0).then_some(answer.minute))
+    Ok((!is_yes(answer.never)?).then_some(answer.minute))
 }
 
 /// The refusal of a call, if its number is one.
@@ -810,6 +852,15 @@ fn accepted(refusal: u32) -> Result<(), Refused> {
     match refusal {
         0 => Ok(()),
         number => Err(Refused(number)),
+    }
+}
+
+/// Whether a number says yes. Only 1 and 0 say anything: any other, taken for one of them, could be a wrong one.
+fn is_yes(number: u32) -> Result<bool, Refused> {
+    match number {
+        0 => Ok(false),
+        1 => Ok(true),
+        _ => Err(Refused::UNKNOWN_ANSWER),
     }
 }
 
@@ -821,4 +872,41 @@ fn states_of_path(path: &[u16], steps: u32) -> &[u16] {
 /// The first `length` elements; all of them if there are fewer, which the library's contract excludes.
 fn front<T>(buffer: &[T], length: usize) -> &[T] {
     buffer.get(..length).unwrap_or(buffer)
+}
+
+#[cfg(test)]
+mod tests {
+    use super::*;
+
+    /// An accepted call's number that stands for no answer is none, whatever else the fields hold.
+    #[test]
+    fn unknown_numbers_are_no_answers() {
+        let unknown = Refused::UNKNOWN_ANSWER;
+        for number in [4, 255, 256, u32::MAX] {
+            let modal = raw::Modal {
+                invariant: [0; SET_WORDS],
+                refusal: 0,
+                verdict: number,
+                size: 0,
+                steps: 0,
+            };
+            assert_eq!(modal_verdict(modal, &[]), Err(unknown));
+            assert_eq!(verdict(decision(number), &[]), Err(unknown));
+            assert_eq!(is_yes(number), Err(unknown));
+        }
+        assert_eq!(verdict(decision(raw::DEPENDS), &[]), Err(unknown));
+        assert_eq!(is_yes(2), Err(unknown));
+    }
+
+    fn decision(verdict: u32) -> raw::Decision {
+        raw::Decision {
+            invariant: [0; SET_WORDS],
+            refusal: 0,
+            verdict,
+            count: 0,
+            size: 0,
+            steps: 0,
+            reserved: 0,
+        }
+    }
 }

@@ -1,10 +1,14 @@
 //! The calls as the library exports them for C; `include/shuntberry.h` has a comment for each
-//! function and field. A refused call has 0 in every field but `refusal`: a verdict of 0 is *safe* only
-//! where `refusal` is 0. (A refused edit of a session gives back the set that it was handed.)
+//! function and field, and says what a refused call has in them in place of an answer.
 
 #![allow(missing_docs)]
 
 use crate::SET_WORDS;
+
+pub const SAFE: u32 = 0;
+pub const UNSAFE: u32 = 1;
+pub const UNDECIDED: u32 = 2;
+pub const DEPENDS: u32 = 3;
 
 #[repr(C)]
 #[derive(Clone, Copy, Debug, PartialEq, Eq)]

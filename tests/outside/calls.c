@@ -2,8 +2,9 @@
  * The calls from C by the header alone: a corridor of as many states as there can be is laid out with the header's
  * offsets, written, read back, and asked for its path, which is every state in turn; the largest load
  * is generated; then the corridor's end as a hang and at rest, some of the refusals, logs of the corridor, an edit
- * session that cuts it in two and mends it, decide modal on the corridor with a step that is only possible, and next
- * open minute. The calls run on a painted stack, to see how much of it they take.
+ * session that cuts it in two and mends it, decide modal on the corridor with a step that is only possible, next
+ * open minute, and every ground of every call, with what a caller sees who does not look at the refusal. The calls
+ * run on a painted stack, to see how much of it they take.
  *
  * Without groups all states of Z have one cover, Z itself, so that each round loses the one state that
  * steps out: Z is all but the last state in round 0 and state 0 alone in round STATES - 2, where S is empty. That
@@ -42,6 +43,10 @@ _Static_assert(SHUNTBERRY_ROW(SHUNTBERRY_MAX_STATES) == SHUNTBERRY_STORE_WORDS, 
 _Static_assert(SHUNTBERRY_GROUP(SHUNTBERRY_MAX_GROUPS) == SHUNTBERRY_ROW(0), "groups");
 _Static_assert(SHUNTBERRY_RESTING + SHUNTBERRY_SET_WORDS == SHUNTBERRY_GROUP(0), "the resting set stands before the groups");
 _Static_assert(64 * SHUNTBERRY_SET_WORDS == SHUNTBERRY_MAX_STATES, "words of a set");
+_Static_assert(SHUNTBERRY_NO_VERDICT > SHUNTBERRY_DEPENDS, "no verdict is one of the four");
+_Static_assert(SHUNTBERRY_NO_ANSWER > 1, "no answer is neither yes nor no");
+_Static_assert(SHUNTBERRY_NO_TABLE > SHUNTBERRY_MAX_STATES, "no table has that many states");
+_Static_assert(SHUNTBERRY_NO_MINUTE > SHUNTBERRY_MAX_TIME + 655200u, "no minute is later than every open one");
 
 enum { STATES = SHUNTBERRY_MAX_STATES, STACK = 1 << 20, PAINT = 0xa5, STACK_LIMIT = 256 * 1024 };
 
@@ -64,6 +69,15 @@ static void require(int holds, const char *what)
         fprintf(stderr, "calls: %s\n", what);
         exit(1);
     }
+}
+
+static int is_painted(const void *buffer, size_t size)
+{
+    const uint8_t *bytes = buffer;
+    for (size_t i = 0; i < size; i++)
+        if (bytes[i] != PAINT)
+            return 0;
+    return 1;
 }
 
 static void add(size_t set, unsigned state)
@@ -155,7 +169,7 @@ static void hangs(void)
     const size_t set = SHUNTBERRY_SET_WORDS * sizeof *store;
 
     for (unsigned kind = 0; kind < 4; kind++) {
-        int is_marked = kind % 2, rests = kind / 2;
+        int is_marked = kind % 2 == 1, rests = kind / 2 == 1;
         memset(marked, 0, set);
         memset(resting, 0, set);
         if (is_marked)
@@ -169,7 +183,8 @@ static void hangs(void)
             shuntberry_decide(store, words, STATES, 0, SHUNTBERRY_MAX_ALLOWANCE, path, SHUNTBERRY_PATH_PLACES);
         require(decision.refusal == SHUNTBERRY_ACCEPTED &&
                     decision.verdict == (forbidden ? SHUNTBERRY_UNSAFE : SHUNTBERRY_SAFE) &&
-                    decision.size == (forbidden ? 0 : STATES) && (!forbidden || is_corridor(decision.steps)),
+                    decision.size == (forbidden ? 0 : STATES) && (!forbidden || is_corridor(decision.steps)) &&
+                    shuntberry_is_safe(decision) == !forbidden,
                 "decide on a state that leads nowhere");
         require(within(STATES - 1) == forbidden && within(STATES - 2) == 0, "within, of a state that leads nowhere");
         require(shuntberry_distances(store, words, STATES, 0, distances, STATES) == SHUNTBERRY_ACCEPTED &&
@@ -194,7 +209,7 @@ static void old_file(void)
     memcpy(block, front, sizeof front);
     block[SHUNTBERRY_BLOCK_BYTES - 2] = 97;
     struct shuntberry_table table = shuntberry_read(block, sizeof block, 0, other, SHUNTBERRY_STORE_WORDS);
-    require(table.refusal == SHUNTBERRY_GROUPS && table.n == 0 && table.g == 0, "a file of the old form");
+    require(table.refusal == SHUNTBERRY_GROUPS, "a file of the old form");
 }
 
 static uint32_t decide(size_t words, size_t n, size_t g, size_t allowance, size_t room)
@@ -232,7 +247,7 @@ static void sites(void)
     const size_t some[] = {0, 1, SHUNTBERRY_MAX_SITE};
     const size_t far[] = {SHUNTBERRY_MAX_SITE + 1, (size_t)1 << 32, SIZE_MAX};
 
-    require(SHUNTBERRY_VERSION == 4, "the version");
+    require(SHUNTBERRY_VERSION == 5, "the version");
     for (size_t a = 0; a < 3; a++) {
         struct shuntberry_file written = shuntberry_write(store, words, STATES, 0, some[a], file, sizeof file);
         require(written.refusal == SHUNTBERRY_ACCEPTED, "write for a site");
@@ -350,15 +365,6 @@ static int all_but_last(struct shuntberry_modal answer)
     return answer.invariant[SHUNTBERRY_SET_WORDS - 1] == UINT64_MAX >> 1 && answer.size == STATES - 1;
 }
 
-static int is_untouched(void)
-{
-    const uint8_t *bytes = (const uint8_t *)path;
-    for (size_t i = 0; i < sizeof path; i++)
-        if (bytes[i] != PAINT)
-            return 0;
-    return 1;
-}
-
 /*
  * The corridor's last step certain, possible only, and neither. Without it the last state but one has no certain step:
  * for decide it is a hang, and here it is one only where the step is not possible either. Z0 is then all states but the
@@ -393,7 +399,7 @@ static void options(void)
     add(SHUNTBERRY_RESTING, STATES - 2);
     answer = decide_modal();
     require(answer.refusal == SHUNTBERRY_ACCEPTED && answer.verdict == SHUNTBERRY_SAFE && all_but_last(answer) &&
-                answer.steps == 0 && is_untouched(),
+                answer.steps == 0 && is_painted(path, sizeof path) && shuntberry_modal_is_safe(answer),
             "every choice safe");
     memset(store + SHUNTBERRY_RESTING, 0, sizeof step);
 
@@ -414,7 +420,7 @@ static int is_minute(struct shuntberry_minute answer, uint32_t minute)
 
 static int is_never(struct shuntberry_minute answer)
 {
-    return answer.refusal == SHUNTBERRY_ACCEPTED && answer.never == 1 && answer.minute == 0;
+    return answer.refusal == SHUNTBERRY_ACCEPTED && answer.never == 1 && answer.minute == SHUNTBERRY_NO_MINUTE;
 }
 
 /* An empty buffer as C and C++ have it: null and 0, for each buffer of each call; and an untouched draft. */
@@ -478,11 +484,6 @@ static void nothing(void)
     require(is_minute(shuntberry_next_open(0, &window, 1, NULL, 0), 540), "next open, no closed days");
 }
 
-static int is_declined(struct shuntberry_minute answer, uint32_t refusal)
-{
-    return answer.refusal == refusal && answer.never == 0 && answer.minute == 0;
-}
-
 /* Saturdays from 09:00 to 11:00, and from Friday 22:40 to Saturday 02:00; then numbers that do not fit a window. */
 static void release_windows(void)
 {
@@ -503,18 +504,305 @@ static void release_windows(void)
         shuntberry_window(4294967301, 1), shuntberry_window(5, 4294967297), shuntberry_window((uint64_t)-1, (uint64_t)-1),
     };
     for (size_t i = 0; i < sizeof out_of_range / sizeof out_of_range[0]; i++)
-        require(is_declined(shuntberry_next_open(0, &out_of_range[i], 1, closed, 0), SHUNTBERRY_WINDOW_RANGE),
+        require(shuntberry_next_open(0, &out_of_range[i], 1, closed, 0).refusal == SHUNTBERRY_WINDOW_RANGE,
                 "a window out of range");
     require(shuntberry_window(10079, 10080) == ((uint64_t)10080 << 32 | 10079), "the largest window");
 
     uint64_t many[SHUNTBERRY_MAX_WINDOWS + 1];
     for (size_t i = 0; i < SHUNTBERRY_MAX_WINDOWS + 1; i++)
         many[i] = shuntberry_window(10080, 0);
-    require(is_declined(shuntberry_next_open(0, many, SHUNTBERRY_MAX_WINDOWS + 1, closed, 0), SHUNTBERRY_TOO_MANY), "33 windows");
-    require(is_declined(shuntberry_next_open(0, many, SHUNTBERRY_MAX_WINDOWS, closed, 0), SHUNTBERRY_WINDOW_RANGE), "32 windows");
-    require(is_declined(shuntberry_next_open(0, windows, 0, closed, SHUNTBERRY_MAX_DAYS + 1), SHUNTBERRY_TOO_MANY), "65 days");
-    require(is_declined(shuntberry_next_open((size_t)SHUNTBERRY_MAX_TIME + 1, many, SHUNTBERRY_MAX_WINDOWS + 1, closed, 65), SHUNTBERRY_TIME),
+    require(shuntberry_next_open(0, many, SHUNTBERRY_MAX_WINDOWS + 1, closed, 0).refusal == SHUNTBERRY_TOO_MANY, "33 windows");
+    require(shuntberry_next_open(0, many, SHUNTBERRY_MAX_WINDOWS, closed, 0).refusal == SHUNTBERRY_WINDOW_RANGE, "32 windows");
+    require(shuntberry_next_open(0, windows, 0, closed, SHUNTBERRY_MAX_DAYS + 1).refusal == SHUNTBERRY_TOO_MANY, "65 days");
+    require(shuntberry_next_open((size_t)SHUNTBERRY_MAX_TIME + 1, many, SHUNTBERRY_MAX_WINDOWS + 1, closed, 65).refusal == SHUNTBERRY_TIME,
             "a time of 2^31");
+}
+
+/* ---- Every ground of every call, and what its caller sees who does not look at the refusal ---- */
+
+/* The calls. Generate and write have nothing to say but their refusal; they are asked for n alone. */
+enum call {
+    DECIDE, SHORTEST_PATH, DISTANCES, WITHIN, READ, REPLAY, OPEN, ADD_STEP, REMOVE_STEP, DECIDE_MODAL, NEXT_OPEN, GENERATE, WRITE, CALLS
+};
+static const char *const names[CALLS] = {"decide", "shortest path", "distances", "within", "read", "replay", "open", "add a step",
+                                         "remove a step", "decide modal", "next open", "generate", "write"};
+
+/* Their arguments: lengths, numbers, and what stands in a buffer. */
+enum argument {
+    WORDS, N, G, ALLOWANCE, PLACES, DISTANCE_PLACES, SITE, INPUT, BYTE, LOG, FROM, TO, POSSIBLE, KNOWN, TIME, WINDOWS, START, LENGTH, DAYS, ARGUMENTS
+};
+
+/* Three states in a row, the last marked, and a group of the other two: each call accepts this, and decide says unsafe. */
+static const size_t accepted[ARGUMENTS] = {
+    [WORDS] = SHUNTBERRY_STORE_WORDS, [N] = 3, [G] = 1, [PLACES] = SHUNTBERRY_PATH_PLACES, [DISTANCE_PLACES] = 3,
+    [INPUT] = SHUNTBERRY_BLOCK_BYTES, [LOG] = 2, [POSSIBLE] = SHUNTBERRY_POSSIBLE_WORDS, [KNOWN] = 1, [TIME] = 1000, [WINDOWS] = 1,
+    [LENGTH] = 1, [DAYS] = 1,
+};
+
+static const uint64_t few[SHUNTBERRY_STORE_WORDS] = {
+    [SHUNTBERRY_INITIAL] = 1 << 0, [SHUNTBERRY_MARKED] = 1 << 2, [SHUNTBERRY_GROUP(0)] = 1 << 0 | 1 << 1,
+    [SHUNTBERRY_ROW(0)] = 1 << 1, [SHUNTBERRY_ROW(1)] = 1 << 2,
+};
+
+/* The byte of a file at a place changed to a value. Its block is given the check that goes with it, unless that is the change. */
+#define CHANGED(place, value) (256 * (place) + (value))
+
+/* The calls on a store with a table, by their bits. */
+#define BIT(k) ((uint32_t)1 << (k))
+#define EDIT (BIT(ADD_STEP) | BIT(REMOVE_STEP))
+#define WITH_PATH (BIT(DECIDE) | BIT(SHORTEST_PATH) | BIT(DECIDE_MODAL))
+#define ON_TABLE (WITH_PATH | EDIT | BIT(DISTANCES) | BIT(WITHIN) | BIT(REPLAY) | BIT(OPEN))
+
+/* One argument changed, so that some calls refuse. */
+static const struct ground {
+    uint32_t refusal, calls;
+    enum argument argument;
+    size_t changed;
+} grounds[] = {
+    {10, ON_TABLE | BIT(READ), WORDS, SHUNTBERRY_STORE_WORDS - 1},
+    {10, BIT(DECIDE_MODAL), POSSIBLE, SHUNTBERRY_POSSIBLE_WORDS - 1},
+    {11, BIT(READ), INPUT, SHUNTBERRY_BLOCK_BYTES - 1},
+    {11, BIT(READ), INPUT, SHUNTBERRY_FILE_BYTES + SHUNTBERRY_BLOCK_BYTES},
+    {12, BIT(READ), BYTE, CHANGED(0, 1)},   /* the block's number */
+    {13, BIT(READ), BYTE, CHANGED(510, 1)}, /* its check */
+    {14, BIT(READ), BYTE, CHANGED(2, 0)},   /* no states */
+    {14, BIT(READ), BYTE, CHANGED(3, 2)},   /* 515 of them */
+    {14, ON_TABLE, N, 0},
+    {14, ON_TABLE, N, SHUNTBERRY_MAX_STATES + 1},
+    {14, ON_TABLE, N, SHUNTBERRY_NO_TABLE},
+    {15, BIT(READ), BYTE, CHANGED(5, 0)},   /* the old form */
+    {15, ON_TABLE, G, SHUNTBERRY_MAX_GROUPS + 1},
+    {16, BIT(READ), BYTE, CHANGED(2, 255)}, /* 255 states in one block */
+    {17, BIT(READ), BYTE, CHANGED(6, 8)},   /* state 3 initial */
+    {17, ON_TABLE, N, 2},
+    {17, BIT(DECIDE_MODAL), KNOWN, 2},      /* a step to state 3 */
+    {18, BIT(READ), BYTE, CHANGED(509, 1)}, /* filler */
+    {20, BIT(DECIDE), ALLOWANCE, SHUNTBERRY_MAX_ALLOWANCE + 1},
+    {21, WITH_PATH, PLACES, SHUNTBERRY_PATH_PLACES - 1},
+    {23, BIT(DISTANCES), DISTANCE_PLACES, 2},
+    {24, BIT(READ), SITE, SHUNTBERRY_MAX_SITE + 1},
+    {25, BIT(REPLAY), LOG, 1},
+    {25, BIT(REPLAY), LOG, SHUNTBERRY_MAX_LOG + 1},
+    {26, BIT(REPLAY), LOG, SHUNTBERRY_MAX_LOG + 2},
+    {27, EDIT, FROM, 3},
+    {27, EDIT, TO, 3},
+    {28, BIT(DECIDE_MODAL), KNOWN, 0}, /* no possible step */
+    {29, BIT(NEXT_OPEN), START, 10080},
+    {29, BIT(NEXT_OPEN), LENGTH, 0},
+    {30, BIT(NEXT_OPEN), WINDOWS, SHUNTBERRY_MAX_WINDOWS + 1},
+    {30, BIT(NEXT_OPEN), DAYS, SHUNTBERRY_MAX_DAYS + 1},
+    {31, BIT(NEXT_OPEN), TIME, (size_t)SHUNTBERRY_MAX_TIME + 1},
+};
+
+/* The grounds of each call, as the header's comments name them. */
+#define SHARED (BIT(10) | BIT(14) | BIT(15) | BIT(17))
+static const uint32_t named[CALLS] = {
+    [DECIDE] = SHARED | BIT(20) | BIT(21),
+    [SHORTEST_PATH] = SHARED | BIT(21),
+    [DISTANCES] = SHARED | BIT(23),
+    [WITHIN] = SHARED,
+    [READ] = SHARED | BIT(24) | BIT(11) | BIT(12) | BIT(13) | BIT(16) | BIT(18),
+    [REPLAY] = SHARED | BIT(25) | BIT(26),
+    [OPEN] = SHARED,
+    [ADD_STEP] = SHARED | BIT(27),
+    [REMOVE_STEP] = SHARED | BIT(27),
+    [DECIDE_MODAL] = SHARED | BIT(28) | BIT(21),
+    [NEXT_OPEN] = BIT(31) | BIT(30) | BIT(29),
+};
+
+static uint8_t input[SHUNTBERRY_FILE_BYTES + SHUNTBERRY_BLOCK_BYTES];
+
+/* The table's file of site 0 in `input`, with a byte changed; 0 changes none. */
+static void make_input(size_t change)
+{
+    const size_t place = change / 256, check = SHUNTBERRY_BLOCK_BYTES - 2;
+    struct shuntberry_file written = shuntberry_write(few, SHUNTBERRY_STORE_WORDS, 3, 1, 0, input, sizeof input);
+    require(written.refusal == SHUNTBERRY_ACCEPTED && written.length == SHUNTBERRY_BLOCK_BYTES, "the file of a small table");
+    if (change == 0)
+        return;
+    input[place] = (uint8_t)(change % 256);
+    if (place >= check)
+        return;
+    uint32_t sum = 0;
+    for (size_t i = 0; i < check; i++)
+        sum += (uint32_t)(i + 1) * input[i];
+    input[check] = (uint8_t)(sum % 65521 % 256);
+    input[check + 1] = (uint8_t)(sum % 65521 / 256);
+}
+
+/* What a call gave: its refusal, and whether the rest holds anything that could pass for an answer. */
+struct outcome {
+    uint32_t refusal;
+    int answers;
+};
+
+/* Calls one of them on a table in a store, with these arguments. */
+static struct outcome ask(enum call call, uint64_t *table, const size_t with[ARGUMENTS])
+{
+    static const uint64_t no_steps[SHUNTBERRY_POSSIBLE_WORDS], stray[SHUNTBERRY_POSSIBLE_WORDS] = {1 << 1 | 1 << 3};
+    static const uint8_t log[SHUNTBERRY_MAX_LOG + 2];
+    static const uint32_t closed[SHUNTBERRY_MAX_DAYS + 1];
+    const struct shuntberry_set none = {{0}}, handed = {{1, 2, 3}};
+    const size_t words = with[WORDS], n = with[N], g = with[G];
+
+    switch (call) {
+    case DECIDE: {
+        struct shuntberry_decision gave = shuntberry_decide(table, words, n, g, with[ALLOWANCE], path, with[PLACES]);
+        require(gave.refusal == SHUNTBERRY_ACCEPTED || !shuntberry_is_safe(gave), "a refused decision is safe");
+        return (struct outcome){gave.refusal, gave.verdict != SHUNTBERRY_NO_VERDICT ||
+                                                  (gave.count | gave.size | gave.steps | gave.reserved) != 0 ||
+                                                  memcmp(gave.invariant, none.words, sizeof none) != 0};
+    }
+    case SHORTEST_PATH: {
+        struct shuntberry_shortest gave = shuntberry_shortest_path(table, words, n, g, path, with[PLACES]);
+        return (struct outcome){gave.refusal, gave.found != SHUNTBERRY_NO_ANSWER || gave.steps != 0};
+    }
+    case DISTANCES: {
+        uint32_t refusal = shuntberry_distances(table, words, n, g, distances, with[DISTANCE_PLACES]);
+        return (struct outcome){refusal, !is_painted(distances, sizeof distances)};
+    }
+    case WITHIN: {
+        struct shuntberry_within gave = shuntberry_within(table, words, n, g, 1);
+        return (struct outcome){gave.refusal, gave.within != SHUNTBERRY_NO_ANSWER};
+    }
+    case READ: {
+        make_input(with[BYTE]);
+        struct shuntberry_table gave = shuntberry_read(input, with[INPUT], with[SITE], table, words);
+        return (struct outcome){gave.refusal, gave.n != SHUNTBERRY_NO_TABLE || gave.g != SHUNTBERRY_NO_TABLE};
+    }
+    case REPLAY: {
+        struct shuntberry_replay gave = shuntberry_replay(table, words, n, g, log, with[LOG]);
+        return (struct outcome){gave.refusal, (gave.followed | gave.seen | gave.percent | gave.remainder) != 0};
+    }
+    case OPEN: {
+        struct shuntberry_session gave = shuntberry_open(table, words, n, g);
+        return (struct outcome){gave.refusal, !same_set(gave.reachable, none) || gave.reserved != 0};
+    }
+    case ADD_STEP:
+    case REMOVE_STEP: {
+        struct shuntberry_session gave =
+            call == ADD_STEP ? shuntberry_add_step(table, words, n, g, handed, with[FROM], with[TO])
+                             : shuntberry_remove_step(table, words, n, g, handed, with[FROM], with[TO]);
+        return (struct outcome){gave.refusal, !same_set(gave.reachable, handed) || gave.reserved != 0};
+    }
+    case DECIDE_MODAL: {
+        const uint64_t *const rows[] = {no_steps, table + SHUNTBERRY_ROW(0), stray};
+        struct shuntberry_modal gave =
+            shuntberry_decide_modal(table, words, n, g, rows[with[KNOWN]], with[POSSIBLE], path, with[PLACES]);
+        require(gave.refusal == SHUNTBERRY_ACCEPTED || !shuntberry_modal_is_safe(gave), "a refused modal decision is safe");
+        return (struct outcome){gave.refusal, gave.verdict != SHUNTBERRY_NO_VERDICT || (gave.size | gave.steps) != 0 ||
+                                                  memcmp(gave.invariant, none.words, sizeof none) != 0};
+    }
+    case NEXT_OPEN: {
+        uint64_t windows[SHUNTBERRY_MAX_WINDOWS + 1];
+        for (size_t i = 0; i <= SHUNTBERRY_MAX_WINDOWS; i++)
+            windows[i] = shuntberry_window(with[START], with[LENGTH]);
+        struct shuntberry_minute gave = shuntberry_next_open(with[TIME], windows, with[WINDOWS], closed, with[DAYS]);
+        return (struct outcome){gave.refusal, gave.never != SHUNTBERRY_NO_ANSWER || gave.minute != SHUNTBERRY_NO_MINUTE};
+    }
+    case GENERATE:
+        return (struct outcome){shuntberry_generate(0, n, 2, table, words), 0};
+    case WRITE: {
+        struct shuntberry_file gave = shuntberry_write(table, words, n, g, 0, file, sizeof file);
+        return (struct outcome){gave.refusal, gave.length != 0};
+    }
+    case CALLS:
+        break;
+    }
+    require(0, "no such call");
+    return (struct outcome){0, 1};
+}
+
+/* That a call refuses with a number, gives nothing else that could pass for an answer, and leaves its buffers. */
+static void require_refused(enum call call, const uint64_t *table, const size_t with[ARGUMENTS], uint32_t refusal)
+{
+    char what[80];
+    memcpy(other, table, sizeof other);
+    memset(path, PAINT, sizeof path);
+    memset(distances, PAINT, sizeof distances);
+    struct outcome outcome = ask(call, other, with);
+    snprintf(what, sizeof what, "%s gives %u, where %u is due", names[call], (unsigned)outcome.refusal, (unsigned)refusal);
+    require(outcome.refusal == refusal, what);
+    snprintf(what, sizeof what, "%s refuses with %u, and gives an answer beside it", names[call], (unsigned)refusal);
+    require(!outcome.answers, what);
+    snprintf(what, sizeof what, "%s refuses with %u, and changes a buffer", names[call], (unsigned)refusal);
+    require(memcmp(other, table, sizeof other) == 0 && is_painted(path, sizeof path) && is_painted(distances, sizeof distances), what);
+}
+
+static void refused_calls(void)
+{
+    uint32_t met[CALLS] = {0};
+
+    for (enum call call = DECIDE; call <= NEXT_OPEN; call++) {
+        memcpy(other, few, sizeof other);
+        struct outcome outcome = ask(call, other, accepted);
+        /* removing a step that is not there gives back the set, too */
+        require(outcome.refusal == SHUNTBERRY_ACCEPTED && (outcome.answers || call == REMOVE_STEP), "an accepted call gives no answer");
+        for (size_t row = 0; row < sizeof grounds / sizeof grounds[0]; row++) {
+            if (!(grounds[row].calls & BIT(call)))
+                continue;
+            size_t with[ARGUMENTS];
+            memcpy(with, accepted, sizeof with);
+            with[grounds[row].argument] = grounds[row].changed;
+            require_refused(call, few, with, grounds[row].refusal);
+            met[call] |= BIT(grounds[row].refusal);
+        }
+    }
+    require(memcmp(met, named, sizeof met) == 0, "every ground of every call");
+}
+
+/* A file that is refused, read into a store that was zeroed, and n and g handed on without a look at the refusal. */
+static void refused_files(void)
+{
+    static const uint64_t zeroed[SHUNTBERRY_STORE_WORDS];
+
+    for (size_t row = 0; row < sizeof grounds / sizeof grounds[0]; row++) {
+        if (!(grounds[row].calls & BIT(READ)))
+            continue;
+        size_t with[ARGUMENTS];
+        memcpy(with, accepted, sizeof with);
+        with[grounds[row].argument] = grounds[row].changed;
+        make_input(with[BYTE]);
+        memcpy(other, zeroed, sizeof other);
+        struct shuntberry_table table = shuntberry_read(input, with[INPUT], with[SITE], other, with[WORDS]);
+        require(memcmp(other, zeroed, sizeof other) == 0, "a refused read leaves a zeroed store");
+        memcpy(with, accepted, sizeof with);
+        with[N] = table.n;
+        with[G] = table.g;
+        for (enum call call = DECIDE; call < CALLS; call++)
+            if (call != READ && call != NEXT_OPEN)
+                require_refused(call, zeroed, with, SHUNTBERRY_STATES);
+    }
+}
+
+/* Each ground has words of its own, and what is none has those of no other. */
+static void refusal_texts(void)
+{
+    const char *none = shuntberry_refusal_text(SHUNTBERRY_ACCEPTED);
+    for (uint32_t one = SHUNTBERRY_STORE_SHORT; one <= SHUNTBERRY_TIME; one++) {
+        require(strcmp(shuntberry_refusal_text(one), none) != 0, "a ground without words");
+        for (uint32_t another = SHUNTBERRY_STORE_SHORT; another < one; another++)
+            require(strcmp(shuntberry_refusal_text(one), shuntberry_refusal_text(another)) != 0, "two grounds in the same words");
+    }
+    const uint32_t grounds_not[] = {1, SHUNTBERRY_STORE_SHORT - 1, SHUNTBERRY_TIME + 1, SHUNTBERRY_NO_VERDICT, UINT32_MAX};
+    for (size_t i = 0; i < sizeof grounds_not / sizeof grounds_not[0]; i++)
+        require(strcmp(shuntberry_refusal_text(grounds_not[i]), none) == 0, "words for no ground");
+    require(strcmp(shuntberry_refusal_text(SHUNTBERRY_BLOCK_CHECK), "a block's stored check is not its check for the site") == 0,
+            "the words for 13");
+}
+
+/* Safe is only an accepted call's verdict of safe, whatever a library should give. */
+static void only_safe_is_safe(void)
+{
+    const uint32_t numbers[] = {0, 1, 2, 3, 10, 31, 255, 65535, UINT32_MAX};
+    const size_t count = sizeof numbers / sizeof numbers[0];
+    for (size_t i = 0; i < count; i++)
+        for (size_t k = 0; k < count; k++) {
+            const struct shuntberry_decision decision = {.refusal = numbers[i], .verdict = numbers[k]};
+            const struct shuntberry_modal modal = {.refusal = numbers[i], .verdict = numbers[k]};
+            const int safe = numbers[i] == SHUNTBERRY_ACCEPTED && numbers[k] == SHUNTBERRY_SAFE;
+            require(shuntberry_is_safe(decision) == safe && shuntberry_modal_is_safe(modal) == safe, "is safe");
+        }
 }
 
 static void *on_painted_stack(void *unused)
@@ -531,6 +819,10 @@ static void *on_painted_stack(void *unused)
     nothing();
     sites();
     release_windows();
+    refused_calls();
+    refused_files();
+    refusal_texts();
+    only_safe_is_safe();
     return NULL;
 }
 

@@ -1,6 +1,7 @@
 #!/usr/bin/env python3
-"""What examples/edits.c prints for lists of edits on the files of tables/, worked out here from the files' own bytes, with a search from the
-initial states after each edit; for a refused file the text beside it. Words that are no edits, and a text that cannot be printed, give status 2.
+"""What examples/edits.c prints for lists of edits on the files of tables/, and how it ends, worked out here from the files' own bytes, with a
+search from the initial states after each edit; for a refused file the text beside it. It ends with 0 where nothing is refused, 2 where something
+is, 4 where the table has no states, and 3 on words that are no edits.
 
   tests/outside/edits.py PROGRAM TABLE..
 """
@@ -23,10 +24,10 @@ def printed(table, edits):
     """What must be printed, and the status."""
     n, initial, rows = table
     rows = [set(row) for row in rows]
-    text, status = line(reached_from(initial, rows)), 0
+    text, status = line(reached_from(initial, rows)), 0 if n else 4
     for a, sign, b in edits:
         if a >= n or b >= n:
-            text, status = f"{text}{a}{sign}{b} refused 27\n", 1
+            text, status = f"{text}{a}{sign}{b} refused 27\n", 2
             continue
         (rows[a].add if sign == "+" else rows[a].discard)(b)
         text += f"{a}{sign}{b} {line(reached_from(initial, rows))}"
@@ -46,8 +47,8 @@ def lists(table, draw):
     yield [(LARGE, "+", 0), (0, "-", LARGE), (n, "+", n), (max(n - 1, 0), "+", max(n - 1, 0))]
 
 
-def run(program, path, words, **output):
-    return subprocess.run([program, path, *words], text=True, **output)
+def run(program, path, words):
+    return subprocess.run([program, path, *words], text=True, capture_output=True)
 
 
 def main():
@@ -60,21 +61,17 @@ def main():
         table = (0, set(), []) if refused else table_in(path)
         for edits in lists(table, draw):
             words = [f"{a}{sign}{b}" for a, sign, b in edits]
-            ran = run(program, path, words, capture_output=True)
-            text, status = (expected, 1) if refused else printed(table, edits)
+            ran = run(program, path, words)
+            text, status = (expected, 2) if refused else printed(table, edits)
             if (ran.stdout, ran.returncode) != (text, status):
                 sys.exit(f"edits of {path}, {' '.join(words)}: {ran.stdout!r}, status {ran.returncode}; expected {text!r}, {status}")
             count += 1
-        with open("/dev/full", "w") as full:
-            status = run(program, path, [], stdout=full, stderr=subprocess.DEVNULL).returncode
-        if status != 2:
-            sys.exit(f"edits of {path}: status {status} where nothing could be printed; expected 2")
     if not count:
         sys.exit("edits: no table was tried")
     for word in NO_EDITS:
-        ran = run(program, tables[0], ["0+0", word], capture_output=True)
-        if (ran.stdout, ran.returncode) != ("", 2):
-            sys.exit(f"edits: {word!r} gives {ran.stdout!r}, status {ran.returncode}; expected nothing, 2")
+        ran = run(program, tables[0], ["0+0", word])
+        if (ran.stdout, ran.returncode) != ("", 3):
+            sys.exit(f"edits: {word!r} gives {ran.stdout!r}, status {ran.returncode}; expected nothing, 3")
     print(f"the C example of edits: {count} lists on the files of tables/ printed as expected")
 
 

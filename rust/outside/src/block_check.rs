@@ -3,7 +3,7 @@
 //! intact ones earns 12 where its number has changed, and 13 everywhere else.
 
 use crate::blocks::{self, BLOCK, CONTENT, MAX_SITE};
-use crate::calls::Calls;
+use crate::calls::{Calls, TableRead};
 use crate::examine::Outcome;
 use crate::generate::Random;
 use crate::table::STORE_WORDS;
@@ -132,7 +132,7 @@ impl Read<'_> {
         };
         let mut store = [u64::MAX; STORE_WORDS];
         let answer = self.library.read(damaged, self.site, &mut store);
-        if (answer.refusal, answer.n, answer.g) != (expected, 0, 0) {
+        if answer != TableRead::refused(expected) {
             return Err(format!(
                 "{}'s read answered {answer:?}, expected {expected}",
                 self.library.name()

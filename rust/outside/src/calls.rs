@@ -87,6 +87,79 @@ pub const UNSAFE: u32 = 1;
 pub const UNDECIDED: u32 = 2;
 pub const DEPENDS: u32 = 3;
 
+// What a refused call has in place of an answer: the numbers of the C interface. All its other numbers are 0 and its set is
+// empty, but that a refused edit gives back the set it was handed.
+
+const NO_VERDICT: u32 = 255;
+/// In place of a yes or no.
+pub const NO_ANSWER: u32 = 255;
+/// In place of a number of states or groups.
+const NO_TABLE: u32 = 65_535;
+
+impl Decision {
+    pub fn refused(refusal: u32) -> Decision {
+        Decision {
+            refusal,
+            verdict: NO_VERDICT,
+            ..Decision::default()
+        }
+    }
+}
+
+impl Shortest {
+    pub fn refused(refusal: u32) -> Shortest {
+        Shortest {
+            refusal,
+            found: NO_ANSWER,
+            steps: 0,
+        }
+    }
+}
+
+impl Within {
+    pub fn refused(refusal: u32) -> Within {
+        Within {
+            refusal,
+            within: NO_ANSWER,
+        }
+    }
+}
+
+impl TableRead {
+    pub fn refused(refusal: u32) -> TableRead {
+        TableRead {
+            refusal,
+            n: NO_TABLE,
+            g: NO_TABLE,
+        }
+    }
+}
+
+impl Written {
+    pub fn refused(refusal: u32) -> Written {
+        Written { refusal, length: 0 }
+    }
+}
+
+impl Replay {
+    pub fn refused(refusal: u32) -> Replay {
+        Replay {
+            refusal,
+            ..Replay::default()
+        }
+    }
+}
+
+impl Modal {
+    pub fn refused(refusal: u32) -> Modal {
+        Modal {
+            refusal,
+            verdict: NO_VERDICT,
+            ..Modal::default()
+        }
+    }
+}
+
 pub trait Calls: Sync {
     fn name(&self) -> &'static str;
     fn decide(
@@ -323,7 +396,7 @@ mod linked {
         ) -> Decision {
             let none = Decision::default();
             match shuntberry::decide(store, n, g, allowance, path) {
-                Err(Refused(refusal)) => Decision { refusal, ..none },
+                Err(Refused(refusal)) => Decision::refused(refusal),
                 Ok(Verdict::Safe { count, invariant }) => Decision {
                     verdict: SAFE,
                     count,
@@ -354,7 +427,7 @@ mod linked {
         fn shortest_path(&self, store: &[u64], n: usize, g: usize, path: &mut [u16]) -> Shortest {
             let none = Shortest::default();
             match shuntberry::shortest_path(store, n, g, path) {
-                Err(Refused(refusal)) => Shortest { refusal, ..none },
+                Err(Refused(refusal)) => Shortest::refused(refusal),
                 Ok(None) => none,
                 Ok(Some(states)) => {
                     let states = states.to_vec();
@@ -376,7 +449,7 @@ mod linked {
 
         fn within(&self, store: &[u64], n: usize, g: usize, k: usize) -> Within {
             match shuntberry::within(store, n, g, k) {
-                Err(Refused(refusal)) => Within { refusal, within: 0 },
+                Err(Refused(refusal)) => Within::refused(refusal),
                 Ok(yes) => Within {
                     refusal: 0,
                     within: yes as u32,
@@ -386,10 +459,7 @@ mod linked {
 
         fn read(&self, input: &[u8], site: usize, store: &mut [u64]) -> TableRead {
             match shuntberry::read(input, site, store) {
-                Err(Refused(refusal)) => TableRead {
-                    refusal,
-                    ..TableRead::default()
-                },
+                Err(Refused(refusal)) => TableRead::refused(refusal),
                 Ok(table) => TableRead {
                     refusal: 0,
                     n: table.n as u32,
@@ -407,7 +477,7 @@ mod linked {
             output: &mut [u8],
         ) -> Written {
             match shuntberry::write(store, n, g, site, output) {
-                Err(Refused(refusal)) => Written { refusal, length: 0 },
+                Err(Refused(refusal)) => Written::refused(refusal),
                 Ok(file) => {
                     let file = file.to_vec();
                     Written {
@@ -427,10 +497,7 @@ mod linked {
 
         fn replay(&self, store: &[u64], n: usize, g: usize, log: &[u8]) -> Replay {
             match shuntberry::replay(store, n, g, log) {
-                Err(Refused(refusal)) => Replay {
-                    refusal,
-                    ..Replay::default()
-                },
+                Err(Refused(refusal)) => Replay::refused(refusal),
                 Ok(walk) => Replay {
                     refusal: 0,
                     followed: walk.followed as u32,
@@ -478,12 +545,7 @@ mod linked {
         ) -> Modal {
             let (verdict, invariant, states) =
                 match shuntberry::decide_modal(store, n, g, possible, path) {
-                    Err(Refused(refusal)) => {
-                        return Modal {
-                            refusal,
-                            ..Modal::default()
-                        };
-                    }
+                    Err(Refused(refusal)) => return Modal::refused(refusal),
                     Ok(ModalVerdict::Safe { invariant }) => (SAFE, invariant, None),
                     Ok(ModalVerdict::Unsafe { path }) => {
                         (UNSAFE, StateSet::default(), Some(path.to_vec()))

@@ -386,10 +386,7 @@ fn round_trips(
     // A draft has no bytes, and no output is too short for it.
     if let Some(too_few) = file.len().checked_sub(1) {
         let short = Expected {
-            answer: Written {
-                refusal: 19,
-                length: 0,
-            },
+            answer: Written::refused(19),
             front: Vec::new(),
         };
         write(library, store, (n, g, site), &output[..too_few], &short)?;

@@ -103,10 +103,7 @@ pub fn decide(
     match accept::decide(store, n, g, allowance, path_len) {
         Ok(()) => Judged::new(&table_in(store, n, g)).decide(allowance),
         Err(refusal) => Expected {
-            answer: Decision {
-                refusal,
-                ..Decision::default()
-            },
+            answer: Decision::refused(refusal),
             front: Vec::new(),
         },
     }
@@ -122,10 +119,7 @@ pub fn shortest_path(
     match accept::shortest_path(store, n, g, path_len) {
         Ok(()) => Judged::new(&table_in(store, n, g)).shortest_path(),
         Err(refusal) => Expected {
-            answer: Shortest {
-                refusal,
-                ..Shortest::default()
-            },
+            answer: Shortest::refused(refusal),
             front: Vec::new(),
         },
     }
@@ -146,7 +140,7 @@ pub fn distances(store: &[u64], n: usize, g: usize, room: usize) -> Expected<u32
 pub fn within(store: &[u64], n: usize, g: usize, k: usize) -> Within {
     match accept::within(store, n, g) {
         Ok(()) => Judged::new(&table_in(store, n, g)).within(k),
-        Err(refusal) => Within { refusal, within: 0 },
+        Err(refusal) => Within::refused(refusal),
     }
 }
 
@@ -171,7 +165,7 @@ pub fn write(
     match accept::write(store, n, g, site, output_len) {
         Ok(()) => written(&Dialogue::from_store(store, n, g), site),
         Err(refusal) => Expected {
-            answer: Written { refusal, length: 0 },
+            answer: Written::refused(refusal),
             front: Vec::new(),
         },
     }
@@ -190,10 +184,7 @@ pub fn read(input: &[u8], site: usize, store_len: usize) -> Expected<TableRead, 
             front: dialogue.to_store(),
         },
         Err(refusal) => Expected {
-            answer: TableRead {
-                refusal,
-                ..TableRead::default()
-            },
+            answer: TableRead::refused(refusal),
             front: Vec::new(),
         },
     }

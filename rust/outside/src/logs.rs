@@ -55,7 +55,7 @@ fn reachable(table: &Table) -> usize {
     }
 }
 
-/// What walking a log must answer, where it is not declined.
+/// What walking a log must answer, where it is not refused.
 pub fn walk(table: &Table, log: &[u8]) -> Replay {
     let entries = entries(log);
     // The longest front that obeys: a front of one that obeys does too.
@@ -92,10 +92,7 @@ fn obeys_on(table: &Table, before: usize, entry: usize) -> bool {
 pub fn expected(store: &[u64], n: usize, g: usize, log: &[u8]) -> Replay {
     match accept::replay(store, n, g, log.len()) {
         Ok(()) => walk(&Dialogue::from_store(store, n, g).table(), log),
-        Err(refusal) => Replay {
-            refusal,
-            ..Replay::default()
-        },
+        Err(refusal) => Replay::refused(refusal),
     }
 }
 

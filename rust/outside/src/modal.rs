@@ -161,16 +161,13 @@ pub fn expected(
 ) -> Expected<Modal, u16> {
     match accept::decide_modal(store, n, g, possible, path_len) {
         Ok(()) => judge(&Optional::from_buffers(store, n, g, possible)),
-        Err(refusal) => declined(refusal),
+        Err(refusal) => refused(refusal),
     }
 }
 
-fn declined(refusal: u32) -> Expected<Modal, u16> {
+fn refused(refusal: u32) -> Expected<Modal, u16> {
     Expected {
-        answer: Modal {
-            refusal,
-            ..Modal::default()
-        },
+        answer: Modal::refused(refusal),
         front: Vec::new(),
     }
 }
@@ -611,7 +608,7 @@ fn drafts(libraries: &[&dyn Calls], random: &mut Random) -> Outcome {
         for at in 0..POSSIBLE_WORDS {
             let mut stray = possible.clone();
             stray[at] = 1 << random.below(64);
-            decide_modal(*library, &store, (0, 0), &stray, &path, &declined(17))?;
+            decide_modal(*library, &store, (0, 0), &stray, &path, &refused(17))?;
         }
     }
     Ok(())

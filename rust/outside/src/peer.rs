@@ -750,15 +750,11 @@ impl NextOpen for Peer {
     }
 
     fn next_open(&self, time: usize, windows: &[u64], closed: &[u32]) -> Minute {
-        let refused = |refusal| Minute {
-            refusal,
-            ..Minute::default()
-        };
         if time > MAX_TIME {
-            return refused(31);
+            return Minute::refused(31);
         }
         if windows.len() > MAX_WINDOWS || closed.len() > MAX_DAYS {
-            return refused(30);
+            return Minute::refused(30);
         }
         let mut unpacked = [(0, 0); MAX_WINDOWS];
         let unpacked = &mut unpacked[..windows.len()];
@@ -769,18 +765,12 @@ impl NextOpen for Peer {
             .iter()
             .any(|&(start, length)| start >= WEEK || length == 0 || length > WEEK)
         {
-            return refused(29);
+            return Minute::refused(29);
         }
         if unpacked.is_empty() {
-            return Minute {
-                never: 1,
-                ..Minute::default()
-            };
+            return Minute::NEVER;
         }
-        Minute {
-            minute: first_open(time as u32, unpacked, closed),
-            ..Minute::default()
-        }
+        Minute::found(first_open(time as u32, unpacked, closed))
     }
 }
 
@@ -802,21 +792,10 @@ impl Calls for Peer {
         allowance: usize,
         path: &mut [u16],
     ) -> Decision {
-        let none = Decision::default();
         let table = match Table::accept(store, n, g) {
-            Err(refusal) => return Decision { refusal, ..none },
-            Ok(_) if allowance > MAX_ALLOWANCE => {
-                return Decision {
-                    refusal: 20,
-                    ..none
-                };
-            }
-            Ok(_) if path.len() < PATH_PLACES => {
-                return Decision {
-                    refusal: 21,
-                    ..none
-                };
-            }
+            Err(refusal) => return Decision::refused(refusal),
+            Ok(_) if allowance > MAX_ALLOWANCE => return Decision::refused(20),
+            Ok(_) if path.len() < PATH_PLACES => return Decision::refused(21),
             Ok(table) => table,
         };
         let (verdict, count, invariant) = rounds(&table, allowance, self.0);
@@ -830,20 +809,15 @@ impl Calls for Peer {
             invariant: invariant.0,
             size: invariant.size(),
             steps: steps as u32,
-            ..none
+            ..Decision::default()
         }
     }
 
     fn shortest_path(&self, store: &[u64], n: usize, g: usize, path: &mut [u16]) -> Shortest {
         let none = Shortest::default();
         let table = match Table::accept(store, n, g) {
-            Err(refusal) => return Shortest { refusal, ..none },
-            Ok(_) if path.len() < PATH_PLACES => {
-                return Shortest {
-                    refusal: 21,
-                    ..none
-                };
-            }
+            Err(refusal) => return Shortest::refused(refusal),
+            Ok(_) if path.len() < PATH_PLACES => return Shortest::refused(21),
             Ok(table) => table,
         };
         match write_path(&table, path) {
@@ -857,22 +831,15 @@ impl Calls for Peer {
     }
 
     fn read(&self, input: &[u8], site: usize, store: &mut [u64]) -> TableRead {
-        let none = TableRead::default();
         let Some(store) = store.first_chunk_mut::<STORE_WORDS>() else {
-            return TableRead {
-                refusal: 10,
-                ..none
-            };
+            return TableRead::refused(10);
         };
         if site > MAX_SITE {
-            return TableRead {
-                refusal: 24,
-                ..none
-            };
+            return TableRead::refused(24);
         }
         let mut joined = [0; CONTENTS_ROOM];
         let (n, g) = match open(input, site, &mut joined) {
-            Err(refusal) => return TableRead { refusal, ..none },
+            Err(refusal) => return TableRead::refused(refusal),
             Ok(sizes) => sizes,
         };
         let (all, width) = (Set::below(n), n.div_ceil(8));
@@ -886,9 +853,9 @@ impl Calls for Peer {
         unused.fill([0; WORDS]);
         unused_rows.fill([0; WORDS]);
         TableRead {
+            refusal: 0,
             n: n as u32,
             g: g as u32,
-            ..none
         }
     }
 
@@ -906,7 +873,7 @@ impl Calls for Peer {
 
     fn within(&self, store: &[u64], n: usize, g: usize, k: usize) -> Within {
         match Table::accept(store, n, g) {
-            Err(refusal) => Within { refusal, within: 0 },
+            Err(refusal) => Within::refused(refusal),
             Ok(table) => Within {
                 refusal: 0,
                 within: steps_to_forbidden(&table).is_some_and(|steps| steps <= k) as u32,
@@ -916,22 +883,16 @@ impl Calls for Peer {
 
     fn write(&self, store: &[u64], n: usize, g: usize, site: usize, output: &mut [u8]) -> Written {
         if store.len() >= STORE_WORDS && site > MAX_SITE {
-            return Written {
-                refusal: 24,
-                length: 0,
-            };
+            return Written::refused(24);
         }
         let table = match Table::accept(store, n, g) {
-            Err(refusal) => return Written { refusal, length: 0 },
+            Err(refusal) => return Written::refused(refusal),
             Ok(table) => table,
         };
         // A draft has no blocks.
         let needed = if n == 0 { 0 } else { blocks_needed(n, g).1 };
         let Some(output) = output.get_mut(..BLOCK * needed) else {
-            return Written {
-                refusal: 19,
-                length: 0,
-            };
+            return Written::refused(19);
         };
         let mut joined = [0; CONTENTS_ROOM];
         joined[0..2].copy_from_slice(&(n as u16).to_le_bytes());
@@ -976,14 +937,10 @@ impl Calls for Peer {
     }
 
     fn replay(&self, store: &[u64], n: usize, g: usize, log: &[u8]) -> Replay {
-        let refused = |refusal| Replay {
-            refusal,
-            ..Replay::default()
-        };
         let table = match Table::accept(store, n, g) {
-            Err(refusal) => return refused(refusal),
-            Ok(_) if !log.len().is_multiple_of(2) => return refused(25),
-            Ok(_) if log.len() > MAX_LOG => return refused(26),
+            Err(refusal) => return Replay::refused(refusal),
+            Ok(_) if !log.len().is_multiple_of(2) => return Replay::refused(25),
+            Ok(_) if log.len() > MAX_LOG => return Replay::refused(26),
             Ok(table) => table,
         };
         let (followed, seen) = follow(&table, log);
@@ -1044,20 +1001,16 @@ impl Calls for Peer {
         possible: &[u64],
         path: &mut [u16],
     ) -> Modal {
-        let refused = |refusal| Modal {
-            refusal,
-            ..Modal::default()
-        };
         let Some(possible) = possible.first_chunk::<POSSIBLE_WORDS>() else {
-            return refused(10);
+            return Modal::refused(10);
         };
         let table = match Table::accept(store, n, g) {
-            Err(refusal) => return refused(refusal),
+            Err(refusal) => return Modal::refused(refusal),
             Ok(table) => table,
         };
         let rows = match accept_possible(&table, possible) {
-            Err(refusal) => return refused(refusal),
-            Ok(_) if path.len() < PATH_PLACES => return refused(21),
+            Err(refusal) => return Modal::refused(refusal),
+            Ok(_) if path.len() < PATH_PLACES => return Modal::refused(21),
             Ok(rows) => rows,
         };
         decide_choices(&table, rows, path, self.0)

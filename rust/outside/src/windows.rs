@@ -6,6 +6,7 @@
 //! of one minute after the other whether a window of some week holds it. Neither takes a remainder of weeks.
 
 use crate::buffer::Lent;
+use crate::calls::NO_ANSWER;
 use crate::examine::{Outcome, Tally};
 use crate::generate::Random;
 
@@ -21,31 +22,42 @@ pub const MAX_DAYS: usize = 64;
 pub type Window = (u64, u64);
 
 /// What the call answers; the fields are those of `shuntberry_minute`.
-#[derive(Clone, Copy, Debug, Default, PartialEq, Eq)]
+#[derive(Clone, Copy, Debug, PartialEq, Eq)]
 pub struct Minute {
     pub refusal: u32,
     pub never: u32,
     pub minute: u32,
 }
 
-const NEVER: Minute = Minute {
-    refusal: 0,
-    never: 1,
-    minute: 0,
-};
+/// In place of a minute, of never and of a refused call: the number of the C interface, later than any open minute.
+const NO_MINUTE: u32 = u32::MAX;
 
-fn declined(refusal: u32) -> Minute {
-    Minute {
-        refusal,
-        ..Minute::default()
+impl Minute {
+    pub const NEVER: Minute = Minute {
+        refusal: 0,
+        never: 1,
+        minute: NO_MINUTE,
+    };
+
+    pub fn refused(refusal: u32) -> Minute {
+        Minute {
+            refusal,
+            never: NO_ANSWER,
+            minute: NO_MINUTE,
+        }
+    }
+
+    pub fn found(minute: u32) -> Minute {
+        Minute {
+            refusal: 0,
+            never: 0,
+            minute,
+        }
     }
 }
 
 fn found(minute: u64) -> Minute {
-    Minute {
-        minute: u32::try_from(minute).expect("the request's answers fit"),
-        ..Minute::default()
-    }
+    Minute::found(u32::try_from(minute).expect("the request's answers fit"))
 }
 
 /// A library that answers the call. The windows are as the library takes them: `word`.
@@ -96,12 +108,12 @@ fn is_open(minute: u64, windows: &[Window], closed: &[u32]) -> bool {
 /// The answer by asking of one minute after the other.
 pub fn minute_by_minute(time: u64, windows: &[Window], closed: &[u32]) -> Minute {
     match refusal(time, windows, closed) {
-        0 if windows.is_empty() => NEVER,
+        0 if windows.is_empty() => Minute::NEVER,
         0 => {
             let open = (time..).find(|&minute| is_open(minute, windows, closed));
             found(open.expect("some later minute is open"))
         }
-        number => declined(number),
+        number => Minute::refused(number),
     }
 }
 
@@ -219,30 +231,30 @@ pub fn edges(libraries: &[&dyn NextOpen], tally: &mut Tally) -> Outcome {
         (u64::from(u32::MAX), 1),
         (0, u64::from(u32::MAX)),
     ] {
-        ask(7, &[outside], &[], declined(29))?;
-        ask(7, &[always[0], outside], &[], declined(29))?;
+        ask(7, &[outside], &[], Minute::refused(29))?;
+        ask(7, &[always[0], outside], &[], Minute::refused(29))?;
     }
     // Times.
     ask(0, &always, &[], found(0))?;
     ask(MAX_TIME, &always, &[], found(MAX_TIME))?;
-    ask(MAX_TIME + 1, &always, &[], declined(31))?;
-    ask(u64::MAX, &always, &[], declined(31))?;
+    ask(MAX_TIME + 1, &always, &[], Minute::refused(31))?;
+    ask(u64::MAX, &always, &[], Minute::refused(31))?;
     let last_week = MAX_TIME / WEEK * WEEK;
     ask(MAX_TIME, &[(0, 1)], &[], found(last_week + WEEK))?;
     // Counts: no window with 65 days is 30, and a day that is named twice counts twice.
     ask(3, &[(5, 1); 32], &[], found(5))?;
-    ask(3, &[(5, 1); 33], &[], declined(30))?;
+    ask(3, &[(5, 1); 33], &[], Minute::refused(30))?;
     ask(3, &[(5, 1)], &[9; 64], found(5))?;
-    ask(3, &[(5, 1)], &[9; 65], declined(30))?;
-    ask(3, &[], &[], NEVER)?;
-    ask(3, &[], &[9; 64], NEVER)?;
-    ask(3, &[], &[9; 65], declined(30))?;
+    ask(3, &[(5, 1)], &[9; 65], Minute::refused(30))?;
+    ask(3, &[], &[], Minute::NEVER)?;
+    ask(3, &[], &[9; 64], Minute::NEVER)?;
+    ask(3, &[], &[9; 65], Minute::refused(30))?;
     // Order: 31, 30, 29.
-    ask(3, &[(5, 0); 33], &[9; 65], declined(30))?;
-    ask(3, &[(5, 0); 32], &[9; 64], declined(29))?;
-    ask(MAX_TIME + 1, &[(5, 0); 33], &[9; 65], declined(31))?;
-    ask(MAX_TIME + 1, &[(5, 0)], &[], declined(31))?;
-    ask(MAX_TIME + 1, &[], &[], declined(31))?;
+    ask(3, &[(5, 0); 33], &[9; 65], Minute::refused(30))?;
+    ask(3, &[(5, 0); 32], &[9; 64], Minute::refused(29))?;
+    ask(MAX_TIME + 1, &[(5, 0); 33], &[9; 65], Minute::refused(31))?;
+    ask(MAX_TIME + 1, &[(5, 0)], &[], Minute::refused(31))?;
+    ask(MAX_TIME + 1, &[], &[], Minute::refused(31))?;
     // Closed days by number, each any 32-bit one. Multiplied out in 32 bits, day 2^27 begins at minute 0.
     ask(700, &always, &[0], found(DAY))?;
     ask(700, &always, &[2, 1, 0, 1, 2], found(3 * DAY))?;
@@ -397,7 +409,7 @@ pub use linked::{Linked, Wrapped};
 
 #[cfg(feature = "library")]
 mod linked {
-    use super::{Minute, NEVER, NextOpen, declined, found};
+    use super::{Minute, NextOpen};
     use shuntberry::{Refused, Window, raw};
 
     /// The library, by its export for C.
@@ -435,9 +447,9 @@ mod linked {
                 .map(|word| Window::new(word & 0xffff_ffff, word >> 32))
                 .collect();
             match shuntberry::next_open(time, &windows, closed) {
-                Err(Refused(refusal)) => declined(refusal),
-                Ok(None) => NEVER,
-                Ok(Some(minute)) => found(minute.into()),
+                Err(Refused(refusal)) => Minute::refused(refusal),
+                Ok(None) => Minute::NEVER,
+                Ok(Some(minute)) => Minute::found(minute),
             }
         }
     }
