@@ -15,7 +15,6 @@ use lib.Dec.{eqb, ltb}
 use lib.ListN.{length}
 use Rattle.model.specs.Sets.{WORDS, maxStates, Set, union}
 use Rattle.model.specs.Tables.{Table, hangs}
-use Rattle.model.specs.Rounds.{run}
 use Rattle.model.specs.Paths.{smallestPath}
 use Rattle.basics.specs.Refusals.{refuse, answered, unlessRefused}
 use Rattle.model.specs.Stores.{markedAt, restingAt, rowAt, setAt, dialogueOf, tableOf}
@@ -25,7 +24,7 @@ use Rattle.basics.proofs.RefusalLaws.{refuse-skip, refuse-none, answer-none}
 use Rattle.model.proofs.Acceptance.{store-accepted}
 use Rattle.modal.specs.Modal.{rowsFrom, certainRow, possibleRow, tableWith, modalForbidden, modalTable, certainTable, possibleTable, releaseCheck, ModalAnswer, modalOf, modalWritten}
 use Rattle.modal.specs.ModalPromises.{AsDecide}
-use Rattle.modal.proofs.Grounds.{ModalHeld, accepted}
+use Rattle.modal.proofs.Grounds.{ModalHeld}
 use Rattle.modal.proofs.Choosing.{SaysSafe, SaysUnsafe}
 use Rattle.modal.proofs.Deciding.{safe-of, unsafe-of}
 use Rattle.modal.proofs.Verdicts.{says-certain}

@@ -11,10 +11,9 @@
 use Prim.Native.Nat.{ℕ, suc, _≤_, _<_}
 use native.Mathlib.Omega.{arith}
 use mathlib.Core.Path.{_≡_, refl, sym, ap, _∙_, subst}
-use mathlib.Core.Logic.{inl, inr, ⊎-elim}
+use mathlib.Core.Logic.{inl, inr}
 use mathlib.Core.Bool.{Bool, true, false, cond}
 use mathlib.Core.List.{List, List·Memᴰ}
-use borrow.Author.Tests.{eqb-true, ne-eqb}
 use lib.Dec.{eqb}
 use lib.ListN.{length, take}
 use lib.Seq.{take-at}
@@ -24,8 +23,6 @@ use Rattle.model.specs.Rounds.{Outcome, safe, unsafe, undecided, run, ba
 use Rattle.model.specs.Paths.{isPath, shortest, hasPath, smallestPath}
 use Rattle.basics.specs.Refusals.{answered, unlessRefused}
 use Rattle.model.specs.Stores.{groupAt, setAt, tableOf, beyond}
-use Rattle.model.specs.Contents.{newForm}
-use Rattle.model.specs.Files.{fileLength}
 use Rattle.model.specs.Calls.{overwrite, Decision, release, decideGrounds, decisionOf, decideAnswer, decideBuffer, Shortest, pathFound, shortestGrounds, shortestAnswer, shortestBuffer, readGrounds, readAnswerAs, readBufferAs, writeGrounds, writeAnswer, writeBuffer}
 use Rattle.model.specs.Promises.{Operations, StopsFirst, IsSmallest, Carries, Demand2, Demand3, SameAnswer, PathAnswer, Promises, Untouched}
 use Rattle.model.specs.Sizes.{Sizes}

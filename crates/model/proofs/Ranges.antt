@@ -10,7 +10,6 @@ use mathlib.Core.Path.{_≡_, sym, subst}
 use mathlib.Core.Logic.{⊎-elim}
 use mathlib.Core.Bool.{Bool, true, false}
 use mathlib.Core.List.{List}
-use lib.ListN.{length}
 use Rattle.model.specs.Sets.{maxStates, meets}
 use Rattle.model.specs.Tables.{Table}
 use Rattle.model.specs.Rounds.{Outcome, safe, unsafe, undecided, run}

@@ -12,7 +12,7 @@
 --   storeGround room           ground 10; tableGrounds store n g: those of a table in a store, 14, 15 and 17
 --   sharedGrounds store n g    the grounds that every call on a table in a store looks at first, in order
 --   AcceptedStore store n g    none of them holds
-use Prim.Native.Nat.{ℕ, zero, suc, _+_, _*_}
+use Prim.Native.Nat.{ℕ, _+_, _*_}
 use mathlib.Core.Path.{_≡_}
 use mathlib.Core.Bool.{Bool, cond, not, _&&_, _||_}
 use mathlib.Core.List.{List, [], _∷_, _++_}

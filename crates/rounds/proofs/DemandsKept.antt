@@ -1,5 +1,5 @@
 -- The demands of the call: the model's promises, by the contract of decide.
-use mathlib.Core.Path.{_≡_, sym, _∙_, subst, subst₂}
+use mathlib.Core.Path.{sym, _∙_, subst, subst₂}
 use Rattle.model.specs.Stores.{tableOf}
 use Rattle.model.specs.Promises.{Carries, Demand2, Demand3, SameAnswer}
 use Rattle.model.proofs.Kept.{promises, untouched}

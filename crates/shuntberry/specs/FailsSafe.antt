@@ -2,7 +2,7 @@
 --
 --   HandedOn k      the n and g of a refused read, handed on to every call that takes them
 --   FailsSafe       of every refused call
-use Prim.Native.Nat.{ℕ, _≤_, _<_}
+use Prim.Native.Nat.{ℕ, _<_}
 use mathlib.Core.Path.{_≡_}
 use mathlib.Core.Bool.{cond, _||_}
 use mathlib.Core.List.{List}
@@ -19,7 +19,7 @@ use Rattle.generator.specs.Load.{generateAnswer}
 use Rattle.replay.specs.Logs.{replayAnswer}
 use Rattle.edit_session.specs.Edits.{Edit, openAnswer, editAnswer}
 use Rattle.modal.specs.Modal.{possibleWords, modalAnswer}
-use Rattle.release_windows.specs.Answers.{never, maxTime, nextOpenAnswer}
+use Rattle.release_windows.specs.Answers.{never, nextOpenAnswer}
 use Rattle.shuntberry.specs.Fields.{decisionFields, shortestFields, withinFields, tableFields, modalFields, minuteFields}
 
 -- Each refuses them: with 10 where a buffer is short, with 24 where write's site is too great, else with 14.
