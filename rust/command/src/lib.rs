@@ -25,19 +25,34 @@ use crate::failure::{Done, Failure, status};
 use crate::shown::shown;
 use crate::sys::Streams;
 use crate::words::{Call, Command, Output, did_you_mean};
-use std::ffi::OsString;
+use std::ffi::{OsStr, OsString};
 use std::path::Path;
+
+/// Whether a file may be due on standard output: not where the words name a command that answers.
+pub fn file_may_be_due(words: &[OsString]) -> bool {
+    let answers = |name: &OsStr| {
+        let command = COMMANDS.iter().find(|command| name == command.name);
+        command.is_some_and(|command| command.output == Output::Answer)
+    };
+    !is_check(words) && !words.get(1).is_some_and(|name| answers(name))
+}
+
+/// Whether the program was called by the name `check`.
+fn is_check(words: &[OsString]) -> bool {
+    let own = words.first().and_then(|word| Path::new(word).file_name());
+    own.is_some_and(|own| own == "check")
+}
 
 /// Runs the command that the words name, the program's own name before them, and gives the status that it ends with.
 pub fn run(words: &[OsString], streams: Streams) -> u8 {
-    let own = words.first().and_then(|word| Path::new(word).file_name());
+    let check = is_check(words);
     let words = words.get(1..).unwrap_or_default();
-    let (name, done) = match own {
-        Some(own) if own == "check" => (
+    let (name, done) = match check {
+        true => (
             "check",
             call("check", &commands::check::CHECK, words, streams),
         ),
-        _ => by_name(words, streams),
+        false => by_name(words, streams),
     };
     let done = done.and_then(|status| {
         sys::close_output().map(|()| status).map_err(|error| {
@@ -85,9 +100,6 @@ fn unknown(word: &OsString) -> Failure {
 
 /// Runs a command. Asked about itself it ends with 3: a 0 says that a table is safe, or that something was made.
 fn call(program: &str, command: &'static Command, words: &[OsString], streams: Streams) -> Done {
-    if command.output == Output::Answer {
-        sys::no_file_due();
-    }
     need_output(streams)?;
     let options = words.iter().take_while(|word| *word != "--");
     for word in options {

@@ -4,19 +4,19 @@
 //! seems to go well.
 #![no_main]
 
-use shuntberry_command::{run, sys};
+use shuntberry_command::{file_may_be_due, run, sys};
 use std::ffi::{CStr, OsStr, OsString, c_char, c_int};
 use std::os::unix::ffi::OsStrExt;
 
 /// Where the C library begins.
 #[unsafe(no_mangle)]
 pub extern "C" fn main(count: c_int, words: *const *const c_char) -> c_int {
-    let streams = sys::begin();
     let words: Vec<OsString> = (0..usize::try_from(count).unwrap_or_default())
         // SAFETY: the C library hands over that many words, each one ended by a zero.
         .map(|i| unsafe { CStr::from_ptr(*words.add(i)) })
         .map(|word| OsStr::from_bytes(word.to_bytes()).to_os_string())
         .collect();
+    let streams = sys::begin(file_may_be_due(&words));
     // A panic would be a mistake of this program; its message is on standard error.
     let status = std::panic::catch_unwind(|| run(&words, streams)).unwrap_or(3);
     status.into()

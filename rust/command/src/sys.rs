@@ -53,7 +53,7 @@ const OUTPUT: c_int = 1;
 const PIPE_BYTES: usize = 4096;
 
 /// A file is due on standard output, and has no byte yet.
-static FILE_DUE: AtomicBool = AtomicBool::new(true);
+static FILE_DUE: AtomicBool = AtomicBool::new(false);
 /// The name of the file that is not whole yet.
 static PART: AtomicPtr<c_char> = AtomicPtr::new(ptr::null_mut());
 
@@ -66,8 +66,9 @@ pub struct Streams {
     pub no_output: bool,
 }
 
-/// Before all else. Where a stream is closed its number is taken, so that no file that is opened later gets it.
-pub fn begin() -> Streams {
+/// Before all else: whether a file may be due on standard output, so far as the first words say. Where a stream is closed its number is taken, so
+/// that no file that is opened later gets it.
+pub fn begin(file_may_be_due: bool) -> Streams {
     let closed = [0, 1, 2].map(|fd| {
         // SAFETY: only a number goes in.
         let closed = unsafe { fcntl(fd, F_GETFD) } < 0;
@@ -76,11 +77,12 @@ pub fn begin() -> Streams {
         }
         closed
     });
+    FILE_DUE.store(
+        file_may_be_due && !closed[1] && !io::stdout().is_terminal(),
+        SeqCst,
+    );
     for number in (1..=LAST_SIGNAL).filter(|number| !LEFT_ALONE.contains(number)) {
         handle(number);
-    }
-    if io::stdout().is_terminal() {
-        no_file_due();
     }
     Streams {
         no_input: closed[0],
