@@ -1,5 +1,5 @@
 #!/usr/bin/env python3
-"""Random tables in all their forms, by tables/make.py, which shares no code with the library or with the command `tables`.
+"""Random tables in all their forms, by tables/make.py, which shares no code with the library or with the command `shuntberry`.
 
     python3 tests/command/drafts.py FOLDER SEED COUNT
 
