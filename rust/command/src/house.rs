@@ -204,7 +204,7 @@ fn day_of(word: &str) -> Option<usize> {
 }
 
 fn is_leap(year: usize) -> bool {
-    year % 4 == 0 && (year % 100 != 0 || year % 400 == 0)
+    year.is_multiple_of(4) && (!year.is_multiple_of(100) || year.is_multiple_of(400))
 }
 
 fn days_of(year: usize, month: usize) -> usize {

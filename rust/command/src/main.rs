@@ -9,10 +9,14 @@ use std::ffi::{CStr, OsStr, OsString, c_char, c_int};
 use std::os::unix::ffi::OsStrExt;
 
 /// Where the C library begins.
+///
+/// # Safety
+///
+/// `words` has `count` words, each one ended by a zero.
 #[unsafe(no_mangle)]
-pub extern "C" fn main(count: c_int, words: *const *const c_char) -> c_int {
+pub unsafe extern "C" fn main(count: c_int, words: *const *const c_char) -> c_int {
     let words: Vec<OsString> = (0..usize::try_from(count).unwrap_or_default())
-        // SAFETY: the C library hands over that many words, each one ended by a zero.
+        // SAFETY: as above, which the C library sees to.
         .map(|i| unsafe { CStr::from_ptr(*words.add(i)) })
         .map(|word| OsStr::from_bytes(word.to_bytes()).to_os_string())
         .collect();
