@@ -38,6 +38,27 @@ pub enum Checked<'t> {
 /// must not be passed on as one.
 ///
 /// Refused itself with 24, then 19 where `text` has under [`CHECK_TEXT_BYTES`] places.
+///
+/// ```
+/// use shuntberry::checking::{CHECK_TEXT_BYTES, Checked, check};
+/// use shuntberry::{FILE_BYTES, STORE_WORDS, generate, write};
+///
+/// // The file of a table whose only state is initial, marked, and leads to itself.
+/// let (mut store, mut output) = ([0; STORE_WORDS], [0; FILE_BYTES]);
+/// generate(7, 1, 1, &mut store)?;
+/// let file = write(&store, 1, 0, 0, &mut output)?;
+///
+/// let mut text = [0; CHECK_TEXT_BYTES];
+/// let Checked::Unsafe { n: 1, text: said } = check(file, 0, &mut text)? else {
+///     panic!("a session starts in a forbidden state");
+/// };
+/// assert_eq!(said, b"states 1 groups 0\nunsafe refinements 0\npath 0\n");
+///
+/// // A file that is cut is refused, and that is an answer.
+/// let checked = check(&file[1..], 0, &mut text)?;
+/// assert!(matches!(checked, Checked::RefusedFile { text: b"refused 11\n", .. }));
+/// # Ok::<(), shuntberry::Refused>(())
+/// ```
 pub fn check<'t>(input: &[u8], site: usize, text: &'t mut [u8]) -> Result<Checked<'t>, Refused> {
     // interim: becomes the proved call shuntberry_check
     if site > crate::MAX_SITE {

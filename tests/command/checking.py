@@ -139,6 +139,7 @@ for words in (E, E), ("", E), ("-h",), ("-",), ("--explain", "--explain", E), ("
     "--text", "--names", E, E), ("--site=1=2", E), ("--json=x", E), ("--names",), ("--allowance", "99999999999999999999", E):
     wrong("usage: shuntberry check ", "check", *words)
     wrong("usage: check ", *words, under="check")
+wrong("is no option", "check", b"--names=\xff", E)
 wrong("did you mean '--explain'", "check", "--explian", E)
 wrong("did you mean '--allowance'", "check", "--alowance", "3", E)
 wrong("expected a number from 0 to 512", "check", "--allowance", "600", E)

@@ -201,6 +201,9 @@ gives(SAFE, H1.read_bytes(), "encode", "-o", "/dev/stdout", TABLES / "h1.txt")
 gives(SAFE, "", "encode", "-o", "-dash", TABLES / "h1.txt", cwd=WORK)
 gives(SAFE, "", "encode", "-o", "two\nlines", "--", "-text", cwd=WORK) if (WORK / "-text").write_bytes((TABLES / "h1.txt").read_bytes()) else None
 need((WORK / "-dash").read_bytes() == (WORK / "two\nlines").read_bytes() == H1.read_bytes(), "names of outputs")
+os.chmod(behind, 0o640)
+gives(SAFE, "", "encode", "-o", link, TABLES / "e.txt")
+need(behind.stat().st_mode & 0o777 == 0o640 and behind.read_bytes() == E.read_bytes(), "who may read it")
 long = "x" * 255
 gives(SAFE, "", "encode", "-o", WORK / long, TABLES / "h1.txt")
 group("outputs by their names")
@@ -260,9 +263,12 @@ kills = {"killed": 0, "done": 0}
 for words, whole in WRITES:
     whole = whole or call(*words).out
     release = words[0] == "release"
-    began = time.monotonic()
-    call(*words, *([] if release else ["-o"]), out)
-    took = time.monotonic() - began
+    times = []
+    for _ in range(3):
+        began = time.monotonic()
+        call(*words, *([] if release else ["-o"]), out)
+        times.append(time.monotonic() - began)
+    took = max(times)
     for i in range(60):
         old = random.choice([None, b"what was there"])
         number = random.choice([signal.SIGTERM, signal.SIGINT, signal.SIGHUP, signal.SIGKILL, signal.SIGALRM, signal.SIGQUIT])
@@ -291,7 +297,7 @@ for words, whole in WRITES:
             status = run.wait()
         found = out.read_bytes()
         need(found == whole or (found == b"failed\n" and status == -number), f"{words} killed by {number!r}: {found[:50]!r}, status {status}")
-need(min(kills.values()) > 20, kills)
+need(kills["killed"] >= 20 and kills["done"] >= 10, kills)
 group(f"kills at many moments, {kills['killed']} of them before the end")
 
 # ---- files that change

@@ -188,7 +188,8 @@ pub fn replace(path: &Path, bytes: &[u8]) -> Result<(), Failure> {
 
 fn replaced(path: &Path, bytes: &[u8]) -> io::Result<()> {
     let path = &fs::canonicalize(path).unwrap_or(path.to_path_buf()); // behind a link
-    if let Ok(data) = fs::metadata(path) {
+    let there = fs::metadata(path).ok();
+    if let Some(data) = &there {
         let kind = data.file_type();
         if kind.is_fifo() || kind.is_char_device() {
             return OpenOptions::new().write(true).open(path)?.write_all(bytes);
@@ -204,6 +205,10 @@ fn replaced(path: &Path, bytes: &[u8]) -> io::Result<()> {
     let (part, mut file) = new_part(folder)?;
     let written = file
         .write_all(bytes)
+        .and_then(|()| match there {
+            Some(data) => file.set_permissions(data.permissions()), // who may read it stays the same
+            None => Ok(()),
+        })
         .and_then(|()| file.sync_all())
         .and_then(|()| {
             let _held = sys::Held::new();

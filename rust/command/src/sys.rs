@@ -197,6 +197,7 @@ pub fn print(bytes: &[u8]) -> io::Result<()> {
             }
         }
     }
+    no_file_due(); // also where the file has no bytes
     Ok(())
 }
 

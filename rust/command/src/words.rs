@@ -4,6 +4,7 @@ use crate::failure::{Done, Failure};
 use crate::lines::number;
 use crate::shown::shown;
 use std::ffi::{OsStr, OsString};
+use std::os::unix::ffi::OsStrExt;
 use std::path::Path;
 
 /// An option of a command.
@@ -90,6 +91,12 @@ impl Call {
                 Some("--") if options => options = false,
                 Some(option) if options && option.starts_with('-') => {
                     call.option(command, option, &mut rest)?
+                }
+                None if options && word.as_bytes().starts_with(b"-") => {
+                    return Err(Failure::Wrong(format!(
+                        "{} is no option of it",
+                        shown(word)
+                    )));
                 }
                 _ => call.names.push(word.clone()),
             }
