@@ -72,7 +72,7 @@ def inspected(table, names):
         ("screens that nothing reaches", table.states() - reachable),
     ]:
         if states:
-            look.append(f"{words}: {' '.join(screen(s, names) for s in sorted(states))}")
+            look.append(f"{words}: {', '.join(screen(s, names) for s in sorted(states))}")
     return said + ("".join(f"look at: {words}\n" for words in look) or "look at nothing in particular\n")
 
 
@@ -97,6 +97,14 @@ for table, path in EVERY:
     look = found.pop("look_at")
     need(found == inspected_object(table, names), path, found)
     need(len(look) == max(expected.count("look at: "), 0), look)
+# the examples of the manual page
+page = (TOP / "man/shuntberry.1").read_text().replace("\\-", "-").replace("\\(aq", "'")
+example = WORK / "example.txt"
+example.write_text((TABLES / "e.txt").read_text() + "state 0 home\nstate 2 over-limit\n")
+log = WORK / "log"
+log.write_bytes(b"\0\0\1\0\4\0")
+for words in ("inspect", "--text", example), ("replay", TABLES / "b.table", log), ("check", E), ("check", TABLES / "b.table"), ("check", TABLES / "bad-check.table"):
+    need(f".EX\n{call(*words).out.decode()}.EE\n" in page, "the manual page has another example of", *words)
 gives(REFUSED, "", "inspect", TABLES / "bad-check.table", err="^inspect: .*refused 13")
 gives(FAILED, "", "inspect", err="standard input is empty")
 group(f"inspect, seed {SEED}")
@@ -142,7 +150,7 @@ def replayed(table, entries, names):
     percent, remainder = divmod(100 * len(seen), len(reachable)) if reachable else (0, 0)
     left = sorted(reachable - seen)
     said += f"coverage {percent} percent remainder {remainder}: {len(seen)} of {len(reachable)}\n"
-    said += f"not seen {len(left)}: {' '.join(screen(s, names) for s in left) or 'none'}\n"
+    said += f"not seen {len(left)}: {', '.join(screen(s, names) for s in left) or 'none'}\n"
     found = {
         "states": table.n, "groups": len(table.groups), "entries": len(entries), "followed": followed, "breaks": breaks, "seen": len(seen),
         "reachable": len(reachable), "percent": percent, "remainder": remainder, "not_seen": left,

@@ -88,18 +88,10 @@ impl<'t> Found<'t> {
         if remarks.is_empty() {
             said += "look at nothing in particular\n";
         }
-        for Remark {
-            said: words,
-            states,
-            ..
-        } in remarks
-        {
-            let states: String = states
-                .iter()
-                .map(|s| format!(" {}", self.screen(*s)))
-                .collect();
-            let colon = if states.is_empty() { "" } else { ":" };
-            said += &format!("look at: {words}{colon}{states}\n");
+        for remark in remarks {
+            let states: Vec<String> = remark.states.iter().map(|s| self.screen(*s)).collect();
+            let colon = if states.is_empty() { "" } else { ": " };
+            said += &format!("look at: {}{colon}{}\n", remark.said, states.join(", "));
         }
         said
     }

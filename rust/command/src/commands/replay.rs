@@ -173,17 +173,13 @@ impl<'t> Walk<'t> {
             found.seen,
             self.reachable.states().count()
         );
-        let left = self.not_seen();
-        let states: String = left
-            .iter()
-            .map(|s| format!(" {}", self.screen(*s)))
-            .collect();
-        let states = if left.is_empty() {
-            " none".to_string()
+        let left: Vec<String> = self.not_seen().iter().map(|s| self.screen(*s)).collect();
+        let listed = if left.is_empty() {
+            "none".to_string()
         } else {
-            states
+            left.join(", ")
         };
-        said + &format!("not seen {}:{states}\n", left.len())
+        said + &format!("not seen {}: {listed}\n", left.len())
     }
 
     fn object(&self) -> Object {
