@@ -2,7 +2,7 @@
 """Makes the files of this folder from the specification's text alone; shares no code with the library.
 
 NAME.table is a block file, NAME.expected what `check` prints for it, NAME.txt, where the file is accepted, its text as
-`tables decode` prints it. The answers are worked out by the
+`shuntberry decode` prints it. The answers are worked out by the
 rounds as the specification writes them, on Python's numbers and sets; for tables A to G they are held to the figures typed below.
 old-NAME.table is a file of the old form, and rewritten-NAME.table what it is rewritten as, for which `check` prints what the old table's rounds
 give; where there is none, rewritten-NAME.expected is the refusal of the rewriting.
@@ -181,7 +181,7 @@ def listing(states):
 
 
 def text(table):
-    """One fact a line, in the one order that `tables decode` has. The draft has one line; a state without successors has none."""
+    """One fact a line, in the one order that `shuntberry decode` has. The draft has one line; a state without successors has none."""
     head = [("initial", table.initial), ("forbidden", table.marked), ("resting", table.resting)]
     rows = [(f"step {s} ->", table.row(s)) for s in sorted({a for a, _ in table.steps})]
     facts = [*head, *(("group", group) for group in table.groups), *rows] if table.n else []

@@ -57,6 +57,7 @@
 //! When a release may be loaded is a question of its own, about weekly windows and closed days:
 //! [`next_open`].
 
+pub mod checking;
 pub mod raw;
 
 use std::error::Error;

@@ -1,0 +1,95 @@
+//! The program about itself: help and version.
+
+use crate::commands::COMMANDS;
+use crate::failure::{Done, Failure, status};
+use crate::files::print;
+use crate::shown::shown;
+use crate::sys::{self, Streams};
+use crate::words::{Command, did_you_mean};
+use std::ffi::OsString;
+
+/// The usage of the program.
+pub const USAGE: &str = "usage: shuntberry COMMAND .., or shuntberry help [COMMAND]";
+
+const STATUSES: &str = "\
+status: 0  safe, and all of it printed; or the thing asked for was written whole
+        1  unsafe
+        2  refused, or mistakes in a text
+        3  anything else: called wrongly, could not read, could not print
+        4  answered, but nothing that may be released: no states, undecided, depends, not within K
+";
+
+/// `help`, `help COMMAND` and `--help`
+pub fn help(words: &[OsString], streams: Streams) -> Done {
+    begin(streams)?;
+    let [word] = words else {
+        return match words {
+            [] => print(overview().as_bytes()).map(|()| status::DONE),
+            _ => Err(Failure::Wrong(format!("one command at a time\n{USAGE}"))),
+        };
+    };
+    let names = COMMANDS.iter().map(|command| command.name);
+    let found = COMMANDS.iter().find(|command| command.name == word);
+    let Some(command) = found else {
+        return Err(Failure::Wrong(format!(
+            "'{}' is no command{}\n{USAGE}",
+            shown(word),
+            did_you_mean(&word.to_string_lossy(), names)
+        )));
+    };
+    help_of(&format!("shuntberry {}", command.name), command)
+}
+
+/// `--version`
+pub fn version(words: &[OsString], streams: Streams) -> Done {
+    begin(streams)?;
+    match words {
+        [] => version_of("shuntberry"),
+        _ => Err(Failure::Wrong(format!(
+            "--version goes with no other word\n{USAGE}"
+        ))),
+    }
+}
+
+fn begin(streams: Streams) -> Result<(), Failure> {
+    sys::no_file_due();
+    match streams.no_output {
+        true => Err(Failure::Failed("standard output is closed".to_string())),
+        false => Ok(()),
+    }
+}
+
+/// Prints the version, under the name that the program was called by.
+pub fn version_of(program: &str) -> Done {
+    let version = env!("SHUNTBERRY_RELEASE");
+    print(format!("{program} (Shuntberry) {version}\n").as_bytes()).map(|()| status::DONE)
+}
+
+fn overview() -> String {
+    let mut said = format!("{USAGE}\n\n");
+    for command in COMMANDS {
+        said += &format!("  {:<10}  {}\n", command.name, command.about);
+    }
+    said + "\n" + STATUSES + "\nThe manual page shuntberry(1) has all of it.\n"
+}
+
+/// Prints the help of a command.
+pub fn help_of(program: &str, command: &Command) -> Done {
+    let mut said = format!("{}\n\n{}.\n", command.usage(program), command.about);
+    if !command.more.is_empty() {
+        said += &format!("{}\n", command.more);
+    }
+    said += "\n";
+    for option in command.options {
+        let name = match option.value {
+            Some(value) => format!("{} {value}", option.name),
+            None => option.name.to_string(),
+        };
+        said += &format!("  {name:<20}  {}\n", option.about);
+    }
+    said += &format!(
+        "  {:<20}  what follows are names, though they begin with a dash\n\n",
+        "--"
+    );
+    print((said + STATUSES).as_bytes()).map(|()| status::DONE)
+}

@@ -1,0 +1,332 @@
+//! `check-all`: a line for each of many files, by the same proved call as `check`.
+
+use crate::commands::check::{Answer, Judged};
+use crate::failure::{Done, Failure, status};
+use crate::files::{Input, TEXT_BYTES, print, say};
+use crate::json::Object;
+use crate::lines::Names;
+use crate::shown::shown;
+use crate::source::{JSON, SITE, site};
+use crate::words::{Call, Command, Opt, Output};
+use shuntberry::FILE_BYTES;
+use std::ffi::OsStr;
+use std::fs;
+use std::io::{self, IsTerminal};
+use std::os::unix::ffi::OsStrExt;
+use std::path::{Path, PathBuf};
+use std::time::{Duration, Instant};
+
+const FROM: Opt = Opt {
+    name: "--from",
+    value: Some("LIST"),
+    about: "takes the names of more files from the file LIST, one a line",
+};
+const ZERO: Opt = Opt {
+    name: "-0",
+    value: None,
+    about: "the names of LIST end with a zero byte each, and not with a line",
+};
+
+/// The command.
+pub const CHECK_ALL: Command = Command {
+    name: "check-all",
+    words: "[FILE|FOLDER ..]",
+    counts: (0, usize::MAX),
+    about: "check many files, with a line for each",
+    more: "A folder stands for the files in it, and in its folders, whose names end in .table.",
+    options: &[&SITE, &FROM, &ZERO, &JSON],
+    output: Output::Answer,
+    run,
+};
+
+fn run(call: &Call) -> Done {
+    let site = site(call)?;
+    let files = files(call)?;
+    if files.is_empty() {
+        return Err(Failure::Wrong("there is no file to check".to_string()));
+    }
+    let mut counts = Counts::default();
+    let mut progress = Progress::new(files.len());
+    let mut lines = Vec::new();
+    for (done, file) in files.iter().enumerate() {
+        progress.show(done, &counts, &mut lines)?;
+        let answer = file.answer(site);
+        if let Err(why) = &answer {
+            progress.clear();
+            say(&format!("check-all: {why}\n"));
+        }
+        counts.count(&answer);
+        lines.extend(file.line(&answer, call.has(&JSON)).into_bytes());
+        if lines.len() > LINES_BYTES {
+            progress.clear();
+            print(&std::mem::take(&mut lines))?;
+        }
+    }
+    progress.clear();
+    lines.extend(counts.line(call.has(&JSON)).into_bytes());
+    print(&lines)?;
+    Ok(counts.status())
+}
+
+/// So many bytes of lines are printed at once.
+const LINES_BYTES: usize = 1 << 16;
+
+// ---- Which files
+
+/// A file that was named, or found in a folder; or a folder in which there is none.
+enum Entry {
+    Named(PathBuf),
+    Found(PathBuf),
+    Fails(PathBuf, String),
+}
+
+fn files(call: &Call) -> Result<Vec<Entry>, Failure> {
+    let mut files = Vec::new();
+    for name in call.names() {
+        add(Path::new(name), &mut files);
+    }
+    match call.path(&FROM) {
+        Some(list) => {
+            for name in listed(list, call.has(&ZERO))? {
+                add(Path::new(OsStr::from_bytes(&name)), &mut files);
+            }
+        }
+        None if call.has(&ZERO) => {
+            return Err(Failure::Wrong("-0 goes with --from LIST".to_string()));
+        }
+        None => {}
+    }
+    Ok(files)
+}
+
+/// The names of a list. One of no names is an accident.
+fn listed(list: &Path, zero: bool) -> Result<Vec<Vec<u8>>, Failure> {
+    let end = if zero { 0 } else { b'\n' };
+    let input = Input::named(list);
+    let bytes = input.take(TEXT_BYTES + 1)?;
+    if bytes.is_empty() || bytes.len() > TEXT_BYTES {
+        return Err(Failure::Failed(format!(
+            "{} has no names, or is longer than {TEXT_BYTES} bytes",
+            input.shown()
+        )));
+    }
+    let names = bytes.strip_suffix(&[end]).unwrap_or(&bytes);
+    Ok(names
+        .split(|&byte| byte == end)
+        .map(<[u8]>::to_vec)
+        .collect())
+}
+
+fn add(path: &Path, files: &mut Vec<Entry>) {
+    if !path.is_dir() {
+        return files.push(Entry::Named(path.to_path_buf()));
+    }
+    let before = files.len();
+    let mut others = 0;
+    search(path, files, &mut others);
+    if files.len() == before {
+        let why = "there is no file in it whose name ends in .table".to_string();
+        files.push(Entry::Fails(path.to_path_buf(), why));
+    } else if others > 0 {
+        say(&format!(
+            "check-all: {}: {others} file{} whose name does not end in .table {} not checked\n",
+            shown(path),
+            if others == 1 { "" } else { "s" },
+            if others == 1 { "was" } else { "were" }
+        ));
+    }
+}
+
+/// The files below a folder, in the order of their names. A link to a folder is not followed: it could lead in a circle.
+fn search(folder: &Path, files: &mut Vec<Entry>, others: &mut usize) {
+    let read = fs::read_dir(folder).and_then(|entries| entries.collect::<io::Result<Vec<_>>>());
+    let mut entries = match read {
+        Ok(entries) => entries,
+        Err(error) => {
+            let why = format!("could not be read: {error}");
+            return files.push(Entry::Fails(folder.to_path_buf(), why));
+        }
+    };
+    entries.sort_by_key(fs::DirEntry::file_name);
+    for entry in entries {
+        let path = entry.path();
+        if entry.file_type().is_ok_and(|kind| kind.is_dir()) {
+            search(&path, files, others);
+        } else if path.extension().is_some_and(|end| end == "table") {
+            files.push(Entry::Found(path));
+        } else {
+            *others += 1;
+        }
+    }
+}
+
+impl Entry {
+    fn path(&self) -> &Path {
+        match self {
+            Entry::Named(path) | Entry::Found(path) | Entry::Fails(path, _) => path,
+        }
+    }
+
+    /// What is found of the file, or why it failed.
+    fn answer(&self, site: usize) -> Result<Answer, String> {
+        match self {
+            Entry::Fails(path, why) => return Err(format!("{}: {why}", shown(path))),
+            // A pipe could wait for ever; one that is named is meant.
+            Entry::Found(path) if !path.is_file() => {
+                return Err(format!("{}: it is no file", shown(path)));
+            }
+            _ => {}
+        }
+        let why = |failure: Failure| match failure {
+            Failure::Refused(_, why)
+            | Failure::Mistakes(_, why)
+            | Failure::Wrong(why)
+            | Failure::Failed(why) => why,
+        };
+        let file = Input::named(self.path())
+            .take(FILE_BYTES + 1)
+            .map_err(why)?;
+        Answer::of(&file, site).map_err(why)
+    }
+
+    fn line(&self, answer: &Result<Answer, String>, json: bool) -> String {
+        let path = self.path();
+        if json {
+            let object = Object::default().name("file", path.as_os_str());
+            return match answer {
+                Ok(answer) => answer.object(object, &Names::new()).line(),
+                Err(why) => object.text("verdict", "failed").text("why", why).line(),
+            };
+        }
+        let word = match answer {
+            Ok(answer) if answer.is_draft() => "draft".to_string(),
+            Ok(Answer {
+                judged: Judged::Refused(refused),
+                ..
+            }) => format!("refused {}", refused.0),
+            Ok(answer) => answer.word().to_string(),
+            Err(_) => "failed".to_string(),
+        };
+        format!("{}: {word}\n", shown(path))
+    }
+}
+
+// ---- How many of each
+
+#[derive(Default)]
+struct Counts {
+    safe: usize,
+    is_unsafe: usize,
+    refused: usize,
+    drafts: usize,
+    failed: usize,
+}
+
+impl Counts {
+    fn count(&mut self, answer: &Result<Answer, String>) {
+        *match answer {
+            Err(_) => &mut self.failed,
+            Ok(answer) => match answer.status() {
+                status::DONE => &mut self.safe,
+                status::UNSAFE => &mut self.is_unsafe,
+                status::REFUSED => &mut self.refused,
+                status::NO_RELEASE => &mut self.drafts,
+                _ => &mut self.failed,
+            },
+        } += 1;
+    }
+
+    fn all(&self) -> usize {
+        self.safe + self.is_unsafe + self.refused + self.drafts + self.failed
+    }
+
+    fn said(&self) -> String {
+        format!(
+            "{} safe, {} unsafe, {} refused, {} draft{}, {} failed",
+            self.safe,
+            self.is_unsafe,
+            self.refused,
+            self.drafts,
+            if self.drafts == 1 { "" } else { "s" },
+            self.failed
+        )
+    }
+
+    fn line(&self, json: bool) -> String {
+        let all = self.all();
+        match json {
+            true => Object::default()
+                .plain("files", all)
+                .plain("safe", self.safe)
+                .plain("unsafe", self.is_unsafe)
+                .plain("refused", self.refused)
+                .plain("drafts", self.drafts)
+                .plain("failed", self.failed)
+                .line(),
+            false => format!(
+                "{all} file{}: {}\n",
+                if all == 1 { "" } else { "s" },
+                self.said()
+            ),
+        }
+    }
+
+    /// The worst that there is: a draft is better than an unsafe table, though its number is greater.
+    fn status(&self) -> u8 {
+        match self {
+            _ if self.failed > 0 => status::FAILED,
+            _ if self.refused > 0 => status::REFUSED,
+            _ if self.is_unsafe > 0 => status::UNSAFE,
+            _ if self.drafts > 0 => status::NO_RELEASE,
+            _ => status::DONE,
+        }
+    }
+}
+
+// ---- How far it is
+
+/// The only line that is written over, and only where someone looks at it.
+struct Progress {
+    files: usize,
+    /// When it was last written; never where standard error is no terminal.
+    last: Option<Instant>,
+    shown: bool,
+}
+
+impl Progress {
+    const EVERY: Duration = Duration::from_millis(100);
+
+    fn new(files: usize) -> Progress {
+        Progress {
+            files,
+            last: io::stderr().is_terminal().then(Instant::now),
+            shown: false,
+        }
+    }
+
+    /// The lines so far are printed first, since someone looks.
+    fn show(&mut self, done: usize, counts: &Counts, lines: &mut Vec<u8>) -> Result<(), Failure> {
+        if self
+            .last
+            .is_none_or(|last| last.elapsed() < Progress::EVERY)
+        {
+            return Ok(());
+        }
+        self.clear();
+        print(&std::mem::take(lines))?;
+        say(&format!(
+            "\r\x1b[K{done} of {} files: {}",
+            self.files,
+            counts.said()
+        ));
+        self.last = Some(Instant::now());
+        self.shown = true;
+        Ok(())
+    }
+
+    fn clear(&mut self) {
+        if std::mem::take(&mut self.shown) {
+            say("\r\x1b[K");
+        }
+    }
+}

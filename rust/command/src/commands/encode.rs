@@ -1,0 +1,25 @@
+//! `encode`: the file of a text.
+
+use crate::failure::{Done, status};
+use crate::files::{Input, OUT, put_file};
+use crate::source::{SITE, file_of, site, text_of};
+use crate::words::{Call, Command, Output};
+
+/// The command.
+pub const ENCODE: Command = Command {
+    name: "encode",
+    words: "[TEXT]",
+    counts: (0, 1),
+    about: "a text as a file",
+    more: "Without TEXT standard input is read, without -o standard output written.",
+    options: &[&SITE, &OUT],
+    output: Output::File,
+    run,
+};
+
+fn run(call: &Call) -> Done {
+    let site = site(call)?;
+    let text = text_of(Input::of(call, call.name(0)))?;
+    put_file(call, &file_of(&text.table, site)?)?;
+    Ok(status::DONE)
+}

@@ -1,0 +1,210 @@
+//! `replay`: a pump's log walked through a table, and how much of it that covers.
+
+use crate::failure::{Done, Failure, status};
+use crate::files::{Input, TEXT_BYTES, print};
+use crate::json::Object;
+use crate::lines::{Mistake, Mistakes, Names, number, quoted, said};
+use crate::source::{JSON, NAMES, SITE, Source, TEXT, parsed};
+use crate::table::Table;
+use crate::words::{Call, Command, Opt, Output};
+use shuntberry::{Refused, StateSet, open, replay};
+
+const TEXT_LOG: Opt = Opt {
+    name: "--text-log",
+    value: None,
+    about: "LOG is a text of numbers and names of screens, and no list of two-byte numbers",
+};
+
+/// The command.
+pub const REPLAY: Command = Command {
+    name: "replay",
+    words: "FILE LOG",
+    counts: (2, 2),
+    about: "a pump's log walked through a table",
+    more: "LOG has a state number of two bytes, low byte first, for each screen that was shown.",
+    options: &[&SITE, &TEXT, &NAMES, &TEXT_LOG, &JSON],
+    output: Output::Answer,
+    run,
+};
+
+fn run(call: &Call) -> Done {
+    let (Some(file), Some(log)) = (call.name(0), call.name(1)) else {
+        return Err(Failure::Wrong("expected FILE LOG".to_string()));
+    };
+    let source = Source::of(call, Some(file))?;
+    let table = source.table()?;
+    let log = match call.has(&TEXT_LOG) {
+        true => text_log(Input::named(log), &source.names)?,
+        false => Input::named(log).take(TEXT_BYTES)?,
+    };
+    let walk = Walk::of(&table, &source.names, &log).map_err(|refused| {
+        Failure::Refused(
+            refused,
+            format!("{}: {refused}", Input::named(file).shown()),
+        )
+    })?;
+    let said = match call.has(&JSON) {
+        true => walk.object().line(),
+        false => walk.lines(),
+    };
+    print(said.as_bytes())?;
+    Ok(status::DONE)
+}
+
+/// The bytes of a log that is written in words, with the names that are known of the table's screens.
+fn text_log(input: Input, names: &Names) -> Result<Vec<u8>, Failure> {
+    let words = parsed(input, words_of)?;
+    let mut mistakes = Mistakes::default();
+    let mut log = Vec::new();
+    for (line, word) in words {
+        let named = names.iter().find(|(_, name)| **name == word);
+        match number(&word).or(named.map(|(state, _)| *state)) {
+            // A number that no table has stays one.
+            Some(state) => log.extend(u16::try_from(state).unwrap_or(u16::MAX).to_le_bytes()),
+            None => mistakes.push(Mistake {
+                line,
+                reason: format!("{} is no number, and no screen's name", quoted(&word)),
+            }),
+        }
+    }
+    match mistakes.first() {
+        [] => Ok(log),
+        first => Err(Failure::Mistakes(
+            first
+                .iter()
+                .map(|mistake| format!("{}:{}: {}", input.shown(), mistake.line, mistake.reason))
+                .collect(),
+            format!(
+                "{}: {} of its words are no screens",
+                input.shown(),
+                mistakes.count
+            ),
+        )),
+    }
+}
+
+/// The words of a text, each with its line.
+fn words_of(text: &[u8]) -> Result<Vec<(usize, String)>, Mistakes> {
+    let mut mistakes = Mistakes::default();
+    let mut words = Vec::new();
+    for (line, found) in said(text) {
+        match found {
+            Ok(found) => words.extend(found.into_iter().map(|word| (line, word.to_string()))),
+            Err(reason) => mistakes.push(Mistake {
+                line,
+                reason: reason.to_string(),
+            }),
+        }
+    }
+    match mistakes.is_empty() {
+        true => Ok(words),
+        false => Err(mistakes),
+    }
+}
+
+/// What is found of a log.
+struct Walk<'t> {
+    table: &'t Table,
+    names: &'t Names,
+    entries: Vec<usize>,
+    found: shuntberry::Replay,
+    reachable: StateSet,
+}
+
+impl<'t> Walk<'t> {
+    fn of(table: &'t Table, names: &'t Names, log: &[u8]) -> Result<Walk<'t>, Refused> {
+        let (store, n, g) = (table.store(), table.n(), table.g());
+        let found = replay(store, n, g, log)?;
+        let entry = |two: &[u8]| usize::from(u16::from_le_bytes([two[0], two[1]]));
+        Ok(Walk {
+            table,
+            names,
+            entries: log.chunks_exact(2).map(entry).collect(),
+            found,
+            reachable: open(store, n, g)?,
+        })
+    }
+
+    fn screen(&self, s: usize) -> String {
+        match self.names.get(&s) {
+            Some(name) => format!("{s} {name}"),
+            None => s.to_string(),
+        }
+    }
+
+    /// The first entry that breaks the walk, and why it does.
+    fn broken(&self) -> Option<(usize, usize, String)> {
+        let at = self.found.followed;
+        let &entry = self.entries.get(at)?;
+        let before = at.checked_sub(1).map(|before| self.entries[before]);
+        let why = match before {
+            _ if entry >= self.table.n() => "there is no such state".to_string(),
+            None => "it is not initial".to_string(),
+            Some(before) => format!("no step leads there from {}", self.screen(before)),
+        };
+        Some((at + 1, entry, why))
+    }
+
+    /// The screens that can be reached and that no followed entry shows.
+    fn not_seen(&self) -> Vec<usize> {
+        let followed = &self.entries[..self.found.followed];
+        let is_new = |s: &usize| !followed.contains(s);
+        self.reachable.states().filter(is_new).collect()
+    }
+
+    fn lines(&self) -> String {
+        let (n, g) = (self.table.n(), self.table.g());
+        let found = &self.found;
+        let mut said = format!(
+            "states {n} groups {g}\nentries {} followed {}\n",
+            self.entries.len(),
+            found.followed
+        );
+        if let Some((place, entry, why)) = self.broken() {
+            said += &format!(
+                "entry {place} breaks the walk: {}: {why}\n",
+                self.screen(entry)
+            );
+        }
+        said += &format!(
+            "coverage {} percent remainder {}: {} of {}\n",
+            found.percent,
+            found.remainder,
+            found.seen,
+            self.reachable.states().count()
+        );
+        let left: Vec<String> = self.not_seen().iter().map(|s| self.screen(*s)).collect();
+        let listed = if left.is_empty() {
+            "none".to_string()
+        } else {
+            left.join(", ")
+        };
+        said + &format!("not seen {}: {listed}\n", left.len())
+    }
+
+    fn object(&self) -> Object {
+        let found = &self.found;
+        let object = Object::default()
+            .plain("states", self.table.n())
+            .plain("groups", self.table.g())
+            .plain("entries", self.entries.len())
+            .plain("followed", found.followed);
+        let object = match self.broken() {
+            None => object.plain("breaks", "null"),
+            Some((place, entry, why)) => object.object(
+                "breaks",
+                Object::default()
+                    .plain("entry", place)
+                    .plain("state", entry)
+                    .text("why", &why),
+            ),
+        };
+        let object = object
+            .plain("seen", found.seen)
+            .plain("reachable", self.reachable.states().count())
+            .plain("percent", found.percent)
+            .plain("remainder", found.remainder)
+            .numbers("not_seen", self.not_seen());
+        crate::commands::check::with_names(object, self.names, 0..self.table.n())
+    }
+}

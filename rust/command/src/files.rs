@@ -1,0 +1,246 @@
+//! Input and output. An input is read whole and once; an output is written whole, or not at all.
+
+use crate::failure::Failure;
+use crate::shown::shown;
+use crate::sys;
+use crate::words::{Call, Opt};
+use std::ffi::CString;
+use std::fs::{self, File, Metadata, OpenOptions};
+use std::io::{self, IsTerminal, Read, Seek, Write};
+use std::os::fd::AsFd;
+use std::os::unix::ffi::OsStrExt;
+use std::os::unix::fs::{FileExt, FileTypeExt, MetadataExt};
+use std::path::{Path, PathBuf};
+
+/// The longest text that is read, in bytes: every list full, and every name as long as can be.
+pub const TEXT_BYTES: usize = 16 << 20;
+
+/// `-o OUT`
+pub const OUT: Opt = Opt {
+    name: "-o",
+    value: Some("OUT"),
+    about: "writes OUT once all is well, and leaves it as it was otherwise",
+};
+
+/// An input by its name, or standard input.
+#[derive(Clone, Copy, Debug)]
+pub struct Input<'c> {
+    path: Option<&'c Path>,
+    no_input: bool,
+}
+
+impl<'c> Input<'c> {
+    /// The file that a word of the call names, else standard input.
+    pub fn of(call: &'c Call, path: Option<&'c Path>) -> Input<'c> {
+        Input {
+            path,
+            no_input: call.no_input,
+        }
+    }
+
+    /// The file of this name.
+    pub fn named(path: &'c Path) -> Input<'c> {
+        Input {
+            path: Some(path),
+            no_input: false,
+        }
+    }
+
+    /// Its name, as it is shown.
+    pub fn shown(self) -> String {
+        self.path.map_or("standard input".to_string(), shown)
+    }
+
+    /// Its bytes, up to a greatest number of them. An empty standard input is none: mostly it is what a command that failed left, and a file of no
+    /// bytes would be an untouched draft.
+    pub fn take(self, most: usize) -> Result<Vec<u8>, Failure> {
+        let bytes = self.take_or_nothing(most)?;
+        if self.path.is_none() && bytes.is_empty() {
+            return Err(Failure::Failed(
+                "standard input is empty; an untouched draft, which has no bytes, is read by its name".to_string(),
+            ));
+        }
+        Ok(bytes)
+    }
+
+    /// The same, where standard input may be empty.
+    pub fn take_or_nothing(self, most: usize) -> Result<Vec<u8>, Failure> {
+        let mut file = self.open()?;
+        if sys::is_file_due() && is_output(&file) {
+            return Err(Failure::Failed("input and output are one file".to_string()));
+        }
+        read_whole(&mut file, most).map_err(|error| {
+            Failure::Failed(format!("{} could not be read: {error}", self.shown()))
+        })
+    }
+
+    fn open(self) -> Result<File, Failure> {
+        let failed = |error: io::Error| {
+            Failure::Failed(format!("{} could not be read: {error}", self.shown()))
+        };
+        match self.path {
+            Some(path) => File::open(path).map_err(failed),
+            None if self.no_input => Err(Failure::Failed("standard input is closed".to_string())),
+            None if io::stdin().is_terminal() => Err(Failure::Wrong(
+                "no file is named, and standard input is a terminal".to_string(),
+            )),
+            None => io::stdin()
+                .as_fd()
+                .try_clone_to_owned()
+                .map(File::from)
+                .map_err(failed),
+        }
+    }
+}
+
+/// Whether a file on a disk is standard output too. The shell has emptied it then, or what is written goes into what is read.
+fn is_output(file: &File) -> bool {
+    let output = io::stdout().as_fd().try_clone_to_owned().map(File::from);
+    let same = |a: &Metadata, b: &Metadata| a.is_file() && a.dev() == b.dev() && a.ino() == b.ino();
+    match (file.metadata(), output.and_then(|output| output.metadata())) {
+        (Ok(input), Ok(output)) => same(&input, &output),
+        _ => false,
+    }
+}
+
+/// The bytes of an open file. A file on a disk is read twice, and looked at before and after: what was changed meanwhile is an error, since blocks of
+/// an old and of a new file beside each other may pass for a file that nobody made.
+pub fn read_whole(file: &mut File, most: usize) -> io::Result<Vec<u8>> {
+    let before = file.metadata()?;
+    if before.is_dir() {
+        return Err(io::ErrorKind::IsADirectory.into());
+    }
+    let start = match before.is_file() {
+        true => file.stream_position()?,
+        false => 0,
+    };
+    let mut bytes = Vec::new();
+    file.take(most as u64).read_to_end(&mut bytes)?;
+    if before.is_file() && !is_still(file, start, &bytes, &before, most)? {
+        return Err(io::Error::other("it was changed while it was read"));
+    }
+    Ok(bytes)
+}
+
+fn is_still(
+    file: &File,
+    start: u64,
+    bytes: &[u8],
+    before: &Metadata,
+    most: usize,
+) -> io::Result<bool> {
+    let mut again = vec![0; bytes.len() + usize::from(bytes.len() < most)];
+    let mut length = 0;
+    while length < again.len() {
+        match file.read_at(&mut again[length..], start + length as u64) {
+            Ok(0) => break,
+            Ok(count) => length += count,
+            Err(error) if error.kind() == io::ErrorKind::Interrupted => {}
+            Err(error) => return Err(error),
+        }
+    }
+    let seen = |data: &Metadata| {
+        (
+            data.len(),
+            data.mtime(),
+            data.mtime_nsec(),
+            data.ctime(),
+            data.ctime_nsec(),
+        )
+    };
+    Ok(again[..length] == *bytes && seen(before) == seen(&file.metadata()?))
+}
+
+/// Writes all bytes to the file that `-o` names, or to standard output.
+pub fn put(call: &Call, bytes: &[u8]) -> Result<(), Failure> {
+    match call.path(&OUT) {
+        None => print(bytes),
+        Some(path) => replace(path, bytes),
+    }
+}
+
+/// The same of a file that is no text.
+pub fn put_file(call: &Call, bytes: &[u8]) -> Result<(), Failure> {
+    if call.path(&OUT).is_none() && io::stdout().is_terminal() {
+        return Err(Failure::Failed(
+            "a file is bytes and not for a terminal: -o OUT".to_string(),
+        ));
+    }
+    put(call, bytes)
+}
+
+/// Prints on standard output.
+pub fn print(bytes: &[u8]) -> Result<(), Failure> {
+    sys::print(bytes)
+        .map_err(|error| Failure::Failed(format!("standard output could not be written: {error}")))
+}
+
+/// Says something on standard error. Where that cannot be written there is nobody to say it to.
+pub fn say(line: &str) {
+    let _ = io::stderr().write_all(line.as_bytes());
+}
+
+/// Puts a whole file in the place of another, or leaves that as it was: half a file, or one of no bytes, could be taken for a table.
+pub fn replace(path: &Path, bytes: &[u8]) -> Result<(), Failure> {
+    replaced(path, bytes)
+        .map_err(|error| Failure::Failed(format!("{} could not be written: {error}", shown(path))))
+}
+
+fn replaced(path: &Path, bytes: &[u8]) -> io::Result<()> {
+    let path = &fs::canonicalize(path).unwrap_or(path.to_path_buf()); // behind a link
+    let there = fs::metadata(path).ok();
+    if let Some(data) = &there {
+        let kind = data.file_type();
+        if kind.is_fifo() || kind.is_char_device() {
+            return OpenOptions::new().write(true).open(path)?.write_all(bytes);
+        }
+        if !kind.is_file() {
+            return Err(io::Error::other("it is no file"));
+        }
+    }
+    let folder = match path.parent() {
+        Some(folder) if !folder.as_os_str().is_empty() => folder,
+        _ => Path::new("."),
+    };
+    let (part, mut file) = new_part(folder)?;
+    let written = file
+        .write_all(bytes)
+        .and_then(|()| match there {
+            Some(data) => file.set_permissions(data.permissions()), // who may read it stays the same
+            None => Ok(()),
+        })
+        .and_then(|()| file.sync_all())
+        .and_then(|()| {
+            let _held = sys::Held::new();
+            fs::rename(&part, path)?;
+            sys::set_part(None);
+            Ok(())
+        });
+    if written.is_err() {
+        let _ = fs::remove_file(&part);
+        sys::set_part(None);
+        return written;
+    }
+    // The new name too, as far as the file system can.
+    let _ = File::open(folder).and_then(|folder| folder.sync_all());
+    Ok(())
+}
+
+/// A new file in a folder, which a signal takes away.
+fn new_part(folder: &Path) -> io::Result<(PathBuf, File)> {
+    const TRIES: usize = 100; // names that a killed program may have left
+    let _held = sys::Held::new();
+    let mut left = io::ErrorKind::AlreadyExists.into();
+    for i in 0..TRIES {
+        let part = folder.join(format!(".shuntberry-{}-{i}.part", std::process::id()));
+        match OpenOptions::new().write(true).create_new(true).open(&part) {
+            Ok(file) => {
+                sys::set_part(CString::new(part.as_os_str().as_bytes()).ok());
+                return Ok((part, file));
+            }
+            Err(error) if error.kind() == io::ErrorKind::AlreadyExists => left = error,
+            Err(error) => return Err(error),
+        }
+    }
+    Err(left)
+}

@@ -1,0 +1,271 @@
+//! The text of a house: when releases may be loaded there.
+//!
+//! ```text
+//! window monday 22:00 for 6h     # each week; it may run into the next day, and over the week's end
+//! window saturday 00:00 for 1d12h30m
+//! closed 2026-12-25              # all day
+//! ```
+//!
+//! At least one window must be said, or `window none`: a text that was cut or emptied is found.
+
+use crate::lines::{Mistake, Mistakes, number, quoted, said};
+use shuntberry::{MAX_DAYS, MAX_WINDOWS, Window};
+use std::collections::HashMap;
+
+/// From Saturday on, as the weeks of the library are.
+const WEEKDAYS: [&str; 7] = [
+    "saturday",
+    "sunday",
+    "monday",
+    "tuesday",
+    "wednesday",
+    "thursday",
+    "friday",
+];
+
+const DAY: usize = 1_440;
+const WEEK: usize = 7 * DAY;
+
+/// What a text says.
+#[derive(Debug, Default)]
+pub struct House {
+    /// Its windows.
+    pub windows: Vec<Window>,
+    /// Its closed days, as the library counts them.
+    pub closed: Vec<u32>,
+}
+
+/// What a text says, or its mistakes.
+pub fn parse(text: &[u8]) -> Result<House, Mistakes> {
+    let mut reader = Reader::default();
+    for (number, words) in said(text) {
+        reader.at = number;
+        let done = words
+            .map_err(str::to_string)
+            .and_then(|words| match &words[..] {
+                [] => Ok(()),
+                ["window", "none"] => reader.no_window(),
+                ["window", words @ ..] => reader.window(words),
+                ["closed", words @ ..] => reader.closed(words),
+                [word, ..] => Err(format!(
+                    "a line begins with window or closed, and not with {}",
+                    quoted(word)
+                )),
+            });
+        if let Err(reason) = done {
+            reader.mistake(reason);
+        }
+    }
+    if reader.first.is_none() {
+        reader.mistake(
+            "the text ends, and no line says when it is open: window none if it never is"
+                .to_string(),
+        );
+    }
+    match reader.mistakes.is_empty() {
+        true => Ok(reader.house),
+        false => Err(reader.mistakes),
+    }
+}
+
+#[derive(Default)]
+struct Reader {
+    at: usize,
+    house: House,
+    mistakes: Mistakes,
+    /// The first line about windows, and whether it says none.
+    first: Option<(usize, bool)>,
+    /// What was said, and on which line.
+    lines: HashMap<(usize, usize), usize>,
+}
+
+impl Reader {
+    fn mistake(&mut self, reason: String) {
+        self.mistakes.push(Mistake {
+            line: self.at,
+            reason,
+        });
+    }
+
+    /// `window none` stands alone.
+    fn first(&mut self, none: bool) -> Result<(), String> {
+        let &mut (line, first_none) = self.first.get_or_insert((self.at, none));
+        match line != self.at && (none || first_none) {
+            true => Err(format!(
+                "window none goes with no other window, and line {line} is one"
+            )),
+            false => Ok(()),
+        }
+    }
+
+    fn no_window(&mut self) -> Result<(), String> {
+        self.first(true)
+    }
+
+    /// `window WEEKDAY HH:MM for LENGTH`
+    fn window(&mut self, words: &[&str]) -> Result<(), String> {
+        self.first(false)?;
+        let &[day, time, "for", length] = words else {
+            return Err("a window is written window WEEKDAY HH:MM for LENGTH, as window monday 22:00 for 6h".to_string());
+        };
+        let day = WEEKDAYS
+            .iter()
+            .position(|name| *name == day)
+            .ok_or_else(|| {
+                format!(
+                    "{} is no day of the week: they are {}",
+                    quoted(day),
+                    WEEKDAYS.join(", ")
+                )
+            })?;
+        let time = minute_of_day(time)
+            .ok_or_else(|| format!("{} is no time from 00:00 to 23:59", quoted(time)))?;
+        let length = length_of(length)
+            .filter(|length| (1..=WEEK).contains(length))
+            .ok_or_else(|| {
+                format!(
+                    "{} is no length from 1m to 7d, as 6h or 1d12h30m",
+                    quoted(length)
+                )
+            })?;
+        let start = day * DAY + time;
+        self.once((start, length), MAX_WINDOWS, self.house.windows.len())?;
+        self.house
+            .windows
+            .push(Window::new(start as u64, length as u64));
+        Ok(())
+    }
+
+    /// `closed DATE`
+    fn closed(&mut self, words: &[&str]) -> Result<(), String> {
+        let &[word] = words else {
+            return Err("a closed day is written closed DATE, as closed 2026-12-25".to_string());
+        };
+        let day = day_of(word).ok_or_else(|| {
+            format!(
+                "{} is no date from 2000-01-01 on, as 2026-12-25",
+                quoted(word)
+            )
+        })?;
+        self.once((day, 0), MAX_DAYS, self.house.closed.len())?;
+        self.house.closed.push(day as u32);
+        Ok(())
+    }
+
+    /// Nothing is said twice, or too often. A length is never 0, so that windows and days do not meet.
+    fn once(&mut self, what: (usize, usize), most: usize, so_far: usize) -> Result<(), String> {
+        match self.lines.insert(what, self.at) {
+            Some(line) => Err(format!("this stands on line {line} already")),
+            None if so_far == most => {
+                Err(format!("this is one too many: there are at most {most}"))
+            }
+            None => Ok(()),
+        }
+    }
+}
+
+/// `6h`, `90m`, `1d12h30m`
+fn length_of(word: &str) -> Option<usize> {
+    let mut rest = word;
+    let mut length: usize = 0;
+    for (unit, minutes) in [('d', DAY), ('h', 60), ('m', 1)] {
+        if let Some((count, behind)) = rest.split_once(unit) {
+            length = length.saturating_add(number(count)?.saturating_mul(minutes));
+            rest = behind;
+        }
+    }
+    (rest.is_empty() && !word.is_empty()).then_some(length)
+}
+
+/// `22:00`
+fn minute_of_day(word: &str) -> Option<usize> {
+    let (hour, minute) = word.split_once(':')?;
+    let (hour, minute) = (two_digits(hour)?, two_digits(minute)?);
+    (hour < 24 && minute < 60).then_some(hour * 60 + minute)
+}
+
+fn two_digits(word: &str) -> Option<usize> {
+    number(word).filter(|_| word.len() == 2)
+}
+
+// ---- Days: of the common calendar, counted from 1 January 2000, a Saturday
+
+/// `2026-12-25`
+fn day_of(word: &str) -> Option<usize> {
+    let mut parts = word.split('-');
+    let (year, month, day) = (parts.next()?, parts.next()?, parts.next()?);
+    let year = number(year).filter(|_| year.len() == 4)?;
+    let (month, day) = (two_digits(month)?, two_digits(day)?);
+    let fits = parts.next().is_none() && year >= 2000 && (1..=12).contains(&month);
+    (fits && (1..=days_of(year, month)).contains(&day)).then(|| {
+        let months: usize = (1..month).map(|month| days_of(year, month)).sum();
+        days_before(year) + months + day - 1
+    })
+}
+
+fn is_leap(year: usize) -> bool {
+    year.is_multiple_of(4) && (!year.is_multiple_of(100) || year.is_multiple_of(400))
+}
+
+fn days_of(year: usize, month: usize) -> usize {
+    match month {
+        2 if is_leap(year) => 29,
+        2 => 28,
+        4 | 6 | 9 | 11 => 30,
+        _ => 31,
+    }
+}
+
+/// The days from 2000 on before a year.
+fn days_before(year: usize) -> usize {
+    let years = year - 2000;
+    let leaps = |years: usize| years.div_ceil(4) - years.div_ceil(100) + years.div_ceil(400);
+    365 * years + leaps(years)
+}
+
+/// A minute, as the library counts them from 2000 on.
+#[derive(Clone, Copy, Debug, PartialEq, Eq)]
+pub struct Moment(usize);
+
+impl Moment {
+    /// `2026-12-24T13:05`, or with a space.
+    pub fn of(word: &str) -> Option<Moment> {
+        let (date, time) = word.split_once(['T', ' '])?;
+        Some(Moment(day_of(date)? * DAY + minute_of_day(time)?))
+    }
+
+    /// The minute of this number.
+    pub fn at(minute: usize) -> Moment {
+        Moment(minute)
+    }
+
+    /// Its number.
+    pub fn minute(self) -> usize {
+        self.0
+    }
+
+    /// The day of the week.
+    pub fn weekday(self) -> &'static str {
+        WEEKDAYS[self.0 / DAY % 7]
+    }
+
+    /// Date and time, with a character between them.
+    pub fn written(self, between: char) -> String {
+        let (day, minute) = (self.0 / DAY, self.0 % DAY);
+        let mut year = 2000 + day / 366;
+        while days_before(year + 1) <= day {
+            year += 1;
+        }
+        let mut left = day - days_before(year);
+        let mut month = 1;
+        while left >= days_of(year, month) {
+            left -= days_of(year, month);
+            month += 1;
+        }
+        let (hour, minute) = (minute / 60, minute % 60);
+        format!(
+            "{year:04}-{month:02}-{:02}{between}{hour:02}:{minute:02}",
+            left + 1
+        )
+    }
+}

@@ -1,0 +1,202 @@
+//! The lines of a text and their words, the letters of names, and mistakes: what the texts of tables and of houses have alike.
+
+use std::collections::BTreeMap;
+
+/// The names of states, by their numbers.
+pub type Names = BTreeMap<usize, String>;
+
+/// A mistake in a text.
+#[derive(Clone, Debug, PartialEq, Eq)]
+pub struct Mistake {
+    /// The line, from 1 on. What is missing is missed on the last one.
+    pub line: usize,
+    /// What is wrong there.
+    pub reason: String,
+}
+
+/// So many mistakes are shown, and the others counted.
+pub const SHOWN_MISTAKES: usize = 100;
+
+/// The mistakes of a text: the first ones by their lines, and how many there are.
+#[derive(Clone, Debug, Default, PartialEq, Eq)]
+pub struct Mistakes {
+    first: Vec<Mistake>,
+    /// How many there are.
+    pub count: usize,
+}
+
+impl Mistakes {
+    /// One more, of a line that may stand before that of the last one.
+    pub fn push(&mut self, mistake: Mistake) {
+        self.count += 1;
+        let place = self
+            .first
+            .partition_point(|other| other.line <= mistake.line);
+        if place < SHOWN_MISTAKES {
+            self.first.insert(place, mistake);
+            self.first.truncate(SHOWN_MISTAKES);
+        }
+    }
+
+    /// Whether there is none.
+    pub fn is_empty(&self) -> bool {
+        self.count == 0
+    }
+
+    /// The first ones, in the order of their lines.
+    pub fn first(&self) -> &[Mistake] {
+        &self.first
+    }
+}
+
+// ---- Lines and words
+
+/// A line has fewer words than this, or it says something twice: its first one, a state, an arrow, and each state of the largest table.
+const MAX_WORDS: usize = shuntberry::MAX_STATES + 4;
+
+const ARROW: &str = "->";
+
+/// The words of a line, or what is wrong with it.
+type Words<'t> = Result<Vec<&'t str>, &'static str>;
+
+/// Each line by its number, from 1 on, with its words before a comment: none where it says nothing.
+pub fn said(text: &[u8]) -> impl Iterator<Item = (usize, Words<'_>)> {
+    let text = text.strip_prefix("\u{feff}".as_bytes()).unwrap_or(text);
+    let text = text.strip_suffix(b"\n").unwrap_or(text);
+    (1..).zip(text.split(|&byte| byte == b'\n').map(words))
+}
+
+fn words(line: &[u8]) -> Words<'_> {
+    let line = std::str::from_utf8(line.strip_suffix(b"\r").unwrap_or(line))
+        .map_err(|_| "this is no text: there are bytes that are not UTF-8")?;
+    if line.contains(|c: char| c.is_control() && c != '\t') {
+        return Err("this is no text: there is a control character");
+    }
+    if line.contains(|c: char| is_hidden(c) && c != '\t') {
+        return Err(
+            "there is a character that cannot be seen, or changes how the line looks: a format character, or a space that is none of the keyboard's",
+        );
+    }
+    let before = line.split('#').next().unwrap_or_default();
+    let words: Vec<&str> = before
+        .split([' ', '\t'])
+        .flat_map(by_arrows)
+        .filter(|word| !word.is_empty())
+        .take(MAX_WORDS)
+        .collect();
+    match words.len() {
+        MAX_WORDS => Err("there are more words on this line than a table has states"),
+        _ => Ok(words),
+    }
+}
+
+/// The parts of a word before, between and behind its arrows, and these.
+fn by_arrows(word: &str) -> impl Iterator<Item = &str> {
+    let mut rest = word;
+    std::iter::from_fn(move || {
+        let end = match rest.find(ARROW) {
+            Some(0) => ARROW.len(),
+            Some(at) => at,
+            None => rest.len(),
+        };
+        let (part, behind) = rest.split_at(end);
+        rest = behind;
+        (!part.is_empty()).then_some(part)
+    })
+}
+
+/// The number that digits stand for; one that is too large for the machine is the largest.
+pub fn number(word: &str) -> Option<usize> {
+    let digits = !word.is_empty() && word.bytes().all(|byte| byte.is_ascii_digit());
+    digits.then(|| word.parse().unwrap_or(usize::MAX))
+}
+
+/// The longest part of a word that a mistake repeats, in characters.
+const SHOWN: usize = 40;
+
+/// A word of the text, its end cut off where it is long.
+pub fn cut(word: &str) -> String {
+    match word.char_indices().nth(SHOWN) {
+        Some((end, _)) => format!("{}..", &word[..end]),
+        None => word.to_string(),
+    }
+}
+
+/// The same in quotes.
+pub fn quoted(word: &str) -> String {
+    format!("'{}'", cut(word))
+}
+
+// ---- Characters
+
+/// The most characters of a name.
+pub const MAX_NAME: usize = 64;
+
+/// The alphabet that the letters of a name are of; none where it is no name.
+pub fn alphabet(name: &str) -> Option<&'static str> {
+    let first = name.chars().next().and_then(alphabet_of)?;
+    let fits = |c: char| {
+        c.is_ascii_digit()
+            || "-_.".contains(c)
+            || alphabet_of(c).is_some_and(|other| other == first)
+    };
+    (name.chars().all(fits) && name.chars().count() <= MAX_NAME).then_some(first)
+}
+
+/// The alphabet that a letter is of.
+fn alphabet_of(c: char) -> Option<&'static str> {
+    let alphabet = match c {
+        'A'..='Z' | 'a'..='z' => "Latin",
+        '\u{d7}' | '\u{f7}' => return None, // times and divided by
+        '\u{c0}'..='\u{24f}' => "Latin",
+        '\u{374}' | '\u{37a}' | '\u{3e2}'..='\u{3ef}' => return None, // signs, and Coptic letters
+        '\u{370}'..='\u{3ff}' => "Greek",
+        '\u{400}'..='\u{52f}' => "Cyrillic",
+        _ => return None,
+    };
+    c.is_alphabetic().then_some(alphabet)
+}
+
+/// Control and format characters, separators other than the space, and letters and marks that leave no ink: what a reader cannot see, or what
+/// makes a line look otherwise than it is.
+pub fn is_hidden(c: char) -> bool {
+    c.is_control()
+        || HIDDEN
+            .iter()
+            .any(|&(first, last)| (first..=last).contains(&c))
+}
+
+/// Unicode's categories Cf, Zs but the space, Zl and Zp; and its default ignorable characters, and the blanks that count as letters or signs.
+const HIDDEN: [(char, char); 31] = [
+    ('\u{a0}', '\u{a0}'),
+    ('\u{ad}', '\u{ad}'),
+    ('\u{34f}', '\u{34f}'),
+    ('\u{600}', '\u{605}'),
+    ('\u{61c}', '\u{61c}'),
+    ('\u{6dd}', '\u{6dd}'),
+    ('\u{70f}', '\u{70f}'),
+    ('\u{890}', '\u{891}'),
+    ('\u{8e2}', '\u{8e2}'),
+    ('\u{115f}', '\u{1160}'),
+    ('\u{1680}', '\u{1680}'),
+    ('\u{17b4}', '\u{17b5}'),
+    ('\u{180b}', '\u{180f}'),
+    ('\u{2000}', '\u{200f}'),
+    ('\u{2028}', '\u{202f}'),
+    ('\u{205f}', '\u{206f}'),
+    ('\u{2800}', '\u{2800}'),
+    ('\u{3000}', '\u{3000}'),
+    ('\u{3164}', '\u{3164}'),
+    ('\u{fe00}', '\u{fe0f}'),
+    ('\u{feff}', '\u{feff}'),
+    ('\u{ffa0}', '\u{ffa0}'),
+    ('\u{fff0}', '\u{fffb}'),
+    ('\u{110bd}', '\u{110bd}'),
+    ('\u{110cd}', '\u{110cd}'),
+    ('\u{13430}', '\u{1343f}'),
+    ('\u{16fe4}', '\u{16fe4}'),
+    ('\u{1bca0}', '\u{1bca3}'),
+    ('\u{1d159}', '\u{1d159}'),
+    ('\u{1d173}', '\u{1d17a}'),
+    ('\u{e0000}', '\u{e0fff}'),
+];

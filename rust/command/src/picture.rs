@@ -1,0 +1,377 @@
+//! The graph of a table in Graphviz' language, with what the proved calls found of it: the path of an unsafe table, the invariant of
+//! a safe one, and the distances.
+//!
+//! Nothing is told by colour alone: shapes, lines and words say the same. Each state and step has its kinds as its `class`, which
+//! Graphviz hands on to an SVG.
+
+use crate::lines::Names;
+use crate::table::{Set, Table};
+use shuntberry::{
+    MAX_ALLOWANCE, PATH_PLACES, Refused, StateSet, UNREACHABLE, Verdict, decide, distances,
+};
+
+/// What is said of each state on request.
+#[derive(Clone, Copy, Debug, Default)]
+pub struct Options {
+    /// How far it is from a forbidden one.
+    pub distances: bool,
+    /// The groups that it is in.
+    pub groups: bool,
+}
+
+/// The graph of a table, under a title, with names for the states that have one.
+pub fn dot(table: &Table, names: &Names, title: &str, options: Options) -> Result<String, Refused> {
+    let mut away = vec![0; table.n()];
+    distances(table.store(), table.n(), table.g(), &mut away)?;
+    let picture = Picture {
+        table,
+        names,
+        found: Found::by_decide(table)?,
+        away: options.distances.then_some(away),
+        groups: options.groups,
+    };
+    Ok(picture.graph(title))
+}
+
+// ---- What is known of a table and its states
+
+/// What a release check found.
+struct Found {
+    verdict: String,
+    path: Vec<usize>,
+    invariant: StateSet,
+}
+
+impl Found {
+    fn by_decide(table: &Table) -> Result<Found, Refused> {
+        let (store, n, g) = (table.store(), table.n(), table.g());
+        let mut path = [0; PATH_PLACES];
+        let (verdict, path, invariant) = match decide(store, n, g, MAX_ALLOWANCE, &mut path)? {
+            Verdict::Safe { invariant, .. } => (
+                "safe: no forbidden state can be reached".to_string(),
+                &[][..],
+                invariant,
+            ),
+            Verdict::Unsafe { path, .. } => (unsafe_in(path.len() - 1), path, StateSet::default()),
+            Verdict::Undecided { .. } => ("undecided".to_string(), &[][..], StateSet::default()),
+        };
+        Ok(Found {
+            verdict,
+            path: path.iter().map(|&s| s.into()).collect(),
+            invariant,
+        })
+    }
+}
+
+fn unsafe_in(steps: usize) -> String {
+    match steps {
+        0 => "unsafe: a session can start in a forbidden state".to_string(),
+        _ => format!(
+            "unsafe: a forbidden state is reached in {}",
+            counted(steps, "step")
+        ),
+    }
+}
+
+/// What a state can be. A state that is a hang, or marked, is forbidden.
+#[derive(Clone, Copy, Debug, PartialEq, Eq)]
+enum Kind {
+    Initial,
+    Marked,
+    Hang,
+    Resting,
+    DeadEnd,
+    OnPath,
+    InInvariant,
+}
+
+const KINDS: [Kind; 7] = [
+    Kind::Initial,
+    Kind::Marked,
+    Kind::Hang,
+    Kind::Resting,
+    Kind::DeadEnd,
+    Kind::OnPath,
+    Kind::InInvariant,
+];
+
+impl Kind {
+    fn class(self) -> &'static str {
+        match self {
+            Kind::Initial => "initial",
+            Kind::Marked => "forbidden",
+            Kind::Hang => "hang",
+            Kind::Resting => "resting",
+            Kind::DeadEnd => "dead-end",
+            Kind::OnPath => "path",
+            Kind::InInvariant => "invariant",
+        }
+    }
+
+    /// What stands below the state's number.
+    fn word(self) -> Option<&'static str> {
+        match self {
+            Kind::Marked => Some("forbidden"),
+            Kind::Hang => Some("hang"),
+            Kind::Resting => Some("resting"),
+            Kind::DeadEnd => Some("dead end"),
+            Kind::Initial | Kind::OnPath | Kind::InInvariant => None,
+        }
+    }
+
+    /// For the legend: how it is drawn, and what that means.
+    fn legend(self) -> (&'static str, &'static str) {
+        match self {
+            Kind::Initial => ("start and an arrow", "a session can start here"),
+            Kind::Marked => ("eight corners", "forbidden, since it is marked so"),
+            Kind::Hang => (
+                "eight corners, broken line",
+                "a hang: forbidden, since it has no way out and does not rest",
+            ),
+            Kind::Resting => ("double line", "resting: a session may end here"),
+            Kind::DeadEnd => (
+                "double broken line",
+                "a dead end: it has no way out, and rests",
+            ),
+            Kind::OnPath => (
+                "thick line",
+                "on the path from a start to a forbidden state, its steps numbered",
+            ),
+            Kind::InInvariant => (
+                "shaded",
+                "the invariant: every start is in it, no step leads out of it, and nothing in it is forbidden",
+            ),
+        }
+    }
+}
+
+/// How a state is drawn. Orange and blue are told apart by every eye, and as greys.
+struct Look {
+    forbidden: bool,
+    fill: &'static str,
+    dashed: bool,
+    double: bool,
+    width: usize,
+}
+
+impl Look {
+    fn of(kinds: &[Kind]) -> Look {
+        let is = |kind| kinds.contains(&kind);
+        let forbidden = is(Kind::Marked) || is(Kind::Hang);
+        let fill = match (forbidden, is(Kind::InInvariant)) {
+            (true, _) => "#e8833a",
+            (false, true) => "#c6e2f5",
+            (false, false) => "white",
+        };
+        Look {
+            forbidden,
+            fill,
+            dashed: is(Kind::Hang) || is(Kind::DeadEnd),
+            double: is(Kind::Resting) || kinds == [Kind::DeadEnd], // one that rests, alone in the legend
+            width: if is(Kind::OnPath) { 3 } else { 1 },
+        }
+    }
+
+    fn line(&self) -> &'static str {
+        if self.dashed { "dashed" } else { "solid" }
+    }
+
+    /// As a node.
+    fn node(&self) -> String {
+        let (shape, corners) = match self.forbidden {
+            true => ("octagon", "filled"),
+            false => ("box", "filled,rounded"),
+        };
+        format!(
+            r#"shape={shape}, style="{corners},{}", fillcolor="{}", peripheries={}, penwidth={}"#,
+            self.line(),
+            self.fill,
+            1 + usize::from(self.double),
+            self.width
+        )
+    }
+
+    /// As a cell of the legend, with words in it.
+    fn cell(&self, words: &str) -> String {
+        let (line, fill, width) = (self.line(), self.fill, self.width);
+        let inner = match self.double {
+            true => format!(
+                r#"<table border="1" cellborder="0" cellspacing="0" style="{line}"><tr><td>{words}</td></tr></table>"#
+            ),
+            false => words.to_string(),
+        };
+        format!(r#"<td border="{width}" style="{line}" bgcolor="{fill}">{inner}</td>"#)
+    }
+}
+
+// ---- The graph
+
+/// So many steps are laid out by layers in a second or two; twice as many may take minutes.
+const MANY_STEPS: usize = 200;
+
+struct Picture<'t> {
+    table: &'t Table,
+    names: &'t Names,
+    found: Found,
+    away: Option<Vec<u16>>,
+    groups: bool,
+}
+
+impl Picture<'_> {
+    fn graph(&self, title: &str) -> String {
+        let n = self.table.n();
+        let sizes = [counted(n, "state"), counted(self.table.g(), "group")].join(", ");
+        let verdict = match n {
+            0 => "an untouched draft, safe",
+            _ => &self.found.verdict,
+        };
+        let label = lines([title, verdict, &sizes]);
+        // The legend stands below the graph; a layout by forces has no place for it but among the states.
+        let (layout, legend) = match self.is_tangled() {
+            true => (
+                "layout=sfdp, overlap=prism, outputorder=edgesfirst",
+                format!(
+                    "legend [shape=plaintext, fontsize=12, label={}]",
+                    self.legend()
+                ),
+            ),
+            false => (
+                "rankdir=LR, ranksep=0.6, nodesep=0.35",
+                format!(
+                    "peripheries=0; labelloc=b; fontsize=12; label={}",
+                    self.legend()
+                ),
+            ),
+        };
+        let mut graph = vec![
+            format!(
+                r#"graph [{layout}, labelloc=t, fontname="Helvetica", fontsize=18, label="{label}"]"#
+            ),
+            r#"node [fontname="Helvetica", fontsize=14]"#.to_string(),
+            r##"edge [fontname="Helvetica", fontsize=14, color="#404040"]"##.to_string(),
+            "subgraph cluster_table {".to_string(),
+            legend,
+        ];
+        for s in 0..n {
+            graph.push(self.state(s));
+            if self.table.set(Set::Initial).contains(s) {
+                graph.push(format!(
+                    r#"start{s} [label="start", shape=plaintext, class="start"]"#
+                ));
+                graph.push(format!(r#"start{s} -> s{s} [class="start"]"#));
+            }
+        }
+        for s in 0..n {
+            graph.extend(self.successors(s).map(|t| self.step(s, t)));
+        }
+        graph.push("}".to_string());
+        format!("digraph table {{\n  {}\n}}\n", graph.join("\n  "))
+    }
+
+    fn successors(&self, s: usize) -> impl Iterator<Item = usize> {
+        self.table.set(Set::Successors(s)).states()
+    }
+
+    /// Whether a layout by layers could take minutes: many steps, and many more than a chain has.
+    fn is_tangled(&self) -> bool {
+        let (n, steps) = (self.table.n(), self.table.steps());
+        steps > MANY_STEPS && 4 * steps > 5 * n
+    }
+
+    fn kinds(&self, s: usize) -> Vec<Kind> {
+        let is_in = |set| self.table.set(set).contains(s);
+        let (dead_end, rests) = (self.table.is_dead_end(s), is_in(Set::Resting));
+        let is = |kind: &Kind| match kind {
+            Kind::Initial => is_in(Set::Initial),
+            Kind::Marked => is_in(Set::Marked),
+            Kind::Hang => self.table.is_hang(s),
+            Kind::Resting => rests,
+            Kind::DeadEnd => dead_end && rests,
+            Kind::OnPath => self.found.path.contains(&s),
+            Kind::InInvariant => self.found.invariant.contains(s),
+        };
+        KINDS.into_iter().filter(is).collect()
+    }
+
+    fn state(&self, s: usize) -> String {
+        let kinds = self.kinds(s);
+        let number = match self.names.get(&s) {
+            Some(name) => format!("{s} {name}"),
+            None => s.to_string(),
+        };
+        let words = joined(", ", kinds.iter().filter_map(|kind| kind.word()));
+        let away = self.away.as_ref().map(|away| steps_away(away[s]));
+        let groups = (0..self.table.g())
+            .filter(|&j| self.groups && self.table.set(Set::Group(j)).contains(s));
+        let groups = joined(", ", groups).map(|groups| format!("in group {groups}"));
+        let said = [Some(number), words, away, groups];
+        format!(
+            r#"s{s} [label="{}", class="{}", {}]"#,
+            lines(said.iter().flatten().map(String::as_str)),
+            joined(" ", kinds.iter().map(|kind| kind.class())).unwrap_or_default(),
+            Look::of(&kinds).node()
+        )
+    }
+
+    fn step(&self, s: usize, t: usize) -> String {
+        let Some(k) = self.found.path.windows(2).position(|pair| pair == [s, t]) else {
+            return format!("s{s} -> s{t}");
+        };
+        format!(
+            r##"s{s} -> s{t} [class="path", headlabel="{}", labelangle=40, labeldistance=2.2, penwidth=4, color="#a63d00", fontcolor="#a63d00", fontname="Helvetica-Bold"]"##,
+            k + 1
+        )
+    }
+
+    /// A row for each kind that the picture has, in Graphviz' HTML: as nodes they would pull the states apart.
+    fn legend(&self) -> String {
+        let present = |kind: &Kind| (0..self.table.n()).any(|s| self.kinds(s).contains(kind));
+        let row =
+            |cell: String, means: &str| format!(r#"<tr>{cell}<td align="left">{means}</td></tr>"#);
+        let plain = |words: &str| format!("<td>{words}</td>");
+        let mut rows = String::new();
+        for kind in KINDS.into_iter().filter(present) {
+            let (drawn, means) = kind.legend();
+            rows += &match kind {
+                Kind::Initial => row(plain(drawn), means),
+                _ => row(Look::of(&[kind]).cell(drawn), means),
+            };
+        }
+        if self.away.is_some() {
+            rows += &row(
+                plain("N steps, or never"),
+                "how far it is to the nearest forbidden state",
+            );
+        }
+        format!(r#"<<table border="0" cellspacing="6">{rows}</table>>"#)
+    }
+}
+
+// ---- Words
+
+fn counted(count: usize, what: &str) -> String {
+    format!("{count} {what}{}", if count == 1 { "" } else { "s" })
+}
+
+fn steps_away(away: u16) -> String {
+    match away {
+        UNREACHABLE => "never".to_string(),
+        steps => counted(steps.into(), "step"),
+    }
+}
+
+/// The words of a list, if it has any.
+fn joined(between: &str, words: impl Iterator<Item = impl ToString>) -> Option<String> {
+    let words: Vec<String> = words.map(|word| word.to_string()).collect();
+    (!words.is_empty()).then(|| words.join(between))
+}
+
+/// Lines as a label has them: Graphviz reads \ and & in it.
+fn lines<'w>(words: impl IntoIterator<Item = &'w str>) -> String {
+    let escaped = |line: &str| {
+        line.replace('\\', r"\\")
+            .replace('&', "&amp;")
+            .replace('"', r#"\""#)
+    };
+    joined(r"\n", words.into_iter().map(escaped)).unwrap_or_default()
+}

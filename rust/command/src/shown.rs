@@ -1,0 +1,38 @@
+//! Names of files as they are shown: each on one line, and as what it is.
+
+use crate::lines::is_hidden;
+use std::ffi::OsStr;
+use std::fmt::Write;
+use std::os::unix::ffi::OsStrExt;
+
+/// A name as it is; in quotes, with escapes, where it has characters that cannot be seen or change how a line looks, or bytes that are no
+/// UTF-8, or begins with a quote itself.
+pub fn shown(name: impl AsRef<OsStr>) -> String {
+    let name = name.as_ref();
+    match name.to_str() {
+        Some(plain) if !plain.starts_with('"') && !plain.contains(is_hidden) => plain.to_string(),
+        _ => quoted(name.as_bytes()),
+    }
+}
+
+fn quoted(bytes: &[u8]) -> String {
+    let mut said = String::from('"');
+    for part in bytes.utf8_chunks() {
+        for c in part.valid().chars() {
+            match c {
+                '\n' => said += "\\n",
+                '\t' => said += "\\t",
+                '"' | '\\' => said.extend(['\\', c]),
+                _ if is_hidden(c) => {
+                    let _ = write!(said, "\\u{{{:x}}}", u32::from(c));
+                }
+                _ => said.push(c),
+            }
+        }
+        for byte in part.invalid() {
+            let _ = write!(said, "\\x{byte:02x}");
+        }
+    }
+    said.push('"');
+    said
+}

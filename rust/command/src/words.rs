@@ -1,0 +1,242 @@
+//! The words of a call: commands and their options, each said once, for reading them, for the help and for what a mistyped word is near to.
+
+use crate::failure::{Done, Failure};
+use crate::lines::number;
+use crate::shown::shown;
+use std::ffi::{OsStr, OsString};
+use std::os::unix::ffi::OsStrExt;
+use std::path::Path;
+
+/// An option of a command.
+#[derive(Debug)]
+pub struct Opt {
+    /// `--site`
+    pub name: &'static str,
+    /// What stands behind it, if anything does: `N`.
+    pub value: Option<&'static str>,
+    /// What it does.
+    pub about: &'static str,
+}
+
+/// What a command has on standard output.
+#[derive(Clone, Copy, Debug, PartialEq, Eq)]
+pub enum Output {
+    /// An answer, in words.
+    Answer,
+    /// What a file could be made of: where there is none, a line that is no file stands in its place.
+    File,
+}
+
+/// A command.
+#[derive(Debug)]
+pub struct Command {
+    /// Its name.
+    pub name: &'static str,
+    /// The words beside the options, as the usage has them.
+    pub words: &'static str,
+    /// The least and the greatest number of them.
+    pub counts: (usize, usize),
+    /// What it does, in a line.
+    pub about: &'static str,
+    /// More about it, for the help.
+    pub more: &'static str,
+    /// Its options.
+    pub options: &'static [&'static Opt],
+    /// What it has on standard output.
+    pub output: Output,
+    /// What it does.
+    pub run: fn(&Call) -> Done,
+}
+
+impl Command {
+    /// The usage, in a line.
+    pub fn usage(&self, program: &str) -> String {
+        let options: String = self
+            .options
+            .iter()
+            .map(|option| match option.value {
+                Some(value) => format!(" [{} {value}]", option.name),
+                None => format!(" [{}]", option.name),
+            })
+            .collect();
+        format!("usage: {program}{options} {}", self.words)
+    }
+}
+
+/// A call of a command: its words.
+#[derive(Debug)]
+pub struct Call {
+    options: Vec<(&'static str, OsString)>,
+    names: Vec<OsString>,
+    /// Whether standard input is closed.
+    pub no_input: bool,
+}
+
+impl Call {
+    /// The words of a call, or what was expected in their place.
+    pub fn of(
+        command: &'static Command,
+        words: &[OsString],
+        no_input: bool,
+    ) -> Result<Call, Failure> {
+        let mut call = Call {
+            options: Vec::new(),
+            names: Vec::new(),
+            no_input,
+        };
+        let mut rest = words.iter();
+        let mut options = true;
+        while let Some(word) = rest.next() {
+            match word.to_str() {
+                Some("--") if options => options = false,
+                Some(option) if options && option.starts_with('-') => {
+                    call.option(command, option, &mut rest)?
+                }
+                None if options && word.as_bytes().starts_with(b"-") => {
+                    return Err(Failure::Wrong(format!(
+                        "{} is no option of it",
+                        shown(word)
+                    )));
+                }
+                _ => call.names.push(word.clone()),
+            }
+        }
+        let (least, most) = command.counts;
+        match call.names.get(most) {
+            Some(word) => Err(Failure::Wrong(format!(
+                "'{}' is a word too many: expected {}",
+                shown(word),
+                command.words
+            ))),
+            None if call.names.len() < least => Err(Failure::Wrong(format!(
+                "a word is missing: expected {}",
+                command.words
+            ))),
+            None => Ok(call),
+        }
+    }
+
+    fn option<'w>(
+        &mut self,
+        command: &'static Command,
+        word: &str,
+        rest: &mut impl Iterator<Item = &'w OsString>,
+    ) -> Result<(), Failure> {
+        let (name, joined) = match word.split_once('=') {
+            Some((name, value)) => (name, Some(OsString::from(value))),
+            None => (word, None),
+        };
+        let found = command.options.iter().find(|option| option.name == name);
+        let Some(option) = found else {
+            let known = command.options.iter().map(|option| option.name);
+            return Err(Failure::Wrong(format!(
+                "'{}' is no option of it{}",
+                shown(word),
+                did_you_mean(name, known)
+            )));
+        };
+        if self.value(option).is_some() {
+            return Err(Failure::Wrong(format!("{name} stands there twice")));
+        }
+        let value = match (option.value, joined) {
+            (None, None) => OsString::new(),
+            (None, Some(_)) => {
+                return Err(Failure::Wrong(format!("{name} has no word behind it")));
+            }
+            (Some(_), Some(value)) => value,
+            (Some(value), None) => rest
+                .next()
+                .ok_or_else(|| {
+                    Failure::Wrong(format!("{name} wants a word behind it: {name} {value}"))
+                })?
+                .clone(),
+        };
+        self.options.push((option.name, value));
+        Ok(())
+    }
+
+    /// The word behind an option, where it was given; an empty one for an option without.
+    pub fn value(&self, option: &Opt) -> Option<&OsStr> {
+        let given = self.options.iter().find(|(name, _)| *name == option.name);
+        given.map(|(_, value)| value.as_os_str())
+    }
+
+    /// Whether an option was given.
+    pub fn has(&self, option: &Opt) -> bool {
+        self.value(option).is_some()
+    }
+
+    /// The file that an option names.
+    pub fn path(&self, option: &Opt) -> Option<&Path> {
+        self.value(option).map(Path::new)
+    }
+
+    /// The number behind an option, up to a greatest one.
+    pub fn number(&self, option: &Opt, most: usize) -> Result<Option<usize>, Failure> {
+        self.value(option)
+            .map(|word| number_up_to(word, option.name, most))
+            .transpose()
+    }
+
+    /// The words beside the options.
+    pub fn names(&self) -> &[OsString] {
+        &self.names
+    }
+
+    /// The i-th of them, if there is one.
+    pub fn name(&self, i: usize) -> Option<&Path> {
+        self.names.get(i).map(Path::new)
+    }
+}
+
+/// The number that a word stands for.
+pub fn number_up_to(word: &OsStr, what: &str, most: usize) -> Result<usize, Failure> {
+    let found = word
+        .to_str()
+        .and_then(number)
+        .filter(|&found| found <= most);
+    found.ok_or_else(|| {
+        let range = match most {
+            usize::MAX => String::new(),
+            _ => format!(" from 0 to {most}"),
+        };
+        Failure::Wrong(format!(
+            "'{}' is no {what}: expected a number{range}",
+            shown(word)
+        ))
+    })
+}
+
+// ---- Near words
+
+/// The nearest of some words, as a question; nothing where none is near.
+pub fn did_you_mean(word: &str, known: impl Iterator<Item = &'static str>) -> String {
+    let near = known
+        .map(|other| (distance(word, other), other))
+        .filter(|(away, other)| *away <= 1 + other.len() / 4)
+        .min_by_key(|(away, _)| *away);
+    near.map_or_else(String::new, |(_, other)| {
+        format!("; did you mean '{other}'?")
+    })
+}
+
+/// How many letters must be put in, taken out, changed or exchanged with their neighbour to make one word of the other. Words that are long are far from
+/// all others.
+fn distance(a: &str, b: &str) -> usize {
+    let (a, b): (Vec<char>, Vec<char>) = (a.chars().take(64).collect(), b.chars().collect());
+    let mut rows = vec![(0..=b.len()).collect::<Vec<usize>>()];
+    for i in 1..=a.len() {
+        let mut row = vec![i];
+        for j in 1..=b.len() {
+            let above = &rows[i - 1];
+            let changed = above[j - 1] + usize::from(a[i - 1] != b[j - 1]);
+            let mut least = changed.min(above[j] + 1).min(row[j - 1] + 1);
+            if i > 1 && j > 1 && a[i - 1] == b[j - 2] && a[i - 2] == b[j - 1] {
+                least = least.min(rows[i - 2][j - 2] + 1);
+            }
+            row.push(least);
+        }
+        rows.push(row);
+    }
+    rows[a.len()][b.len()]
+}

@@ -1,0 +1,495 @@
+//! Texts: encode and decode are inverse over the files of `tables/` and over random tables; a text may be written in many ways; each mistake has its
+//! line and its reason.
+
+use shuntberry::{MAX_GROUPS, MAX_SITE, MAX_STATES};
+use shuntberry_command::lines::{MAX_NAME, Names, SHOWN_MISTAKES};
+use shuntberry_command::table::{Set, Table};
+use shuntberry_command::text::{self, parse, parse_with_possible};
+use std::fs;
+
+/// The text of a table without names.
+fn print(table: &Table) -> String {
+    text::print(table, &Names::new())
+}
+
+/// Text, file and store of a table are worth the same, at some sites.
+fn round_trips(table: &Table) {
+    let text = print(table);
+    let parsed = parse(text.as_bytes()).unwrap_or_else(|mistakes| panic!("{mistakes:?} in {text}"));
+    assert_eq!(parsed.table, *table);
+    assert!(parsed.names.is_empty());
+    for site in [0, 1, MAX_SITE] {
+        let file = parsed.table.write(site).unwrap();
+        let read = Table::read(&file, site).unwrap();
+        assert_eq!(read, *table);
+        assert_eq!(print(&read), text);
+        assert_eq!(read.write(site).unwrap(), file);
+    }
+}
+
+/// The texts of `tables/` are worked out by Python from the tables themselves.
+#[test]
+fn files_of_tables() {
+    let mut count = 0;
+    for entry in fs::read_dir("../../tables").unwrap() {
+        let path = entry.unwrap().path();
+        if path.extension().is_none_or(|kind| kind != "table") {
+            continue;
+        }
+        let file = fs::read(&path).unwrap();
+        let text = fs::read_to_string(path.with_extension("txt"));
+        let table = match Table::read(&file, 0) {
+            Ok(table) => table,
+            Err(_) => {
+                assert!(
+                    text.is_err(),
+                    "{} is refused and has a text",
+                    path.display()
+                );
+                continue;
+            }
+        };
+        let text = text.unwrap_or_else(|error| panic!("the text of {}: {error}", path.display()));
+        assert_eq!(print(&table), text, "{}", path.display());
+        let parsed = parse(text.as_bytes()).unwrap();
+        assert_eq!(parsed.table.write(0).unwrap(), file, "{}", path.display());
+        round_trips(&table);
+        count += 1;
+    }
+    assert!(count >= 30, "only {count} files of tables/ are accepted");
+}
+
+/// Numbers by xorshift: any table may come of them.
+struct Numbers(u64);
+
+impl Numbers {
+    fn below(&mut self, limit: usize) -> usize {
+        self.0 ^= self.0 << 13;
+        self.0 ^= self.0 >> 7;
+        self.0 ^= self.0 << 17;
+        (self.0 % limit as u64) as usize
+    }
+
+    /// Puts each state into a set, one of `parts` times.
+    fn fill(&mut self, table: &mut Table, set: Set, parts: usize) {
+        for state in 0..table.n() {
+            if self.below(parts) == 0 {
+                table.insert(set, state);
+            }
+        }
+    }
+
+    fn table(&mut self, n: usize, g: usize) -> Table {
+        let mut table = Table::new(n, g);
+        let parts = 1 + self.below(2 * n.max(1));
+        for set in [Set::Initial, Set::Marked, Set::Resting] {
+            self.fill(&mut table, set, parts);
+        }
+        for j in 0..g {
+            self.fill(&mut table, Set::Group(j), parts);
+        }
+        for s in 0..n {
+            self.fill(&mut table, Set::Successors(s), parts);
+        }
+        table
+    }
+}
+
+#[test]
+fn random_tables() {
+    let mut numbers = Numbers(0x9e37_79b9_7f4a_7c15);
+    for n in [0, 1, 2, 7, 8, 9, 63, 64, 65, MAX_STATES - 1, MAX_STATES] {
+        for g in [0, 1, MAX_GROUPS - 1, MAX_GROUPS] {
+            if n > 0 || g == 0 {
+                round_trips(&numbers.table(n, g));
+            }
+        }
+    }
+    for _ in 0..300 {
+        let (n, g) = (1 + numbers.below(40), numbers.below(6));
+        round_trips(&numbers.table(n, g));
+    }
+}
+
+/// Names, comments, order, spaces, line ends: the same table.
+#[test]
+fn ways_to_write_it() {
+    let plain = "states 4\ninitial 0\nforbidden 2 3\nresting none\ngroup 0 1\ngroup none\nstep 0 -> 1 2\nstep 1 -> 0\n";
+    let table = parse(plain.as_bytes()).unwrap().table;
+    assert_eq!(print(&table), plain);
+    for same in [
+        "# a comment\n\nstates 4 # and one more\n\tinitial   0\nforbidden 3 2\ngroup 1 0\ngroup none\nstep 0->2 1\nstep 1->0",
+        "step 0 -> 2\nstep 1 -> 0\nstep 0 -> 1\ngroup 0 1\nforbidden 3\ngroup none\nforbidden 2\nresting none\ninitial 00\nstates 4\n",
+        "step home -> menu Über.1\nstate 0 home\ninitial home\nforbidden Über.1 3\nstate 2 Über.1\nstep 1 -> home\nstates 4\nstate 1 menu\ngroup menu 0\ngroup none",
+        "\u{feff}states 4\r\ninitial 0\r\nforbidden 2 3\r\ngroup 0 1\r\ngroup none\r\nstep 0 -> 1 2\r\nstep 1 -> 0\r\n",
+    ] {
+        assert_eq!(parse(same.as_bytes()).unwrap().table, table, "{same}");
+    }
+    let named = parse(b"states 2\nstate 1 end-1\ninitial none\nforbidden none\n").unwrap();
+    assert_eq!(
+        named.names.into_iter().collect::<Vec<_>>(),
+        [(1, "end-1".to_string())]
+    );
+    assert_eq!(parse(b"states 0").unwrap().table, Table::new(0, 0));
+    assert_eq!(
+        parse(b"initial none\nforbidden none\nstates 0\nresting none\n")
+            .unwrap()
+            .table,
+        Table::new(0, 0)
+    );
+}
+
+/// Lines with what must be said of them.
+type Said = [(usize, &'static str)];
+
+/// A text with a mistake on each line but the first three; what is said of a line is typed here from what a reader should be told.
+#[test]
+fn mistakes() {
+    let head = "states 5\ninitial 0\nforbidden none\n";
+    let cases: &[(&str, &Said)] = &[
+        ("initail 1", &[(4, "not with 'initail'")]),
+        ("0 -> 1", &[(4, "not with '0'")]),
+        ("INITIAL 1", &[(4, "not with 'INITIAL'")]),
+        ("states 5", &[(4, "stands on line 1 already")]),
+        (
+            "initial 1 5",
+            &[(4, "no state 5: with states 5 they are 0 to 4")],
+        ),
+        ("initial 1 1", &[(4, "state 1 stands on this line already")]),
+        (
+            "initial 1\ninitial 2 1 0",
+            &[
+                (5, "state 1 is initial by line 4 already"),
+                (5, "state 0 is initial by line 2 already"),
+            ],
+        ),
+        ("initial none", &[(4, "line 2 is one")]),
+        (
+            "forbidden 1",
+            &[(
+                4,
+                "forbidden none goes with no other line of forbidden, and line 3 is one",
+            )],
+        ),
+        ("resting 1 none", &[(4, "none stands alone")]),
+        ("resting", &[(4, "an empty one is written resting none")]),
+        ("group", &[(4, "an empty one is written group none")]),
+        ("group 1 2 1", &[(4, "state 1 stands on this line already")]),
+        (
+            "group -1",
+            &[(4, "'-1' is no number, and no line gives a state this name")],
+        ),
+        ("group 1,2", &[(4, "'1,2' is no number")]),
+        ("group 1.5", &[(4, "'1.5' is no number")]),
+        (
+            "group 99999999999999999999999",
+            &[(4, "no state 99999999999999999999999")],
+        ),
+        ("step 1", &[(4, "a step is written")]),
+        ("step 1 2", &[(4, "a step is written")]),
+        ("step 1 ->", &[(4, "a step is written")]),
+        ("step -> 1", &[(4, "a step is written")]),
+        ("step 1 2 -> 3", &[(4, "with one state before the arrow")]),
+        ("step 1 -> 2 -> 3", &[(4, "a step is written")]),
+        ("step 1 => 2", &[(4, "a step is written")]),
+        ("step 5 -> 6", &[(4, "no state 5"), (4, "no state 6")]),
+        ("step 1 -> none", &[(4, "none stands alone")]),
+        (
+            "step 1 -> 2 3\nstep 2 -> 1\nstep 1 -> 3",
+            &[(6, "the step 1 -> 3 stands on line 4 already")],
+        ),
+        ("state 1 none", &[(4, "'none' is no name")]),
+        ("state 1 2nd", &[(4, "'2nd' is no name")]),
+        ("state 1 a/b", &[(4, "'a/b' is no name")]),
+        ("state 1 hard limit", &[(4, "a name of one word")]),
+        ("state 1", &[(4, "state N NAME")]),
+        ("state one first", &[(4, "'one' is no number")]),
+        ("state 5 late", &[(4, "no state 5")]),
+        (
+            "state 1 a\nstate 2 a",
+            &[(5, "state 1 has the name a, by line 4 already")],
+        ),
+        (
+            "state 1 a\nstate 1 b",
+            &[(5, "state 1 has the name a, by line 4 already")],
+        ),
+        (
+            "state 1 a\ngroup b",
+            &[(5, "'b' is no number, and no line gives a state this name")],
+        ),
+        (
+            "state 1 a\ngroup a 1",
+            &[(5, "state 1 stands on this line already")],
+        ),
+        ("group \u{1}", &[(4, "control character")]),
+        (
+            "initial 9\nstate 5 late\nstates 5\nup",
+            &[
+                (4, "no state 9"),
+                (5, "no state 5"),
+                (6, "stands on line 1 already"),
+                (7, "not with 'up'"),
+            ],
+        ),
+        (
+            "resting a\n\n# a comment\nresting b",
+            &[(4, "'a' is no number"), (7, "'b' is no number")],
+        ),
+    ];
+    for (tail, expected) in cases {
+        holds(format!("{head}{tail}\n").as_bytes(), expected);
+    }
+    let groups = "group 1\n".repeat(MAX_GROUPS + 1);
+    holds(
+        format!("{head}{groups}").as_bytes(),
+        &[(MAX_GROUPS + 4, "at most 64")],
+    );
+    holds(
+        format!("{head}group {}\n", "x".repeat(5000)).as_bytes(),
+        &[(
+            4,
+            "'xxxxxxxxxxxxxxxxxxxxxxxxxxxxxxxxxxxxxxxx..' is no number",
+        )],
+    );
+}
+
+/// What a text must not leave out: without it the table would be safe, or none.
+#[test]
+fn missing_facts() {
+    let (states, initial, forbidden) = (
+        "how many states there are",
+        "which states are initial",
+        "which states are forbidden",
+    );
+    let cases: &[(&[u8], &Said)] = &[
+        (b"", &[(1, states), (1, initial), (1, forbidden)]),
+        (b"\n", &[(1, states), (1, initial), (1, forbidden)]),
+        (b"states 3\nstep 0 -> 1\n", &[(2, initial), (2, forbidden)]),
+        (b"states 3\ninitial 0\nstep 0 -> 1", &[(3, forbidden)]),
+        (b"states 3\nforbidden 1\n\n\n", &[(4, initial)]),
+        (
+            b"initial 0\nforbidden 700\n",
+            &[(2, "no state 700: a table has at most 512"), (2, states)],
+        ),
+        (
+            b"states\ninitial 0\nforbidden 1\n",
+            &[(1, "states N, with one number")],
+        ),
+        (
+            b"states 3 4\ninitial 0\nforbidden 1\n",
+            &[(1, "states N, with one number")],
+        ),
+        (
+            b"states three\ninitial 0\nforbidden 1\n",
+            &[(1, "'three' is no number of states")],
+        ),
+        (
+            b"states 513\ninitial 0\nforbidden 1\n",
+            &[(1, "513 states are too many: a table has at most 512")],
+        ),
+        (
+            b"states 0\ninitial 0\n",
+            &[(2, "no state 0: with states 0 there is none")],
+        ),
+        (
+            b"states 0\ngroup none\n",
+            &[(2, "a table without states has no groups")],
+        ),
+        (
+            b"states 1\ninitial 1\nforbidden none\n",
+            &[(2, "with states 1 there is 0 alone")],
+        ),
+        (
+            b"states 1\ninitial \xff\nforbidden none\n",
+            &[(2, "not UTF-8"), (3, initial)],
+        ),
+    ];
+    for (text, expected) in cases {
+        holds(text, expected);
+    }
+}
+
+/// A text is what it looks like: what a reader cannot see, or what moves other letters, is refused, also in a comment.
+#[test]
+fn hidden_characters() {
+    let hidden = [
+        '\u{a0}',
+        '\u{ad}',
+        '\u{34f}',
+        '\u{61c}',
+        '\u{115f}',
+        '\u{1680}',
+        '\u{180e}',
+        '\u{2003}',
+        '\u{200b}',
+        '\u{200d}',
+        '\u{200e}',
+        '\u{2028}',
+        '\u{2029}',
+        '\u{202a}',
+        '\u{202e}',
+        '\u{202f}',
+        '\u{2060}',
+        '\u{2066}',
+        '\u{2069}',
+        '\u{2800}',
+        '\u{3000}',
+        '\u{3164}',
+        '\u{fe0f}',
+        '\u{feff}',
+        '\u{ffa0}',
+        '\u{e0001}',
+        '\u{e0041}',
+    ];
+    for c in hidden {
+        for place in ["# a", "group 1 # why", "group 1"] {
+            let (front, back) = place.split_at(place.len() - 1);
+            let said = format!("states 5\ninitial 0\nforbidden none\n{front}{c}{back}\n");
+            holds(said.as_bytes(), &[(4, "cannot be seen")]);
+        }
+    }
+    for c in ['\u{1}', '\u{1b}', '\u{7f}', '\u{85}', '\r'] {
+        let said = format!("states 5\ninitial 0\nforbidden none\n# a{c}b\n");
+        holds(said.as_bytes(), &[(4, "control character")]);
+    }
+    // What can be seen may stand in a comment, in every writing.
+    let said = "states 5\ninitial 0\nforbidden none\n# é ж λ 文 ✓ → \u{301}\n";
+    assert!(parse(said.as_bytes()).is_ok());
+}
+
+/// The letters of names are of one alphabet.
+#[test]
+fn alphabets() {
+    let head = "states 5\ninitial 0\nforbidden none\n";
+    for good in [
+        "state 1 Größe-2\nstate 2 señal_x\nstate 3 Ɏ",
+        "state 1 όριο\nstate 2 Αρχή.2",
+        "state 1 предел\nstate 2 Ёлка-1",
+    ] {
+        assert!(
+            parse(format!("{head}{good}\n").as_bytes()).is_ok(),
+            "{good}"
+        );
+    }
+    for bad in [
+        "state 1 \u{430}b",
+        "state 1 a\u{3bf}",
+        "state 1 文",
+        "state 1 a\u{660}",
+        "state 1 \u{2167}",
+        "state 1 ×",
+        "state 1 µ",
+        "state 1 ʹ",
+        "state 1 \u{250}",
+        "state 1 ａ",
+        "state 1 e\u{301}",
+        "state 1 _a",
+        "state 1 ϣ",
+    ] {
+        holds(format!("{head}{bad}\n").as_bytes(), &[(4, "is no name")]);
+    }
+    holds(
+        format!("{head}state 1 limit\nstate 2 лимит\nstate 3 όριο\n").as_bytes(),
+        &[
+            (5, "has Cyrillic letters, and line 4 a name of Latin ones"),
+            (6, "has Greek letters, and line 4 a name of Latin ones"),
+        ],
+    );
+    let long = "x".repeat(MAX_NAME);
+    assert!(parse(format!("{head}state 1 {long}\n").as_bytes()).is_ok());
+    holds(
+        format!("{head}state 1 {long}x\n").as_bytes(),
+        &[(4, "64 characters at most")],
+    );
+}
+
+/// Steps that are only possible: for the command options alone.
+#[test]
+fn possible_steps() {
+    let text = "states 3\ninitial 0\nforbidden 2\nstep 0 -> 0\npossible 0 -> 1 2\npossible 1->2\n";
+    let parsed = parse_with_possible(text.as_bytes()).unwrap();
+    assert!(parsed.possible.into_iter().eq([(0, 1), (0, 2), (1, 2)]));
+    assert_eq!(
+        parsed
+            .table
+            .set(Set::Successors(0))
+            .states()
+            .collect::<Vec<_>>(),
+        [0]
+    );
+    holds(
+        text.as_bytes(),
+        &[(5, "the command options"), (6, "the command options")],
+    );
+    for (line, reason) in [
+        ("possible 0 -> 0", "stands on line 4 already"),
+        (
+            "possible 0 -> 1\npossible 0 -> 1",
+            "stands on line 5 already",
+        ),
+        ("possible 0 -> 1\nstep 0 -> 1", "stands on line 5 already"),
+        (
+            "possible 0 1",
+            "a step is written possible STATE -> STATE..",
+        ),
+        ("possible 0 -> 3", "no state 3"),
+    ] {
+        let text = format!("states 3\ninitial 0\nforbidden 2\nstep 0 -> 0\n{line}\n");
+        let mistakes = parse_with_possible(text.as_bytes()).unwrap_err();
+        assert_eq!(mistakes.count, 1, "{mistakes:?}");
+        assert!(mistakes.first()[0].reason.contains(reason), "{mistakes:?}");
+    }
+}
+
+/// Texts of any length take little time and room: the first mistakes are kept, in the order of their lines, and the others counted.
+#[test]
+fn long_texts() {
+    let bad = "x\n".repeat(1_000_000);
+    let mistakes = parse(bad.as_bytes()).unwrap_err();
+    assert_eq!(mistakes.count, 1_000_003);
+    assert_eq!(mistakes.first().len(), SHOWN_MISTAKES);
+    assert!(
+        mistakes
+            .first()
+            .iter()
+            .map(|mistake| mistake.line)
+            .eq(1..=SHOWN_MISTAKES)
+    );
+    // The mistakes of a later look at the text stand before those of an earlier one.
+    let late = format!("group x\n{}", "states 1\n".repeat(200));
+    let mistakes = parse(late.as_bytes()).unwrap_err();
+    assert_eq!((mistakes.count, mistakes.first()[0].line), (202, 1));
+    let numbers: String = (0..400_000).map(|i| format!(" {i}")).collect();
+    holds(
+        format!("initial{numbers}\nforbidden none\n").as_bytes(),
+        &[
+            (1, "more words"),
+            (2, "how many states"),
+            (2, "which states are initial"),
+        ],
+    );
+    // As many words as a line can have.
+    let all: String = (0..MAX_STATES).map(|s| format!(" {s}")).collect();
+    let text = format!("states {MAX_STATES}\ninitial none\nforbidden none\nstep 0 ->{all}\n");
+    assert!(parse(text.as_bytes()).is_ok());
+    holds(
+        format!("states {MAX_STATES}\ninitial none\nforbidden none\nstep 0 ->{all} 0\n").as_bytes(),
+        &[(4, "more words")],
+    );
+}
+
+/// The mistakes of a text are these and no others, in the order of their lines.
+fn holds(text: &[u8], expected: &Said) {
+    let shown = String::from_utf8_lossy(text);
+    let mistakes = parse(text)
+        .err()
+        .unwrap_or_else(|| panic!("no mistake in {shown}"));
+    assert_eq!(mistakes.count, expected.len(), "{mistakes:?} in {shown}");
+    for (mistake, (line, reason)) in mistakes.first().iter().zip(expected) {
+        assert_eq!(mistake.line, *line, "{mistakes:?} in {shown}");
+        assert!(
+            mistake.reason.contains(reason),
+            "{mistakes:?} in {shown}, not {reason}"
+        );
+    }
+}

@@ -1,0 +1,325 @@
+#!/usr/bin/env python3
+"""check, check-all and release: on every file of tables/, whole and damaged, held to what tables/make.py works out."""
+import json
+import os
+import random
+import subprocess
+
+import support
+from support import DRAFT, FAILED, NO_RELEASE, REFUSED, SAFE, TABLES, TOP, UNSAFE, WORK, call, gives, group, need, status_of, tables
+import make
+import model
+
+VERSION = (TOP / "VERSION").read_text().strip()
+ACCEPTED = [(path, expected) for path, expected in tables() if not expected.startswith("refused")]
+RULES = dict(line.split("|", 1) for line in (TOP / "scripts/refusals").read_text().splitlines() if not line.startswith("#"))
+
+
+def said_of(status):
+    return DRAFT if status == NO_RELEASE else None
+
+
+# ---- check, on every file
+
+for path, expected in tables():
+    status = status_of(expected)
+    file = path.read_bytes()
+    gives(status, expected, "check", path, err=said_of(status))
+    gives(status, expected, path, under="/some/where/check", err=said_of(status))
+    with open(path, "rb") as opened:
+        gives(status, expected, "check", stdin=opened, err=said_of(status))
+    gives(status, expected, under="check", input=file, err=said_of(status))
+    gives(status, "", "check", "--quiet", path, err=said_of(status))
+group("check on the files of tables/")
+
+for path, expected in ACCEPTED:
+    file = path.read_bytes()
+    if not file:
+        continue
+
+    def damaged(at):
+        return file[:at] + bytes([255 - file[at]]) + file[at + 1 :]
+
+    size = len(file)
+    # 13 is sure: a byte that is off by less than 256 moves the sum by no multiple of the prime
+    for number, places in (12, [0, 1, size - 512]), (13, [2, 255, 509, 510, 511, size - 212, size - 1]):
+        for at in places:
+            gives(REFUSED, f"refused {number}\n", "check", input=damaged(at))
+    gives(REFUSED, "refused 11\n", "check", input=file[:-1])
+    gives(REFUSED, "refused 11\n", "check", input=file + b"\0")
+with open("/dev/zero", "rb") as zeros:
+    gives(REFUSED, "refused 11\n", "check", stdin=zeros)
+gives(REFUSED, "refused 11\n", "check", "/dev/zero")
+gives(NO_RELEASE, (TABLES / "empty.expected").read_text(), "check", err=DRAFT)
+group("check on damaged files and no input")
+
+
+# ---- its options
+
+def object_of(expected):
+    words = expected.split()
+    if words[0] == "refused":
+        return {"verdict": "refused", "refusal": int(words[1]), "ground": RULES[words[1]].split("|")[0]}
+    found = {"verdict": words[4], "states": int(words[1]), "groups": int(words[3]), "refinements": int(words[6])}
+    if words[4] == "safe":
+        found["invariant"] = sorted(model.numbers(words[9:]))
+    elif words[4] == "unsafe":
+        found["path"] = [int(word) for word in words[8:]]
+    return found
+
+
+for path, expected in tables():
+    status = status_of(expected)
+    given = gives(status, None, "check", "--json", path, err=said_of(status))
+    need(given.out.count(b"\n") == 1 and json.loads(given.out) == object_of(expected), "other JSON", given)
+    if status == REFUSED:
+        number = expected.split()[1]
+        ground, hint = RULES[number].split("|")
+        given = gives(REFUSED, expected, "check", "--explain", path, err="")
+        need(given.err.decode() == f"check: refused {number}: {ground}\ncheck: look whether {hint}\n", "other words", given)
+    else:
+        gives(status, expected, "check", "--explain", path, err=said_of(status))
+        text = path.with_suffix(".txt")
+        gives(status, expected, "check", "--text", text, err=said_of(status))
+        gives(status, expected, "check", "--names", text, path, err=said_of(status))
+        given = gives(REFUSED, None, "check", "--explain", text, err="looks like a text: --text")
+subprocess.run(["python3", "-m", "json.tool"], input=call("check", "--json", TABLES / "b.table").out, check=True, stdout=subprocess.DEVNULL)
+
+for path, expected in ACCEPTED:
+    table = model.table_of(path.with_suffix(".txt").read_text())
+    most = int(expected.split()[6])
+    for allowance in sorted({0, 1, 2, 3, most - 1, most, most + 1, 512} & set(range(513))):
+        drafted = model.printed_within(table, allowance) if table.n <= 64 or allowance < 4 else expected if allowance >= most else None
+        if drafted is None:
+            drafted = f"states {table.n} groups {len(table.groups)}\nundecided refinements {allowance}\n"
+        status = status_of(drafted)
+        gives(status, drafted, "check", "--allowance", str(allowance), path, err=said_of(status) if table.n == 0 else None)
+gives(REFUSED, "refused 13\n", "check", "--allowance", "1", TABLES / "bad-check.table")
+given = gives(NO_RELEASE, None, "check", "--json", "--allowance=2", TABLES / "b.table")
+need(json.loads(given.out) == {"verdict": "undecided", "states": 5, "groups": 0, "refinements": 2}, given)
+
+for path, expected in ACCEPTED:
+    for site in 1, 7, 65520:
+        file = WORK / "site"
+        file.write_bytes(model.at_site(path.read_bytes(), site))
+        status = status_of(expected)
+        gives(status, expected, "check", "--site", str(site), file, err=said_of(status))
+        if status != NO_RELEASE:
+            gives(REFUSED, "refused 13\n", "check", file)
+            gives(REFUSED, "refused 13\n", "check", "--site", str(site - 1), file)
+
+# names stand below the three lines, beside the numbers
+names = TOP / "examples/pump.txt"
+pump = WORK / "pump.table"
+gives(SAFE, "", "encode", "-o", pump, names)
+plain = call("check", pump).out.decode()
+known = dict(line.split()[1:3] for line in names.read_text().splitlines() if line.startswith("state "))
+listed = plain.splitlines()[2].split(":")[-1].replace("path", "").split()
+below = "".join(f"state {s} {known[s]}\n" for s in listed if s in known)
+need(below, "the example has no names")
+status = status_of(plain)
+for words in ("--names", names, pump), ("--text", names):
+    gives(status, plain + below, "check", *words)
+    found = json.loads(call("check", "--json", *words).out)
+    need(found.pop("names") == {s: known[s] for s in listed if s in known} and found == object_of(plain), found)
+gives(REFUSED, "", "check", "--names", TABLES / "a.txt", pump, err="the text of another table")
+gives(REFUSED, "refused 13\n", "check", "--names", TABLES / "e.txt", TABLES / "bad-check.table")
+group("options of check")
+
+
+# ---- called wrongly: what was expected is named, nothing is printed
+
+def wrong(err, *words, out="", **how):
+    gives(FAILED, out, *words, err=err, **how)
+
+
+E = TABLES / "e.table"
+for words in (E, E), ("", E), ("-h",), ("-",), ("--explain", "--explain", E), ("--site", E), ("--site", "x", E), ("--site", "65521", E), (
+    "--site", "-1", E), ("--allowance", "513", E), ("--allowance", "", E), ("--quiet", "--json", E), ("--text", "--site", "0", E), (
+    "--text", "--names", E, E), ("--site=1=2", E), ("--json=x", E), ("--names",), ("--allowance", "99999999999999999999", E):
+    wrong("usage: shuntberry check ", "check", *words)
+    wrong("usage: check ", *words, under="check")
+wrong("is no option", "check", b"--names=\xff", E)
+wrong("did you mean '--explain'", "check", "--explian", E)
+wrong("did you mean '--allowance'", "check", "--alowance", "3", E)
+wrong("expected a number from 0 to 512", "check", "--allowance", "600", E)
+wrong("did you mean 'check'", "chekc", E, out="failed\n")
+wrong("did you mean 'next-open'", "nextopen", out="failed\n")
+wrong("no command\nusage", out="failed\n")
+wrong("is no command\n", "frobnicate", out="failed\n")
+wrong("No such file", "check", "")
+wrong("No such file", "check", TABLES / "missing.table", input=E.read_bytes())
+wrong("No such file", "check", "/dev/tcp/127.0.0.1/1")
+wrong("is a directory", "check", "/")
+wrong("No such file", "check", "--", "--explain")
+
+# about itself: with 0 where no 0 can pass for a verdict
+for words in ["--help"], ["help"], *(["help", name] for name in "check check-all release inspect within replay options next-open encode decode picture generate rewrite".split()):
+    given = gives(SAFE, None, *words)
+    need(given.out.startswith(b"usage: shuntberry "), given)
+    if len(words) == 2:
+        about = gives(FAILED, None, words[1], "--help")
+        need(about.out == given.out, about)
+        gives(FAILED, f"shuntberry {words[1]} (Shuntberry) {VERSION}\n", words[1], "--version")
+        given = gives(FAILED, None, words[1], "--hepl", err="did you mean|is no option")
+        need(given.out == (b"failed\n" if words[1] in "encode decode picture generate rewrite".split() else b""), given)
+gives(SAFE, f"shuntberry (Shuntberry) {VERSION}\n", "--version")
+gives(FAILED, f"check (Shuntberry) {VERSION}\n", "--version", under="check")
+given = gives(FAILED, None, "--help", under="check")
+need(given.out.startswith(b"usage: check ") and not any(line.startswith((b"safe", b"states")) for line in given.out.splitlines()), given)
+wrong("did you mean 'release'", "help", "realease")
+wrong("--version goes with no other", "--version", "x")
+group("calls that are wrong, help and versions")
+
+
+# ---- check-all
+
+def line_of(name, expected):
+    status = status_of(expected)
+    word = {SAFE: "safe", UNSAFE: "unsafe", NO_RELEASE: "draft", REFUSED: expected.strip()}[status]
+    return f"{name}: {word}\n"
+
+
+def summary(statuses):
+    counts = [statuses.count(status) for status in (SAFE, UNSAFE, REFUSED, NO_RELEASE, FAILED)]
+    s, d = ("" if number == 1 else "s" for number in (len(statuses), counts[3]))
+    return f"{len(statuses)} file{s}: {counts[0]} safe, {counts[1]} unsafe, {counts[2]} refused, {counts[3]} draft{d}, {counts[4]} failed\n"
+
+
+def worst(statuses):
+    return max(statuses, key=[SAFE, NO_RELEASE, UNSAFE, REFUSED, FAILED].index)
+
+
+def checks(*names, how=(), err=None):
+    texts = [(TABLES / f"{name}.expected").read_text() for name in names]
+    statuses = list(map(status_of, texts))
+    paths = [f"{TABLES}/{name}.table" for name in names]
+    lines = "".join(map(line_of, paths, texts)) + summary(statuses)
+    gives(worst(statuses), lines, "check-all", *how, *paths, err=err)
+    given = gives(worst(statuses), None, "check-all", "--json", *how, *paths, err=err)
+    objects = [json.loads(line) for line in given.out.splitlines()]
+    need(objects[:-1] == [{"file": path} | object_of(text) for path, text in zip(paths, texts)], given)
+    need(objects[-1] == dict(zip(["files", "safe", "unsafe", "refused", "drafts", "failed"], map(int, __import__("re").findall(r"\d+", summary(statuses))))), given)
+
+
+checks("a")
+checks("a", "e", "a")
+checks("empty")
+checks("a", "empty")
+checks("empty", "b")
+checks("b")
+checks("a", "b", "e")
+checks("bad-check", "a")
+checks("old-e", "b", "a", "empty")
+every = [path.stem for path, _ in tables()]
+checks(*every)
+random.shuffle(every)
+checks(*every)
+group("check-all on files of tables/")
+
+# folders: what ends in .table, in the order of names, below it too; what is passed over is said
+folder = WORK / "folder"
+(folder / "deep/er").mkdir(parents=True)
+for name, place in ("a", "b.table"), ("b", "a.table"), ("e", "deep/z.table"), ("e", "deep/er/y.table"), ("a", "other.bin"):
+    (folder / place).write_bytes((TABLES / f"{name}.table").read_bytes())
+os.symlink("..", folder / "deep/loop")
+os.mkfifo(folder / "deep/er/pipe.table")
+lines = [f"{folder}/a.table: unsafe", f"{folder}/b.table: safe", f"{folder}/deep/er/pipe.table: failed", f"{folder}/deep/er/y.table: safe", f"{folder}/deep/z.table: safe"]
+given = gives(FAILED, "\n".join(lines) + "\n5 files: 3 safe, 1 unsafe, 0 refused, 0 drafts, 1 failed\n", "check-all", folder, err="pipe.table: it is no file")
+need(b"2 files whose name does not end in .table were not checked" in given.err, given)
+os.remove(folder / "deep/er/pipe.table")
+os.remove(folder / "deep/loop")
+gives(UNSAFE, None, "check-all", folder, err="1 file whose name does not end in .table was not checked")
+os.remove(folder / "other.bin")
+gives(UNSAFE, None, "check-all", folder)
+nothing = WORK / "nothing"
+nothing.mkdir()
+given = gives(FAILED, f"{nothing}: failed\n1 file: 0 safe, 0 unsafe, 0 refused, 0 drafts, 1 failed\n", "check-all", nothing, err="no file in it whose name ends in .table")
+
+# lists
+listed = WORK / "list"
+a, b = TABLES / "a.table", TABLES / "b.table"
+for how, end in ((), "\n"), (("-0",), "\0"):
+    for text in f"{a}{end}{b}{end}", f"{a}{end}{b}":
+        listed.write_text(text)
+        gives(UNSAFE, f"{a}: safe\n{b}: unsafe\n{summary([SAFE, UNSAFE])}", "check-all", "--from", listed, *how)
+        gives(UNSAFE, f"{a}: safe\n{a}: safe\n{b}: unsafe\n{summary([SAFE, SAFE, UNSAFE])}", "check-all", *how, a, "--from", listed)
+    listed.write_text(f"{a}{end}{end}{b}{end}")
+    gives(FAILED, f"{a}: safe\n: failed\n{b}: unsafe\n{summary([SAFE, FAILED, UNSAFE])}", "check-all", "--from", listed, *how, err="No such file")
+listed.write_text("")
+for words in (), ("--",), ("-0", a), ("--from",), ("-x",), ("--json=1", a):
+    wrong("usage: shuntberry check-all", "check-all", *words)
+wrong("has no names", "check-all", "--from", listed)
+wrong("has no names", "check-all", "--from", listed, a)
+wrong("No such file", "check-all", "--from", WORK / "missing", a)
+
+# files that fail are no drafts, and each is named
+lines = f"{a}: safe\n{TABLES}/missing: failed\n: failed\n{b}: unsafe\n{summary([SAFE, FAILED, FAILED, UNSAFE])}"
+given = gives(FAILED, lines, "check-all", a, TABLES / "missing", "", b, err=f"check-all: {TABLES}/missing could not be read: No such file")
+found = [json.loads(line) for line in call("check-all", "--json", TABLES / "missing").out.splitlines()]
+need(found[0]["verdict"] == "failed" and "No such file" in found[0]["why"], found)
+for path, expected in ACCEPTED[:5]:
+    file = WORK / "site"
+    file.write_bytes(model.at_site(path.read_bytes(), 9))
+    need(call("check-all", "--site", "9", file).status == status_of(expected), path)
+    need(call("check-all", file).status == (REFUSED if file.stat().st_size else NO_RELEASE), path)
+
+# a line for each, whatever the name is
+names = {"a b": "a b", "-x": "-x", "--help": "--help", "*": "*", "it's": "it's", "two\nlines": '"two\\nlines"', "\x1b[31mred": '"\\u{1b}[31mred"', "ends: safe": "ends: safe",
+         "größe": "größe", '"quoted"': '"\\"quoted\\""', "\u202eright": '"\\u{202e}right"', b"\xff\xfe": '"\\xff\\xfe"'}
+place = WORK / "names"
+place.mkdir()
+for name in names:
+    with open(os.path.join(os.fsencode(place), os.fsencode(name)), "wb") as file:
+        file.write(b.read_bytes())
+lines = "".join(f"{shown}: unsafe\n" for shown in names.values()) + summary([UNSAFE] * len(names))
+gives(UNSAFE, lines, "check-all", "--", *names, cwd=place)
+listed.write_bytes(b"".join(os.fsencode(name) + b"\0" for name in names))
+gives(UNSAFE, lines, "check-all", "-0", "--from", listed, cwd=place)
+objects = [json.loads(line) for line in call("check-all", "--json", "--", *names, cwd=place).out.splitlines()]
+need([found["file"] for found in objects[:-2]] == list(names)[:-1] and objects[-2]["file_hex"] == "fffe", objects)
+for name in names:
+    gives(UNSAFE, (TABLES / "b.expected").read_text(), "check", "--", name, cwd=place)
+group("check-all on folders, lists and names")
+
+# ---- release: just the bytes that were checked, and only where they are safe and say something
+
+out = WORK / "released"
+for path, expected in tables():
+    table = model.table_of(path.with_suffix(".txt").read_text()) if status_of(expected) != REFUSED else None
+    vacuous = table is not None and (not table.initial or not table.forbidden())
+    for how in (), ("--even-if-vacuous",):
+        status = status_of(expected)
+        if status == SAFE and vacuous and not how:
+            status = NO_RELEASE
+        for before in None, b"what was there":
+            out.unlink(missing_ok=True)
+            if before:
+                out.write_bytes(before)
+            gives(status, expected, "release", *how, path, out, err=None if status == SAFE else "nothing was released")
+            after = out.read_bytes() if out.exists() else None
+            need(after == (path.read_bytes() if status == SAFE else before), f"release {path}: another OUT")
+need(call("release", TABLES / "g.table", out).err.count(b"no initial state") == 1, "g has no initial state")
+need(call("release", TABLES / "last-rests.table", out).err.count(b"nothing in the table is forbidden") == 1, "nothing is forbidden")
+file = WORK / "site"
+file.write_bytes(model.at_site(a.read_bytes(), 5))
+gives(SAFE, (TABLES / "a.expected").read_text(), "release", "--site", "5", file, out)
+need(out.read_bytes() == file.read_bytes(), "release of another site")
+for target in WORK, "/dev/null", WORK / "missing/x", "":
+    given = gives(FAILED, (TABLES / "a.expected").read_text(), "release", a, target, err="could not be written")
+os.mkfifo(WORK / "fifo")
+gives(FAILED, None, "release", a, WORK / "fifo", err="it is no file")
+for words in (), (a,), (a, out, out), ("--json", a, out), ("--text", a, out):
+    wrong("usage: shuntberry release", "release", *words)
+out.unlink()
+gives(FAILED, "", "release", TABLES / "missing", out, err="No such file")
+need(not out.exists(), "release of a file that is missing")
+# where the verdict cannot be printed nothing is released
+with open("/dev/full", "wb") as full:
+    gives(FAILED, b"", "release", a, out, err="No space left", stdout=full)
+need(not out.exists(), "released though nothing was printed")
+os.symlink("behind", WORK / "link")
+gives(SAFE, None, "release", a, WORK / "link")
+need((WORK / "link").is_symlink() or (WORK / "link").read_bytes() == a.read_bytes(), "release to a link")
+need(not list(WORK.glob(".shuntberry*")), "a part is left")
+group("release")

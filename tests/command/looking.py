@@ -1,0 +1,306 @@
+#!/usr/bin/env python3
+"""inspect, within, replay, options and next-open: on every file of tables/, and on random tables, logs and houses, held to model.py."""
+import json
+import random
+from datetime import date, datetime, timedelta
+
+import support
+from support import FAILED, NO_RELEASE, REFUSED, SAFE, TABLES, TOP, UNSAFE, WORK, call, gives, group, need, status_of, tables
+import drafts
+import make
+import model
+
+SEED = random.randrange(2**30)
+random.seed(SEED)
+EVERY = []  # (table, the words that name its file)
+for path, expected in tables():
+    if status_of(expected) != REFUSED:
+        EVERY.append((model.table_of(path.with_suffix(".txt").read_text()), path))
+for i in range(40):
+    table, path = drafts.table(), WORK / f"{i}.table"
+    path.write_bytes(make.encode(table))
+    EVERY.append((table, path))
+E = TABLES / "e.table"
+
+
+def head(table):
+    return f"states {table.n} groups {len(table.groups)}\n"
+
+
+def joined(numbers):
+    return " ".join(map(str, numbers))
+
+
+def named(table):
+    """A text of the table with names for some states, and these."""
+    names = {s: f"screen-{s}" for s in range(table.n) if random.random() < 0.7}
+    text = make.text(table) + "".join(f"state {s} {name}\n" for s, name in names.items())
+    path = WORK / "named.txt"
+    path.write_text(text)
+    return path, names
+
+
+def below(names, states):
+    return "".join(f"state {s} {names[s]}\n" for s in dict.fromkeys(states) if s in names)
+
+
+# ---- inspect
+
+def screen(s, names):
+    return f"{s} {names[s]}" if s in names else str(s)
+
+
+def inspected(table, names):
+    reachable, away = model.reached(table, table.initial), model.distances(table)
+    hangs = table.dead_ends() - table.resting
+    said = head(table)
+    for s in range(table.n):
+        words = [word for word, states in [("initial", table.initial), ("marked", table.marked), ("resting", table.resting), ("hang", hangs)] if s in states]
+        groups = [j for j, states in enumerate(table.groups) if s in states]
+        words += [f"groups {joined(groups)}"] if groups else []
+        words += ["reachable" if s in reachable else "not reachable", f"distance {away.get(s, 'never')}"]
+        said += f"state {screen(s, names)}: {', '.join(words)}\n"
+    look = []
+    if not table.n:
+        look.append("the table has no states: an untouched draft")
+    elif not table.initial:
+        look.append("no state is initial, so that the table is safe whatever else is in it")
+    if table.n and not table.forbidden():
+        look.append("nothing is forbidden, so that the table is safe whatever else is in it")
+    for words, states in [
+        ("forbidden screens that can be reached", table.forbidden() & reachable), ("hangs, which have no way out and do not rest", hangs),
+        ("screens that nothing reaches", table.states() - reachable),
+    ]:
+        if states:
+            look.append(f"{words}: {', '.join(screen(s, names) for s in sorted(states))}")
+    return said + ("".join(f"look at: {words}\n" for words in look) or "look at nothing in particular\n")
+
+
+def inspected_object(table, names):
+    reachable, away = model.reached(table, table.initial), model.distances(table)
+    screens = [
+        {"state": s} | ({"name": names[s]} if s in names else {}) | {
+            "initial": s in table.initial, "marked": s in table.marked, "resting": s in table.resting, "hang": s in table.dead_ends() - table.resting,
+            "groups": [j for j, states in enumerate(table.groups) if s in states], "reachable": s in reachable, "distance": away.get(s),
+        } for s in range(table.n)
+    ]
+    return {"states": table.n, "groups": len(table.groups), "screens": screens}
+
+
+for table, path in EVERY:
+    gives(SAFE, inspected(table, {}), "inspect", path)
+    text, names = named(table)
+    expected = inspected(table, names)
+    gives(SAFE, expected, "inspect", "--names", text, path)
+    gives(SAFE, expected, "inspect", "--text", input=text.read_bytes())
+    found = json.loads(gives(SAFE, None, "inspect", "--json", "--text", text).out)
+    look = found.pop("look_at")
+    need(found == inspected_object(table, names), path, found)
+    need(len(look) == max(expected.count("look at: "), 0), look)
+# the examples of the manual page
+page = (TOP / "man/shuntberry.1").read_text().replace("\\-", "-").replace("\\(aq", "'")
+example = WORK / "example.txt"
+example.write_text((TABLES / "e.txt").read_text() + "state 0 home\nstate 2 over-limit\n")
+log = WORK / "log"
+log.write_bytes(b"\0\0\1\0\4\0")
+for words in ("inspect", "--text", example), ("replay", TABLES / "b.table", log), ("check", E), ("check", TABLES / "b.table"), ("check", TABLES / "bad-check.table"):
+    need(f".EX\n{call(*words).out.decode()}.EE\n" in page, "the manual page has another example of", *words)
+gives(REFUSED, "", "inspect", TABLES / "bad-check.table", err="^inspect: .*refused 13")
+gives(FAILED, "", "inspect", err="standard input is empty")
+group(f"inspect, seed {SEED}")
+
+# ---- within
+
+for table, path in EVERY:
+    shortest = make.shortest_path(table)
+    d = len(shortest) - 1 if shortest else None
+    for k in sorted({0, 1, 2, 511, 65535, 2**64, *([d - 1, d, d + 1] if d else [])}):
+        yes = d is not None and d <= k
+        shown = min(k, 2**64 - 1)
+        said = head(table) + f"within {shown} " + (f"yes\npath {joined(shortest)}\n" if yes else "no\n")
+        gives(UNSAFE if yes else NO_RELEASE, said, "within", str(k), path)
+    text, names = named(table)
+    k, yes = (d, True) if d is not None else (600, False)
+    said = head(table) + f"within {k} " + (f"yes\npath {joined(shortest)}\n{below(names, shortest)}" if yes else "no\n")
+    gives(UNSAFE if yes else NO_RELEASE, said, "within", str(k), "--text", text)
+    found = json.loads(gives(UNSAFE if yes else NO_RELEASE, None, "within", "--json", "--names", text, str(k), path).out)
+    listed = {"names": {str(s): names[s] for s in shortest or [] if s in names}} if names else {}
+    need(found == {"states": table.n, "groups": len(table.groups), "steps": k, "within": yes, "path": shortest or []} | listed, found)
+for words in (), ("x", E), ("-1", E), ("", E), ("3", E, E):
+    gives(FAILED, "", "within", *words, err="usage: shuntberry within")
+gives(REFUSED, "", "within", "3", TABLES / "bad-check.table", err="refused 13")
+group("within")
+
+# ---- replay
+
+def replayed(table, entries, names):
+    followed, seen, reachable = model.replayed(table, entries)
+    said = head(table) + f"entries {len(entries)} followed {followed}\n"
+    breaks = None
+    if followed < len(entries):
+        entry = entries[followed]
+        if entry >= table.n:
+            why = "there is no such state"
+        elif not followed:
+            why = "it is not initial"
+        else:
+            why = f"no step leads there from {screen(entries[followed - 1], names)}"
+        said += f"entry {followed + 1} breaks the walk: {screen(entry, names)}: {why}\n"
+        breaks = {"entry": followed + 1, "state": entry, "why": why}
+    percent, remainder = divmod(100 * len(seen), len(reachable)) if reachable else (0, 0)
+    left = sorted(reachable - seen)
+    said += f"coverage {percent} percent remainder {remainder}: {len(seen)} of {len(reachable)}\n"
+    said += f"not seen {len(left)}: {', '.join(screen(s, names) for s in left) or 'none'}\n"
+    found = {
+        "states": table.n, "groups": len(table.groups), "entries": len(entries), "followed": followed, "breaks": breaks, "seen": len(seen),
+        "reachable": len(reachable), "percent": percent, "remainder": remainder, "not_seen": left,
+    }
+    return said, found | ({"names": {str(s): name for s, name in names.items()}} if names else {})
+
+
+def walk(table):
+    """A log that mostly obeys."""
+    entries = random.sample(sorted(table.initial), 1) if table.initial and random.random() < 0.9 else []
+    while len(entries) < random.choice([1, 5, 30, 200]):
+        row = sorted(table.row(entries[-1])) if entries and entries[-1] < table.n else []
+        entries.append(random.choice(row) if row and random.random() < 0.97 else random.choice([0, 1, 7, 600, 65535, max(table.n - 1, 0)]))
+    return entries
+
+
+log = WORK / "log"
+for table, path in EVERY:
+    for entries in [], walk(table), walk(table):
+        log.write_bytes(b"".join(map(make.two, entries)))
+        gives(SAFE, replayed(table, entries, {})[0], "replay", path, log)
+        text, names = named(table)
+        said, found = replayed(table, entries, names)
+        gives(SAFE, said, "replay", "--text", text, log)
+        need(json.loads(gives(SAFE, None, "replay", "--json", "--names", text, path, log).out) == found, found)
+        words = " ".join(names.get(s, str(s)) if random.random() < 0.8 else str(s) for s in entries)
+        log.write_text(words.replace(" ", "\n", 1) + " # as the nurse said\n")
+        gives(SAFE, said, "replay", "--text", "--text-log", text, log)
+log.write_bytes(b"\0\0\1")
+gives(REFUSED, "", "replay", E, log, err="refused 25")
+for length, number in (32768, None), (32769, 25), (32770, 26), (40001, 25):
+    log.write_bytes(bytes(length))
+    gives(REFUSED if number else SAFE, "" if number else None, "replay", E, log, err=f"refused {number}" if number else None)
+log.write_text("0 nowhere\n-1\n")
+given = gives(REFUSED, "", "replay", "--text-log", E, log, err="2 of its words are no screens")
+need(f"{log}:1: 'nowhere'".encode() in given.err and f"{log}:2: '-1'".encode() in given.err, given)
+for words in (), (E,), (E, log, log):
+    gives(FAILED, "", "replay", *words, err="usage: shuntberry replay")
+gives(FAILED, "", "replay", E, WORK / "missing", err="No such file")
+group("replay")
+
+# ---- options
+
+def optional(table):
+    """The steps of a table and some more."""
+    more = {(a, b) for a in range(table.n) for b in drafts.some(table.n, 0.7 / max(table.n, 1))}
+    return table.steps | more
+
+
+def modal_said(table, possible, names):
+    verdict, invariant, path = model.modal(table, possible)
+    said, found = head(table) + f"{verdict}\n", {"verdict": verdict, "states": table.n, "groups": len(table.groups)}
+    if invariant is not None:
+        said += f"invariant {len(invariant)}: {make.listing(sorted(invariant))}\n"
+        found["invariant"] = sorted(invariant)
+    if path is not None:
+        said += f"path {joined(path)}\n"
+        found["path"] = path
+    states = [*(path or []), *sorted(invariant or [])]
+    if names:
+        found["names"] = {str(s): names[s] for s in states if s in names}
+    status = NO_RELEASE if not table.n or verdict == "depends" else UNSAFE if verdict == "unsafe" else SAFE
+    return status, said + below(names, states), found
+
+
+seen = set()
+for table, path in EVERY:
+    if table.n > 100:
+        continue
+    for possible in table.steps, optional(table), optional(table), optional(table):
+        other = WORK / "possible.table"
+        other.write_bytes(make.encode(make.Table(table.n, table.initial, table.marked, possible, table.groups, table.resting)))
+        status, said, found = modal_said(table, possible, {})
+        gives(status, said, "options", path, "--possible", other)
+        need(json.loads(gives(status, None, "options", "--json", "--possible", other, path).out) == found, found)
+        text, names = named(table)
+        status, said, found = modal_said(table, possible, names)
+        gives(status, said, "options", path, "--names", text, f"--possible={other}")
+        with open(text, "a") as out:
+            out.write("".join(f"possible {a} -> {b}\n" for a, b in possible - table.steps))
+        gives(status, said, "options", "--text", text)
+        seen.add(found["verdict"])
+        missing = sorted(table.steps)
+        if missing:
+            fewer = make.Table(table.n, table.initial, table.marked, possible - {random.choice(missing)}, table.groups, table.resting)
+            other.write_bytes(make.encode(fewer))
+            gives(REFUSED, "", "options", path, "--possible", other, err="refused 28")
+need(seen == {"safe", "unsafe", "depends"}, seen)
+gives(REFUSED, "", "options", TABLES / "a.table", "--possible", TABLES / "b.table", err="not the same table but for their steps")
+gives(REFUSED, "", "options", TABLES / "resting.table", "--possible", TABLES / "hang.table", err="not the same table but for their steps")
+gives(REFUSED, "", "options", E, "--possible", TABLES / "bad-check.table", err="bad-check.table: refused 13")
+for words in (E,), ("--text", "--possible", E, E), ("--possible", E, E, E), ("--text", "--site", "0", E):
+    gives(FAILED, "", "options", *words, err="usage: shuntberry options")
+text = WORK / "possible.txt"
+text.write_text("states 3\ninitial 0\nforbidden 2\nstep 0 -> 0\nstep 1 -> 2\npossible 0 -> 1\n")
+gives(NO_RELEASE, "states 3 groups 0\ndepends\ninvariant 1: 0\npath 0 1 2\n", "options", "--text", text)
+for command in "check", "inspect", "decode":
+    gives(REFUSED, None, command, "--text", text, err="possible steps are for the command options alone")
+group("options")
+
+# ---- next-open
+
+house = WORK / "house"
+at = lambda moment: moment.strftime("%Y-%m-%dT%H:%M")
+
+
+def length_of(minutes):
+    days, rest = divmod(minutes, 1440)
+    hours, left = divmod(rest, 60)
+    return random.choice([f"{minutes}m", "".join(f"{count}{unit}" for count, unit in [(days, "d"), (hours, "h"), (left, "m")] if count)])
+
+
+for _ in range(150):
+    windows = [(random.randrange(7), random.randrange(24), random.choice([0, 1, 30, 59]), random.choice([1, 30, 60, 360, 1440, 4000, 10080])) for _ in range(random.choice([0, 1, 1, 2, 5]))]
+    windows = list(dict.fromkeys(windows))
+    moment = datetime(random.choice([2000, 2024, 2026, 2100, 2400]), 1, 1) + timedelta(minutes=random.randrange(366 * 1440))
+    closed = {moment.date() + timedelta(days=random.randrange(0, 12)) for _ in range(random.choice([0, 1, 5, 20]))}
+    lines = [f"window {model.DAYS[day]} {hour:02}:{minute:02} for {length_of(length)}" for day, hour, minute, length in windows] or ["window none"]
+    lines += [f"closed {day}" for day in closed]
+    random.shuffle(lines)
+    house.write_text("\n".join(lines) + "\n")
+    found = model.next_open(windows, closed, moment)
+    said = "never\n" if found is None else f"open {found:%Y-%m-%d %H:%M} {model.DAYS[found.weekday()]}\n"
+    gives(SAFE, said, "next-open", house, "--at", at(moment))
+    gives(SAFE, said, "next-open", f"--at={moment:%Y-%m-%d %H:%M}", house)
+    object = {"at": at(moment), "open": None}
+    if found is not None:
+        minute = (found - datetime(2000, 1, 1)) // timedelta(minutes=1)
+        object |= {"open": at(found), "weekday": model.DAYS[found.weekday()], "minute": minute}
+    need(json.loads(call("next-open", "--json", "--at", at(moment), house).out) == object, object)
+house.write_text("window monday 22:00 for 6h\nclosed 2026-12-28\n")
+gives(SAFE, "open 2026-12-29 00:00 tuesday\n", "next-open", house, "--at", "2026-12-28T13:05")
+gives(SAFE, "open 2000-01-03 22:00 monday\n", "next-open", house, "--at", "2000-01-01T00:00")
+gives(REFUSED, "", "next-open", house, "--at", "9999-12-31T23:59", err="refused 31")
+gives(FAILED, "", "next-open", house, err="expected --at DATE-TIME")
+for word in "2026-12-24", "13:05", "1999-12-31T23:59", "2026-02-29T00:00", "2100-02-29T00:00", "2026-13-01T00:00", "2026-00-01T00:00", "2026-04-31T00:00", "2026-12-24T24:00", \
+    "2026-12-24T13:60", "2026-12-24T13:05Z", "2026-12-24T13:05+01:00", "26-12-24T13:05", "2026-12-24T1:05", "", "now", "2026-12-24t13:05":
+    gives(FAILED, "", "next-open", house, "--at", word, err="is no time: expected")
+for text, line, reason in [
+    ("", 1, "window none"), ("closed 2026-12-25\n", 1, "no line says when it is open"), ("window none\nwindow monday 22:00 for 6h\n", 2, "goes with no other"),
+    ("window monday 22:00 for 6h\nwindow none\n", 2, "goes with no other"), ("window monday 22:00\n", 1, "a window is written"),
+    ("window Monday 22:00 for 6h\n", 1, "no day of the week"), ("window monday 24:00 for 6h\n", 1, "no time"), ("window monday 22:00 for 0h\n", 1, "no length"),
+    ("window monday 22:00 for 169h\n", 1, "no length"), ("window monday 22:00 for 6\n", 1, "no length"), ("window monday 22:00 for 30m6h\n", 1, "no length"),
+    ("window monday 22:00 for 6h 30m\n", 1, "a window is written"), ("window none\nclosed 2026-02-30\n", 2, "no date"), ("window none\nclosed tomorrow\n", 2, "no date"),
+    ("window none\nclosed 2026-12-25\nclosed 2026-12-25\n", 3, "line 2 already"), ("open monday\nwindow none\n", 1, "begins with window or closed"),
+    ("window none\n# \u202e\n", 2, "cannot be seen"), ("".join(f"window monday 22:00 for {m}m\n" for m in range(1, 34)), 33, "at most 32"),
+    ("window none\n" + "".join(f"closed {date(2026, 1, 1) + timedelta(days=d)}\n" for d in range(65)), 66, "at most 64"),
+]:
+    house.write_text(text)
+    given = gives(REFUSED, "", "next-open", house, "--at", "2026-12-24T13:05", err=reason)
+    need(f"{house}:{line}: ".encode() in given.err and given.err.count(b"\n") == 2, given)
+gives(SAFE, "never\n", "next-open", "/dev/stdin", "--at", "2026-12-24T13:05", input=b"window none\n")
+group("next-open")

@@ -1,0 +1,98 @@
+"""What the commands must answer, worked out from the specification's text on Python's sets, and sharing nothing with the program."""
+import re
+from datetime import datetime, timedelta
+
+import make
+
+
+def numbers(words):
+    return set() if words == ["none"] else {int(word) for word in words}
+
+
+def table_of(text):
+    """The table of a text as `decode` prints it."""
+    lines = [line.split() for line in text.splitlines()]
+    of = lambda fact: set().union(*(numbers(words[1:]) for words in lines if words[0] == fact))
+    groups = [numbers(words[1:]) for words in lines if words[0] == "group"]
+    steps = {(int(words[1]), int(b)) for words in lines if words[0] == "step" for b in words[3:]}
+    return make.Table(int(lines[0][1]), of("initial"), of("forbidden"), steps, groups, of("resting"))
+
+
+def printed_within(table, allowance):
+    """What a draft check prints."""
+    before, make.ALLOWANCE = make.ALLOWANCE, allowance
+    verdict, count, _ = make.decide(table)
+    make.ALLOWANCE = before
+    if verdict != "undecided":
+        return make.printed(table)
+    return f"states {table.n} groups {len(table.groups)}\nundecided refinements {count}\n"
+
+
+def at_site(file, site):
+    """A file of site 0 as one of another site: only the checks are others."""
+    made = b""
+    for at in range(0, len(file), make.BLOCK):
+        body = file[at : at + make.BLOCK - 2]
+        made += body + make.two((make.check(body) + site) % make.PRIME)
+    return made
+
+
+def reached(table, states):
+    found, layer = set(states), set(states)
+    while layer:
+        layer = {b for a, b in table.steps if a in layer} - found
+        found |= layer
+    return found
+
+
+def distances(table):
+    """The distance of each state that reaches a forbidden one."""
+    found, layer, away = {}, table.forbidden(), 0
+    while layer:
+        found |= dict.fromkeys(layer, away)
+        layer, away = {a for a, b in table.steps if b in layer} - set(found), away + 1
+    return found
+
+
+def replayed(table, entries):
+    """How many entries are followed, the states that they hold, and all that can be reached."""
+    followed = []
+    for entry in entries:
+        allowed = table.row(followed[-1]) if followed else table.initial
+        if entry not in allowed:
+            break
+        followed.append(entry)
+    return len(followed), set(followed), reached(table, table.initial)
+
+
+def modal(table, possible):
+    """Verdict, invariant and path of a table with possible steps; forbidden are the same states for every choice."""
+    forbidden = table.marked | {s for s in range(table.n) if s not in table.resting and not any(a == s for a, _ in possible)}
+    # every state rests and just those are marked, so that the rounds take these for the forbidden ones
+    choice = lambda steps: make.Table(table.n, table.initial, forbidden, steps, table.groups, set(range(table.n)))
+    least, most = choice(table.steps), choice(possible)
+    if make.decide(most)[0] == "safe":
+        return "safe", make.decide(most)[2], None
+    if make.decide(least)[0] == "unsafe":
+        return "unsafe", None, make.shortest_path(least)
+    return "depends", make.decide(least)[2], make.shortest_path(most)
+
+
+DAYS = ["monday", "tuesday", "wednesday", "thursday", "friday", "saturday", "sunday"]
+
+
+def next_open(windows, closed, at):
+    """The first open minute, looked at one by one: (weekday, hour, minute, length) of windows, dates of closed days."""
+    if not windows:
+        return None
+    moment = at
+    while True:
+        if moment.date() not in closed and any(is_in(window, moment) for window in windows):
+            return moment
+        moment += timedelta(minutes=1)
+
+
+def is_in(window, moment):
+    weekday, hour, minute, length = window
+    start = datetime(2000, 1, 3, hour, minute) + timedelta(days=weekday)  # a Monday
+    return (moment - start) % timedelta(weeks=1) < timedelta(minutes=length)

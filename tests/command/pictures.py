@@ -1,0 +1,132 @@
+#!/usr/bin/env python3
+"""Holds pictures to their tables: python3 tests/command/pictures.py PROGRAM FILE..
+
+PROGRAM is the command, each FILE a NAME.table with NAME.txt, its text, and NAME.expected, what `check` prints for it, beside it; the two are worked out by
+tables/make.py. Every state and step of the text is drawn, and no other; the kinds of a state are told by its class and by its look; the path and the
+invariant are those of `check`; the distances are searched for here.
+"""
+
+import re
+import subprocess
+import sys
+from pathlib import Path
+
+STATE = re.compile(
+    r'  s(?P<s>\d+) \[label="(?P<label>[^"]*)", class="(?P<kinds>[^"]*)", shape=(?P<shape>\w+), style="(?P<style>[^"]*)", '
+    r'fillcolor="(?P<fill>[^"]*)", peripheries=(?P<lines>\d), penwidth=(?P<width>\d)\]'
+)
+STEP = re.compile(r'  s(\d+) -> s(\d+)(?: \[class="path", headlabel="(\d+)",.*\])?')
+START = re.compile(r'  start(\d+) (?:-> s(\d+) \[class="start"\]|\[label="start", .*\])')
+FRAME = re.compile(r'digraph table \{|  (graph|node|edge|legend) \[.*\]|  subgraph cluster_table \{|  peripheries=0; .*|  \}|\}')
+LEGEND = {  # what the legend says where such a state is there
+    "initial": "a session can start here", "forbidden": "marked so", "hang": "a hang:", "resting": "resting:", "dead-end": "a dead end:", "path": "on the path",
+    "invariant": "the invariant:",
+}
+
+
+def numbers(words):
+    return [] if words == ["none"] else [int(word) for word in words]
+
+
+class Table:
+    def __init__(self, path):
+        lines = [line.split() for line in path.with_suffix(".txt").read_text().splitlines()]
+        of = lambda fact: {s for words in lines if words[0] == fact for s in numbers(words[1:])}
+        self.n = int(lines[0][1])
+        self.initial, self.marked, self.resting = of("initial"), of("forbidden"), of("resting")
+        self.groups = [set(numbers(words[1:])) for words in lines if words[0] == "group"]
+        self.steps = {(int(words[1]), int(b)) for words in lines if words[0] == "step" for b in words[3:]}
+        self.dead_ends = set(range(self.n)) - {a for a, _ in self.steps}
+        self.hangs = self.dead_ends - self.resting
+        said = path.with_suffix(".expected").read_text().splitlines()
+        self.safe, last = said[1].startswith("safe"), said[2].split()
+        self.path = [] if self.safe else numbers(last[1:])
+        self.invariant = set(numbers(last[2:])) if self.safe else set()
+
+    def kinds(self, s):
+        sets = {
+            "initial": self.initial, "forbidden": self.marked, "hang": self.hangs, "resting": self.resting,
+            "dead-end": self.dead_ends & self.resting, "path": self.path, "invariant": self.invariant,
+        }
+        return {kind for kind, states in sets.items() if s in states}
+
+    def distances(self):
+        away, layer, found = 0, self.marked | self.hangs, {}
+        while layer:
+            found |= {s: away for s in layer}
+            layer, away = {a for a, b in self.steps if b in layer} - set(found), away + 1
+        return found
+
+
+def told(away):
+    return "never" if away is None else "1 step" if away == 1 else f"{away} steps"
+
+
+def check(table, lines, label_of):
+    states, steps, path, starts, rest = {}, set(), {}, set(), []
+    for line in lines:
+        if m := STATE.fullmatch(line):
+            assert states.setdefault(int(m["s"]), m) is m, line
+        elif m := STEP.fullmatch(line):
+            step = (int(m[1]), int(m[2]))
+            assert step not in steps, line
+            steps.add(step)
+            if m[3]:
+                path[int(m[3])] = step
+        elif m := START.fullmatch(line):
+            assert m[2] in (None, m[1]), line
+            starts |= {int(m[2])} if m[2] else set()
+        else:
+            assert FRAME.fullmatch(line), line
+            rest.append(line)
+    assert sorted(states) == list(range(table.n)) and steps == table.steps and starts == table.initial
+    assert path == dict(enumerate(zip(table.path, table.path[1:]), 1)), path
+    fills = {"forbidden": set(), "invariant": set(), "other": set()}
+    for s, drawn in states.items():
+        kinds = set(drawn["kinds"].split())
+        assert kinds == table.kinds(s), (s, kinds)
+        forbidden = bool({"forbidden", "hang"} & kinds)
+        assert (drawn["shape"] == "octagon") == forbidden, s
+        assert ("dashed" in drawn["style"]) == (s in table.dead_ends), s
+        assert (drawn["lines"] == "2") == (s in table.resting), s
+        assert (drawn["width"] == "3") == (s in table.path), s
+        assert drawn["label"] == label_of(s), (s, drawn["label"])
+        fills["forbidden" if forbidden else "invariant" if "invariant" in kinds else "other"].add(drawn["fill"])
+    colours = [fill for fill in fills.values() if fill]
+    assert all(len(fill) == 1 for fill in colours) and len(set().union(*colours)) == len(colours), fills
+    frame = "\n".join(rest)
+    verdict = "an untouched draft" if not table.n else "\\nsafe: " if table.safe else "\\nunsafe: "
+    assert verdict in frame and f"{table.n} state" in frame and f"{len(table.groups)} group" in frame, frame
+    for kind, words in LEGEND.items():
+        assert (words in frame) == any(kind in table.kinds(s) for s in range(table.n)), kind
+
+
+def words_of(table, s):
+    kinds = table.kinds(s)
+    return ", ".join(kind.replace("-", " ") for kind in ["forbidden", "hang", "resting", "dead-end"] if kind in kinds)
+
+
+def main():
+    command, count = sys.argv[1], 0
+    for name in sys.argv[2:]:
+        table = Table(Path(name))
+        drawn = lambda *options: subprocess.run([command, "picture", *options, name], capture_output=True, check=True, text=True).stdout.splitlines()
+        away = table.distances()
+        groups = lambda s: ", ".join(str(j) for j, group in enumerate(table.groups) if s in group)
+        label = lambda *lines: "\\n".join(line for line in lines if line)
+        try:
+            check(table, drawn(), lambda s: label(str(s), words_of(table, s)))
+            check(
+                table, drawn("--distances", "--groups"),
+                lambda s: label(str(s), words_of(table, s), told(away.get(s)), groups(s) and "in group " + groups(s)),
+            )
+        except AssertionError as error:
+            error.add_note(name)
+            raise
+        count += 1
+    assert count > 0
+    print(f"command: {count} pictures as their tables are")
+
+
+if __name__ == "__main__":
+    main()

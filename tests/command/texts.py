@@ -1,0 +1,223 @@
+#!/usr/bin/env python3
+"""encode, decode, picture, generate and rewrite: texts, files and loads held to tables/make.py, load.py and files.py; what stands on standard output, or in
+OUT, where something is wrong."""
+import os
+import random
+import re
+import shutil
+import subprocess
+import sys
+import time
+from pathlib import Path
+
+import support
+from support import FAILED, PROGRAM, REFUSED, SAFE, TABLES, TOP, WORK, call, gives, group, need, status_of, tables
+import files as old_files
+import load
+import make
+import model
+
+HERE = Path(__file__).parent
+SEED = random.randrange(2**30)
+E = TABLES / "e.table"
+
+
+def python(*words):
+    subprocess.run([sys.executable, "-B", *map(str, words)], check=True)
+
+
+# ---- texts and files: those of tables/, and random ones
+
+drafts = WORK / "drafts"
+drafts.mkdir()
+python(HERE / "drafts.py", drafts, SEED, 100)
+accepted = []
+for text in [*sorted(TABLES.glob("*.txt")), *sorted(drafts.glob("*.txt"))]:
+    table, out = text.with_suffix(".table"), WORK / "out"
+    accepted.append(table)
+    gives(SAFE, text.read_bytes(), "decode", table)
+    gives(SAFE, text.read_bytes(), "decode", "--text", text)
+    gives(SAFE, table.read_bytes(), "encode", text)
+    if table.stat().st_size:
+        gives(SAFE, text.read_bytes(), "decode", input=table.read_bytes())
+    gives(SAFE, table.read_bytes(), "encode", input=text.read_bytes())
+    gives(SAFE, "", "encode", "-o", out, text)
+    need(out.read_bytes() == table.read_bytes(), f"encode -o of {text}")
+    gives(SAFE, "", "decode", table, "-o", out)
+    need(out.read_bytes() == text.read_bytes(), f"decode -o of {table}")
+for draft in drafts.glob("*.draft"):
+    gives(SAFE, draft.with_suffix(".table").read_bytes(), "encode", draft)
+    # with its names a text is one of the same table
+    named = call("decode", "--names", draft, draft.with_suffix(".table"))
+    need(named.status == SAFE, named)
+    gives(SAFE, draft.with_suffix(".table").read_bytes(), "encode", input=named.out)
+    need(call("decode", "--text", draft).out == named.out, "decode --text", draft)
+group(f"texts and files both ways, seed {SEED}")
+
+shutil.copy(TOP / "examples/pump.txt", WORK / "pump.txt")
+python(HERE / "pictures.py", PROGRAM, *accepted)
+for path, expected in tables():
+    if status_of(expected) == REFUSED:
+        for command in "decode", "picture":
+            gives(REFUSED, expected, command, path, err=f"^{command}: {path}: {expected.strip()}: ")
+gives(REFUSED, "refused 15\n", "decode", TABLES / "old-e.table", err="the command rewrite makes a new one")
+need(b"rewrite" not in call("decode", TABLES / "too-many-groups.table").err, "a file with too many groups is taken for an old one")
+gives(REFUSED, "refused 11\n", "decode", TABLES / "e.txt", err="looks like a text, which --text reads")
+for site in 1, 65520:
+    made = model.at_site((TABLES / "h1.table").read_bytes(), site)
+    gives(SAFE, made, "encode", "--site", str(site), TABLES / "h1.txt")
+    gives(SAFE, (TABLES / "h1.txt").read_bytes(), "decode", f"--site={site}", input=made)
+    for command in "decode", "picture":
+        gives(REFUSED, "refused 13\n", command, input=made, err="--site N")
+group("files that are refused, and sites")
+
+# ---- generate
+
+for seed in 0, 1, 12345, 4294967295, random.randrange(2**32):
+    for n in 1, 2, 61, 255, 256, 511, 512:
+        for f in 0, 1, 2, 16:
+            gives(SAFE, load.file(seed, n, f), "generate", str(seed), str(n), str(f))
+gives(SAFE, load.file(7, 3, 2), "generate", "007", "0003", "02")
+gives(SAFE, model.at_site(load.file(7, 30, 2), 9), "generate", "--site", "9", "7", "30", "2")
+gives(SAFE, "", "generate", "7", "3", "2", "-o", WORK / "load")
+need((WORK / "load").read_bytes() == load.file(7, 3, 2), "generate -o")
+much = "9" * 30
+for words in [], ["7"], ["7", "3"], ["7", "3", "2", "1"], *([word, "3", "2"] for word in [
+    "4294967296", much, "-1", "+7", "", " 7", "7 ", "7x", "0x7", "7.0", "1e3", "7\n", "٧"]), *(["7", word, "2"] for word in ["-1", "", "3x"]), ["7", "3", "+2"]:
+    gives(FAILED, "failed\n", "generate", *words, err="usage: shuntberry generate")
+for n in "0", "513", "65537", "18446744073709551617", much:
+    for f in "2", "17":
+        gives(REFUSED, "refused 14\n", "generate", "7", n, f, err="^generate: refused 14: ")
+for f in "17", "65536", "18446744073709551616", much:
+    gives(REFUSED, "refused 22\n", "generate", "7", "512", f, err="^generate: refused 22: ")
+    gives(REFUSED, "", "generate", "7", "512", f, "-o", WORK / "none", err="refused 22")
+need(not (WORK / "none").exists(), "a refused load wrote a file")
+group("generate")
+
+# ---- rewrite
+
+for path in TABLES.glob("old-*.table"):
+    name = path.name.removeprefix("old-")
+    new = TABLES / f"rewritten-{name}"
+    if new.exists():
+        gives(SAFE, new.read_bytes(), "rewrite", path)
+        gives(SAFE, new.read_bytes(), "rewrite", input=path.read_bytes())
+    else:
+        refused = new.with_suffix(".expected").read_text()
+        gives(REFUSED, refused, "rewrite", path, err=refused.strip())
+stored, drawn = WORK / "stored", WORK / "drawn"
+stored.mkdir(), drawn.mkdir()
+python(HERE / "stored.py", stored)
+olds = sorted(stored.glob("*.old"))
+need(len(olds) >= 200, f"only {len(olds)} stored answers")
+for path in olds:
+    gives(SAFE, "", "rewrite", path, "-o", WORK / "new")
+    expected = path.with_suffix(".expected").read_text()
+    gives(status_of(expected), expected, "check", WORK / "new", err="no states" if "states 0 " in expected else None)
+python(HERE / "files.py", drawn, SEED, 200)
+for path in drawn.glob("*.old"):
+    gives(SAFE, path.with_suffix(".new").read_bytes(), "rewrite", path)
+    gives(REFUSED, "refused 15\n", "rewrite", path.with_suffix(".new"), err="refused 15")
+old = (drawn / "0.old").read_bytes()
+for number, file in [
+    (11, old[:511]), (11, old + b"x"), (11, bytes(74 * 512)), (12, b"\1" + old[1:]), (13, old[:20] + b"\1" + old[21:]), (14, bytes(512)),
+    (16, old + b"\1\0" + bytes(508) + b"\1\0"),
+]:
+    gives(REFUSED, f"refused {number}\n", "rewrite", input=file, err=f"refused {number}")
+(WORK / "empty").write_bytes(b"")
+gives(SAFE, "", "rewrite", WORK / "empty")
+gives(FAILED, "failed\n", "rewrite", err="standard input is empty")
+group("rewrite")
+
+# ---- mistakes: each has its line, standard output has a line that is no file, and what was there stays
+
+bad = WORK / "bad.txt"
+bad.write_text("states 3\ninitial 0 7\nforbidden 2\nstep 0 -> up\n")
+given = gives(REFUSED, "failed\n", "encode", bad, err="")
+need(given.err.decode() == f"{bad}:2: there is no state 7: with states 3 they are 0 to 2\n"
+     f"{bad}:4: 'up' is no number, and no line gives a state this name\nencode: {bad}: 2 mistakes\n", given)
+there = WORK / "there"
+shutil.copy(E, there)
+gives(REFUSED, "", "encode", "-o", there, bad, err="2 mistakes")
+need(there.read_bytes() == E.read_bytes(), "mistakes took away what was there")
+gives(REFUSED, "failed\n", "encode", input=bad.read_bytes(), err="standard input:2: ")
+gives(REFUSED, "failed\n", "encode", E, err="UTF-8|control")
+gives(REFUSED, "failed\n", "encode", WORK / "empty", err="how many states")
+gives(FAILED, "failed\n", "encode", "/dev/zero", err="is longer than")
+gives(REFUSED, "refused 11\n", "decode", "/dev/zero", err="refused 11")
+for command in "encode", "decode", "picture", "rewrite":
+    gives(FAILED, "failed\n", command, err="standard input is empty")
+    gives(FAILED, "failed\n", command, TABLES / "missing", err="could not be read: No such file")
+    gives(FAILED, "failed\n", command, TABLES, err="could not be read: .*directory")
+    gives(FAILED, "failed\n", command, "-o", err="-o wants a word")
+    gives(FAILED, "failed\n", command, E, E, err="a word too many")
+    gives(FAILED, "failed\n", command, "-o", WORK / "x", E, "-o", WORK / "y", err="twice")
+    gives(FAILED, "failed\n", command, "-O", WORK / "x", E, err="no option")
+for words in ["-o", "x", "encode", E], ["--site", "1", "encode", E], ["encdoe", E], ["encode", "--site", "-o", E], ["encode", "--site", E], ["encode", "--sit", "1", "-o", WORK / "x", E]:
+    gives(FAILED, "failed\n", *words, err="usage: ")
+need(not (WORK / "x").exists() and not (WORK / "y").exists(), "a call that was wrong wrote a file")
+for option in "--site", "--allowance", "--svg":
+    gives(FAILED, "failed\n", "rewrite", option, "1", err="no option")
+
+# texts without end take little time and room: in 400 MB
+def bounded(text, *words):
+    began = time.monotonic()
+    run = subprocess.run(["bash", "-c", 'ulimit -v 400000; exec "$@"', "-", PROGRAM, "encode"], input=text, capture_output=True)
+    need(run.returncode == REFUSED and run.stdout == b"failed\n" and len(run.stderr) < 50_000, run.returncode, run.stderr[:500])
+    need(time.monotonic() - began < 10, "a long text takes long")
+    return run.stderr
+
+
+need(b"more words" in bounded(b"initial " + b" ".join(b"%d" % i for i in range(400_000))), "400,000 numbers")
+need(b"of which the first 100 are shown" in bounded(b"x\n" * 7_000_000), "7 million bad words")
+bounded(b"group x y z\n" * 1_300_000)
+bounded(b"step 0 -> 1\n" * 1_300_000)
+bounded(b"states 5\n" + b"state 1 a\n" * 1_500_000)
+group("mistakes and long texts")
+
+# ---- pictures: names, titles, and dot, which need not be there
+
+pump = WORK / "pump.table"
+call("encode", "-o", pump, TOP / "examples/pump.txt")
+graph = gives(SAFE, None, "picture", "--names", TOP / "examples/pump.txt", pump).out.decode()
+named = gives(SAFE, None, "picture", "--text", TOP / "examples/pump.txt").out.decode()
+for s, name in re.findall(r"^state (\d+) (\S+)", (TOP / "examples/pump.txt").read_text(), re.M):
+    need(re.search(rf'label="{s} {re.escape(name)}["\\]', graph) and re.search(rf'label="{s} {re.escape(name)}["\\]', named), f"no {name} in the picture")
+gives(REFUSED, "failed\n", "picture", "--names", TABLES / "a.txt", pump, err="the text of another table")
+gives(REFUSED, "failed\n", "picture", "--names", bad, pump, err="2 mistakes")
+for name, title in ('a"b\\c&amp;', 'a\\"b\\\\c&amp;amp;\\n'), ("two\nlines\x01", '\\"two\\\\nlines\\\\u{1}\\"\\n'):
+    path = WORK / name
+    shutil.copy(E, path)
+    need(title.encode() in call("picture", name, cwd=WORK).out, f"the title of {name!r}")
+fakes = WORK / "fakes"
+fakes.mkdir()
+
+
+def dot(commands):
+    (fakes / "dot").write_text(f"#!/bin/sh\n{commands}\n")
+    os.chmod(fakes / "dot", 0o755)
+
+
+def drawn_by(status, out, err, place=fakes):
+    gives(status, out, "picture", "--svg", E, err=err, env={"PATH": str(place)})
+
+
+dot('[ "$*" = -Tsvg ] && exec /bin/cat')
+drawn_by(SAFE, call("picture", E).out, None)
+drawn_by(FAILED, "failed\n", "dot of Graphviz, which is not installed", WORK / "nowhere")
+for commands in "exit 1", 'echo "<svg/>"; kill -9 $$', "true":
+    dot(commands)
+    drawn_by(FAILED, "failed\n", "dot could not draw")
+    dot(f"/bin/cat >/dev/null; {commands}")
+    drawn_by(FAILED, "failed\n", "dot could not draw")
+tangled = lambda n, steps: b"layout=sfdp" in call("picture", "--text", input=(
+    f"states {n}\ninitial 0\nforbidden none\n" + "".join(f"step {a} -> {b}\n" for a, b in steps)).encode()).out
+chain = [(s, s + 1) for s in range(511)]
+need(not tangled(512, chain), "a corridor is drawn by layers")
+need(tangled(512, chain + [(2 * s, s) for s in range(256)]), "767 steps of 512 states are drawn by forces")
+if shutil.which("dot"):
+    for name in "b", "e", "d", "hang", "resting", "empty", "largest":
+        need(b"</svg>" in call("picture", "--svg", "--distances", "--groups", TABLES / f"{name}.table").out, name)
+else:
+    print("no dot: the pictures were not drawn")
+group("pictures")
