@@ -15,6 +15,9 @@ use std::path::{Path, PathBuf};
 /// The longest text that is read, in bytes: every list full, and every name as long as can be.
 pub const TEXT_BYTES: usize = 16 << 20;
 
+/// So many bytes are read at once: a table in one piece.
+const AT_ONCE: usize = 1 << 16;
+
 /// `-o OUT`
 pub const OUT: Opt = Opt {
     name: "-o",
@@ -114,7 +117,7 @@ pub fn read_whole(file: &mut File, most: usize) -> io::Result<Vec<u8>> {
         true => file.stream_position()?,
         false => 0,
     };
-    let mut bytes = Vec::new();
+    let mut bytes = Vec::with_capacity(most.min(AT_ONCE));
     file.take(most as u64).read_to_end(&mut bytes)?;
     if before.is_file() && !is_still(file, start, &bytes, &before, most)? {
         return Err(io::Error::other("it was changed while it was read"));
