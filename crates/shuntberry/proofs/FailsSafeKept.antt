@@ -51,6 +51,8 @@ fails-safe =
     record {
       decide = λ k. omega arith;
       decide-modal = λ k. omega arith;
+      check = λ k. (omega arith, refl);
+      check-file = λ l k. (omega arith, refl);
       shortest-path = λ k. omega arith;
       within = λ k. omega arith;
       next-open = λ k. omega arith;

@@ -20,7 +20,8 @@ use Rattle.replay.specs.Logs.{replayAnswer}
 use Rattle.edit_session.specs.Edits.{Edit, openAnswer, editAnswer}
 use Rattle.modal.specs.Modal.{possibleWords, modalAnswer}
 use Rattle.release_windows.specs.Answers.{never, nextOpenAnswer}
-use Rattle.shuntberry.specs.Fields.{decisionFields, shortestFields, withinFields, tableFields, modalFields, minuteFields}
+use Rattle.file_check.specs.CheckText.{refusedFile}
+use Rattle.shuntberry.specs.Fields.{decisionFields, shortestFields, withinFields, tableFields, modalFields, minuteFields, checkedFields, checkFields}
 
 -- Each refuses them: with 10 where a buffer is short, with 24 where write's site is too great, else with 14.
 pub record HandedOn (n g : ℕ) : Type 0 where
@@ -41,6 +42,9 @@ pub record FailsSafe : Type 0 where
   -- none of the four verdicts: 0 safe, 1 unsafe, 2 undecided, 3 depends
   pub decide : (k : ℕ) → 3 < (decisionFields (refused k)) .verdict
   pub decide-modal : (k : ℕ) → 3 < (modalFields (refused k)) .verdict
+  -- nor of check where the file is refused; and n is then one that every call refuses (below)
+  pub check : (k : ℕ) → (3 < (checkFields (refused k)) .verdict) × ((checkFields (refused k)) .n ≡ (tableFields (refused k)) .n)
+  pub check-file : (l k : ℕ) → (3 < (checkedFields l (refusedFile k)) .verdict) × ((checkedFields l (refusedFile k)) .n ≡ (tableFields (refused k)) .n)
   -- neither yes (1) nor no (0)
   pub shortest-path : (k : ℕ) → 1 < (shortestFields (refused k)) .found
   pub within : (k : ℕ) → 1 < (withinFields (refused k)) .within

@@ -6,7 +6,8 @@
 --   noMinute                    the minute where there is none, of a refused call and of never: past every time
 --   refusalNumber               the number of a refused call, or 0: what distances and generate return
 --   decisionFields, shortestFields, withinFields, tableFields, fileFields, replayFields, sessionFields, modalFields, minuteFields
---                               decide, shortest path, within, read, write, replay, the calls of an edit session, decide modal, next open minute
+--                               decide, shortest path, within, read, write and rewrite, replay, the calls of an edit session, decide modal, next open minute
+--   checkFields                 check
 use Prim.Native.Nat.{ℕ, _-_, _^_}
 use mathlib.Core.Bool.{Bool, true, false}
 use Rattle.basics.specs.Refusals.{Answered, refused, answered}
@@ -15,6 +16,9 @@ use Rattle.model.specs.Calls.{Decision, Shortest, TableRead}
 use Rattle.replay.specs.Logs.{Replay}
 use Rattle.modal.specs.Modal.{ModalAnswer}
 use Rattle.release_windows.specs.Answers.{Opening, minute, never}
+use Rattle.file_check.specs.CheckText.{FileVerdict, safe, unsafe, refusedFile}
+use Rattle.file_check.specs.CheckAnswers.{CheckedFile}
+use Rattle.shuntberry.specs.declared.CheckFields.{CheckFields}
 use Rattle.shuntberry.specs.declared.DecisionFields.{DecisionFields}
 use Rattle.shuntberry.specs.declared.ShortestFields.{ShortestFields}
 use Rattle.shuntberry.specs.declared.WithinFields.{WithinFields}
@@ -83,3 +87,13 @@ abbrev pub minuteFields : Answered Opening → MinuteFields
 minuteFields (refused k) = record { refusal = k; never = noAnswer; minute = noMinute }
 minuteFields (answered (minute m)) = record { refusal = 0; never = 0; minute = m }
 minuteFields (answered never) = record { refusal = 0; never = 1; minute = noMinute }
+
+-- `ground` is the number with which read refuses the file: that is an answer, whose text says so, but no verdict.
+abbrev pub checkedFields : ℕ → FileVerdict → CheckFields
+checkedFields l (safe n) = record { length = l; n = n; refusal = 0; ground = 0; verdict = 0; reserved = 0 }
+checkedFields l (unsafe n) = record { length = l; n = n; refusal = 0; ground = 0; verdict = 1; reserved = 0 }
+checkedFields l (refusedFile k) = record { length = l; n = noTable; refusal = 0; ground = k; verdict = noVerdict; reserved = 0 }
+
+abbrev pub checkFields : Answered CheckedFile → CheckFields
+checkFields (refused k) = record { length = 0; n = noTable; refusal = k; ground = 0; verdict = noVerdict; reserved = 0 }
+checkFields (answered a) = checkedFields (a .length) (a .verdict)

@@ -14,6 +14,8 @@ ghost use Rattle.paths.specs.Distances.{distancesAnswer, distancesBuffer, dista
 ghost use Rattle.paths.specs.Within.{withinAnswer, answerOf as withinOf};
 ghost use Rattle.file_reading.specs.ReadAnswers.{readOf};
 ghost use Rattle.file_writing.specs.WriteAnswers.{writtenOf};
+ghost use Rattle.file_check.specs.CheckAnswers.{checkedOf, checkAnswer, checkBuffer};
+ghost use Rattle.file_rewrite.specs.RewriteAnswers.{rewriteAnswer, rewriteBuffer};
 ghost use Rattle.generator.specs.Load.{generateAnswer, generateBuffer};
 ghost use Rattle.generator.specs.Answers.{generatedOf};
 ghost use Rattle.replay.specs.Logs.{replayAnswer};
@@ -26,14 +28,17 @@ ghost use Rattle.modal.specs.Answers.{answerOf as modalOf};
 ghost use Rattle.modal.proofs.Ranges.{ModalRange};
 ghost use Rattle.release_windows.specs.Answers.{nextOpenAnswer, openingOf};
 ghost use Rattle.shuntberry.specs.Small.{WhereAnswered};
-ghost use Rattle.shuntberry.specs.Fields.{refusalNumber, decisionFields, shortestFields, withinFields, tableFields, fileFields, replayFields, sessionFields, modalFields, minuteFields};
+ghost use Rattle.shuntberry.specs.Fields.{refusalNumber, decisionFields, shortestFields, withinFields, tableFields, fileFields, replayFields, sessionFields, modalFields, minuteFields, checkFields};
 use edit_session::Session;
 use edit_session::Status;
 use edit_session::add_step;
 use edit_session::open;
 use edit_session::remove_step;
+use file_check::Checked;
+use file_check::check;
 use file_reading::TableRead;
 use file_reading::read;
+use file_rewrite::rewrite;
 use file_writing::Written;
 use file_writing::write;
 use generator::Generated;
@@ -145,6 +150,66 @@ pub extern "C" fn shuntberry_decide(
         × (now (path .exit) ≡ decideBuffer (now (store .entry)) n g allowance (now (path .entry))) ⌝ }
 {
     lay_out_decision(decide(store, n, g, allowance, path))
+}
+
+// ---- check: from a file's bytes to the text and the verdict
+
+// `ground` is the number with which read refuses the file.
+#[repr(C)]
+pub struct CheckFields {
+    pub length: usize,
+    pub n: usize,
+    pub refusal: u32,
+    pub ground: u32,
+    pub verdict: u32,
+    pub reserved: u32,
+}
+
+fn lay_out_check(answer: Checked) -> CheckFields
+    ensures { λ r. ⌜ r ≡ checkFields (checkedOf answer) ⌝ }
+{
+    match answer {
+        Checked::Safe { length, n } => CheckFields {
+            length,
+            n,
+            refusal: 0,
+            ground: 0,
+            verdict: 0,
+            reserved: 0,
+        },
+        Checked::Unsafe { length, n } => CheckFields {
+            length,
+            n,
+            refusal: 0,
+            ground: 0,
+            verdict: 1,
+            reserved: 0,
+        },
+        Checked::RefusedFile { length, refusal } => CheckFields {
+            length,
+            n: NO_TABLE as usize,
+            refusal: 0,
+            ground: refusal as u32,
+            verdict: NO_VERDICT,
+            reserved: 0,
+        },
+        Checked::Refused(refusal) => CheckFields {
+            length: 0,
+            n: NO_TABLE as usize,
+            refusal: refusal as u32,
+            ground: 0,
+            verdict: NO_VERDICT,
+            reserved: 0,
+        },
+    }
+}
+
+#[no_mangle]
+pub extern "C" fn shuntberry_check(input: &[u8], site: usize, text: &mut [u8]) -> CheckFields
+    ensures { λ r. ⌜ (r ≡ checkFields (checkAnswer (now (input .entry)) site (length (now (text .entry)))))
+        × (now (text .exit) ≡ checkBuffer (now (input .entry)) site (now (text .entry))) ⌝ }
+{
+    lay_out_check(check(input, site, text))
 }
 
 // ---- shortest path
@@ -317,6 +382,14 @@ pub extern "C" fn shuntberry_write(
         × (now (output .exit) ≡ writeBuffer (now (store .entry)) n g site (now (output .entry))) ⌝ }
 {
     lay_out_file(write(store, n, g, site, output))
+}
+
+#[no_mangle]
+pub extern "C" fn shuntberry_rewrite(input: &[u8], output: &mut [u8]) -> FileFields
+    ensures { λ r. ⌜ (r ≡ fileFields (rewriteAnswer (now (input .entry)) (length (now (output .entry)))))
+        × (now (output .exit) ≡ rewriteBuffer (now (input .entry)) (now (output .entry))) ⌝ }
+{
+    lay_out_file(rewrite(input, output))
 }
 
 // ---- generate
