@@ -8,30 +8,30 @@
 --   reached-opened, reached-target           what the code works out over the words of a store
 --   lit-added, lit-removed, lit-unlit        the set after an edit
 --   added-nothing, added-changes, removed-nothing, removed-changes     whether an edit changes nothing, by the step's test
---   open-declined, open-accepted             what opening answers
---   edit-declined, edit-nothing, edit-changes     what an edit answers
+--   open-refused, open-answered              what opening answers
+--   edit-refused, edit-nothing, edit-changes     what an edit answers
 use Prim.Native.Nat.{ℕ, _<_}
 use native.Mathlib.Omega.{arith}
 use mathlib.Core.Path.{_≡_, refl, sym, ap, _∙_, subst}
 use mathlib.Core.Logic.{_⊎_}
 use mathlib.Core.Bool.{Bool, true, false, not, cond}
 use mathlib.Core.List.{List, [], _∷_}
-use borrow.Author.Tests.{eq-eqb, ne-eqb, leb-false, lt-leb}
-use lib.Dec.{eqb, leb}
+use borrow.Author.Tests.{leb-false, lt-leb}
+use lib.Dec.{leb}
+use Rattle.basics.specs.Refusals.{Ground, refuse, Answered, refused, answered, answer, unlessRefused}
 use Rattle.model.specs.Sets.{Set, member, empty, single, union, firstStates}
-use Rattle.basics.specs.Refusals.{refuse}
 use Rattle.model.specs.Stores.{rowAt, setAt, tableOf, sharedGrounds}
 use Rattle.model.specs.Promises.{IsLeast}
 use Rattle.basics.proofs.BoundLaws.{or-intro, or-false}
 use Rattle.model.proofs.SetLaws.{in-firstStates, single-in, in-subset, In}
-use Rattle.basics.proofs.RefusalLaws.{refuse-append, refuse-clear}
+use Rattle.basics.proofs.RefusalLaws.{refuse-append, refuse-clear, answer-refused, answer-none}
 use Rattle.model.proofs.Acceptance.{Store, accepted-store, store-accepted, well-formed}
 use Rattle.reach.specs.Reached.{reachBy, reachable}
 use Rattle.reach.proofs.Walks.{reaching}
 use Rattle.edit_session.specs.declared.Session.{Session}
 use Rattle.edit_session.specs.declared.Status.the-variants.{Accepted, Refused}
-use Rattle.edit_session.specs.Edits.{Edit, add, remove, hasStep, changesNothing, edited, opened, lit, Answer, openAnswer, noStates, stateGround, editGrounds, editRefusal, editAnswer, editBuffer}
-use Rattle.edit_session.specs.Answers.{numberOf, answerOf, isRefused, CalledOpen, CalledEdit}
+use Rattle.edit_session.specs.Edits.{Edit, add, remove, source, target, hasStep, changesNothing, edited, opened, lit, openAnswer, noStates, stateGround, editGrounds, editAnswer, editBuffer}
+use Rattle.edit_session.specs.Answers.{answersWith, answerOf, CalledOpen, CalledEdit}
 use Rattle.edit_session.proofs.Tables.{edited-store}
 
 -- ---- refusals
@@ -129,64 +129,61 @@ module _ (store : List ℕ) (a b : ℕ) {t : Bool} (e : t ≡ hasStep store a b)
 
 -- ---- answers
 
-abbrev pub answer : ℕ → Set → Answer
-answer k X = record { refusal = k; reachable = X }
+module _ (r : Session) (D : Set) {x : Answered Set} where
+  -- a refused call, with the set D beside it
+  refused-beside : {k : ℕ} → x ≡ refused k → r .status ≡ Refused k → r .reachable .words ≡ D
+      → (answerOf r ≡ x) × (r .reachable .words ≡ unlessRefused D (λ Y. Y) x)
+  refused-beside e s d = (ap (λ v. answersWith v (r .reachable .words)) s ∙ sym e, d ∙ sym (ap (unlessRefused D (λ Y. Y)) e))
 
--- the case follows from the numbers
-numbered : (r : Session) {a : Answer} → answerOf r ≡ a → isRefused (r .status) ≡ not (eqb (numberOf (r .status)) 0)
-    → (answerOf r ≡ a) × (isRefused (r .status) ≡ not (eqb (a .refusal) 0))
-numbered r e c = (e, c ∙ ap (λ (a : Answer). not (eqb (a .refusal) 0)) e)
-
-declines : (r : Session) {k : ℕ} {X : Set} {a : Answer} → (k ≡ 0 → ⊥) → r .status ≡ Refused k → r .reachable .words ≡ X → answer k X ≡ a
-    → (answerOf r ≡ a) × (isRefused (r .status) ≡ not (eqb (a .refusal) 0))
-declines r {k} f s x e =
-    numbered r ((λ i. answer (numberOf (s i)) (x i)) ∙ e)
-    (ap isRefused s ∙ sym (ap not (ap (λ v. eqb (numberOf v) 0) s ∙ ne-eqb k 0 f)))
-
-accepts : (r : Session) {X : Set} {a : Answer} → r .status ≡ Accepted → r .reachable .words ≡ X → answer 0 X ≡ a
-    → (answerOf r ≡ a) × (isRefused (r .status) ≡ not (eqb (a .refusal) 0))
-accepts r s x e = numbered r ((λ i. answer (numberOf (s i)) (x i)) ∙ e) (ap isRefused s ∙ sym (ap (λ v. not (eqb (numberOf v) 0)) s))
+  answered-beside : {X : Set} → x ≡ answered X → r .status ≡ Accepted → r .reachable .words ≡ X
+      → (answerOf r ≡ x) × (r .reachable .words ≡ unlessRefused D (λ Y. Y) x)
+  answered-beside e s d = (ap (λ v. answersWith v (r .reachable .words)) s ∙ ap answered d ∙ sym e, d ∙ sym (ap (unlessRefused D (λ Y. Y)) e))
 
 module _ (store : List ℕ) (n g : ℕ) (r : Session) {k : ℕ} (e : k ≡ refuse (sharedGrounds store n g)) where
-  open-is : cond (eqb k 0) (answer 0 (opened (tableOf store n g))) (answer k empty) ≡ openAnswer store n g
+  pub open-refused : (k ≡ 0 → ⊥) → r .status ≡ Refused k → r .reachable .words ≡ empty → CalledOpen store n g r
   unfolding openAnswer
-  open-is = ap (λ (j : ℕ). cond (eqb j 0) (answer 0 (opened (tableOf store n g))) (answer j empty)) e
+  open-refused f = refused-beside r empty (answer-refused (sharedGrounds store n g) _ e f)
 
-  pub open-declined : (k ≡ 0 → ⊥) → r .status ≡ Refused k → r .reachable .words ≡ empty → CalledOpen store n g r
-  open-declined f s x = declines r f s x (rw (ne-eqb k 0 f) at open-is)
+  pub open-answered : k ≡ 0 → r .status ≡ Accepted → r .reachable .words ≡ opened (tableOf store n g) → CalledOpen store n g r
+  unfolding openAnswer
+  open-answered z = answered-beside r empty (answer-none (sharedGrounds store n g) _ refl (sym e ∙ z))
 
-  pub open-accepted : k ≡ 0 → r .status ≡ Accepted → r .reachable .words ≡ opened (tableOf store n g) → CalledOpen store n g r
-  open-accepted z s x = accepts r s x (rw (eq-eqb k 0 z) at open-is)
-
-module _ (store : List ℕ) (n g : ℕ) (X : Set) (d : Edit) (r : Session) (after : List ℕ) {k : ℕ} (e : k ≡ editRefusal store n g d) where
-  abbrev set-after : Set
-  set-after = cond (changesNothing store d) X (lit (tableOf (edited store d) n g) X d)
+module _ (store : List ℕ) (n g : ℕ) (d : Edit) where
+  abbrev pub grounds : List Ground
+  grounds = editGrounds store n g (source d) (target d)
 
   abbrev store-after : List ℕ
   store-after = cond (changesNothing store d) store (edited store d)
 
-  answer-is : cond (eqb k 0) (answer 0 set-after) (answer k X) ≡ editAnswer store n g X d
-  unfolding editAnswer
-  answer-is = ap (λ (j : ℕ). cond (eqb j 0) (answer 0 set-after) (answer j X)) e
+  pub given : {A : Type 0} (a : A) → refuse grounds ≡ 0 → answer grounds a ≡ answered a
+  unfolding editGrounds
+  given a z = answer-none grounds a refl z
 
-  buffer-is : cond (eqb k 0) store-after store ≡ editBuffer store n g d
+  pub buffer-refused : (refuse grounds ≡ 0 → ⊥) → editBuffer store n g d ≡ store
   unfolding editBuffer
-  buffer-is = ap (λ (j : ℕ). cond (eqb j 0) store-after store) e
+  buffer-refused f = ap (unlessRefused store (λ xs. xs)) (answer-refused grounds _ refl f)
 
-  together : {a : Answer} → a ≡ editAnswer store n g X d → (answerOf r ≡ a) × (isRefused (r .status) ≡ not (eqb (a .refusal) 0))
-      → after ≡ editBuffer store n g d → CalledEdit store n g X d r after
-  together q c b = (c .0 ∙ q, b, c .1 ∙ ap (λ (a : Answer). not (eqb (a .refusal) 0)) q)
+  pub buffer-answered : refuse grounds ≡ 0 → editBuffer store n g d ≡ store-after
+  unfolding editBuffer
+  buffer-answered z = ap (unlessRefused store (λ xs. xs)) (given _ z)
 
-  pub edit-declined : (k ≡ 0 → ⊥) → r .status ≡ Refused k → r .reachable .words ≡ X → after ≡ store → CalledEdit store n g X d r after
-  edit-declined f s x b =
-      together (rw (ne-eqb k 0 f) at answer-is) (declines r f s x refl) (b ∙ (rw (ne-eqb k 0 f) at buffer-is))
+  module _ (X : Set) (r : Session) (after : List ℕ) {k : ℕ} (e : k ≡ refuse grounds) where
+    pub edit-refused : (k ≡ 0 → ⊥) → r .status ≡ Refused k → r .reachable .words ≡ X → after ≡ store → CalledEdit store n g X d r after
+    unfolding editAnswer
+    edit-refused f s x b =
+        let both = refused-beside r X (answer-refused grounds _ e f) s x in
+        (both .0, both .1, b ∙ sym (buffer-refused (λ q. f (e ∙ q))))
 
-  module _ (z : k ≡ 0) (s : r .status ≡ Accepted) where
-    pub edit-nothing : changesNothing store d ≡ true → r .reachable .words ≡ X → after ≡ store → CalledEdit store n g X d r after
-    edit-nothing c x b =
-        together (rw (eq-eqb k 0 z, c) at answer-is) (accepts r s x refl) (b ∙ (rw (eq-eqb k 0 z, c) at buffer-is))
+    module _ (z : k ≡ 0) (s : r .status ≡ Accepted) where
+      edit-answered : r .reachable .words ≡ cond (changesNothing store d) X (lit (tableOf (edited store d) n g) X d) → after ≡ store-after → CalledEdit store n g X d r after
+      unfolding editAnswer
+      edit-answered x b =
+          let both = answered-beside r X (given _ (sym e ∙ z)) s x in
+          (both .0, both .1, b ∙ sym (buffer-answered (sym e ∙ z)))
 
-    pub edit-changes : changesNothing store d ≡ false → r .reachable .words ≡ lit (tableOf (edited store d) n g) X d → after ≡ edited store d
-        → CalledEdit store n g X d r after
-    edit-changes c x b =
-        together (rw (eq-eqb k 0 z, c) at answer-is) (accepts r s x refl) (b ∙ (rw (eq-eqb k 0 z, c) at buffer-is))
+      pub edit-nothing : changesNothing store d ≡ true → r .reachable .words ≡ X → after ≡ store → CalledEdit store n g X d r after
+      edit-nothing c x b = edit-answered (rw c x) (rw c b)
+
+      pub edit-changes : changesNothing store d ≡ false → r .reachable .words ≡ lit (tableOf (edited store d) n g) X d → after ≡ edited store d
+          → CalledEdit store n g X d r after
+      edit-changes c x b = edit-answered (rw c x) (rw c b)

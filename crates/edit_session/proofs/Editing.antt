@@ -1,13 +1,13 @@
 -- One edit of a table whose reachable states are known.
 --
 --   nothing-has, rowAfter-target, rowAfter-other     the step of an edit, before and after it
---   of-edit                          what holds where an edit is declined, changes nothing, and changes the table holds of what the call gives
+--   of-edit                          what holds where an edit is refused, changes nothing, and changes the table holds of what the call gives
 --   Kept n g store e X after         after an edit: the set is still the one worked out afresh, and the rest of the table is as it was
 --   edit-keeps                       of every edit between states of the table
 --   edit-leaves                      any other leaves set and store
 use Prim.Native.Nat.{ℕ, _<_}
 use native.Mathlib.Omega.{arith}
-use mathlib.Core.Path.{_≡_, refl, sym, ap, ap₂, _∙_, subst}
+use mathlib.Core.Path.{_≡_, refl, sym, ap, ap₂, _∙_, subst, subst₂}
 use mathlib.Core.Logic.{inl, inr, ⊎-elim}
 use mathlib.Core.Bool.{Bool, true, false, cond, _&&_}
 use mathlib.Core.List.{List, []}
@@ -16,19 +16,19 @@ use lib.Dec.{eqb}
 use lib.ListN.{length, getD}
 use Rattle.model.specs.Sets.{maxStates, Set, member}
 use Rattle.model.specs.Tables.{Table}
-use Rattle.basics.specs.Refusals.{refuse}
+use Rattle.basics.specs.Refusals.{refuse, Answered, refused, answered, unlessRefused}
 use Rattle.model.specs.Stores.{tableOf, sharedGrounds}
 use Rattle.basics.proofs.BoundLaws.{and-true, is-false, clash, decided, same-test, by-cond}
 use Rattle.model.proofs.SetLaws.{in-single, single-in, in-union, union-in, in-difference, difference-in}
 use Rattle.model.proofs.StoreLaws.{row-is}
 use Rattle.model.proofs.Acceptance.{Store, store-accepted, well-formed}
-use Rattle.basics.proofs.RefusalLaws.{refuse-none as refuse-end}
+use Rattle.basics.proofs.RefusalLaws.{refuse-none as refuse-end, answer-refused}
 use Rattle.reach.specs.Reached.{reachable}
-use Rattle.edit_session.specs.Edits.{Edit, add, remove, source, target, adds, hasStep, changesNothing, rowAfter, edited, opened, lit, Answer, noStates, editRefusal, editAnswer, editBuffer}
+use Rattle.edit_session.specs.Edits.{Edit, add, remove, source, target, adds, hasStep, changesNothing, rowAfter, edited, opened, lit, noStates, editAnswer, editBuffer}
 use Rattle.edit_session.proofs.Rows.{Outside}
 use Rattle.edit_session.proofs.Tables.{edited-long, edited-out, edited-store, initial-same, table-here, table-there, drawn}
 use Rattle.edit_session.proofs.Reaching.{unlit-same, lit-joins}
-use Rattle.edit_session.proofs.Answering.{both-states, no-states, refuse-states, accepted, answer}
+use Rattle.edit_session.proofs.Answering.{both-states, no-states, refuse-states, accepted, grounds, given, buffer-refused, buffer-answered}
 
 -- ---- the step of an edit
 
@@ -51,21 +51,25 @@ rowAfter-other X (remove a b) y ne =
 
 -- ---- the three ways that an edit goes
 
-pub of-edit : (store : List ℕ) (n g : ℕ) (X : Set) (e : Edit) (P : Answer → List ℕ → Type 0)
-    → ((editRefusal store n g e ≡ 0 → ⊥) → P (answer (editRefusal store n g e) X) store)
-    → (editRefusal store n g e ≡ 0 → changesNothing store e ≡ true → P (answer 0 X) store)
-    → (editRefusal store n g e ≡ 0 → changesNothing store e ≡ false → P (answer 0 (lit (tableOf (edited store e) n g) X e)) (edited store e))
+pub of-edit : (store : List ℕ) (n g : ℕ) (X : Set) (e : Edit) (P : Answered Set → List ℕ → Type 0)
+    → ((refuse (grounds store n g e) ≡ 0 → ⊥) → P (refused (refuse (grounds store n g e))) store)
+    → (refuse (grounds store n g e) ≡ 0 → changesNothing store e ≡ true → P (answered X) store)
+    → (refuse (grounds store n g e) ≡ 0 → changesNothing store e ≡ false → P (answered (lit (tableOf (edited store e) n g) X e)) (edited store e))
     → P (editAnswer store n g X e) (editBuffer store n g e)
-unfolding editAnswer editBuffer
-of-edit store n g X e P declined nothing changed =
-    let k = editRefusal store n g e in
+unfolding editAnswer
+of-edit store n g X e P left nothing changed =
+    let k = refuse (grounds store n g e) in
     ⊎-elim
     (λ (q : eqb k 0 ≡ true).
-    ⊎-elim
-    (λ (m : changesNothing store e ≡ true). rw (q, m) (nothing (eqb-true k 0 q) m))
-    (λ (m : changesNothing store e ≡ false). rw (q, m) (changed (eqb-true k 0 q) m))
-    (decided (changesNothing store e)))
-    (λ (q : eqb k 0 ≡ false). rw q (declined (eqb-false k 0 q)))
+    let z = eqb-true k 0 q in
+    subst₂ P (sym (given store n g e _ z)) (sym (buffer-answered store n g e z))
+    (⊎-elim
+    (λ (m : changesNothing store e ≡ true). rw m (nothing z m))
+    (λ (m : changesNothing store e ≡ false). rw m (changed z m))
+    (decided (changesNothing store e))))
+    (λ (q : eqb k 0 ≡ false).
+    let f = eqb-false k 0 q in
+    subst₂ P (sym (answer-refused (grounds store n g e) _ refl f)) (sym (buffer-refused store n g e f)) (left f))
     (decided (eqb k 0))
 
 -- ---- what is kept
@@ -155,11 +159,11 @@ lit-fresh store n g (add a b) held ha hb =
     (λ q. sym (unlit-same d ok ok′ (t .initial) (ok .initial) (λ h. clash (h .is) q)) ∙ start)
 
 pub edit-keeps : (store : List ℕ) (n g : ℕ) (X : Set) (e : Edit) → Store store n g → X ≡ opened (tableOf store n g)
-    → noStates n (source e) (target e) ≡ false → Kept n g store e ((editAnswer store n g X e) .reachable) (editBuffer store n g e)
+    → noStates n (source e) (target e) ≡ false → Kept n g store e (unlessRefused X (λ Y. Y) (editAnswer store n g X e)) (editBuffer store n g e)
 unfolding hasStep
 edit-keeps store n g X e held x q =
     let between = no-states q in
-    of-edit store n g X e (λ a after. Kept n g store e (a .reachable) after)
+    of-edit store n g X e (λ a after. Kept n g store e (unlessRefused X (λ Y. Y) a) after)
     (λ f. absurd (f (refuse-states store n g (source e) (target e) none ∙ ap (λ (b : Bool). cond b 27 0) q)))
     (λ z m.
     same store n g e held X x
@@ -172,7 +176,7 @@ edit-keeps store n g X e held x q =
     none = store-accepted store n g [] held ∙ refuse-end
 
 pub edit-leaves : (store : List ℕ) (n g : ℕ) (X : Set) (e : Edit) → noStates n (source e) (target e) ≡ true
-    → ((editAnswer store n g X e) .reachable ≡ X) × (editBuffer store n g e ≡ store)
+    → (unlessRefused X (λ Y. Y) (editAnswer store n g X e) ≡ X) × (editBuffer store n g e ≡ store)
 edit-leaves store n g X e q =
-    of-edit store n g X e (λ a after. (a .reachable ≡ X) × (after ≡ store)) (λ f. (refl, refl)) (λ z m. (refl, refl))
+    of-edit store n g X e (λ a after. (unlessRefused X (λ Y. Y) a ≡ X) × (after ≡ store)) (λ f. (refl, refl)) (λ z m. (refl, refl))
     (λ z m. let states = accepted store n g (source e) (target e) refl z in absurd (clash q (both-states (states .1) (states .2))))

@@ -6,26 +6,28 @@
 --   first-words                      specs/Promises
 use Prim.Native.Nat.{ℕ, _+_, _-_, _≤_, _<_}
 use native.Mathlib.Omega.{arith}
-use mathlib.Core.Path.{_≡_, refl, sym, ap, ap₂, _∙_, subst}
+use mathlib.Core.Path.{_≡_, refl, sym, ap, ap₂, _∙_}
 use mathlib.Core.Logic.{inr, ⊎-elim}
 use mathlib.Core.Bool.{Bool, true, false, cond, not}
 use mathlib.Core.List.{List, [], _∷_}
-use borrow.Author.Tests.{eqb-true}
+use borrow.Author.Tests.{eqb-true, eqb-false}
 use lib.Dec.{eqb}
 use lib.ListN.{length, getD, take, drop, length-drop}
 use lib.Seq.{ext-getD, getD-take, getD-drop, length-take-le}
-use Rattle.model.specs.Sets.{WORDS, maxStates, Set, member, empty}
+use Rattle.basics.specs.Refusals.{refuse}
+use Rattle.model.specs.Sets.{WORDS, maxStates, Set, member}
 use Rattle.model.specs.Tables.{Table}
 use Rattle.model.specs.Stores.{storeWords, rowAt, setAt, tableOf}
 use Rattle.basics.proofs.BoundLaws.{decided}
+use Rattle.basics.proofs.RefusalLaws.{answer-cong}
 use Rattle.model.proofs.StoreLaws.{row-is}
 use Rattle.model.proofs.Acceptance.{Store}
-use Rattle.model.proofs.FirstWords.{table-words, same-call}
-use Rattle.edit_session.specs.Edits.{Edit, add, remove, source, target, hasStep, changesNothing, rowAfter, edited, opened, lit, openAnswer, stateGround, editGrounds, editRefusal, editAnswer, editBuffer}
+use Rattle.model.proofs.FirstWords.{table-words, grounds-same, same-call}
+use Rattle.edit_session.specs.Edits.{Edit, add, remove, source, target, hasStep, changesNothing, rowAfter, edited, opened, lit, openAnswer, stateGround, editGrounds, editAnswer}
 use Rattle.edit_session.specs.Promises.{FirstWords}
 use Rattle.edit_session.proofs.Rows.{in-row, row-in}
 use Rattle.edit_session.proofs.Tables.{rowAfter-long, edited-long, edited-out, edited-store}
-use Rattle.edit_session.proofs.Answering.{accepted, answer}
+use Rattle.edit_session.proofs.Answering.{accepted, grounds, buffer-refused, buffer-answered}
 use Rattle.edit_session.proofs.Editing.{of-edit}
 
 -- a word of the edited row
@@ -44,14 +46,14 @@ edited-rest store e h l =
     ∙ sym (getD-drop storeWords store i 0))
 
 module _ (store other : List ℕ) (long : storeWords ≤ length store) (long′ : storeWords ≤ length other) (alike : take storeWords store ≡ take storeWords other) where
-  refusal-same : (n g : ℕ) (e : Edit) → editRefusal store n g e ≡ editRefusal other n g e
+  refusal-same : (n g : ℕ) (e : Edit) → refuse (grounds store n g e) ≡ refuse (grounds other n g e)
   unfolding editGrounds
-  refusal-same n g e = same-call store other long long′ alike (λ k t. k) n g (stateGround n (source e) (target e) ∷ []) (λ k t u q. refl)
+  refusal-same n g e = grounds-same store other long long′ alike n g (stateGround n (source e) (target e) ∷ [])
 
   word-same : (i : ℕ) → i < storeWords → getD store i 0 ≡ getD other i 0
   word-same i h = sym (getD-take storeWords store i 0 h) ∙ ap (λ (xs : List ℕ). getD xs i 0) alike ∙ getD-take storeWords other i 0 h
 
-  module _ (n g : ℕ) (e : Edit) (z : editRefusal store n g e ≡ 0) where
+  module _ (n g : ℕ) (e : Edit) (z : refuse (grounds store n g e) ≡ 0) where
     states : Store store n g × (source e < n) × (target e < n)
     states = accepted store n g (source e) (target e) refl z
 
@@ -93,38 +95,42 @@ module _ (store other : List ℕ) (long : storeWords ≤ length store) (long′ 
         (edited-store other n g e (states′ .0) (states′ .1) (states′ .2) .long)
         edited-same n g (states .0 .small) (states .0 .few)
 
-  nothing-same : (n g : ℕ) (e : Edit) → editRefusal store n g e ≡ 0 → changesNothing store e ≡ changesNothing other e
+  nothing-same : (n g : ℕ) (e : Edit) → refuse (grounds store n g e) ≡ 0 → changesNothing store e ≡ changesNothing other e
   unfolding changesNothing hasStep
   nothing-same n g (add a b) z = ap (λ (X : Set). member X b) (row-same n g (add a b) z)
   nothing-same n g (remove a b) z = ap (λ (X : Set). not (member X b)) (row-same n g (remove a b) z)
 
+  -- the first words at exit, where no ground holds
+  kept-same : (n g : ℕ) (e : Edit) → refuse (grounds store n g e) ≡ 0
+      → take storeWords (cond (changesNothing store e) store (edited store e)) ≡ take storeWords (cond (changesNothing other e) other (edited other e))
+  kept-same n g e z =
+      ⊎-elim
+      (λ (m : changesNothing store e ≡ true). rw (m, sym (nothing-same n g e z) ∙ m) alike)
+      (λ (m : changesNothing store e ≡ false). rw (m, sym (nothing-same n g e z) ∙ m) (edited-same n g e z))
+      (decided (changesNothing store e))
+
   pub first-words : FirstWords store other
-  unfolding openAnswer editAnswer editBuffer
+  unfolding openAnswer editAnswer editGrounds
   first-words =
       record {
-        opening = λ n g.
-            same-call store other long long′ alike (λ k t. cond (eqb k 0) (answer 0 (opened t)) (answer k empty)) n g [] (λ k t u q. rw q);
+        opening = λ n g. same-call store other long long′ alike opened n g [] refl;
         edit = λ n g X e.
-            ⊎-elim
-            (λ (q : eqb (editRefusal store n g e) 0 ≡ true).
-            let z = eqb-true (editRefusal store n g e) 0 q in
-            rw (q, subst (λ (k : ℕ). eqb k 0 ≡ true) (refusal-same n g e) q)
-            (ap₂ (λ (b : Bool) (t : Table). answer 0 (cond b X (lit t X e))) (nothing-same n g e z) (table-same n g e z)))
-            (λ (q : eqb (editRefusal store n g e) 0 ≡ false).
-            rw (q, subst (λ (k : ℕ). eqb k 0 ≡ false) (refusal-same n g e) q) (ap (λ (k : ℕ). answer k X) (refusal-same n g e)))
-            (decided (eqb (editRefusal store n g e) 0));
+            answer-cong (grounds store n g e) (grounds other n g e) _ _ refl refl (refusal-same n g e)
+            (λ z. ap₂ (λ (b : Bool) (t : Table). cond b X (lit t X e)) (nothing-same n g e z) (table-same n g e z));
         buffer = λ n g e.
+            let k = refuse (grounds store n g e) in
             ⊎-elim
-            (λ (q : eqb (editRefusal store n g e) 0 ≡ true).
-            let z = eqb-true (editRefusal store n g e) 0 q in
-            ⊎-elim
-            (λ (m : changesNothing store e ≡ true).
-            rw (q, subst (λ (k : ℕ). eqb k 0 ≡ true) (refusal-same n g e) q, m, sym (nothing-same n g e z) ∙ m) alike)
-            (λ (m : changesNothing store e ≡ false).
-            rw (q, subst (λ (k : ℕ). eqb k 0 ≡ true) (refusal-same n g e) q, m, sym (nothing-same n g e z) ∙ m) (edited-same n g e z))
-            (decided (changesNothing store e)))
-            (λ (q : eqb (editRefusal store n g e) 0 ≡ false). rw (q, subst (λ (k : ℕ). eqb k 0 ≡ false) (refusal-same n g e) q) alike)
-            (decided (eqb (editRefusal store n g e) 0));
+            (λ (q : eqb k 0 ≡ true).
+            let z = eqb-true k 0 q in
+            ap (take storeWords) (buffer-answered store n g e z)
+            ∙ kept-same n g e z
+            ∙ sym (ap (take storeWords) (buffer-answered other n g e (sym (refusal-same n g e) ∙ z))))
+            (λ (q : eqb k 0 ≡ false).
+            let f = eqb-false k 0 q in
+            ap (take storeWords) (buffer-refused store n g e f)
+            ∙ alike
+            ∙ sym (ap (take storeWords) (buffer-refused other n g e (λ z. f (refusal-same n g e ∙ z)))))
+            (decided (eqb k 0));
         rest = λ n g e.
             of-edit store n g [] e (λ a after. drop storeWords after ≡ drop storeWords store) (λ f. refl) (λ z m. refl)
             (λ z m. edited-rest store e (low n g e z) long);

@@ -6,21 +6,19 @@
 --   withRow store s X                   the store with X for the successors of state s, and no other word
 --   edited store e                      the store after an edit: rowAfter is the row of its source
 --   opened t                            the states that can be reached from the initial ones, these included
---   lit t X e                           the set after an edit that makes t of the table, for any set X that was handed in
---   Answer                              what each call answers: the set, and why it declines, or 0
---   openAnswer store n g                opening: the set is empty where the call is declined
+--   lit t X e                           the set after an edit that makes t of the table
+--   openAnswer store n g                opening: the answer is the set
 --   noStates n a b                      a or b is no state of a table of n states
 --   editGrounds store n g a b           the grounds of an edit, in order: those of opening come first
---   editRefusal store n g e             the number of the first that holds, or 0
---   editAnswer, editBuffer              an edit: the answer, and the store at exit
+--   editAnswer, editBuffer              an edit: the answer is the set after it, for any set X that was handed in; the store at exit
 use Prim.Native.Nat.{ℕ}
 use mathlib.Core.Bool.{Bool, true, false, cond, not, _||_}
 use mathlib.Core.List.{List, [], _∷_, _++_}
-use lib.Dec.{eqb, leb}
+use lib.Dec.{leb}
 use lib.ListN.{take, drop}
-use Rattle.model.specs.Sets.{Set, member, empty, single, union, difference}
+use Rattle.basics.specs.Refusals.{Ground, Answered, answer, unlessRefused}
+use Rattle.model.specs.Sets.{Set, member, single, union, difference}
 use Rattle.model.specs.Tables.{Table}
-use Rattle.basics.specs.Refusals.{Ground, refuse}
 use Rattle.model.specs.Stores.{rowAt, setAt, tableOf, sharedGrounds}
 use Rattle.model.specs.Calls.{overwrite}
 use Rattle.reach.specs.Reached.{reachable}
@@ -74,14 +72,8 @@ lit t X (remove a b) = opened t
 
 -- ---- the calls
 
-pub record Answer : Type 0 where
-  pub refusal : ℕ
-  pub reachable : Set
-
-unfoldable pub openAnswer : List ℕ → ℕ → ℕ → Answer
-openAnswer store n g =
-    let k = refuse (sharedGrounds store n g) in
-    cond (eqb k 0) (record { refusal = 0; reachable = opened (tableOf store n g) }) (record { refusal = k; reachable = empty })
+unfoldable pub openAnswer : List ℕ → ℕ → ℕ → Answered Set
+openAnswer store n g = answer (sharedGrounds store n g) (opened (tableOf store n g))
 
 -- Either state number is n or more.
 abbrev pub noStates : ℕ → ℕ → ℕ → Bool
@@ -93,16 +85,11 @@ stateGround n a b = (noStates n a b, 27)
 unfoldable pub editGrounds : List ℕ → ℕ → ℕ → ℕ → ℕ → List Ground
 editGrounds store n g a b = sharedGrounds store n g ++ (stateGround n a b ∷ [])
 
-abbrev pub editRefusal : List ℕ → ℕ → ℕ → Edit → ℕ
-editRefusal store n g e = refuse (editGrounds store n g (source e) (target e))
+unfoldable pub editAnswer : List ℕ → ℕ → ℕ → Set → Edit → Answered Set
+editAnswer store n g X e =
+    answer (editGrounds store n g (source e) (target e)) (cond (changesNothing store e) X (lit (tableOf (edited store e) n g) X e))
 
 unfoldable pub editBuffer : List ℕ → ℕ → ℕ → Edit → List ℕ
 editBuffer store n g e =
     let after = cond (changesNothing store e) store (edited store e) in
-    cond (eqb (editRefusal store n g e) 0) after store
-
-unfoldable pub editAnswer : List ℕ → ℕ → ℕ → Set → Edit → Answer
-editAnswer store n g X e =
-    let k = editRefusal store n g e in
-    let after = cond (changesNothing store e) X (lit (tableOf (edited store e) n g) X e) in
-    cond (eqb k 0) (record { refusal = 0; reachable = after }) (record { refusal = k; reachable = X })
+    unlessRefused store (λ xs. xs) (answer (editGrounds store n g (source e) (target e)) after)

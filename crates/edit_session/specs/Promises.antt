@@ -3,25 +3,25 @@
 --
 --   inRow s i, names es i        word i is of row s; of a row that an edit of the list names
 --   stepAfter es a b was         whether a → b exists after a list of edits, if it did before or not: the last edit that names it decides
---   counted n es                 the list without the edits that are declined
+--   counted n es                 the list without the edits that are refused
 --   Ran                          a run of calls over a list of edits: each is given the store and the set that the one before left
---   SessionIs                    what holds after a run in which the edits es were not declined
+--   SessionIs                    what holds after a run in which the edits es were not refused
 --   FirstWords                   of every call on two stores that are alike in their first words: none after them is read or changed
---   Promises                     of every session that was opened; of every call that is declined, and of every edit
+--   Promises                     of every session that was opened; of every refused call, and of every edit
 use Prim.Native.Nat.{ℕ, _+_, _/_, _^_, _≤_, _<_}
 use mathlib.Core.Path.{_≡_}
 use mathlib.Core.Bool.{Bool, true, false, cond, _&&_, _||_}
 use mathlib.Core.List.{List, [], _∷_}
 use lib.Dec.{eqb, leb, ltb}
 use lib.ListN.{length, getD, take, drop}
+use Rattle.basics.specs.Refusals.{refuse, refused, answered}
 use Rattle.model.specs.Sets.{WORDS, Set, member, empty, single, subset, firstStates}
-use Rattle.basics.specs.Refusals.{refuse}
 use Rattle.model.specs.Stores.{storeWords, rowAt, tableOf, sharedGrounds, AcceptedStore}
 use Rattle.model.specs.RoundTrip.{Bounded}
 use Rattle.reach.specs.Reached.{reachable}
 use Rattle.edit_session.specs.declared.Session.{Session}
-use Rattle.edit_session.specs.Edits.{Edit, add, remove, source, target, adds, changesNothing, edited, opened, openAnswer, noStates, editRefusal, editAnswer, editBuffer}
-use Rattle.edit_session.specs.Answers.{answerOf, isRefused, CalledOpen, CalledEdit}
+use Rattle.edit_session.specs.Edits.{Edit, add, remove, source, target, adds, changesNothing, edited, opened, openAnswer, noStates, editGrounds, editAnswer, editBuffer}
+use Rattle.edit_session.specs.Answers.{answerOf, CalledOpen, CalledEdit}
 
 unfoldable pub inRow : ℕ → ℕ → Bool
 inRow s i = leb (rowAt s) i && ltb i (rowAt s + WORDS)
@@ -34,8 +34,8 @@ unfoldable pub stepAfter : List Edit → ℕ → ℕ → Bool → Bool
 stepAfter [] a b was = was
 stepAfter (e ∷ es) a b was = stepAfter es a b (cond (eqb a (source e) && eqb b (target e)) (adds e) was)
 
--- A declined edit counts as no edit. In a session that was opened those with a state number of n or more are declined, and no other
--- (`Promises.declined-where`).
+-- A refused edit counts as no edit. In a session that was opened those with a state number of n or more are refused, and no other
+-- (`Promises.refused-where`).
 unfoldable pub counted : ℕ → List Edit → List Edit
 counted n [] = []
 counted n (e ∷ es) = cond (noStates n (source e) (target e)) (counted n es) (e ∷ counted n es)
@@ -63,18 +63,19 @@ pub record FirstWords (store other : List ℕ) : Type 0 where
   pub rest : (n g : ℕ) (e : Edit) → drop storeWords (editBuffer store n g e) ≡ drop storeWords store
 
 pub record Promises : Type 0 where
-  pub session : (store : List ℕ) (n g : ℕ) (r : Session) → CalledOpen store n g r → isRefused (r .status) ≡ false
-      → (es : List Edit) (after : List ℕ) (Y : Set) → Ran n g store (r .reachable .words) es after Y → SessionIs n g store (counted n es) after Y
-  -- a declined opening gives the empty set, a declined edit the set that it was handed, and leaves the store
-  pub declined-open : (store : List ℕ) (n g : ℕ) (r : Session) → CalledOpen store n g r → isRefused (r .status) ≡ true
-      → answerOf r ≡ record { refusal = refuse (sharedGrounds store n g); reachable = empty }
-  pub declined-edit : (store : List ℕ) (n g : ℕ) (X : Set) (e : Edit) (r : Session) (after : List ℕ)
-      → CalledEdit store n g X e r after → isRefused (r .status) ≡ true
-      → (answerOf r ≡ record { refusal = editRefusal store n g e; reachable = X }) × (after ≡ store)
-  -- where opening would be accepted, an edit is declined exactly if either state number is n or more, with 27; so every edit of a table without states
-  pub declined-where : (store : List ℕ) (n g : ℕ) (X : Set) (e : Edit) (r : Session) (after : List ℕ)
+  pub session : (store : List ℕ) (n g : ℕ) (r : Session) (X : Set) → CalledOpen store n g r → answerOf r ≡ answered X
+      → (es : List Edit) (after : List ℕ) (Y : Set) → Ran n g store X es after Y → SessionIs n g store (counted n es) after Y
+  -- a refused call gives the number of the first ground that holds; an opening the empty set, an edit the set that it was handed, and the store
+  -- is as it was
+  pub open-refusal : (store : List ℕ) (n g : ℕ) (r : Session) (k : ℕ) → CalledOpen store n g r → answerOf r ≡ refused k
+      → (k ≡ refuse (sharedGrounds store n g)) × (r .reachable .words ≡ empty)
+  pub edit-refusal : (store : List ℕ) (n g : ℕ) (X : Set) (e : Edit) (r : Session) (after : List ℕ) (k : ℕ)
+      → CalledEdit store n g X e r after → answerOf r ≡ refused k
+      → (k ≡ refuse (editGrounds store n g (source e) (target e))) × (r .reachable .words ≡ X) × (after ≡ store)
+  -- where opening would be accepted, an edit is refused exactly if either state number is n or more, with 27; so every edit of a table without states
+  pub refused-where : (store : List ℕ) (n g : ℕ) (X : Set) (e : Edit) (r : Session) (after : List ℕ)
       → CalledEdit store n g X e r after → AcceptedStore store n g
-      → (isRefused (r .status) ≡ noStates n (source e) (target e)) × ((answerOf r) .refusal ≡ cond (noStates n (source e) (target e)) 27 0)
+      → answerOf r ≡ cond (noStates n (source e) (target e)) (refused 27) (answered (r .reachable .words))
   -- one word at most changes: that of the step
   pub one-word : (store : List ℕ) (n g : ℕ) (X : Set) (e : Edit) (r : Session) (after : List ℕ)
       → CalledEdit store n g X e r after → Bounded (2 ^ 64) store
@@ -82,11 +83,11 @@ pub record Promises : Type 0 where
   -- an addition keeps what was handed in, states from n up among it; a removal that takes a step out gives states of the table only
   pub keeps : (store : List ℕ) (n g : ℕ) (X : Set) (a b : ℕ) (r : Session) (after : List ℕ)
       → CalledEdit store n g X (add a b) r after → subset X (r .reachable .words) ≡ true
-  pub drops : (store : List ℕ) (n g : ℕ) (X : Set) (a b : ℕ) (r : Session) (after : List ℕ)
-      → CalledEdit store n g X (remove a b) r after → isRefused (r .status) ≡ false → changesNothing store (remove a b) ≡ false
-      → subset (r .reachable .words) (firstStates n) ≡ true
+  pub drops : (store : List ℕ) (n g : ℕ) (X : Set) (a b : ℕ) (r : Session) (after : List ℕ) (Y : Set)
+      → CalledEdit store n g X (remove a b) r after → answerOf r ≡ answered Y → changesNothing store (remove a b) ≡ false
+      → subset Y (firstStates n) ≡ true
   -- what the target reaches is the same in the table before the step is added and after
-  pub target-reaches : (store : List ℕ) (n g : ℕ) (a b : ℕ) → editRefusal store n g (add a b) ≡ 0
+  pub target-reaches : (store : List ℕ) (n g : ℕ) (a b : ℕ) → refuse (editGrounds store n g a b) ≡ 0
       → reachable (tableOf (edited store (add a b)) n g) (single b) ≡ reachable (tableOf store n g) (single b)
   pub first-words : (store other : List ℕ) → storeWords ≤ length store → storeWords ≤ length other → take storeWords store ≡ take storeWords other
       → FirstWords store other

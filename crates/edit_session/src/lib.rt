@@ -54,7 +54,7 @@ fn from_initial(store: &[u64]) -> StateSet
     reached(store, set_at(store, 0))
 }
 
-// Why an edit is declined, or 0.
+// Why an edit is refused, or 0.
 fn edit_refusal(store: &[u64], n: usize, g: usize, from: usize, to: usize) -> u8
     ensures { λ r. ⌜ r ≡ refuse (editGrounds (now (store .entry)) n g from to) ⌝ }
 {
@@ -76,7 +76,7 @@ pub enum Status {
     Refused(u8),
 }
 
-// What a call answers. Where it is declined the set is the one that was handed in, and of an opening the empty one.
+// What a call answers. Where it is refused the set is the one that was handed in, and of an opening the empty one.
 pub struct Session {
     pub reachable: StateSet,
     pub status: Status,

@@ -1,4 +1,4 @@
--- Laws of the grounds on which `read` declines: of each return of the functions that test them.
+-- Laws of the grounds on which `read` refuses: of each return of the functions that test them.
 --
 --   Passed input k                          no ground of the first k blocks holds
 --   passed-none, passed-next                a loop over the blocks: before its first turn, and after a turn that found no ground
@@ -15,11 +15,11 @@
 --   header                                  n and g, read from the first block
 --   small-store, far-site, no-input,        what `outer_refusal` returns for grounds 10 and 24, for no bytes, for ground 11,
 --   part-block, long-input, blocks-decide   and where these do not hold
---   outer-declines                          a ground that it found decides
+--   outer-refuses                          a ground that it found decides
 --   room-enough, draft-accepted,            where it found none: what `read_as` may do, and
 --   short-input, some-block
 --   content-decides                         that the grounds of the contents decide
---   declined, draft-read, table-read        the contract of `read_as` in each case; second-least, table-inside: what it may do
+--   refuses, draft-read, table-read        the contract of `read_as` in each case; second-least, table-inside: what it may do
 use Prim.Native.Nat.{ℕ, _+_, _*_, _-_, _/_, _%_, _≤_, _<_}
 use native.Mathlib.Nat.{add-assoc, le-antisymm}
 use native.Mathlib.Omega.{arith}
@@ -32,16 +32,16 @@ use lib.Dec.{eqb, ltb}
 use lib.ListN.{length, getD, take, drop}
 use Rattle.basics.specs.Bounds.{any, concat}
 use Rattle.model.specs.Sets.{maxStates}
-use Rattle.basics.specs.Refusals.{Ground, refuse}
+use Rattle.basics.specs.Refusals.{Ground, refuse, answered}
 use Rattle.model.specs.Stores.{maxGroups, storeWords, layout, beyond, nonZero, storeGround}
 use Rattle.model.specs.Blocks.{blockBytes, contentBytes, checkAt, maxSite, siteGround, le16At, checkOf, blocksFor, part, contentsOf, blockGrounds}
 use Rattle.model.specs.Contents.{Form, heads, added, contentLength, setNumber, dialogueIn}
 use Rattle.model.specs.Files.{maxFile}
-use Rattle.model.specs.Calls.{overwrite, statesIn, groupsIn, badLength, badSecond, blocksGrounds, contentGrounds, fileGrounds, readGroundsAs, readAnswerAs, readBufferAs}
+use Rattle.model.specs.Calls.{overwrite, statesIn, groupsIn, badLength, badSecond, blocksGrounds, contentGrounds, fileGrounds, readGroundsAs, readBufferAs}
 use Rattle.basics.proofs.BoundLaws.{or-false}
 use Rattle.basics.proofs.RefusalLaws.{Clear, refuse-none, refuse-skip, refuse-take, refuse-append, refuse-behind, clear-refuse, refuse-clear, clear-next, refuse-stop}
 use Rattle.model.proofs.BlockLaws.{length-contentsOf, getD-contentsOf-at}
-use Rattle.model.proofs.CallLaws.{second-pass, right-block, blocks-clear, Readable, behind-length, readable, draft-refusal, read-answer, read-buffer, draft-says}
+use Rattle.model.proofs.CallLaws.{second-pass, right-block, blocks-clear, Readable, behind-length, readable, draft-refusal, read-refused, read-answer, read-buffer, draft-says}
 use Rattle.model.proofs.Drafts.{draft-layout}
 use Rattle.file_reading.specs.declared.TableRead.the-variants.{Table, Refused}
 use Rattle.file_reading.specs.ReadAnswers.{CalledReadAs}
@@ -245,9 +245,9 @@ append-more false x y z xs ys e f = refuse-append (x ∷ y ∷ z ∷ xs) ys e f
 
 -- k is the first outer ground that holds, or 0
 module _ (input : List ℕ) (site room : ℕ) {k : ℕ} (e : k ≡ refuse (outerGrounds input site room)) where
-  pub outer-declines : (form : Form) → (k ≡ 0 → ⊥) → k ≡ refuse (readGroundsAs form input site room)
+  pub outer-refuses : (form : Form) → (k ≡ 0 → ⊥) → k ≡ refuse (readGroundsAs form input site room)
   unfolding outerGrounds readGroundsAs fileGrounds
-  outer-declines form = append-more (eqb (length input) 0) _ _ _ (blocksGrounds input site) _ e
+  outer-refuses form = append-more (eqb (length input) 0) _ _ _ (blocksGrounds input site) _ e
 
   module _ (z : k ≡ 0) where
     passed : (storeWords ≤ room) × (site ≤ maxSite) × (refuse (cond (eqb (length input) 0) [] ((badLength input, 11) ∷ blocksGrounds input site)) ≡ 0)
@@ -311,9 +311,9 @@ module _ (form : Form) (input : List ℕ) (site room : ℕ) {k : ℕ} (e : k ≡
 
 -- k is the first ground that holds, or 0
 module _ (form : Form) (input : List ℕ) (site : ℕ) (store : List ℕ) {k : ℕ} (e : k ≡ refuse (readGroundsAs form input site (length store))) where
-  pub declined : (k ≡ 0 → ⊥) → CalledReadAs form input site store (Refused k) store
-  unfolding readAnswerAs readBufferAs
-  declined x = let no = ne-eqb k 0 x in (rw (← e, no), rw (← e, no), rw (← e, no, no))
+  pub refuses : (k ≡ 0 → ⊥) → CalledReadAs form input site store (Refused k) store
+  unfolding readBufferAs
+  refuses x = let no = read-refused form input site (length store) (sym e) x in (sym no, rw no)
 
   module _ (z : k ≡ 0) where
     -- n and g are what the input says
@@ -321,11 +321,9 @@ module _ (form : Form) (input : List ℕ) (site : ℕ) (store : List ℕ) {k : �
         → after ≡ overwrite (layout (dialogueIn form (contentsOf input) n g)) store
         → CalledReadAs form input site store (Table n g) after
     accepted {n} {g} p q f =
-        let none = sym e ∙ z in
-        let answer = read-answer form input site (length store) none ∙ ap₂ (λ (a b : ℕ). record { refusal = 0; n = a; g = b }) p q in (
-          sym answer,
+        let none = sym e ∙ z in (
+          sym (read-answer form input site (length store) none ∙ ap₂ (λ (a b : ℕ). answered (record { n = a; g = b })) p q),
           f ∙ sym (read-buffer form input site store none ∙ ap₂ (λ (a b : ℕ). overwrite (layout (dialogueIn form (contentsOf input) a b)) store) p q),
-          rw answer,
         )
 
     pub draft-read : length input ≡ 0 → {after : List ℕ} → after ≡ cleared store → CalledReadAs form input site store (Table 0 0) after

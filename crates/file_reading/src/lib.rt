@@ -1,6 +1,6 @@
 // The call `read`: a file is looked at whole, ground after ground in their order, and only then put into the lent store.
 //
-//   TableRead, read                  n and g of the table that is now in the store, or why the file is declined
+//   TableRead, read                  n and g of the table that is now in the store, or why the file is refused
 //   read_old, read_as                the same of a file of the old form, and of either
 //   outer_refusal                    the first ground that holds before the contents are looked at, or 0
 //   first_fault, block_fault         the grounds of the blocks; those of one block, on its own 512 bytes
@@ -93,7 +93,7 @@ fn read_as(form: Form, input: &[u8], site: usize, store: &mut [u64]) -> TableRea
 
 // ---- grounds of the blocks
 
-// Why an input is declined before its contents are looked at, where the store has `room` words, or 0. One of no bytes has no ground
+// Why an input is refused before its contents are looked at, where the store has `room` words, or 0. One of no bytes has no ground
 // but 10 and 24.
 fn outer_refusal(input: &[u8], site: usize, room: usize) -> u8
     ensures { λ r. ⌜ r ≡ refuse (outerGrounds (now (input .entry)) site room) ⌝ }

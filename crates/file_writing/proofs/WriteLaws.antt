@@ -3,27 +3,27 @@
 --   le16-written                         two bytes stored
 --   blockFront, block-written            a block up to its check, and with it
 --   held                                 where no shared ground holds, the store is long enough and n and g are in bounds
---   declined-short, declined-site, declined-shared, draft-written, declined-room, written   the contract of `write` in each case
+--   refused-short, refused-site, refused-shared, draft-written, refused-room, written       the contract of `write` in each case
 use Prim.Native.Nat.{ℕ, _+_, _*_, _/_, _%_, _≤_, _<_}
 use native.Mathlib.Omega.{arith}
 use mathlib.Core.Path.{_≡_, refl, sym, ap, _∙_}
 use mathlib.Core.List.{List, [], _∷_, _++_}
-use borrow.Author.Tests.{lt-ltb, ne-eqb}
+use borrow.Author.Tests.{lt-ltb}
 use lib.ListN.{set, length}
 use Rattle.basics.specs.Bounds.{concat}
-use Rattle.basics.specs.Refusals.{refuse}
+use Rattle.basics.specs.Refusals.{refuse, answered}
 use Rattle.model.specs.Stores.{storeWords, dialogueOf, sharedGrounds}
 use Rattle.model.specs.Blocks.{blockBytes, contentBytes, checkAt, maxSite, le16, blocksFor, checkOf, blockOf}
 use Rattle.model.specs.Contents.{newForm, contents, contentLength}
 use Rattle.model.specs.Files.{blockFile, fileOf, fileLength}
-use Rattle.model.specs.Calls.{overwrite, outputGround, writeGrounds, writeAnswer, writeBuffer}
+use Rattle.model.specs.Calls.{overwrite, outputGround, writeGrounds, writeBuffer}
 use Rattle.basics.proofs.BoundLaws.{length-tabulate, getD-tabulate}
 use Rattle.model.proofs.ListLaws.{overwrite-front, overwrite-set}
 use Rattle.basics.proofs.RefusalLaws.{refuse-take, refuse-append}
 use Rattle.model.proofs.BlockLaws.{checkOf-cong, block-unique, framed-is, blockOf-is}
 use Rattle.model.proofs.ContentLaws.{length-contents}
 use Rattle.model.proofs.FileLaws.{file-draft, file-blocks, length-draft, length-blocks}
-use Rattle.model.proofs.CallLaws.{Writable, write-over, write-behind, write-answer, write-buffer}
+use Rattle.model.proofs.CallLaws.{Writable, write-over, write-behind, write-refused, write-answer, write-buffer}
 use Rattle.model.proofs.Acceptance.{Store, accepted-store, store-accepted}
 use Rattle.file_writing.specs.declared.Written.the-variants.{File, Refused}
 use Rattle.file_writing.specs.WriteAnswers.{CalledWrite}
@@ -70,31 +70,30 @@ held store n g k e z = let s = accepted-store store n g [] (sym e ∙ z) .0 in r
 
 module _ (store : List ℕ) (n g site : ℕ) (out : List ℕ) where
   -- a ground k holds
-  declined : (k : ℕ) → k ≡ refuse (writeGrounds store n g site (length out)) → (k ≡ 0 → ⊥) → CalledWrite store n g site out (Refused k) out
-  unfolding writeAnswer writeBuffer
-  declined k e f = let no = ne-eqb k 0 f in (rw (← e, no), rw (← e, no, no), rw (← e, no, no))
+  refuses : (k : ℕ) → refuse (writeGrounds store n g site (length out)) ≡ k → (k ≡ 0 → ⊥) → CalledWrite store n g site out (Refused k) out
+  unfolding writeBuffer
+  refuses k e f = let no = write-refused store n g site (length out) e f in (sym no, rw no)
 
   -- none holds, and l bytes are written
   accepted : {l : ℕ} {after : List ℕ} → Writable store n g site (length out) → l ≡ fileLength newForm n g → after ≡ overwrite (fileOf newForm site (dialogueOf store n g)) out
       → CalledWrite store n g site out (File l) after
   accepted w e f =
-      let answer = write-answer store n g site (length out) w in
-      (ap (λ (m : ℕ). record { refusal = 0; length = m }) e ∙ sym answer, f ∙ sym (write-buffer store n g site out w), rw answer)
+      (ap answered e ∙ sym (write-answer store n g site (length out) w), f ∙ sym (write-buffer store n g site out w))
 
-  pub declined-short : length store < storeWords → CalledWrite store n g site out (Refused 10) out
+  pub refused-short : length store < storeWords → CalledWrite store n g site out (Refused 10) out
   unfolding writeGrounds
-  declined-short h = declined 10 (sym (refuse-take _ 10 _ (lt-ltb (length store) storeWords h))) (λ x. omega arith)
+  refused-short h = refuses 10 (refuse-take _ 10 _ (lt-ltb (length store) storeWords h)) (λ x. omega arith)
 
-  pub declined-site : storeWords ≤ length store → maxSite < site → CalledWrite store n g site out (Refused 24) out
-  declined-site long h = declined 24 (sym (write-over store n g site (length out) long h)) (λ x. omega arith)
+  pub refused-site : storeWords ≤ length store → maxSite < site → CalledWrite store n g site out (Refused 24) out
+  refused-site long h = refuses 24 (write-over store n g site (length out) long h) (λ x. omega arith)
 
   -- k is the first of the grounds that the calls share, or 0
   module _ (long : storeWords ≤ length store) (known : site ≤ maxSite) (k : ℕ) (e : k ≡ refuse (sharedGrounds store n g)) where
     behind : refuse (writeGrounds store n g site (length out)) ≡ refuse (sharedGrounds store n g ++ (outputGround n g (length out) ∷ []))
     behind = write-behind store n g site (length out) long known
 
-    pub declined-shared : (k ≡ 0 → ⊥) → CalledWrite store n g site out (Refused k) out
-    declined-shared f = declined k (refuse-append (sharedGrounds store n g) _ e f ∙ sym behind) f
+    pub refused-shared : (k ≡ 0 → ⊥) → CalledWrite store n g site out (Refused k) out
+    refused-shared f = refuses k (behind ∙ sym (refuse-append (sharedGrounds store n g) _ e f)) f
 
     module _ (z : k ≡ 0) where
       table-held : Store store n g
@@ -111,11 +110,10 @@ module _ (store : List ℕ) (n g site : ℕ) (out : List ℕ) where
         size : fileLength newForm n g ≡ blockBytes * blocks
         size = length-blocks newForm n g some ∙ ap (λ (m : ℕ). blockBytes * m) (sym b)
 
-        pub declined-room : length out < blockBytes * blocks → CalledWrite store n g site out (Refused 19) out
-        declined-room h =
-            declined 19
-            (sym
-            (behind ∙ store-accepted store n g _ table-held ∙ refuse-take _ 19 _ (lt-ltb (length out) (fileLength newForm n g) (omega (arith, size)))))
+        pub refused-room : length out < blockBytes * blocks → CalledWrite store n g site out (Refused 19) out
+        refused-room h =
+            refuses 19
+            (behind ∙ store-accepted store n g _ table-held ∙ refuse-take _ 19 _ (lt-ltb (length out) (fileLength newForm n g) (omega (arith, size))))
             (λ x. omega arith)
 
         pub written : (after : List ℕ) → blockBytes * blocks ≤ length out → after ≡ overwrite (concat blocks (blockOf site (contents newForm (dialogueOf store n g)))) out

@@ -1,6 +1,6 @@
 // The call `write`: the file of a table, from the store to the lent output.
 //
-//   Written, write                 the file at the front of the output and its length, or why it is declined
+//   Written, write                 the file at the front of the output and its length, or why it is refused
 //   write_file                     the file: the contents joined, then its blocks
 //   join, join_sets                the contents; the sets, which stand behind the header
 //   put_set, put_words, put_bytes  the bytes of a set; of its first words; the lowest of a word
@@ -55,9 +55,9 @@ pub fn write(store: &[u64], n: usize, g: usize, site: usize, output: &mut [u8]) 
     if MAX_SITE < site {
         return Written::Refused(24);
     }
-    let declined = refusal(store, n, g);
-    if declined != 0 {
-        return Written::Refused(declined);
+    let refused = refusal(store, n, g);
+    if refused != 0 {
+        return Written::Refused(refused);
     }
     if n == 0 {
         return Written::File(0);

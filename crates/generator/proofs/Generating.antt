@@ -1,4 +1,4 @@
--- The call generate, declined and not.
+-- The call generate, refused and answered.
 --
 --   ground-10, ground-14, ground-14-over, ground-22, no-ground     the first ground that holds, or none
 --   Accepted, accepted-load     what it says of n, f and the store that no ground holds
@@ -16,7 +16,7 @@ use Rattle.basics.specs.Refusals.{refuse}
 use Rattle.model.specs.Stores.{storeWords, layout}
 use Rattle.model.specs.Calls.{overwrite}
 use Rattle.basics.proofs.BoundLaws.{or-false}
-use Rattle.basics.proofs.RefusalLaws.{refuse-clear}
+use Rattle.basics.proofs.RefusalLaws.{refuse-clear, answer-refused, answer-none}
 use Rattle.generator.specs.Load.{maxFanOut, numbers, loadFrom, load, generateGrounds, generateAnswer, generateBuffer}
 use Rattle.generator.specs.declared.Generated.the-variants.{Filled, Refused}
 use Rattle.generator.specs.Answers.{CalledGenerate}
@@ -75,16 +75,11 @@ accepted-load n f room e z =
 module _ (seed n f : ℕ) (before : List ℕ) {k : ℕ} (e : k ≡ refuse (generateGrounds n f (length before))) where
   pub refused-load : (k ≡ 0 → ⊥) → CalledGenerate seed n f before (Refused k) before
   unfolding generateAnswer generateBuffer
-  refused-load some =
-      let test = ne-eqb (refuse (generateGrounds n f (length before))) 0 (λ z. some (e ∙ z)) in
-      (ap (λ (r : ℕ). record { refusal = r }) e, rw test, rw test)
+  refused-load some = let no = answer-refused (generateGrounds n f (length before)) tt e some in (sym no, rw no)
 
   pub filled-load : k ≡ 0 → (after xs : List ℕ) → xs ≡ numbers seed (55 + n * f) → after ≡ overwrite (layout (loadFrom xs n f)) before
       → CalledGenerate seed n f before Filled after
-  unfolding generateAnswer generateBuffer load
+  unfolding generateGrounds generateAnswer generateBuffer load
   filled-load z after xs drawn made =
-      let test = eq-eqb (refuse (generateGrounds n f (length before))) 0 (sym e ∙ z) in (
-        ap (λ (r : ℕ). record { refusal = r }) (sym z ∙ e),
-        made ∙ ap (λ ys. overwrite (layout (loadFrom ys n f)) before) drawn ∙ sym (rw test),
-        rw test,
-      )
+      let given = answer-none (generateGrounds n f (length before)) tt refl (sym e ∙ z) in
+      (sym given, made ∙ ap (λ ys. overwrite (layout (loadFrom ys n f)) before) drawn ∙ sym (rw given))

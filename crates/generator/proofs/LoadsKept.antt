@@ -3,30 +3,27 @@ use Prim.Native.Nat.{ℕ, _+_, _*_, _-_, _%_, _<_}
 use native.Mathlib.Nat.{not-suc-le-zero, mod-lt}
 use native.Mathlib.Omega.{arith}
 use mathlib.Core.Path.{_≡_, refl, sym, ap, _∙_, subst}
-use mathlib.Core.Bool.{true, false, not, cond}
+use mathlib.Core.Bool.{false}
 use mathlib.Core.List.{List, [], _∷_}
-use borrow.Author.Tests.{le-ltb, eqb-true, eq-eqb, not-true, not-false}
-use lib.Dec.{eqb, ltb}
+use borrow.Author.Tests.{le-ltb, eqb-true}
+use lib.Dec.{eqb}
 use lib.ListN.{length, getD, drop}
 use lib.Seq.{drop-at}
 use Rattle.model.specs.Sets.{maxStates, empty, single}
-use Rattle.model.specs.Rounds.{run}
-use Rattle.model.specs.Paths.{shortest, hasPath}
-use Rattle.basics.specs.Refusals.{refuse}
-use Rattle.model.specs.Stores.{storeWords, dialogueOf, tableOf, layout, beyond}
+use Rattle.basics.specs.Refusals.{refuse, Answered, refused, answered, unlessRefused}
+use Rattle.model.specs.Stores.{storeWords, dialogueOf, layout, beyond}
 use Rattle.model.specs.Contents.{newForm, sets}
-use Rattle.model.specs.Files.{fileLength}
-use Rattle.model.specs.Calls.{overwrite, maxAllowance, decideGrounds, decisionOf, declined, decideAnswer, Shortest, shortestGrounds, shortestAnswer}
-use Rattle.basics.proofs.BoundLaws.{by-cond, any-find}
+use Rattle.model.specs.Calls.{overwrite, maxAllowance, pathGround, decideLimits, decideGrounds, decideAnswer, shortestGrounds, shortestAnswer}
+use Rattle.basics.proofs.BoundLaws.{any-find}
+use Rattle.basics.proofs.RefusalLaws.{clear-refuse, answer-none, answered-clear, refused-is}
 use Rattle.model.proofs.SetLaws.{setOf-in, empty-in, single-in}
 use Rattle.model.proofs.ListLaws.{length-overwrite}
 use Rattle.model.proofs.StoreLaws.{Holds, length-layout, overwrite-holds, below-beyond, Clean, clean-malformed, holds-sets, holds-clean}
-use Rattle.model.proofs.CallLaws.{write-refusal, write-behind}
+use Rattle.model.proofs.CallLaws.{write-answer}
 use Rattle.model.proofs.Acceptance.{Store, store-accepted}
-use Rattle.model.proofs.Kept.{not-refused}
 use Rattle.generator.specs.Load.{numbers, successors, loadFrom, load, generateGrounds, generateAnswer, generateBuffer}
 use Rattle.generator.specs.declared.Generated.{Generated}
-use Rattle.generator.specs.Answers.{isRefused, CalledGenerate}
+use Rattle.generator.specs.Answers.{generatedOf, CalledGenerate}
 use Rattle.generator.specs.Loads.{Accepts, Loads}
 use Rattle.generator.proofs.Filled.{laid}
 use Rattle.generator.proofs.Generating.{Accepted, accepted-load}
@@ -76,79 +73,68 @@ module _ (xs : List ℕ) (n f : ℕ) (old : List ℕ) (a : Accepted n f (length 
   unfolding loadFrom
   filled-sets = holds-sets filled (loadFrom xs n f) filled-holds refl (omega arith) (a .small)
 
--- ---- every call accepts a store that none of the grounds that they share declines
+-- ---- every call answers for a store of which none of the grounds that they share holds
 
 module _ (store : List ℕ) (n g : ℕ) (s : Store store n g) where
   accepts : Accepts store n g
   unfolding decideAnswer decideGrounds shortestAnswer shortestGrounds refuse
   accepts =
-      let t = tableOf store n g in
       record {
-        write = λ site room k h.
-            write-refusal store n g site room
-            ∙ write-behind store n g site room (s .long) k
-            ∙ store-accepted store n g ((ltb room (fileLength newForm n g), 19) ∷ []) s
-            ∙ rw (le-ltb room (fileLength newForm n g) h);
-        decide = λ allowance room h l.
-            let none : refuse (decideGrounds store n g allowance room) ≡ 0 =
-            store-accepted store n g ((ltb maxAllowance allowance, 20) ∷ (ltb room maxStates, 21) ∷ []) s
-            ∙ rw (le-ltb maxAllowance allowance h, le-ltb room maxStates l) in
-            ap (λ (k : ℕ). (cond (eqb k 0) (decisionOf t (run t allowance)) (declined k)) .refusal) none
-            ∙ not-refused t (run t allowance);
-        shortest = λ room h.
-            let path : Shortest = record { refusal = 0; found = 1; steps = shortest t } in
-            let without : Shortest = record { refusal = 0; found = 0; steps = 0 } in
-            let none : refuse (shortestGrounds store n g room) ≡ 0 =
-            store-accepted store n g ((ltb room maxStates, 21) ∷ []) s ∙ rw (le-ltb room maxStates h) in
-            ap (λ (k : ℕ). (cond (eqb k 0) (cond (hasPath t) path without) (record { refusal = k; found = 0; steps = 0 })) .refusal) none
-            ∙ by-cond (λ (x : Shortest). x .refusal ≡ 0) (hasPath t) path without (λ e. refl) (λ e. refl);
+        write = λ site room k h. write-answer store n g site room (record { held = s; known = k; fits = h });
+        decide = λ allowance room h l. (
+          _,
+          answer-none (decideGrounds store n g allowance room) _ refl
+              (store-accepted store n g (decideLimits allowance room) s ∙ rw (le-ltb maxAllowance allowance h, le-ltb room maxStates l)),
+        );
+        shortest = λ room h. (
+          _,
+          answer-none (shortestGrounds store n g room) _ refl (store-accepted store n g (pathGround room ∷ []) s ∙ rw (le-ltb room maxStates h)),
+        );
       }
 
 -- ---- the call
 
 module _ (seed n f : ℕ) (before : List ℕ) (r : Generated) (after : List ℕ) (called : CalledGenerate seed n f before r after) where
-  -- the test that the answer tells of
-  told : isRefused r ≡ not (eqb (refuse (generateGrounds n f (length before))) 0)
+  abbrev left : Answered (Unit {0}) → List ℕ
+  left = unlessRefused before (λ done. overwrite (layout (load seed n f)) before)
+
+  left-is : {a : Answered (Unit {0})} → generatedOf r ≡ a → after ≡ left a
+  unfolding generateBuffer
+  left-is e = called .1 ∙ ap left (sym (called .0) ∙ e)
+
+  accepted : generatedOf r ≡ answered tt → Accepted n f (length before)
   unfolding generateAnswer
-  told = called .2
+  accepted e =
+      let grounds = generateGrounds n f (length before) in
+      accepted-load n f (length before) refl (clear-refuse grounds (answered-clear grounds tt (sym (called .0) ∙ e)))
 
-  none : isRefused r ≡ false → refuse (generateGrounds n f (length before)) ≡ 0
-  none e = eqb-true _ 0 (not-false _ (sym told ∙ e))
-
-  accepted : isRefused r ≡ false → Accepted n f (length before)
-  accepted e = accepted-load n f (length before) refl (none e)
-
-  made : isRefused r ≡ false → after ≡ overwrite (layout (load seed n f)) before
-  unfolding generateAnswer generateBuffer
-  made e = called .1 ∙ rw (eq-eqb (refuse (generateGrounds n f (length before))) 0 (none e))
-
-  kept : isRefused r ≡ true → after ≡ before
-  unfolding generateAnswer generateBuffer
-  kept e = called .1 ∙ rw (not-true (eqb (refuse (generateGrounds n f (length before))) 0) (sym told ∙ e))
+  refusal : (k : ℕ) → generatedOf r ≡ refused k → (k ≡ refuse (generateGrounds n f (length before))) × (after ≡ before)
+  unfolding generateAnswer
+  refusal k e = (refused-is (generateGrounds n f (length before)) tt (sym (called .0) ∙ e), left-is e)
 
   past : drop storeWords after ≡ drop storeWords before
-  unfolding generateBuffer overwrite load
-  past =
-      let t = load seed n f in
-      let size = length-layout t (laid (numbers seed (55 + n * f)) n f) in
-      ap (drop storeWords) (called .1)
-      ∙ by-cond (λ (xs : List ℕ). drop storeWords xs ≡ drop storeWords before)
-      (eqb ((generateAnswer n f (length before)) .refusal) 0) (overwrite (layout t) before) before
-      (λ q. drop-at (layout t) (drop (length (layout t)) before) storeWords size ∙ ap (λ (m : ℕ). drop m before) size)
-      (λ q. refl)
+  unfolding overwrite load
+  past = ap (drop storeWords) (left-is refl) ∙ go (generatedOf r)
+    where
+      go : (a : Answered (Unit {0})) → drop storeWords (left a) ≡ drop storeWords before
+      go (refused k) = refl
+      go (answered done) =
+          let t = load seed n f in
+          let size = length-layout t (laid (numbers seed (55 + n * f)) n f) in
+          drop-at (layout t) (drop (length (layout t)) before) storeWords size ∙ ap (λ (m : ℕ). drop m before) size
 
 pub loads : Loads
 unfolding load
 loads =
     record {
       accepted = λ seed n f before r after called e.
+          let a = accepted seed n f before r after called e in
           let xs = numbers seed (55 + n * f) in
-          subst (λ (store : List ℕ). Accepts store n 0) (sym (made seed n f before r after called e))
-          (accepts (filled xs n f before (accepted seed n f before r after called e)) n 0
-          (filled-store xs n f before (accepted seed n f before r after called e)));
+          subst (λ (store : List ℕ). Accepts store n 0) (sym (left-is seed n f before r after called e))
+          (accepts (filled xs n f before a) n 0 (filled-store xs n f before a));
       table = λ seed n f before r after called e.
-          ap (λ store. sets newForm (dialogueOf store n 0)) (made seed n f before r after called e)
+          ap (λ store. sets newForm (dialogueOf store n 0)) (left-is seed n f before r after called e)
           ∙ filled-sets (numbers seed (55 + n * f)) n f before (accepted seed n f before r after called e);
-      declined = λ seed n f before r after called e. kept seed n f before r after called e;
+      refusal = λ seed n f before r after k called e. refusal seed n f before r after called k e;
       past = λ seed n f before r after called. past seed n f before r after called;
     }

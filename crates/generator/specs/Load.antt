@@ -5,7 +5,7 @@
 --   numbers seed k       the first k numbers (the additive generator with lags 24 and 55 in Knuth, volume 2)
 --   successors xs n f s  the f numbers that state s takes of xs, each modulo n
 --   load seed n f        the table, which has no resting states
---   generateGrounds, GenerateAnswer, generateAnswer, generateBuffer     the grounds in order, the answer, the store at exit
+--   generateGrounds, generateAnswer, generateBuffer     the grounds in order, the answer, the store at exit
 use Prim.Native.Nat.{ℕ, zero, suc, _+_, _*_, _-_, _%_, _^_}
 use mathlib.Core.Bool.{cond, _||_}
 use mathlib.Core.List.{List, [], _∷_, _++_}
@@ -14,7 +14,7 @@ use lib.ListN.{length, getD}
 use Rattle.basics.specs.Bounds.{any}
 use Rattle.model.specs.Sets.{maxStates, Set, setOf, empty, single}
 use Rattle.model.specs.Tables.{Dialogue}
-use Rattle.basics.specs.Refusals.{Ground, refuse}
+use Rattle.basics.specs.Refusals.{Ground, Answered, answer, unlessRefused}
 use Rattle.model.specs.Stores.{layout, storeGround}
 use Rattle.model.specs.Calls.{overwrite}
 
@@ -51,17 +51,13 @@ load seed n f = loadFrom (numbers seed (55 + n * f)) n f
 
 -- ---- the call
 
-pub record GenerateAnswer : Type 0 where
-  pub refusal : ℕ  -- 0 where the store is filled
-
 -- A draft (n = 0) is no load: 14 covers it here whatever g would be.
 unfoldable pub generateGrounds : ℕ → ℕ → ℕ → List Ground
 generateGrounds n f room = storeGround room ∷ (eqb n 0 || ltb maxStates n, 14) ∷ (ltb maxFanOut f, 22) ∷ []
 
-unfoldable pub generateAnswer : ℕ → ℕ → ℕ → GenerateAnswer
-generateAnswer n f room = record { refusal = refuse (generateGrounds n f room) }
+-- There is nothing to answer but that the store is filled.
+unfoldable pub generateAnswer : ℕ → ℕ → ℕ → Answered (Unit {0})
+generateAnswer n f room = answer (generateGrounds n f room) tt
 
 unfoldable pub generateBuffer : ℕ → ℕ → ℕ → List ℕ → List ℕ
-generateBuffer seed n f store =
-    let filled = overwrite (layout (load seed n f)) store in
-    cond (eqb ((generateAnswer n f (length store)) .refusal) 0) filled store
+generateBuffer seed n f store = unlessRefused store (λ done. overwrite (layout (load seed n f)) store) (generateAnswer n f (length store))

@@ -1,36 +1,37 @@
 -- What is promised of the call generate; `LoadsKept.loads` proves it.
 --
 --   Accepts store n g    write, given output enough, decide and shortest path, given a path buffer, and decide an allowance, in bounds,
---                        accept the store: no ground that the calls share holds of it
+--                        answer for the store: no ground that the calls share holds of it
 --   Loads                of every call of generate: what it filled, what it left alone
 use Prim.Native.Nat.{ℕ, _≤_}
 use mathlib.Core.Path.{_≡_}
-use mathlib.Core.Bool.{true, false}
 use mathlib.Core.List.{List}
-use lib.ListN.{drop}
+use lib.ListN.{length, drop}
+use Rattle.basics.specs.Refusals.{refuse, refused, answered}
 use Rattle.model.specs.Sets.{maxStates}
 use Rattle.model.specs.Stores.{storeWords, dialogueOf}
 use Rattle.model.specs.Blocks.{maxSite}
 use Rattle.model.specs.Contents.{newForm, sets}
 use Rattle.model.specs.Files.{fileLength}
-use Rattle.model.specs.Calls.{maxAllowance, decideAnswer, shortestAnswer, writeAnswer}
-use Rattle.generator.specs.Load.{load}
+use Rattle.model.specs.Calls.{maxAllowance, Decision, decideAnswer, Shortest, shortestAnswer, writeAnswer}
+use Rattle.generator.specs.Load.{load, generateGrounds}
 use Rattle.generator.specs.declared.Generated.{Generated}
-use Rattle.generator.specs.Answers.{isRefused, CalledGenerate}
+use Rattle.generator.specs.Answers.{generatedOf, CalledGenerate}
 
 pub record Accepts (store : List ℕ) (n g : ℕ) : Type 0 where
-  pub write : (site room : ℕ) → site ≤ maxSite → fileLength newForm n g ≤ room → (writeAnswer store n g site room) .refusal ≡ 0
-  pub decide : (allowance room : ℕ) → allowance ≤ maxAllowance → maxStates ≤ room → (decideAnswer store n g allowance room) .refusal ≡ 0
-  pub shortest : (room : ℕ) → maxStates ≤ room → (shortestAnswer store n g room) .refusal ≡ 0
+  pub write : (site room : ℕ) → site ≤ maxSite → fileLength newForm n g ≤ room → writeAnswer store n g site room ≡ answered (fileLength newForm n g)
+  pub decide : (allowance room : ℕ) → allowance ≤ maxAllowance → maxStates ≤ room → (a : Decision) × (decideAnswer store n g allowance room ≡ answered a)
+  pub shortest : (room : ℕ) → maxStates ≤ room → (a : Shortest) × (shortestAnswer store n g room ≡ answered a)
 
 pub record Loads : Type 0 where
   -- for every accepted seed, n and f
   pub accepted : (seed n f : ℕ) (before : List ℕ) (r : Generated) (after : List ℕ)
-      → CalledGenerate seed n f before r after → isRefused r ≡ false → Accepts after n 0
+      → CalledGenerate seed n f before r after → generatedOf r ≡ answered tt → Accepts after n 0
   -- the table in the store is the one that the seed gives
   pub table : (seed n f : ℕ) (before : List ℕ) (r : Generated) (after : List ℕ)
-      → CalledGenerate seed n f before r after → isRefused r ≡ false → sets newForm (dialogueOf after n 0) ≡ sets newForm (load seed n f)
-  pub declined : (seed n f : ℕ) (before : List ℕ) (r : Generated) (after : List ℕ)
-      → CalledGenerate seed n f before r after → isRefused r ≡ true → after ≡ before
+      → CalledGenerate seed n f before r after → generatedOf r ≡ answered tt → sets newForm (dialogueOf after n 0) ≡ sets newForm (load seed n f)
+  pub refusal : (seed n f : ℕ) (before : List ℕ) (r : Generated) (after : List ℕ) (k : ℕ)
+      → CalledGenerate seed n f before r after → generatedOf r ≡ refused k
+      → (k ≡ refuse (generateGrounds n f (length before))) × (after ≡ before)
   pub past : (seed n f : ℕ) (before : List ℕ) (r : Generated) (after : List ℕ)
       → CalledGenerate seed n f before r after → drop storeWords after ≡ drop storeWords before

@@ -1,6 +1,6 @@
 // The call `generate`: the table that a seed gives, put into a lent store (the specification, "A load that can be repeated").
 //
-//   Generated, generate          the store is filled, or why the call is declined
+//   Generated, generate          the store is filled, or why the call is refused
 //   refusal                      the first of the grounds 10, 14 and 22 that holds, or 0
 //   put_numbers, next_number     the first numbers; the one that follows those that are there
 //   fill                         the table of some numbers put into the store
@@ -57,7 +57,7 @@ pub fn generate(seed: u32, n: usize, fan_out: usize, store: &mut [u64]) -> Gener
     Generated::Filled
 }
 
-// Why a load is declined where the store has `room` words, or 0.
+// Why a load is refused where the store has `room` words, or 0.
 fn refusal(n: usize, f: usize, room: usize) -> u8
     ensures { λ r. ⌜ r ≡ refuse (generateGrounds n f room) ⌝ }
 {

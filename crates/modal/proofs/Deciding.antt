@@ -5,42 +5,43 @@
 --   safe-answer, unsafe-answer, depends-answer       where it is not
 use Prim.Native.Nat.{ℕ, _≤_}
 use mathlib.Core.Path.{_≡_, refl, sym, ap, ap₂, _∙_, subst}
-use mathlib.Core.Bool.{Bool, true, false, not, cond}
+use mathlib.Core.Bool.{Bool, true, false, cond}
 use mathlib.Core.List.{List}
-use borrow.Author.Tests.{ne-eqb, eq-eqb}
+use borrow.Author.Tests.{eq-eqb}
 use lib.Dec.{eqb}
 use lib.ListN.{length}
 use Rattle.model.specs.Sets.{maxStates, Set, empty, size}
 use Rattle.model.specs.Tables.{Table}
 use Rattle.model.specs.Paths.{shortest, hasPath, smallestPath}
-use Rattle.basics.specs.Refusals.{refuse}
+use Rattle.basics.specs.Refusals.{refuse, Answered, answered, unlessRefused}
 use Rattle.model.specs.Stores.{rowAt}
 use Rattle.model.specs.Calls.{overwrite, Decision}
+use Rattle.basics.proofs.RefusalLaws.{answer-refused, answer-none}
 use Rattle.model.proofs.WellFormed.{WellFormed}
 use Rattle.paths.specs.Answers.{foundIn, pathWritten}
 use Rattle.rounds.specs.Answers.{stepsIn}
-use Rattle.modal.specs.Modal.{rowsFrom, certainRow, possibleRow, tableWith, modalForbidden, modalTable, certainTable, possibleTable, releaseCheck, modalGrounds, ModalAnswer, modalOf, modalDeclined, modalAnswer, modalWritten, modalBuffer}
+use Rattle.modal.specs.Modal.{rowsFrom, certainRow, possibleRow, tableWith, modalForbidden, modalTable, certainTable, possibleTable, releaseCheck, modalGrounds, ModalAnswer, modalOf, modalAnswer, modalWritten, modalBuffer}
 use Rattle.modal.specs.Laid.{RowsIn}
 use Rattle.modal.specs.declared.Checked.{Checked}
 use Rattle.modal.specs.declared.ModalVerdict.{ModalVerdict}
 use Rattle.modal.specs.declared.ModalVerdict.the-variants.{Safe, Unsafe, Depends, Refused}
-use Rattle.modal.specs.Answers.{ChecksOut, answersWith, isRefused, CalledModal}
+use Rattle.modal.specs.Answers.{ChecksOut, answersWith, CalledModal}
 use Rattle.modal.proofs.Grounds.{ModalHeld, accepted}
 use Rattle.modal.proofs.Checking.{found-groups, written-groups}
 use Rattle.modal.proofs.Choosing.{certain-inside, forbidden-proper, modal-formed, says-safe, says-unsafe}
 
 module _ (c p : Decision) where
-  pub safe-of : eqb (p .verdict) 0 ≡ true → modalOf c p ≡ record { refusal = 0; verdict = 0; invariant = p .invariant; size = p .size; steps = 0 }
+  pub safe-of : eqb (p .verdict) 0 ≡ true → modalOf c p ≡ record { verdict = 0; invariant = p .invariant; size = p .size; steps = 0 }
   unfolding modalOf
   safe-of e = rw e
 
   pub unsafe-of : eqb (p .verdict) 0 ≡ false → eqb (c .verdict) 1 ≡ true
-      → modalOf c p ≡ record { refusal = 0; verdict = 1; invariant = empty; size = 0; steps = c .steps }
+      → modalOf c p ≡ record { verdict = 1; invariant = empty; size = 0; steps = c .steps }
   unfolding modalOf
   unsafe-of e f = rw (e, f)
 
   pub depends-of : eqb (p .verdict) 0 ≡ false → eqb (c .verdict) 1 ≡ false
-      → modalOf c p ≡ record { refusal = 0; verdict = 3; invariant = c .invariant; size = c .size; steps = p .steps }
+      → modalOf c p ≡ record { verdict = 3; invariant = c .invariant; size = c .size; steps = p .steps }
   unfolding modalOf
   depends-of e f = rw (e, f)
 
@@ -103,47 +104,41 @@ module _ (store : List ℕ) (n g : ℕ) (possible path : List ℕ) where
   both-checks = modalOf (releaseCheck certain-t) (releaseCheck possible-t)
 
   -- the verdict v, the invariant X beside it, and what is left in the buffer
-  abbrev Answered : ModalVerdict → Set → List ℕ → Type 0
-  Answered v X after = CalledModal store n g possible path (record { verdict = v; invariant = record { words = X } }) after
+  abbrev Gives : ModalVerdict → Set → List ℕ → Type 0
+  Gives v X after = CalledModal store n g possible path (record { verdict = v; invariant = record { words = X } }) after
 
-  -- the buffer and the case follow from the numbers
-  answered : (v : ModalVerdict) (X : Set) → answersWith v X ≡ modalAnswer store n g possible (length path)
-      → isRefused v ≡ not (eqb ((answersWith v X) .refusal) 0)
-      → Answered v X (modalWritten certain-t possible-t ((answersWith v X) .verdict) path)
+  abbrev left : Answered ModalAnswer → List ℕ
+  left = unlessRefused path (λ (a : ModalAnswer). modalWritten certain-t possible-t (a .verdict) path)
+
+  -- the invariant and the buffer follow from the numbers
+  gives : (v : ModalVerdict) (X : Set) → answersWith v X ≡ modalAnswer store n g possible (length path)
+      → X ≡ unlessRefused empty (λ (a : ModalAnswer). a .invariant) (answersWith v X) → Gives v X (left (answersWith v X))
   unfolding modalBuffer
-  answered v X q c = (
-    q,
-    ap (λ (a : ModalAnswer). modalWritten certain-t possible-t (a .verdict) path) q,
-    c ∙ ap (λ (a : ModalAnswer). not (eqb (a .refusal) 0)) q,
-  )
+  gives v X q x = (q, x ∙ ap (unlessRefused empty (λ (a : ModalAnswer). a .invariant)) q, ap left q)
 
-  -- k is the ground on which the call is declined, or 0
+  -- k is the ground on which the call is refused, or 0
   module _ {k : ℕ} (e : k ≡ refuse (modalGrounds store n g possible (length path))) where
-    answer-is : cond (eqb k 0) both-checks (modalDeclined k) ≡ modalAnswer store n g possible (length path)
+    pub refused-answer : {X : Set} → (k ≡ 0 → ⊥) → X ≡ empty → Gives (Refused k) X path
     unfolding modalAnswer
-    answer-is = ap (λ (j : ℕ). cond (eqb j 0) both-checks (modalDeclined j)) e
-
-    pub refused-answer : {X : Set} → (k ≡ 0 → ⊥) → X ≡ empty → Answered (Refused k) X path
-    unfolding modalDeclined modalWritten
-    refused-answer f x =
-        answered (Refused k) _ (ap (answersWith (Refused k)) x ∙ (rw (ne-eqb k 0 f) at answer-is)) (sym (ap not (ne-eqb k 0 f)))
+    refused-answer f x = gives (Refused k) _ (sym (answer-refused (modalGrounds store n g possible (length path)) _ e f)) x
 
     module _ (z : k ≡ 0) where
       held : ModalHeld store n g possible
       held = accepted store n g possible (length path) (sym e ∙ z) .0
 
-      decided-answer : {a : ModalAnswer} → both-checks ≡ a → a ≡ modalAnswer store n g possible (length path)
-      decided-answer q = sym q ∙ (rw z at answer-is)
+      decided-answer : {a : ModalAnswer} → both-checks ≡ a → answered a ≡ modalAnswer store n g possible (length path)
+      unfolding modalAnswer modalGrounds
+      decided-answer q = ap answered (sym q) ∙ sym (answer-none (modalGrounds store n g possible (length path)) _ refl (sym e ∙ z))
 
       -- the forbidden states that the code has worked out
       module _ {F : Set} (f : F ≡ modalForbidden store n possible) where
         module _ {r : Checked} (c : ChecksOut (tableWith store n g F (possibleRow possible n)) r) where
-          pub safe-answer : {m : ℕ} → r .safe ≡ true → m ≡ size (r .invariant .words) → Answered (Safe m) (r .invariant .words) path
+          pub safe-answer : {m : ℕ} → r .safe ≡ true → m ≡ size (r .invariant .words) → Gives (Safe m) (r .invariant .words) path
           unfolding modalWritten
           safe-answer {m} q h =
               let t = told store n g possible held f (possibleRow possible n) c q in
               let says = says-safe possible-t (possible-formed store n g possible held g) (small-for store n g possible held (possibleRow possible n)) (t .0) in
-              answered (Safe m) (r .invariant .words)
+              gives (Safe m) (r .invariant .words)
               (ap₂ (λ (k : ℕ) (X : Set). answersWith (Safe k) X) (h ∙ ap size (t .1) ∙ sym (says .3)) (t .1)
               ∙ decided-answer (safe-of (releaseCheck certain-t) (releaseCheck possible-t) (t .0)))
               refl
@@ -155,32 +150,32 @@ module _ (store : List ℕ) (n g : ℕ) (possible path : List ℕ) where
 
             pub unsafe-answer : {d : ℕ} {X : Set} {after : List ℕ} → u .safe ≡ false → X ≡ empty
                 → d ≡ stepsIn (foundIn (tableWith store n 0 F (certainRow store n))) → after ≡ pathWritten (tableWith store n 0 F (certainRow store n)) path
-                → Answered (Unsafe d) X after
+                → Gives (Unsafe d) X after
             unfolding modalWritten
             unsafe-answer {d} {X} p x e w =
                 let t = told store n g possible held f (certainRow store n) v p in
                 let says = says-unsafe certain-t (certain-formed store n g possible held g) (small-for store n g possible held (certainRow store n)) (t .0) in
                 let at = found store n g possible held f path store (rowAt 0) (held .held .long) (says .1) e w in
-                let both =
-                answered (Unsafe d) X
+                let all =
+                gives (Unsafe d) X
                 (ap₂ (λ (k : ℕ) (Y : Set). answersWith (Unsafe k) Y) (at .0 ∙ sym (says .2)) x
                 ∙ decided-answer (unsafe-of (releaseCheck certain-t) (releaseCheck possible-t) not-safe (eq-eqb ((releaseCheck certain-t) .verdict) 1 (says .0))))
                 refl in
-                (both .0, at .1 ∙ both .1, both .2)
+                (all .0, all .1, at .1 ∙ all .2)
 
             pub depends-answer : {d m : ℕ} {after : List ℕ} → u .safe ≡ true → m ≡ size (u .invariant .words)
                 → d ≡ stepsIn (foundIn (tableWith store n 0 F (possibleRow possible n))) → after ≡ pathWritten (tableWith store n 0 F (possibleRow possible n)) path
-                → Answered (Depends m d) (u .invariant .words) after
+                → Gives (Depends m d) (u .invariant .words) after
             unfolding modalWritten
             depends-answer {d} {m} p h e w =
                 let t = told store n g possible held f (certainRow store n) v p in
                 let says = says-safe certain-t (certain-formed store n g possible held g) (small-for store n g possible held (certainRow store n)) (t .0) in
                 let path-says = says-unsafe possible-t (possible-formed store n g possible held g) (small-for store n g possible held (possibleRow possible n)) not-safe in
                 let at = found store n g possible held f path possible 0 (held .long) (path-says .1) e w in
-                let both =
-                answered (Depends m d) (u .invariant .words)
+                let all =
+                gives (Depends m d) (u .invariant .words)
                 (ap₂ (λ (k : ℕ) (X : Set). answersWith (Depends k d) X) (h ∙ ap size (t .1) ∙ sym (says .3)) (t .1)
                 ∙ ap (λ (k : ℕ). answersWith (Depends ((releaseCheck certain-t) .size) k) ((releaseCheck certain-t) .invariant)) (at .0 ∙ sym (path-says .2))
                 ∙ decided-answer (depends-of (releaseCheck certain-t) (releaseCheck possible-t) not-safe (rw (says .0))))
                 refl in
-                (both .0, at .1 ∙ both .1, both .2)
+                (all .0, all .1, at .1 ∙ all .2)

@@ -6,7 +6,7 @@
 use Prim.Native.Nat.{ℕ, _*_, _≤_, _<_}
 use native.Mathlib.Nat.{zero-add}
 use native.Mathlib.Omega.{arith}
-use mathlib.Core.Path.{_≡_, sym, ap, _∙_, subst, fun-ext}
+use mathlib.Core.Path.{_≡_, refl, sym, ap, _∙_, subst, fun-ext}
 use mathlib.Core.Logic.{_⊎_, inl, inr, ⊎-elim}
 use mathlib.Core.Bool.{true, false, cond}
 use mathlib.Core.List.{List}
@@ -17,13 +17,12 @@ use Rattle.model.specs.Sets.{WORDS, maxStates, Set, union}
 use Rattle.model.specs.Tables.{Table, hangs}
 use Rattle.model.specs.Rounds.{run}
 use Rattle.model.specs.Paths.{smallestPath}
-use Rattle.basics.specs.Refusals.{refuse}
+use Rattle.basics.specs.Refusals.{refuse, answered, unlessRefused}
 use Rattle.model.specs.Stores.{markedAt, restingAt, rowAt, setAt, dialogueOf, tableOf}
 use Rattle.model.specs.Calls.{overwrite, release, Decision, decideGrounds, decideAnswer, decideBuffer, decideLimits}
 use Rattle.basics.proofs.BoundLaws.{decided}
-use Rattle.basics.proofs.RefusalLaws.{refuse-skip, refuse-none}
+use Rattle.basics.proofs.RefusalLaws.{refuse-skip, refuse-none, answer-none}
 use Rattle.model.proofs.Acceptance.{store-accepted}
-use Rattle.model.proofs.Kept.{not-refused}
 use Rattle.modal.specs.Modal.{rowsFrom, certainRow, possibleRow, tableWith, modalForbidden, modalTable, certainTable, possibleTable, releaseCheck, ModalAnswer, modalOf, modalWritten}
 use Rattle.modal.specs.ModalPromises.{AsDecide}
 use Rattle.modal.proofs.Grounds.{ModalHeld, accepted}
@@ -50,7 +49,6 @@ module _ (t : Table) (before : List ℕ) where
       let q = safe-of (releaseCheck t) (releaseCheck t) (eq-eqb ((releaseCheck t) .verdict) 0 (w .0)) in
       let v : one .verdict ≡ (releaseCheck t) .verdict = ap (λ (a : ModalAnswer). a .verdict) q ∙ sym (w .0) in
       record {
-        accepted = not-refused t (run t release);
         verdict = v;
         invariant = ap (λ (a : ModalAnswer). a .invariant) q;
         size = ap (λ (a : ModalAnswer). a .size) q;
@@ -63,7 +61,6 @@ module _ (t : Table) (before : List ℕ) where
       (eq-eqb ((releaseCheck t) .verdict) 1 (w .0)) in
       let v : one .verdict ≡ (releaseCheck t) .verdict = ap (λ (a : ModalAnswer). a .verdict) q ∙ sym (w .0) in
       record {
-        accepted = not-refused t (run t release);
         verdict = v;
         invariant = ap (λ (a : ModalAnswer). a .invariant) q ∙ sym (w .3);
         size = ap (λ (a : ModalAnswer). a .size) q ∙ sym (w .4);
@@ -71,7 +68,7 @@ module _ (t : Table) (before : List ℕ) where
         buffer = ap (λ (k : ℕ). modalWritten t t k before) v ∙ same-written ((releaseCheck t) .verdict) (inr (w .0));
       })
 
--- ---- a call that is not declined
+-- ---- a call that is answered
 
 module _ (store : List ℕ) (n g : ℕ) (possible : List ℕ) (ok : ModalHeld store n g possible) where
   abbrev C : Table
@@ -120,24 +117,30 @@ module _ (store : List ℕ) (n g : ℕ) (possible : List ℕ) (ok : ModalHeld st
           ∙ refuse-skip _ 21 _ (le-ltb (length before) maxStates roomy)
           ∙ refuse-none
 
-      decide-answers : decideAnswer store n g release (length before) ≡ releaseCheck (tableOf store n g)
-      unfolding decideAnswer releaseCheck
-      decide-answers = rw decide-accepts
+      decide-answers : decideAnswer store n g release (length before) ≡ answered (releaseCheck (tableOf store n g))
+      unfolding decideAnswer decideGrounds releaseCheck
+      decide-answers = answer-none (decideGrounds store n g release (length before)) _ refl decide-accepts
 
-      pub as-decide : AsDecide (decideAnswer store n g release (length before)) (decideBuffer store n g release before) both (left before)
+      abbrev decided-left : Decision → List ℕ
+      decided-left d = cond (eqb (d .verdict) 1) (overwrite (smallestPath (tableOf store n g)) before) before
+
+      pub as-decide : (decideAnswer store n g release (length before) ≡ answered (releaseCheck (tableOf store n g)))
+          × AsDecide (releaseCheck (tableOf store n g)) (decideBuffer store n g release before) both (left before)
       unfolding decideBuffer
       as-decide =
           let T = tableOf store n g in
           let says-T = subst (λ (u : Table). SaysSafe u (releaseCheck u) ⊎ SaysUnsafe u (releaseCheck u)) same-certain (says-certain store n g possible ok) in
-          subst (λ (d : Decision). AsDecide d (cond (eqb (d .verdict) 1) (overwrite (smallestPath T) before) before) both (left before))
-          (sym decide-answers)
-          (subst
-          (λ (u : Table).
-          AsDecide (releaseCheck T) (cond (eqb ((releaseCheck T) .verdict) 1) (overwrite (smallestPath T) before) before)
-          (modalOf (releaseCheck C) (releaseCheck u)) (modalWritten C u ((modalOf (releaseCheck C) (releaseCheck u)) .verdict) before))
-          (sym same-possible)
-          (subst
-          (λ (u : Table).
-          AsDecide (releaseCheck T) (cond (eqb ((releaseCheck T) .verdict) 1) (overwrite (smallestPath T) before) before)
-          (modalOf (releaseCheck u) (releaseCheck T)) (modalWritten u T ((modalOf (releaseCheck u) (releaseCheck T)) .verdict) before))
-          (sym same-certain) (one-table T before says-T)))
+          (
+            decide-answers,
+            subst (λ (xs : List ℕ). AsDecide (releaseCheck T) xs both (left before)) (sym (ap (unlessRefused before decided-left) decide-answers))
+                (subst
+                (λ (u : Table).
+                AsDecide (releaseCheck T) (decided-left (releaseCheck T))
+                (modalOf (releaseCheck C) (releaseCheck u)) (modalWritten C u ((modalOf (releaseCheck C) (releaseCheck u)) .verdict) before))
+                (sym same-possible)
+                (subst
+                (λ (u : Table).
+                AsDecide (releaseCheck T) (decided-left (releaseCheck T))
+                (modalOf (releaseCheck u) (releaseCheck T)) (modalWritten u T ((modalOf (releaseCheck u) (releaseCheck T)) .verdict) before))
+                (sym same-certain) (one-table T before says-T))),
+          )

@@ -3,7 +3,7 @@
 --   rows-beyond, rows-used                        `is_malformed`: ground 17 of the second buffer
 --   uncertain-start, -hit, -pass, -end            `is_uncertain`: a loop that looks for a certain step that is not possible
 --   ModalHeld, Passed17                           no ground before 21, up to 17, holds
---   short-possible, refuse-shared, .., accepted   `refusal_of`: the grounds in their order, and what a call that is not declined knows
+--   short-possible, refuse-shared, .., accepted   `refusal_of`: the grounds in their order, and what a call that is answered knows
 use Prim.Native.Nat.{ℕ, _+_, _*_, _≤_, _<_}
 use native.Mathlib.Nat.{zero-add}
 use mathlib.Core.Path.{_≡_, refl, sym, ap, _∙_}

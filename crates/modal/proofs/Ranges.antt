@@ -3,15 +3,16 @@
 --   ModalRange, modal-range
 use Prim.Native.Nat.{ℕ, _≤_}
 use native.Mathlib.Omega.{arith}
+use mathlib.Core.Path.{_≡_, sym, subst}
 use mathlib.Core.List.{List}
-use borrow.Author.Tests.{eqb-true}
 use lib.Dec.{eqb}
 use Rattle.model.specs.Sets.{Set, maxStates}
-use Rattle.basics.specs.Refusals.{refuse}
+use Rattle.basics.specs.Refusals.{answered}
 use Rattle.model.specs.Calls.{release, Decision}
 use Rattle.basics.proofs.BoundLaws.{by-cond}
+use Rattle.basics.proofs.RefusalLaws.{clear-refuse, answered-clear, answered-value}
 use Rattle.model.proofs.Ranges.{DecisionRange, run-range}
-use Rattle.modal.specs.Modal.{certainRow, possibleRow, modalTable, releaseCheck, modalGrounds, ModalAnswer, modalOf, modalDeclined, modalAnswer}
+use Rattle.modal.specs.Modal.{certainRow, possibleRow, modalTable, releaseCheck, modalGrounds, ModalAnswer, modalOf, modalAnswer}
 use Rattle.modal.proofs.Grounds.{ModalHeld, accepted}
 use Rattle.modal.proofs.Deciding.{small-for}
 
@@ -33,11 +34,10 @@ check-range : (store : List ℕ) (n g : ℕ) (possible : List ℕ) → ModalHeld
 unfolding releaseCheck
 check-range store n g possible ok row = run-range (modalTable store n g possible row) (small-for store n g possible ok row) release
 
-pub modal-range : (store : List ℕ) (n g : ℕ) (possible : List ℕ) (room : ℕ) → ModalRange (modalAnswer store n g possible room)
-unfolding modalAnswer modalDeclined
-modal-range store n g possible room =
-    by-cond ModalRange (eqb (refuse (modalGrounds store n g possible room)) 0) _ _
-    (λ q.
-    let ok = accepted store n g possible room (eqb-true (refuse (modalGrounds store n g possible room)) 0 q) .0 in
-    of-checks _ _ (check-range store n g possible ok (certainRow store n)) (check-range store n g possible ok (possibleRow possible n)))
-    (λ q. record { size = omega arith; steps = omega arith })
+pub modal-range : (store : List ℕ) (n g : ℕ) (possible : List ℕ) (room : ℕ) {a : ModalAnswer} → modalAnswer store n g possible room ≡ answered a → ModalRange a
+unfolding modalAnswer
+modal-range store n g possible room e =
+    let grounds = modalGrounds store n g possible room in
+    let ok = accepted store n g possible room (clear-refuse grounds (answered-clear grounds _ e)) .0 in
+    subst ModalRange (sym (answered-value grounds _ e))
+    (of-checks _ _ (check-range store n g possible ok (certainRow store n)) (check-range store n g possible ok (possibleRow possible n)))

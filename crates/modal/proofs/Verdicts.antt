@@ -1,4 +1,4 @@
--- The verdict of a call that is not declined, from its two release checks.
+-- The verdict of a call that is answered, from its two release checks.
 --
 --   certain-choice, possible-choice      the certain steps alone are a choice, and all possible ones are
 --   path-above, path-below               a path on the certain steps is one of every choice, and a path of a choice one on the possible steps
@@ -27,7 +27,7 @@ use Rattle.modal.proofs.Grounds.{ModalHeld}
 use Rattle.modal.proofs.Choosing.{certain-inside, modal-formed, path-more, invariant-less, SaysSafe, SaysUnsafe, released}
 use Rattle.modal.proofs.Deciding.{safe-of, unsafe-of, depends-of, small-for}
 
--- ---- the choices of a call that is not declined
+-- ---- the choices of a call that is answered
 
 module _ (store : List ℕ) (n g : ℕ) (possible : List ℕ) (ok : ModalHeld store n g possible) where
   abbrev t : (ℕ → Set) → Table
@@ -95,15 +95,15 @@ module _ (store : List ℕ) (n g : ℕ) (possible : List ℕ) (ok : ModalHeld st
   both = modalOf (releaseCheck C) (releaseCheck P)
 
   abbrev SafeCase : Type 0
-  SafeCase = SaysSafe P (releaseCheck P) × (both ≡ record { refusal = 0; verdict = 0; invariant = (releaseCheck P) .invariant; size = (releaseCheck P) .size; steps = 0 })
+  SafeCase = SaysSafe P (releaseCheck P) × (both ≡ record { verdict = 0; invariant = (releaseCheck P) .invariant; size = (releaseCheck P) .size; steps = 0 })
 
   abbrev UnsafeCase : Type 0
-  UnsafeCase = SaysUnsafe C (releaseCheck C) × (both ≡ record { refusal = 0; verdict = 1; invariant = empty; size = 0; steps = (releaseCheck C) .steps })
+  UnsafeCase = SaysUnsafe C (releaseCheck C) × (both ≡ record { verdict = 1; invariant = empty; size = 0; steps = (releaseCheck C) .steps })
 
   abbrev DependsCase : Type 0
   DependsCase =
       SaysSafe C (releaseCheck C) × SaysUnsafe P (releaseCheck P)
-      × (both ≡ record { refusal = 0; verdict = 3; invariant = (releaseCheck C) .invariant; size = (releaseCheck C) .size; steps = (releaseCheck P) .steps })
+      × (both ≡ record { verdict = 3; invariant = (releaseCheck C) .invariant; size = (releaseCheck C) .size; steps = (releaseCheck P) .steps })
 
   cases : SafeCase ⊎ (UnsafeCase ⊎ DependsCase)
   cases =

@@ -5,20 +5,21 @@
 --   first-words                    their answers, and what they leave in the path buffer
 use Prim.Native.Nat.{ℕ, _+_, _*_, _≤_}
 use native.Mathlib.Omega.{arith}
-use mathlib.Core.Path.{_≡_, ap, ap₂, _∙_, fun-ext}
+use mathlib.Core.Path.{_≡_, refl, sym, ap, ap₂, _∙_, fun-ext}
 use mathlib.Core.Logic.{⊎-elim}
-use mathlib.Core.Bool.{true, false, cond, not, _||_}
+use mathlib.Core.Bool.{true, false, not, _||_}
 use mathlib.Core.List.{List}
-use borrow.Author.Tests.{ltb-true, ltb-false, le-ltb, eqb-true}
-use lib.Dec.{eqb, ltb}
+use borrow.Author.Tests.{ltb-true, ltb-false, le-ltb}
+use lib.Dec.{ltb}
 use lib.ListN.{length, take}
 use Rattle.model.specs.Sets.{WORDS, maxStates, Set, union, subset}
 use Rattle.model.specs.Tables.{Table, Dialogue, hangs}
-use Rattle.basics.specs.Refusals.{refuse}
+use Rattle.basics.specs.Refusals.{refuse, answer, unlessRefused}
 use Rattle.model.specs.Stores.{maxGroups, storeWords, rowAt, setAt, dialogueOf, beyond, badStates}
 use Rattle.basics.proofs.BoundLaws.{decided, any-cong}
+use Rattle.basics.proofs.RefusalLaws.{unless-value, answer-cong}
 use Rattle.model.proofs.FirstWords.{same-word, same-part, nonZero-cong, states-le, dialogue-words, malformed-same}
-use Rattle.modal.specs.Modal.{possibleWords, rowsFrom, certainRow, possibleRow, tableWith, modalForbidden, modalTable, certainTable, possibleTable, malformedRows, uncertain, releaseCheck, modalGrounds, ModalAnswer, modalOf, modalDeclined, modalAnswer, modalWritten, modalBuffer}
+use Rattle.modal.specs.Modal.{possibleWords, rowsFrom, certainRow, possibleRow, tableWith, modalForbidden, modalTable, certainTable, possibleTable, malformedRows, uncertain, releaseCheck, modalGrounds, ModalAnswer, modalOf, modalAnswer, modalWritten, modalBuffer}
 use Rattle.modal.proofs.Grounds.{accepted}
 
 module _ (store store′ possible possible′ : List ℕ) (n g : ℕ)
@@ -89,30 +90,30 @@ module _ (store store′ possible possible′ : List ℕ) (n g : ℕ)
       (decided (ltb maxGroups g)))
       (decided (badStates n g)))
 
-  -- f is given the first ground that holds, and the tables, which it reads only where there is none
-  same-call : {A : Type 0} (f : ℕ → Table → Table → A) (room : ℕ) → ((k : ℕ) (t u t′ u′ : Table) → eqb k 0 ≡ false → f k t u ≡ f k t′ u′)
-      → f (refuse (modalGrounds store n g possible room)) (certainTable store n g possible) (possibleTable store n g possible)
-      ≡ f (refuse (modalGrounds store′ n g possible′ room)) (certainTable store′ n g possible′) (possibleTable store′ n g possible′)
-  same-call f room only =
-      let k = refuse (modalGrounds store n g possible room) in
-      ⊎-elim
-      (λ (q : eqb k 0 ≡ true).
-      let held = accepted store n g possible room (eqb-true k 0 q) .0 .held in
-      ap₂ (f k) (table-alike (held .small) (held .few) (certain-alike (held .small) (held .few))) (table-alike (held .small) (held .few) (rows-alike (held .small))))
-      (λ (q : eqb k 0 ≡ false). only k _ _ _ _ q)
-      (decided (eqb k 0))
-      ∙ ap (λ (m : ℕ). f m (certainTable store′ n g possible′) (possibleTable store′ n g possible′)) (grounds-alike room)
+  -- a call whose answer is made of the two tables
+  same-call : {A : Type 0} (f : Table → Table → A) (room : ℕ)
+      → answer (modalGrounds store n g possible room) (f (certainTable store n g possible) (possibleTable store n g possible))
+      ≡ answer (modalGrounds store′ n g possible′ room) (f (certainTable store′ n g possible′) (possibleTable store′ n g possible′))
+  unfolding modalGrounds
+  same-call f room =
+      answer-cong (modalGrounds store n g possible room) (modalGrounds store′ n g possible′ room) _ _ refl refl (grounds-alike room)
+      (λ z.
+      let held = accepted store n g possible room z .0 .held in
+      ap₂ f (table-alike (held .small) (held .few) (certain-alike (held .small) (held .few))) (table-alike (held .small) (held .few) (rows-alike (held .small))))
 
 pub first-words : (store store′ possible possible′ : List ℕ) (n g : ℕ) (path : List ℕ)
     → storeWords ≤ length store → storeWords ≤ length store′ → take storeWords store ≡ take storeWords store′
     → possibleWords ≤ length possible → possibleWords ≤ length possible′ → take possibleWords possible ≡ take possibleWords possible′
     → (modalAnswer store n g possible (length path) ≡ modalAnswer store′ n g possible′ (length path))
     × (modalBuffer store n g possible path ≡ modalBuffer store′ n g possible′ path)
-unfolding modalAnswer modalBuffer modalDeclined modalWritten
+unfolding modalAnswer modalBuffer
 first-words store store′ possible possible′ n g path a a′ s b b′ p = (
-  same-call store store′ possible possible′ n g a a′ s b b′ p answers (length path) (λ k t u t′ u′ q. rw q),
-  same-call store store′ possible possible′ n g a a′ s b b′ p (λ k t u. modalWritten t u ((answers k t u) .verdict) path) (length path) (λ k t u t′ u′ q. rw q),
+  same-call store store′ possible possible′ n g a a′ s b b′ p answers (length path),
+  unless-value (modalGrounds store n g possible (length path)) path _ _
+      ∙ ap (unlessRefused path (λ xs. xs))
+      (same-call store store′ possible possible′ n g a a′ s b b′ p (λ t u. modalWritten t u ((answers t u) .verdict) path) (length path))
+      ∙ sym (unless-value (modalGrounds store′ n g possible′ (length path)) path _ _),
 )
   where
-    answers : ℕ → Table → Table → ModalAnswer
-    answers k t u = cond (eqb k 0) (modalOf (releaseCheck t) (releaseCheck u)) (modalDeclined k)
+    answers : Table → Table → ModalAnswer
+    answers t u = modalOf (releaseCheck t) (releaseCheck u)

@@ -21,7 +21,7 @@ use Rattle.model.specs.Sets.{WORDS, maxStates, Set, empty, union, subset}
 use Rattle.model.specs.Tables.{Table, hangs}
 use Rattle.model.specs.Rounds.{run}
 use Rattle.model.specs.Paths.{smallestPath}
-use Rattle.basics.specs.Refusals.{Ground, refuse}
+use Rattle.basics.specs.Refusals.{Ground, Answered, answer, unlessRefused}
 use Rattle.model.specs.Stores.{maxGroups, storeWords, rowAt, setAt, dialogueOf, beyond, nonZero, malformed, badStates}
 use Rattle.model.specs.Calls.{overwrite, release, Decision, decisionOf, pathGround}
 
@@ -85,8 +85,7 @@ modalGrounds store n g possible room =
 -- ---- the answer
 
 pub record ModalAnswer : Type 0 where
-  pub refusal : ℕ
-  pub verdict : ℕ  -- 0 safe, 1 unsafe, 3 depends, where refusal is 0
+  pub verdict : ℕ  -- 0 safe, 1 unsafe, 3 depends
   pub invariant : Set  -- empty where unsafe
   pub size : ℕ  -- of the invariant
   pub steps : ℕ  -- d, 0 where safe
@@ -97,19 +96,15 @@ releaseCheck t = decisionOf t (run t release)
 -- From the release checks on the certain and on the possible steps.
 unfoldable pub modalOf : Decision → Decision → ModalAnswer
 modalOf certain possible =
-    let safe : ModalAnswer = record { refusal = 0; verdict = 0; invariant = possible .invariant; size = possible .size; steps = 0 } in
-    let unsafe : ModalAnswer = record { refusal = 0; verdict = 1; invariant = empty; size = 0; steps = certain .steps } in
-    let depends : ModalAnswer = record { refusal = 0; verdict = 3; invariant = certain .invariant; size = certain .size; steps = possible .steps } in
+    let safe : ModalAnswer = record { verdict = 0; invariant = possible .invariant; size = possible .size; steps = 0 } in
+    let unsafe : ModalAnswer = record { verdict = 1; invariant = empty; size = 0; steps = certain .steps } in
+    let depends : ModalAnswer = record { verdict = 3; invariant = certain .invariant; size = certain .size; steps = possible .steps } in
     cond (eqb (possible .verdict) 0) safe (cond (eqb (certain .verdict) 1) unsafe depends)
 
-unfoldable pub modalDeclined : ℕ → ModalAnswer
-modalDeclined k = record { refusal = k; verdict = 0; invariant = empty; size = 0; steps = 0 }
-
-unfoldable pub modalAnswer : List ℕ → ℕ → ℕ → List ℕ → ℕ → ModalAnswer
+unfoldable pub modalAnswer : List ℕ → ℕ → ℕ → List ℕ → ℕ → Answered ModalAnswer
 modalAnswer store n g possible room =
-    let k = refuse (modalGrounds store n g possible room) in
-    let decided = modalOf (releaseCheck (certainTable store n g possible)) (releaseCheck (possibleTable store n g possible)) in
-    cond (eqb k 0) decided (modalDeclined k)
+    answer (modalGrounds store n g possible room)
+    (modalOf (releaseCheck (certainTable store n g possible)) (releaseCheck (possibleTable store n g possible)))
 
 -- The path that belongs to an answer: on the certain steps where unsafe, on the possible ones where it depends.
 unfoldable pub modalWritten : Table → Table → ℕ → List ℕ → List ℕ
@@ -120,4 +115,5 @@ modalWritten certain possible verdict path =
 
 unfoldable pub modalBuffer : List ℕ → ℕ → ℕ → List ℕ → List ℕ → List ℕ
 modalBuffer store n g possible path =
-    modalWritten (certainTable store n g possible) (possibleTable store n g possible) ((modalAnswer store n g possible (length path)) .verdict) path
+    unlessRefused path (λ a. modalWritten (certainTable store n g possible) (possibleTable store n g possible) (a .verdict) path)
+    (modalAnswer store n g possible (length path))

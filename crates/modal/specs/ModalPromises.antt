@@ -17,13 +17,13 @@ use lib.ListN.{length, getD, take}
 use Rattle.model.specs.Sets.{WORDS, maxStates, Set, empty, subset}
 use Rattle.model.specs.Tables.{Table}
 use Rattle.model.specs.Paths.{isPath, smallestPath}
-use Rattle.basics.specs.Refusals.{refuse}
+use Rattle.basics.specs.Refusals.{refuse, refused, answered}
 use Rattle.model.specs.Stores.{storeWords, rowAt, setAt, sharedGrounds}
 use Rattle.model.specs.Calls.{overwrite, release, Decision, decideAnswer, decideBuffer}
 use Rattle.model.specs.Promises.{IsInvariant, IsSmallest}
 use Rattle.modal.specs.Modal.{possibleWords, certainRow, possibleRow, modalTable, certainTable, possibleTable, releaseCheck, modalGrounds, ModalAnswer, modalAnswer, modalBuffer}
 use Rattle.modal.specs.declared.ModalDecision.{ModalDecision}
-use Rattle.modal.specs.Answers.{answerOf, isRefused, CalledModal}
+use Rattle.modal.specs.Answers.{answerOf, CalledModal}
 
 pub record Choice (store : List ℕ) (n : ℕ) (possible : List ℕ) (row : ℕ → Set) : Type 0 where
   pub has-certain : (s : ℕ) → subset (certainRow store n s) (row s) ≡ true
@@ -77,7 +77,6 @@ pub record ComesWith (store : List ℕ) (n g : ℕ) (possible : List ℕ) (a : M
       → isPath (modalTable store n g possible row) (smallestPath (certainTable store n g possible)) ≡ true
 
 pub record AsDecide (d : Decision) (left : List ℕ) (a : ModalAnswer) (after : List ℕ) : Type 0 where
-  pub accepted : d .refusal ≡ 0
   pub verdict : a .verdict ≡ d .verdict
   pub invariant : a .invariant ≡ d .invariant
   pub size : a .size ≡ d .size
@@ -85,26 +84,25 @@ pub record AsDecide (d : Decision) (left : List ℕ) (a : ModalAnswer) (after : 
   pub buffer : after ≡ left
 
 pub record ModalPromises : Type 0 where
-  -- of every call that is not declined
-  pub choices : (store : List ℕ) (n g : ℕ) (possible before : List ℕ) (r : ModalDecision) (after : List ℕ)
-      → CalledModal store n g possible before r after → isRefused (r .verdict) ≡ false → OfChoices store n g possible (answerOf r)
-  pub comes-with : (store : List ℕ) (n g : ℕ) (possible before : List ℕ) (r : ModalDecision) (after : List ℕ)
-      → CalledModal store n g possible before r after → isRefused (r .verdict) ≡ false → ComesWith store n g possible (answerOf r) before after
-  pub equal-rows : (store : List ℕ) (n g : ℕ) (possible before : List ℕ) (r : ModalDecision) (after : List ℕ)
-      → CalledModal store n g possible before r after → isRefused (r .verdict) ≡ false
+  -- of every call that is answered
+  pub choices : (store : List ℕ) (n g : ℕ) (possible before : List ℕ) (r : ModalDecision) (after : List ℕ) (a : ModalAnswer)
+      → CalledModal store n g possible before r after → answerOf r ≡ answered a → OfChoices store n g possible a
+  pub comes-with : (store : List ℕ) (n g : ℕ) (possible before : List ℕ) (r : ModalDecision) (after : List ℕ) (a : ModalAnswer)
+      → CalledModal store n g possible before r after → answerOf r ≡ answered a → ComesWith store n g possible a before after
+  pub equal-rows : (store : List ℕ) (n g : ℕ) (possible before : List ℕ) (r : ModalDecision) (after : List ℕ) (a : ModalAnswer)
+      → CalledModal store n g possible before r after → answerOf r ≡ answered a
       → ((s : ℕ) → s < n → setAt possible (WORDS * s) ≡ setAt store (rowAt s))
-      → AsDecide (decideAnswer store n g release (length before)) (decideBuffer store n g release before) (answerOf r) after
-  -- of every call that is: the number of the first ground that holds, and 0 in every other field; the buffer is as it was
-  pub declined : (store : List ℕ) (n g : ℕ) (possible before : List ℕ) (r : ModalDecision) (after : List ℕ)
-      → CalledModal store n g possible before r after → isRefused (r .verdict) ≡ true
-      → (answerOf r ≡ record { refusal = refuse (modalGrounds store n g possible (length before)); verdict = 0; invariant = empty; size = 0; steps = 0 })
-      × (after ≡ before)
-  -- a table without states is safe where the words of possible steps are all 0, and is declined with 17 where one is not
+      → (d : Decision) × (decideAnswer store n g release (length before) ≡ answered d) × AsDecide d (decideBuffer store n g release before) a after
+  -- of every call that is refused: the number of the first ground that holds; the buffer is as it was
+  pub refusal : (store : List ℕ) (n g : ℕ) (possible before : List ℕ) (r : ModalDecision) (after : List ℕ) (k : ℕ)
+      → CalledModal store n g possible before r after → answerOf r ≡ refused k
+      → (k ≡ refuse (modalGrounds store n g possible (length before))) × (after ≡ before)
+  -- a table without states is safe where the words of possible steps are all 0, and is refused with 17 where one is not
   pub draft : (store possible before : List ℕ) → refuse (sharedGrounds store 0 0) ≡ 0 → possibleWords ≤ length possible → maxStates ≤ length before
       → ((i : ℕ) → i < possibleWords → getD possible i 0 ≡ 0)
-      → modalAnswer store 0 0 possible (length before) ≡ record { refusal = 0; verdict = 0; invariant = empty; size = 0; steps = 0 }
+      → modalAnswer store 0 0 possible (length before) ≡ answered (record { verdict = 0; invariant = empty; size = 0; steps = 0 })
   pub draft-17 : (store possible before : List ℕ) → refuse (sharedGrounds store 0 0) ≡ 0 → possibleWords ≤ length possible
-      → (i : ℕ) → i < possibleWords → (getD possible i 0 ≡ 0 → ⊥) → (modalAnswer store 0 0 possible (length before)) .refusal ≡ 17
+      → (i : ℕ) → i < possibleWords → (getD possible i 0 ≡ 0 → ⊥) → modalAnswer store 0 0 possible (length before) ≡ refused 17
   -- the words of possible steps, in figures
   pub figure : possibleWords ≡ 4096
   -- none but the first words of the store and of the possible steps is read

@@ -182,7 +182,7 @@ fn is_uncertain(store: &[u64], n: usize, possible: &[u64]) -> bool
     false
 }
 
-// Why a call is declined, or 0.
+// Why a call is refused, or 0.
 fn refusal_of(store: &[u64], n: usize, g: usize, possible: &[u64], room: usize) -> u8
     ensures { λ r. ⌜ r ≡ refuse (modalGrounds (now (store .entry)) n g (now (possible .entry)) room) ⌝ }
 {
@@ -208,7 +208,7 @@ fn refusal_of(store: &[u64], n: usize, g: usize, possible: &[u64], room: usize) 
 // ---- the call
 
 // Safe with the number of states of the invariant, unsafe with the steps of the path, depends with both. `Refused` has the number of the
-// ground on which the call is declined.
+// ground on which the call is refused.
 pub enum ModalVerdict {
     Safe { size: usize },
     Unsafe { steps: usize },
@@ -216,7 +216,7 @@ pub enum ModalVerdict {
     Refused(u8),
 }
 
-// The verdict, with the invariant beside it, or the empty set where that is unsafe or the call is declined.
+// The verdict, with the invariant beside it, or the empty set where that is unsafe or the call is refused.
 pub struct ModalDecision {
     pub verdict: ModalVerdict,
     pub invariant: StateSet,

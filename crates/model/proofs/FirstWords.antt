@@ -96,7 +96,7 @@ module _ (store other : List ℕ) (long : storeWords ≤ length store) (long′ 
       zero-same : (from to : ℕ) → to ≤ storeWords → nonZero store from to ≡ nonZero other from to
       zero-same from to l = nonZero-cong store other from to (λ i h. same-word storeWords store other long long′ e i (omega arith))
 
-  grounds-same : (n g : ℕ) (later : List Ground) → refuse (sharedGrounds store n g ++ later) ≡ refuse (sharedGrounds other n g ++ later)
+  pub grounds-same : (n g : ℕ) (later : List Ground) → refuse (sharedGrounds store n g ++ later) ≡ refuse (sharedGrounds other n g ++ later)
   unfolding refuse
   grounds-same n g later =
       rw (le-ltb (length store) storeWords long, le-ltb (length other) storeWords long′)

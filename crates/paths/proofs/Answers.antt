@@ -1,27 +1,26 @@
 -- Laws of the call shortest path: its answer and its buffer in each case.
 --
 --   accepted              none of the shared grounds holds, so the store holds a table
---   answer-refused        one of the shared grounds holds
---   answer-short          else ground 21 holds
---   answer-found          else the answer is what find_path found
+--   shortest-refused      one of the shared grounds holds
+--   shortest-short        else ground 21 holds
+--   shortest-found        else the answer is what find_path found
 use Prim.Native.Nat.{ℕ, _≤_, _<_}
 use native.Mathlib.Omega.{arith}
-use mathlib.Core.Path.{_≡_, sym, _∙_}
-use mathlib.Core.Logic.{⊎-elim}
-use mathlib.Core.Bool.{true, false, not}
+use mathlib.Core.Path.{_≡_, refl, sym, ap, _∙_}
+use mathlib.Core.Bool.{Bool, true, false, cond}
 use mathlib.Core.List.{List, [], _∷_}
-use borrow.Author.Tests.{ne-eqb, lt-ltb, le-ltb}
+use borrow.Author.Tests.{lt-ltb, le-ltb}
 use lib.Dec.{eqb}
 use lib.ListN.{length}
+use Rattle.basics.specs.Refusals.{refuse, answered, unlessRefused}
+use Rattle.basics.proofs.RefusalLaws.{refuse-append, refuse-none, refuse-skip, refuse-take, answer-refused, answer-none}
 use Rattle.model.specs.Sets.{maxStates}
-use Rattle.model.specs.Paths.{hasPath}
-use Rattle.basics.specs.Refusals.{refuse}
+use Rattle.model.specs.Tables.{Table}
+use Rattle.model.specs.Paths.{shortest, hasPath, smallestPath}
 use Rattle.model.specs.Stores.{tableOf, sharedGrounds}
-use Rattle.model.specs.Calls.{pathGround, shortestGrounds, shortestAnswer, shortestBuffer}
-use Rattle.basics.proofs.BoundLaws.{decided}
-use Rattle.basics.proofs.RefusalLaws.{refuse-append}
+use Rattle.model.specs.Calls.{overwrite, pathGround, pathFound, shortestGrounds, shortestAnswer, shortestBuffer}
 use Rattle.model.proofs.Acceptance.{Store, accepted-store, store-accepted}
-use Rattle.paths.specs.Answers.{foundIn, pathWritten, shortestOf, isRefused}
+use Rattle.paths.specs.Answers.{foundIn, pathWritten, shortestOf, Called}
 use Rattle.paths.specs.declared.Found.{Found}
 use Rattle.paths.specs.declared.Found.the-variants.{Steps, Nothing}
 use Rattle.paths.specs.declared.Shortest.{Shortest}
@@ -36,21 +35,21 @@ abbrev pub answerOf : Found → Shortest
 answerOf (Steps d) = PathOf d
 answerOf Nothing = NoPath
 
+-- with a path and without
+cases : (t : Table) (path : List ℕ) (b : Bool)
+    → (shortestOf (answerOf (cond b (Steps (shortest t)) Nothing)) ≡ answered (pathFound t b))
+    × (cond b (overwrite (smallestPath t) path) path ≡ cond (eqb ((pathFound t b) .found) 1) (overwrite (smallestPath t) path) path)
+cases t path true = (refl, refl)
+cases t path false = (refl, refl)
+
 module _ (store : List ℕ) (n g : ℕ) (path : List ℕ) where
-  -- the call answers r and leaves path′
-  abbrev Answers : Shortest → List ℕ → Type 0
-  Answers r path′ =
-      (shortestOf r ≡ shortestAnswer store n g (length path))
-      × (path′ ≡ shortestBuffer store n g path)
-      × (isRefused r ≡ not (eqb ((shortestAnswer store n g (length path)) .refusal) 0))
-
-  declined : (k : ℕ) → (k ≡ 0 → ⊥) → k ≡ refuse (shortestGrounds store n g (length path)) → Answers (Refused k) path
+  refused-by : (k : ℕ) → (k ≡ 0 → ⊥) → k ≡ refuse (shortestGrounds store n g (length path)) → Called store n g path (Refused k) path
   unfolding shortestAnswer shortestBuffer
-  declined k f e = let some = ne-eqb k 0 f in (rw (← e, some), rw (← e, some), rw (← e, some, some))
+  refused-by k f e = let r = sym (answer-refused (shortestGrounds store n g (length path)) _ e f) in (r, ap (unlessRefused path _) r)
 
-  pub answer-refused : {k : ℕ} → k ≡ refuse (sharedGrounds store n g) → (k ≡ 0 → ⊥) → Answers (Refused k) path
+  pub shortest-refused : {k : ℕ} → k ≡ refuse (sharedGrounds store n g) → (k ≡ 0 → ⊥) → Called store n g path (Refused k) path
   unfolding shortestGrounds
-  answer-refused {k} e f = declined k f (refuse-append (sharedGrounds store n g) _ e f)
+  shortest-refused {k} e f = refused-by k f (refuse-append (sharedGrounds store n g) _ e f)
 
   module _ (s : Store store n g) where
     -- only ground 21 is left
@@ -58,20 +57,16 @@ module _ (store : List ℕ) (n g : ℕ) (path : List ℕ) where
     unfolding shortestGrounds
     grounds = store-accepted store n g _ s
 
-    pub answer-short : length path < maxStates → Answers (Refused 21) path
-    unfolding refuse
-    answer-short l = declined 21 (λ e. omega arith) (sym (grounds ∙ rw (lt-ltb (length path) maxStates l)))
+    pub shortest-short : length path < maxStates → Called store n g path (Refused 21) path
+    shortest-short l = refused-by 21 (λ e. omega arith) (sym (grounds ∙ refuse-take _ 21 _ (lt-ltb (length path) maxStates l)))
 
-    pub answer-found : {found : Found} {path′ : List ℕ} → maxStates ≤ length path
-        → found ≡ foundIn (tableOf store n 0) → path′ ≡ pathWritten (tableOf store n 0) path → Answers (answerOf found) path′
-    unfolding refuse shortestAnswer shortestBuffer foundIn pathWritten
-    answer-found l p q =
-        let none : refuse (shortestGrounds store n g (length path)) ≡ 0 = grounds ∙ rw (le-ltb (length path) maxStates l) in
-        let answer = p ∙ sym (foundIn-groups store n g) in
-        let buffer = q ∙ sym (pathWritten-groups store n g path) in
-        ⊎-elim
-        (λ (h : hasPath (tableOf store n g) ≡ true).
-        (rw (answer, none, foundIn, h), rw (buffer, none, pathWritten, h), rw (answer, none, foundIn, h)))
-        (λ (h : hasPath (tableOf store n g) ≡ false).
-        (rw (answer, none, foundIn, h), rw (buffer, none, pathWritten, h), rw (answer, none, foundIn, h)))
-        (decided (hasPath (tableOf store n g)))
+    pub shortest-found : {found : Found} {path′ : List ℕ} → maxStates ≤ length path
+        → found ≡ foundIn (tableOf store n 0) → path′ ≡ pathWritten (tableOf store n 0) path → Called store n g path (answerOf found) path′
+    unfolding shortestAnswer shortestBuffer shortestGrounds foundIn pathWritten
+    shortest-found l p q =
+        let t = tableOf store n g in
+        let told = cases t path (hasPath t) in
+        let gives = told .0 ∙ sym (answer-none (shortestGrounds store n g (length path)) _ refl (grounds ∙ refuse-skip _ 21 _ (le-ltb (length path) maxStates l) ∙ refuse-none)) in (
+          ap (λ (f : Found). shortestOf (answerOf f)) (p ∙ sym (foundIn-groups store n g)) ∙ gives,
+          q ∙ sym (pathWritten-groups store n g path) ∙ told .1 ∙ ap (unlessRefused path _) (sym (told .0) ∙ gives),
+        )

@@ -1,17 +1,16 @@
 -- The demands of the call: the model's promises, by the contract of shortest_path.
-use mathlib.Core.Path.{sym, _∙_, subst₂}
-use borrow.Author.Tests.{not-false, eqb-true, eqb-false}
+use mathlib.Core.Path.{sym, _∙_, subst}
 use Rattle.model.specs.Stores.{tableOf}
 use Rattle.model.specs.Promises.{PathAnswer}
-use Rattle.basics.proofs.BoundLaws.{not-true}
 use Rattle.model.proofs.Kept.{promises, untouched}
 use Rattle.paths.specs.Demands.{Demands}
 
 pub demands : Demands
 demands =
     record {
-      declined = λ store n g before r after c f. c .1 ∙ untouched .shortest-path store n g before (eqb-false _ 0 (not-true _ (sym (c .2) ∙ f)));
-      path = λ store n g before r after c e.
-          subst₂ (λ a b. PathAnswer (tableOf store n g) a before b) (sym (c .0)) (sym (c .1))
-          (promises .shortest-path store n g before (eqb-true _ 0 (not-false _ (sym (c .2) ∙ e))));
+      refusal = λ store n g before r after k c e.
+          let left = untouched .shortest-path store n g before k (sym (c .0) ∙ e) in
+          (left .0, c .1 ∙ left .1);
+      path = λ store n g before r after a c e.
+          subst (PathAnswer (tableOf store n g) a before) (sym (c .1)) (promises .shortest-path store n g before a (sym (c .0) ∙ e));
     }

@@ -2,17 +2,17 @@
 --
 --   distance-is                        a distance is what DistanceIs says
 --   overwrite-rest                     what lies past a front that was written over stays
---   Written, written                   what a call of distances that is not declined gives
+--   Written, written                   what a call of distances that is answered gives
 --   within-is                          WithinIs
 --   promises                           DistancePromises
 use Prim.Native.Nat.{ℕ, suc, _+_, _-_, _≤_, _<_, suc-le-suc}
 use native.Mathlib.Nat.{le-of-suc-le-suc}
 use native.Mathlib.Omega.{arith}
 use mathlib.Core.Path.{_≡_, refl, sym, ap, _∙_, subst}
-use mathlib.Core.Logic.{_⊎_, _↔_, inl, inr}
-use mathlib.Core.Bool.{Bool, true, false, cond, not, _&&_, false≢true}
+use mathlib.Core.Logic.{_↔_}
+use mathlib.Core.Bool.{Bool, true, not, _&&_, false≢true}
 use mathlib.Core.List.{List, [], _∷_, _++_}
-use borrow.Author.Tests.{not-false, eqb-true, eqb-false, ne-eqb, leb-true, le-leb, ltb-false}
+use borrow.Author.Tests.{eqb-false, ne-eqb, leb-true, le-leb, ltb-false}
 use lib.Dec.{eqb, leb, ltb}
 use lib.ListN.{length, getD, drop}
 use lib.Seq.{getD-drop}
@@ -20,28 +20,23 @@ use Rattle.basics.specs.Bounds.{tabulate}
 use Rattle.model.specs.Sets.{maxStates, member}
 use Rattle.model.specs.Tables.{Table}
 use Rattle.model.specs.Paths.{leads, isPath, reaching, unreachable, distance}
-use Rattle.basics.specs.Refusals.{refuse}
+use Rattle.basics.specs.Refusals.{Ground, answered, unlessRefused}
 use Rattle.model.specs.Stores.{tableOf, sharedGrounds}
 use Rattle.model.specs.Calls.{overwrite}
-use Rattle.basics.proofs.BoundLaws.{and-true, and-intro, not-true, by-cond, any-intro, any-find, length-tabulate, getD-tabulate}
+use Rattle.basics.proofs.BoundLaws.{and-true, and-intro, not-true, any-intro, any-find, length-tabulate, getD-tabulate}
 use Rattle.model.proofs.ListLaws.{getD-behind, length-overwrite, overwrite-front}
 use Rattle.model.proofs.SetLaws.{In, in-bound, in-firstStates, firstStates-in, in-meets, meets-in}
 use Rattle.model.proofs.WellFormed.{WellFormed}
 use Rattle.model.proofs.PathLaws.{reaching-leads, leads-reaching, reaching-mono}
-use Rattle.basics.proofs.RefusalLaws.{refuse-clear}
+use Rattle.basics.proofs.RefusalLaws.{refuse-none, clear-refuse, refuse-clear, answer-none, answered-clear, answered-is, answered-value, refused-is}
 use Rattle.model.proofs.Acceptance.{Store, accepted-store, store-accepted, well-formed}
-use Rattle.model.proofs.FirstWords.{same-call}
-use Rattle.paths.specs.Distances.{distancesRefusal, distancesBuffer, isRefused, CalledDistances}
-use Rattle.paths.specs.Within.{canReach, isWithin, Answer, withinAnswer, answerOf, CalledWithin}
+use Rattle.model.proofs.FirstWords.{same-call, same-buffer}
+use Rattle.paths.specs.Distances.{distancesGrounds, distancesAnswer, distancesBuffer, distancesOf, CalledDistances}
+use Rattle.paths.specs.Within.{canReach, isWithin, withinAnswer}
 use Rattle.paths.specs.DistancePromises.{DistanceIs, Measured, WithinIs, DistancePromises}
 use Rattle.paths.specs.declared.DistancesAnswer.{DistancesAnswer}
-use Rattle.paths.specs.declared.WithinAnswer.{WithinAnswer}
 use Rattle.paths.proofs.Nearness.{reach-near, near-reach, near-distance}
 use Rattle.paths.proofs.Duality.{within-reaching}
-
-yes : (b : Bool) → _≡_ {A = ℕ} (cond b 1 0) 1 → b ≡ true
-yes true e = refl
-yes false e = absurd (omega arith)
 
 -- ---- one table
 
@@ -72,17 +67,14 @@ module _ {t : Table} (ok : WellFormed t) (small : t .n ≤ maxStates) where
       let i : In (t .initial) x = record { is = p .0 } in
       within-reaching ok small k ∙ in-meets i (reaching-mono t (length xs) k (le-of-suc-le-suc l) x (leads-reaching ok xs (ok .initial x i) (p .1)))
 
-  within-is : (k : ℕ) → WithinIs t k (cond (isWithin t k) 1 0)
+  within-is : (k : ℕ) → WithinIs t k (isWithin t k)
   unfolding reaching
   within-is k =
       record {
-        yes-or-no = by-cond (λ (y : ℕ). (y ≡ 0) ⊎ (y ≡ 1)) (isWithin t k) 1 0 (λ e. inr refl) (λ e. inl refl);
-        path = ((λ y. within-path k (yes (isWithin t k) y)), (λ w. rw (path-within k (w .0) (w .1) (w .2))));
+        path = (within-path k, (λ w. path-within k (w .0) (w .1) (w .2)));
         at-zero = λ z. (
-          (λ y.
-              let w = meets-in (sym (within-reaching ok small 0) ∙ subst (λ (j : ℕ). isWithin t j ≡ true) z (yes (isWithin t k) y)) in
-              (w .0, w .1 .is, w .2 .is)),
-          (λ w. rw (subst (λ (j : ℕ). isWithin t j ≡ true) (sym z) (within-reaching ok small 0 ∙ in-meets (record { is = w .1 }) (record { is = w .2 })))),
+          (λ y. let w = meets-in (sym (within-reaching ok small 0) ∙ subst (λ (j : ℕ). isWithin t j ≡ true) z y) in (w .0, w .1 .is, w .2 .is)),
+          (λ w. subst (λ (j : ℕ). isWithin t j ≡ true) (sym z) (within-reaching ok small 0 ∙ in-meets (record { is = w .1 }) (record { is = w .2 }))),
         );
       }
 
@@ -102,16 +94,18 @@ record Written (store : List ℕ) (n g : ℕ) (before after : List ℕ) : Type 0
   room : n ≤ length before
   is : after ≡ overwrite (tabulate n (distance (tableOf store n g))) before
 
-written : (store : List ℕ) (n g : ℕ) (before : List ℕ) (r : DistancesAnswer) (after : List ℕ) → CalledDistances store n g before r after → isRefused r ≡ false
-    → Written store n g before after
-unfolding distancesRefusal distancesBuffer refuse
+written : (store : List ℕ) (n g : ℕ) (before : List ℕ) (r : DistancesAnswer) (after : List ℕ) → CalledDistances store n g before r after
+    → distancesOf r ≡ answered tt → Written store n g before after
+unfolding distancesGrounds distancesAnswer distancesBuffer
 written store n g before r after c e =
-    let none : distancesRefusal store n g (length before) ≡ 0 = eqb-true _ 0 (not-false _ (sym (c .2) ∙ e)) in
-    let parts = accepted-store store n g ((ltb (length before) n, 23) ∷ []) none in
+    let grounds = distancesGrounds store n g (length before) in
+    let gives = sym (c .0) ∙ e in
+    let own : List Ground = (ltb (length before) n, 23) ∷ [] in
+    let parts = accepted-store store n g own (clear-refuse grounds (answered-clear grounds tt gives)) in
     record {
       held = parts .0;
-      room = ltb-false (length before) n (refuse-clear ((ltb (length before) n, 23) ∷ []) [] refl (parts .1) .0 .0);
-      is = c .1 ∙ rw none;
+      room = ltb-false (length before) n (refuse-clear own [] refl (parts .1) .0 .0);
+      is = c .1 ∙ ap (unlessRefused before _) gives;
     }
 
 module _ (store : List ℕ) (n g : ℕ) (before after : List ℕ) (w : Written store n g before after) where
@@ -159,48 +153,32 @@ module _ (store : List ℕ) (n g : ℕ) (before after : List ℕ) (w : Written s
       initial : (s : ℕ) → member (t .initial) s ≡ true → s < n
       initial s e = firstStates-in (well-formed store n g (w .held) .initial s (record { is = e }))
 
--- ---- a call of within
-
--- where none of the shared grounds holds
-answered : (store : List ℕ) (n g k : ℕ) (r : WithinAnswer) → CalledWithin store n g k r → refuse (sharedGrounds store n g) ≡ 0
-    → (answerOf r) .within ≡ cond (isWithin (tableOf store n g) k) 1 0
-unfolding withinAnswer
-answered store n g k r c none = ap (λ (a : Answer). a .within) (c .0) ∙ rw none
-
-accepts : (store : List ℕ) (n g k : ℕ) → (withinAnswer store n g k) .refusal ≡ 0 → refuse (sharedGrounds store n g) ≡ 0
-unfolding withinAnswer
-accepts store n g k =
-    let j = refuse (sharedGrounds store n g) in
-    by-cond (λ (a : Answer). a .refusal ≡ 0 → j ≡ 0) (eqb j 0) _ _ (λ q e. eqb-true j 0 q) (λ q e. e)
-
 -- ---- the promises
 
 pub promises : DistancePromises
-unfolding distancesRefusal distancesBuffer withinAnswer refuse tableOf
+unfolding distancesGrounds distancesAnswer distancesBuffer withinAnswer tableOf
 promises =
     record {
-      untouched = λ store n g before r after c e.
-          let some : eqb (distancesRefusal store n g (length before)) 0 ≡ false = not-true _ (sym (c .2) ∙ e) in
-          c .1 ∙ rw some;
+      refusal = λ store n g before r after k c e.
+          let gives = sym (c .0) ∙ e in
+          (refused-is (distancesGrounds store n g (length before)) tt gives, c .1 ∙ ap (unlessRefused before _) gives);
       distances = λ store n g before r after c e. measured store n g before after (written store n g before r after c e);
-      within = λ store n g k r c e.
-          let none = accepts store n g k (eqb-true _ 0 (not-false _ (sym (c .1) ∙ e))) in
-          let held = accepted-store store n g [] none .0 in
-          subst (WithinIs (tableOf store n g) k) (sym (answered store n g k r c none)) (within-is (well-formed store n g held) (held .small) k);
+      within = λ store n g k r yes c e.
+          let grounds = sharedGrounds store n g in
+          let gives = sym c ∙ e in
+          let held = accepted-store store n g [] (clear-refuse grounds (answered-clear grounds _ gives)) .0 in
+          subst (WithinIs (tableOf store n g) k) (sym (answered-value grounds _ gives)) (within-is (well-formed store n g held) (held .small) k);
       agree = λ store n g before r after k w c e v.
           let m = written store n g before r after c e in
-          let a = answered store n g k w v (store-accepted store n g [] (m .held)) in
+          let gives = v ∙ answer-none (sharedGrounds store n g) _ refl (store-accepted store n g [] (m .held) ∙ refuse-none) in
           let both = agrees store n g before after m k in
-          ((λ y. both .0 (yes _ (sym a ∙ y))), (λ f. a ∙ rw (both .1 f)));
+          ((λ y. both .0 (answered-is (sym gives ∙ y))), (λ f. gives ∙ ap answered (both .1 f)));
       first-words = λ store other long long′ e.
           record {
             distances = λ n g out. (
-              same-call store other long long′ e (λ k t. k) n g ((ltb (length out) n, 23) ∷ []) (λ k t u q. refl),
-              same-call store other long long′ e (λ k t. cond (eqb k 0) (overwrite (tabulate n (distance t)) out) out) n g
-                  ((ltb (length out) n, 23) ∷ []) (λ k t u q. rw q),
+              same-call store other long long′ e (λ t. tt) n g ((ltb (length out) n, 23) ∷ []) refl,
+              same-buffer store other long long′ e (λ t. tt) (λ t done. overwrite (tabulate n (distance t)) out) out n g ((ltb (length out) n, 23) ∷ []) refl,
             );
-            within = λ n g k.
-                same-call store other long long′ e
-                (λ j t. cond (eqb j 0) (record { refusal = 0; within = cond (isWithin t k) 1 0 }) (record { refusal = j; within = 0 })) n g [] (λ j t u q. rw q);
+            within = λ n g k. same-call store other long long′ e (λ t. isWithin t k) n g [] refl;
           };
     }

@@ -2,7 +2,7 @@
 --
 --   NAME-groups       for NAME among reaching, distance, shortest, hasPath, walk, smallestPath, and among foundIn and pathWritten, by which
 --                     find_path is stated: NAME of the table with g groups is that of the table with none
---   holds-table       what a call that is not declined gives to find_path
+--   holds-table       what a call that is answered gives to find_path
 use Prim.Native.Nat.{ℕ, zero, suc}
 use mathlib.Core.Path.{_≡_, refl, ap, ap₂, _∙_, fun-ext}
 use mathlib.Core.Bool.{Bool, cond}

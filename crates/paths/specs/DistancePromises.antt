@@ -7,16 +7,17 @@
 --   DistancePromises       all of it, of every call
 use Prim.Native.Nat.{ℕ, suc, _≤_, _<_}
 use mathlib.Core.Path.{_≡_}
-use mathlib.Core.Logic.{_⊎_, _↔_}
-use mathlib.Core.Bool.{true, false}
+use mathlib.Core.Logic.{_↔_}
+use mathlib.Core.Bool.{Bool, true}
 use mathlib.Core.List.{List}
 use lib.ListN.{length, getD, take}
 use Rattle.model.specs.Sets.{member}
 use Rattle.model.specs.Tables.{Table}
 use Rattle.model.specs.Paths.{leads, isPath, unreachable}
+use Rattle.basics.specs.Refusals.{refuse, refused, answered}
 use Rattle.model.specs.Stores.{storeWords, tableOf}
-use Rattle.paths.specs.Distances.{distancesRefusal, distancesBuffer, isRefused as declinesDistances, CalledDistances}
-use Rattle.paths.specs.Within.{withinAnswer, answerOf, isRefused as declinesWithin, CalledWithin}
+use Rattle.paths.specs.Distances.{distancesGrounds, distancesAnswer, distancesBuffer, distancesOf, CalledDistances}
+use Rattle.paths.specs.Within.{withinAnswer, answerOf as withinOf, CalledWithin}
 use Rattle.paths.specs.declared.DistancesAnswer.{DistancesAnswer}
 use Rattle.paths.specs.declared.WithinAnswer.{WithinAnswer}
 
@@ -31,30 +32,30 @@ pub record Measured (t : Table) (before after : List ℕ) : Type 0 where
   pub rest : (i : ℕ) → t .n ≤ i → getD after i 0 ≡ getD before i 0
   pub as-long : length after ≡ length before
 
-pub record WithinIs (t : Table) (k yes : ℕ) : Type 0 where
-  pub yes-or-no : (yes ≡ 0) ⊎ (yes ≡ 1)
+pub record WithinIs (t : Table) (k : ℕ) (yes : Bool) : Type 0 where
   -- a path of d steps has d + 1 states
-  pub path : (yes ≡ 1) ↔ ((xs : List ℕ) × (isPath t xs ≡ true) × (length xs ≤ suc k))
-  pub at-zero : k ≡ 0 → (yes ≡ 1) ↔ ((s : ℕ) × (member (t .initial) s ≡ true) × (member (t .forbidden) s ≡ true))
+  pub path : (yes ≡ true) ↔ ((xs : List ℕ) × (isPath t xs ≡ true) × (length xs ≤ suc k))
+  pub at-zero : k ≡ 0 → (yes ≡ true) ↔ ((s : ℕ) × (member (t .initial) s ≡ true) × (member (t .forbidden) s ≡ true))
 
 pub record FirstWords (store other : List ℕ) : Type 0 where
   pub distances : (n g : ℕ) (out : List ℕ)
-      → (distancesRefusal store n g (length out) ≡ distancesRefusal other n g (length out))
+      → (distancesAnswer store n g (length out) ≡ distancesAnswer other n g (length out))
       × (distancesBuffer store n g out ≡ distancesBuffer other n g out)
   pub within : (n g k : ℕ) → withinAnswer store n g k ≡ withinAnswer other n g k
 
 pub record DistancePromises : Type 0 where
-  -- a call that declines leaves its buffer
-  pub untouched : (store : List ℕ) (n g : ℕ) (before : List ℕ) (r : DistancesAnswer) (after : List ℕ)
-      → CalledDistances store n g before r after → declinesDistances r ≡ true → after ≡ before
+  -- a refused call gives the number of the first ground that holds, and leaves its buffer
+  pub refusal : (store : List ℕ) (n g : ℕ) (before : List ℕ) (r : DistancesAnswer) (after : List ℕ) (k : ℕ)
+      → CalledDistances store n g before r after → distancesOf r ≡ refused k
+      → (k ≡ refuse (distancesGrounds store n g (length before))) × (after ≡ before)
   pub distances : (store : List ℕ) (n g : ℕ) (before : List ℕ) (r : DistancesAnswer) (after : List ℕ)
-      → CalledDistances store n g before r after → declinesDistances r ≡ false → Measured (tableOf store n g) before after
-  pub within : (store : List ℕ) (n g k : ℕ) (r : WithinAnswer)
-      → CalledWithin store n g k r → declinesWithin r ≡ false → WithinIs (tableOf store n g) k ((answerOf r) .within)
+      → CalledDistances store n g before r after → distancesOf r ≡ answered tt → Measured (tableOf store n g) before after
+  pub within : (store : List ℕ) (n g k : ℕ) (r : WithinAnswer) (yes : Bool)
+      → CalledWithin store n g k r → withinOf r ≡ answered yes → WithinIs (tableOf store n g) k yes
   -- the two calls agree
   pub agree : (store : List ℕ) (n g : ℕ) (before : List ℕ) (r : DistancesAnswer) (after : List ℕ) (k : ℕ) (w : WithinAnswer)
-      → CalledDistances store n g before r after → declinesDistances r ≡ false → CalledWithin store n g k w
-      → ((answerOf w) .within ≡ 1)
+      → CalledDistances store n g before r after → distancesOf r ≡ answered tt → CalledWithin store n g k w
+      → (withinOf w ≡ answered true)
       ↔ ((s : ℕ) × (member ((tableOf store n g) .initial) s ≡ true) × (getD after s 0 ≡ unreachable → ⊥) × (getD after s 0 ≤ k))
   -- of every call on two stores that are alike in their first words: none after them is read
   pub first-words : (store other : List ℕ) → storeWords ≤ length store → storeWords ≤ length other → take storeWords store ≡ take storeWords other

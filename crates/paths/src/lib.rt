@@ -252,7 +252,7 @@ pub fn find_path(store: &[u64], n: usize, path: &mut [u16]) -> Found
     }
 }
 
-// What the call shortest path answers: d, none, or why it declines.
+// What the call shortest path answers: d, none, or why it is refused.
 pub enum Shortest {
     Path { steps: usize },
     NoPath,
@@ -287,7 +287,7 @@ fn put_distances(distances: &[u16; MAX_STATES], n: usize, out: &mut [u16])
     }
 }
 
-// What the call distances answers: that they are written, or why it declines.
+// What the call distances answers: that they are written, or why it is refused.
 pub enum DistancesAnswer {
     Written,
     Refused(u8),
@@ -310,7 +310,7 @@ pub fn distances(store: &[u64], n: usize, g: usize, out: &mut [u16]) -> Distance
 
 // ---- within
 
-// What the call within answers: yes, no, or why it declines.
+// What the call within answers: yes, no, or why it is refused.
 pub enum WithinAnswer {
     Yes,
     No,

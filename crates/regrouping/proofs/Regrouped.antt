@@ -6,7 +6,7 @@
 --   regrouping        all of specs/Regrouping
 use Prim.Native.Nat.{ℕ}
 use mathlib.Core.Path.{_≡_, refl, sym, ap, ap₂, _∙_, subst, fun-ext}
-use mathlib.Core.Bool.{cond, not}
+use mathlib.Core.Bool.{cond}
 use mathlib.Core.List.{List, []}
 use lib.Dec.{eqb}
 use lib.ListN.{length}
@@ -14,9 +14,10 @@ use Rattle.model.specs.Sets.{Set, empty}
 use Rattle.model.specs.Tables.{Table}
 use Rattle.model.specs.Rounds.{Outcome, safe, unsafe, undecided, run}
 use Rattle.model.specs.Paths.{smallestPath}
-use Rattle.basics.specs.Refusals.{refuse}
+use Rattle.basics.specs.Refusals.{Answered, unlessRefused}
 use Rattle.model.specs.Stores.{tableOf, AcceptedStore}
-use Rattle.model.specs.Calls.{overwrite, Decision, decideLimits, decideGrounds, decisionOf, declined, decideAnswer, decideBuffer}
+use Rattle.model.specs.Calls.{overwrite, Decision, decideLimits, decideGrounds, decisionOf, decideAnswer, decideBuffer}
+use Rattle.basics.proofs.RefusalLaws.{answer-cong}
 use Rattle.model.proofs.Acceptance.{accepted-store, store-accepted}
 use Rattle.regrouping.specs.Regrouping.{Alike, SameCovers, firstList, SameDecisions, Regrouping}
 use Rattle.regrouping.proofs.CoversKept.{rewriting-same}
@@ -30,7 +31,7 @@ decision-same : (t : Table) (G : List Set) (o : Outcome) → decisionOf t o ≡ 
 unfolding decisionOf
 decision-same t G (safe i R) = refl
 decision-same t G (unsafe i) =
-    ap (λ (d : ℕ). record { refusal = 0; verdict = 1; count = i; invariant = empty; size = 0; steps = d }) (shortest-same t G)
+    ap (λ (d : ℕ). record { verdict = 1; count = i; invariant = empty; size = 0; steps = d }) (shortest-same t G)
 decision-same t G (undecided i) = refl
 
 -- what a table alike but for its groups decides, and its path
@@ -55,16 +56,15 @@ module _ (store other : List ℕ) (n g h : ℕ) (held : AcceptedStore store n g)
   answers allowance room =
       let t = tableOf store n g in
       let u = tableOf other n h in
-      let limits = refuse (decideLimits allowance room) in
-      let by : ℕ → Decision → Decision = λ k d. cond (eqb k 0) d (declined k) in
-      ap (λ (k : ℕ). by k (decisionOf t (run t allowance))) (store-accepted store n g (decideLimits allowance room) (accepted-store store n g [] held .0))
-      ∙ ap (by limits) (decided-same t u a c allowance)
-      ∙ sym (ap (λ (k : ℕ). by k (decisionOf u (run u allowance))) (store-accepted other n h (decideLimits allowance room) (accepted-store other n h [] held′ .0)))
+      let limits = decideLimits allowance room in
+      answer-cong (decideGrounds store n g allowance room) (decideGrounds other n h allowance room) _ _ refl refl
+      (store-accepted store n g limits (accepted-store store n g [] held .0) ∙ sym (store-accepted other n h limits (accepted-store other n h [] held′ .0)))
+      (λ z. decided-same t u a c allowance)
 
   buffers : (allowance : ℕ) (path : List ℕ) → decideBuffer store n g allowance path ≡ decideBuffer other n h allowance path
   unfolding decideBuffer
   buffers allowance path =
-      ap₂ (λ (d : Decision) (xs : List ℕ). cond (eqb (d .verdict) 1) (overwrite xs path) path)
+      ap₂ (λ (d : Answered Decision) (xs : List ℕ). unlessRefused path (λ (b : Decision). cond (eqb (b .verdict) 1) (overwrite xs path) path) d)
       (answers allowance (length path)) (path-same (tableOf store n g) (tableOf other n h) a)
 
   decisions : SameDecisions store other n g h
@@ -74,8 +74,8 @@ module _ (store other : List ℕ) (n g h : ℕ) (held : AcceptedStore store n g)
             let same = answers allowance (length before) in
             record {
               answer = c .0 ∙ same ∙ sym (d .0);
-              declined = c .2 ∙ ap (λ (a : Decision). not (eqb (a .refusal) 0)) same ∙ sym (d .2);
-              buffer = c .1 ∙ buffers allowance before ∙ sym (d .1);
+              set = ap (λ (X : Set). record { words = X }) (c .1 ∙ ap (unlessRefused empty (λ (a : Decision). a .invariant)) same ∙ sym (d .1));
+              buffer = c .2 ∙ buffers allowance before ∙ sym (d .2);
             };
         answers = answers;
         buffers = buffers;

@@ -4,7 +4,7 @@
 --   Alike t u              two tables alike but for their lists of groups
 --   SameCovers n L M       each of n states has the same cover for the lists L and M
 --   firstList t            list 0 of a table: its groups and Z0
---   SameResults            two calls of decide, by its contract, returned and left the same: answer, declined or not, and path buffer
+--   SameResults            two calls of decide, by its contract, returned and left the same: answer, the set beside it, and path buffer
 --   SameDecisions          so do any two, at every allowance and in every path buffer, grounds 20 and 21 included
 --   Rewriting L M          the list L put another way: in another order, with sets repeated, with a union or an overlap of two of its sets
 --                          added anywhere, any of these undone, one after the other
@@ -18,7 +18,7 @@ use Rattle.model.specs.Tables.{Table, coverOf, notForbidden}
 use Rattle.model.specs.Stores.{tableOf, AcceptedStore}
 use Rattle.model.specs.Calls.{decideAnswer, decideBuffer}
 use Rattle.rounds.specs.declared.Decision.{Decision}
-use Rattle.rounds.specs.Answers.{answerOf, isRefused, Called}
+use Rattle.rounds.specs.Answers.{answerOf, Called}
 
 pub record Alike (t u : Table) : Type 0 where
   pub n : t .n ≡ u .n
@@ -34,7 +34,7 @@ firstList t = notForbidden (t .n) (t .forbidden) ∷ t .groups
 
 pub record SameResults (r s : Decision) (after-r after-s : List ℕ) : Type 0 where
   pub answer : answerOf r ≡ answerOf s
-  pub declined : isRefused (r .verdict) ≡ isRefused (s .verdict)
+  pub set : r .invariant ≡ s .invariant
   pub buffer : after-r ≡ after-s
 
 pub record SameDecisions (store other : List ℕ) (n g h : ℕ) : Type 0 where

@@ -1,55 +1,61 @@
 -- Laws of the call next open minute: its answer in each case.
 --
---   Sound, sound              what no ground leaves: a time and days within their limits, windows in their range
---   declined                  a ground holds
---   answered, never           else the first open minute, or never
+--   Sound, sound              what no ground leaves: a time and days within their limits, windows in their range; sound-answer: of a call that is answered
+--   refuses                   a ground holds
+--   opened, never-opens       else the first open minute, or never
+--   opens, shuts              the same of a call that is answered
 use Prim.Native.Nat.{ℕ, _+_, _≤_, _<_}
-use native.Mathlib.Omega.{arith}
-use mathlib.Core.Path.{_≡_, refl}
-use mathlib.Core.Bool.{Bool, true, false}
-use mathlib.Core.List.{List, _∷_}
-use borrow.Author.Tests.{lt-ltb, le-ltb, ltb-false, ne-eqb}
+use mathlib.Core.Path.{_≡_, refl, sym, _∙_}
+use mathlib.Core.Bool.{false}
+use mathlib.Core.List.{List, []}
+use borrow.Author.Tests.{lt-ltb, le-ltb, ltb-false}
 use lib.Dec.{ltb}
 use lib.ListN.{length}
+use Rattle.basics.specs.Refusals.{refuse, answered}
+use Rattle.basics.proofs.BoundLaws.{or-false}
+use Rattle.basics.proofs.RefusalLaws.{Clear, refuse-clear, answer-refused, answer-none, answered-clear, answered-value}
 use Rattle.release_windows.specs.Windows.{outside, some}
-use Rattle.release_windows.specs.Answers.{maxTime, maxWindows, maxDays, span, refuse, grounds, waiting, nextOpenAnswer, Called}
+use Rattle.release_windows.specs.Answers.{Opening, minute, never, maxTime, maxWindows, maxDays, span, grounds, waiting, nextOpenAnswer, Called}
 use Rattle.release_windows.specs.declared.NextOpen.the-variants.{Minute, Never, Refused}
-use Rattle.release_windows.proofs.Searches.{or-false}
 
 pub record Sound (time : ℕ) (windows days : List ℕ) : Type 0 where
   pub no-later : time ≤ maxTime
   pub few-days : length days ≤ maxDays
   pub in-range : some outside windows ≡ false
 
--- a ground that does not hold
-passed : (b : Bool) (k : ℕ) (later : List (Bool × ℕ)) → (k ≡ 0 → ⊥) → refuse ((b, k) ∷ later) ≡ 0 → (b ≡ false) × (refuse later ≡ 0)
-unfolding refuse
-passed true k later f e = absurd (f e)
-passed false k later f e = (refl, e)
-
 module _ (time : ℕ) (windows days : List ℕ) where
+  clear-sound : Clear (grounds time windows days) → Sound time windows days
+  unfolding grounds
+  clear-sound c =
+      let counts = or-false (ltb maxWindows (length windows)) (ltb maxDays (length days)) (c .1 .0) in
+      record { no-later = ltb-false maxTime time (c .0); few-days = ltb-false maxDays (length days) (counts .1); in-range = c .1 .1 .0 }
+
   pub sound : refuse (grounds time windows days) ≡ 0 → Sound time windows days
   unfolding grounds
-  sound e =
-      let time-ok = passed _ 31 _ (λ z. omega arith) e in
-      let count-ok = passed _ 30 _ (λ z. omega arith) (time-ok .1) in
-      let range-ok = passed _ 29 _ (λ z. omega arith) (count-ok .1) in
-      let counts = or-false (ltb maxWindows (length windows)) (ltb maxDays (length days)) (count-ok .0) in
-      record {
-        no-later = ltb-false maxTime time (time-ok .0);
-        few-days = ltb-false maxDays (length days) (counts .1);
-        in-range = range-ok .0;
-      }
+  sound e = clear-sound (refuse-clear (grounds time windows days) [] refl e .0)
 
-  pub declined : {k : ℕ} → k ≡ refuse (grounds time windows days) → (k ≡ 0 → ⊥) → Called time windows days (Refused k)
+  pub refuses : {k : ℕ} → k ≡ refuse (grounds time windows days) → (k ≡ 0 → ⊥) → Called time windows days (Refused k)
   unfolding nextOpenAnswer
-  declined {k} e f = let some = ne-eqb k 0 f in (rw (← e, some), rw (← e, some, some))
+  refuses e f = sym (answer-refused (grounds time windows days) _ e f)
 
   module _ {k wait : ℕ} (e : k ≡ refuse (grounds time windows days)) (z : k ≡ 0) (q : wait ≡ waiting time windows days) where
-    pub answered : wait < span → Called time windows days (Minute (time + wait))
-    unfolding nextOpenAnswer
-    answered l = let open-soon = lt-ltb wait span l in (rw (← e, z, ← q, open-soon), rw (← e, z, ← q, open-soon))
+    pub opened : wait < span → Called time windows days (Minute (time + wait))
+    unfolding nextOpenAnswer grounds
+    opened l = rw (← q, lt-ltb wait span l, answer-none (grounds time windows days) _ refl (sym e ∙ z))
 
-    pub never : span ≤ wait → Called time windows days Never
+    pub never-opens : span ≤ wait → Called time windows days Never
+    unfolding nextOpenAnswer grounds
+    never-opens l = rw (← q, le-ltb wait span l, answer-none (grounds time windows days) _ refl (sym e ∙ z))
+
+  module _ {a : Opening} (e : nextOpenAnswer time windows days ≡ answered a) where
+    pub sound-answer : Sound time windows days
     unfolding nextOpenAnswer
-    never l = let none = le-ltb wait span l in (rw (← e, z, ← q, none), rw (← e, z, ← q, none))
+    sound-answer = clear-sound (answered-clear (grounds time windows days) _ e)
+
+    pub opens : waiting time windows days < span → a ≡ minute (time + waiting time windows days)
+    unfolding nextOpenAnswer
+    opens l = answered-value (grounds time windows days) _ e ∙ rw (lt-ltb (waiting time windows days) span l)
+
+    pub shuts : span ≤ waiting time windows days → a ≡ never
+    unfolding nextOpenAnswer
+    shuts l = answered-value (grounds time windows days) _ e ∙ rw (le-ltb (waiting time windows days) span l)

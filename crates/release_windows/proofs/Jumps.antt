@@ -11,9 +11,10 @@ use mathlib.Core.Logic.{⊎-elim}
 use mathlib.Core.Bool.{Bool, true, false, not, _&&_}
 use mathlib.Core.List.{List}
 use lib.Dec.{eqb}
-use Rattle.release_windows.specs.Windows.{day, week, some, inSome, isClosed, isOpen, first}
+use Rattle.basics.specs.Bounds.{first}
+use Rattle.basics.proofs.BoundLaws.{lt-or-ge, first-le, first-passes, first-least, first-is, first-none}
+use Rattle.release_windows.specs.Windows.{day, week, some, inSome, isClosed, isOpen}
 use Rattle.release_windows.specs.Answers.{span, waiting}
-use Rattle.release_windows.proofs.Searches.{lt-or-ge, first-le, first-passes, first-least, first-is, first-none}
 
 pub at-most-week : (p : ℕ → Bool) {wait : ℕ} → wait ≡ first week p → wait ≤ week
 at-most-week p e = rw e (first-le p week)

@@ -1,19 +1,22 @@
 -- The promises of the call next open minute are kept.
-use Prim.Native.Nat.{ℕ, _+_, _-_, _/_, _^_, _≤_, _<_}
+use Prim.Native.Nat.{ℕ, _+_, _-_, _/_, _^_, _<_}
 use native.Mathlib.Omega.{arith}
-use mathlib.Core.Path.{_≡_, refl, sym, ap, subst}
-use mathlib.Core.Logic.{_↔_, ⊎-elim}
+use mathlib.Core.Path.{_≡_, refl, sym, subst}
+use mathlib.Core.Logic.{_↔_}
 use mathlib.Core.Bool.{Bool, true, false, not}
 use mathlib.Core.List.{List, [], _∷_, List·Memᴰ, List·Memᴰ·head}
-use borrow.Author.Tests.{ltb-true, eqb-true, eq-eqb, not-true}
-use lib.Dec.{eqb, ltb}
-use Rattle.release_windows.specs.Windows.{day, outside, some, inWindow, inSome, isClosed, isOpen, first}
-use Rattle.release_windows.specs.Answers.{span, refuse, grounds, waiting, nextOpenAnswer, Answer}
-use Rattle.release_windows.specs.Promises.{Held, FirstOpen, Accepted, Promises}
-use Rattle.release_windows.proofs.Searches.{and-true, is-false, clash, decided, by-cond, some-mem, mem-some, some-none, first-passes, first-least, first-none}
+use borrow.Author.Tests.{eqb-true, eq-eqb, not-true}
+use lib.Dec.{eqb}
+use Rattle.basics.specs.Refusals.{refuse, refused, answered}
+use Rattle.basics.proofs.BoundLaws.{and-true, is-false, clash, first-passes, first-least, first-none}
+use Rattle.basics.proofs.RefusalLaws.{refused-is}
+use Rattle.release_windows.specs.Windows.{day, outside, some, inWindow, inSome, isClosed, isOpen}
+use Rattle.release_windows.specs.Answers.{span, Opening, minute, never, grounds, waiting, nextOpenAnswer}
+use Rattle.release_windows.specs.Promises.{Held, FirstOpen, Promises}
+use Rattle.release_windows.proofs.Searches.{some-mem, mem-some, some-none}
 use Rattle.release_windows.proofs.Waits.{in-range}
 use Rattle.release_windows.proofs.Jumps.{open-where, outside-shut}
-use Rattle.release_windows.proofs.Answering.{sound, answered, never}
+use Rattle.release_windows.proofs.Answering.{sound-answer, opens, shuts}
 use Rattle.release_windows.proofs.Weeks.{in-held, held-in, soon-open}
 
 open-minutes : (windows days : List ℕ) (m : ℕ) → some outside windows ≡ false
@@ -43,20 +46,6 @@ open-minutes windows days m ranged = (forth, back)
         (mem-some (inWindow m) windows w (it .2) (held-in (in-range w (some-none outside windows w ranged (it .2))) m (it .1) (it .3)))
 
 module _ (time : ℕ) (windows days : List ℕ) where
-  -- no ground holds
-  none : Accepted time windows days → refuse (grounds time windows days) ≡ 0
-  unfolding nextOpenAnswer
-  none a =
-      let k = refuse (grounds time windows days) in
-      ⊎-elim (λ (e : eqb k 0 ≡ true). eqb-true k 0 e) (λ (e : eqb k 0 ≡ false). rw e at (a .accepted)) (decided (eqb k 0))
-
-  module _ (a : Accepted time windows days) where
-    opens : waiting time windows days < span → record { refusal = 0; never = 0; minute = time + waiting time windows days } ≡ nextOpenAnswer time windows days
-    opens l = answered time windows days (sym (none a)) refl refl l .0
-
-    shuts : span ≤ waiting time windows days → record { refusal = 0; never = 1; minute = 0 } ≡ nextOpenAnswer time windows days
-    shuts l = never time windows days (sym (none a)) refl refl l .0
-
   first-open : waiting time windows days < span → FirstOpen time windows days (time + waiting time windows days)
   unfolding waiting
   first-open l =
@@ -71,49 +60,29 @@ module _ (time : ℕ) (windows days : List ℕ) where
             subst (λ (m : ℕ). isOpen windows days m ≡ false) there (first-least p span (j - time) (omega (arith, before, from)));
       }
 
-with-window : (time : ℕ) (windows days : List ℕ) → Accepted time windows days → (windows ≡ [] → ⊥)
-    → ((nextOpenAnswer time windows days) .never ≡ 0) × FirstOpen time windows days ((nextOpenAnswer time windows days) .minute)
-with-window time [] days a f = absurd (f refl)
-with-window time (w ∷ others) days a f =
-    let so = sound time (w ∷ others) days (none time (w ∷ others) days a) in
+with-window : (time : ℕ) (windows days : List ℕ) (a : Opening) → nextOpenAnswer time windows days ≡ answered a → (windows ≡ [] → ⊥)
+    → (m : ℕ) × (a ≡ minute m) × FirstOpen time windows days m × (m < 2 ^ 32)
+with-window time [] days a e f = absurd (f refl)
+with-window time (w ∷ others) days a e f =
+    let so = sound-answer time (w ∷ others) days e in
     let ranged = in-range w (some-none outside (w ∷ others) w (so .in-range) (List·Memᴰ·head refl)) in
     let soon = soon-open time w others days ranged (so .few-days) in
-    subst (λ (r : Answer). (r .never ≡ 0) × FirstOpen time (w ∷ others) days (r .minute)) (opens time (w ∷ others) days a soon) (refl, first-open time (w ∷ others) days soon)
+    (time + waiting time (w ∷ others) days, opens time (w ∷ others) days e soon, first-open time (w ∷ others) days soon, omega (arith, soon, so .no-later))
 
 no-window : (days : List ℕ) (m : ℕ) → isOpen [] days m ≡ false
 unfolding inSome some
 no-window days m = outside-shut [] days m refl
 
-without : (time : ℕ) (days : List ℕ) → Accepted time [] days
-    → ((nextOpenAnswer time [] days) .never ≡ 1) × ((m : ℕ) → isOpen [] days m ≡ false)
+without : (time : ℕ) (days : List ℕ) (a : Opening) → nextOpenAnswer time [] days ≡ answered a
+    → (a ≡ never) × ((m : ℕ) → isOpen [] days m ≡ false)
 unfolding waiting
-without time days a =
+without time days a e =
     let all : waiting time [] days ≡ span = first-none (λ k. isOpen [] days (time + k)) span (λ j h. no-window days (time + j)) in
-    (sym (ap (λ (r : Answer). r .never) (shuts time [] days a (omega (arith, all)))), no-window days)
+    (shuts time [] days e (omega (arith, all)), no-window days)
 
--- the minute is 0 where the call is declined or the answer is never
-fits : (time : ℕ) (windows days : List ℕ) → (nextOpenAnswer time windows days) .minute < 2 ^ 32
+refusal : (time : ℕ) (windows days : List ℕ) (k : ℕ) → nextOpenAnswer time windows days ≡ refused k → k ≡ refuse (grounds time windows days)
 unfolding nextOpenAnswer
-fits time windows days =
-    let k = refuse (grounds time windows days) in
-    let wait = waiting time windows days in
-    by-cond (λ (r : Answer). r .minute < 2 ^ 32) (eqb k 0) _ _
-    (λ e.
-    by-cond (λ (r : Answer). r .minute < 2 ^ 32) (ltb wait span) _ _
-    (λ l. omega (arith, ltb-true wait span l, sound time windows days (eqb-true k 0 e) .no-later))
-    (λ l. omega arith))
-    (λ e. omega arith)
-
-declined : (time : ℕ) (windows days : List ℕ) → ((nextOpenAnswer time windows days) .refusal ≡ 0 → ⊥)
-    → nextOpenAnswer time windows days ≡ record { refusal = refuse (grounds time windows days); never = 0; minute = 0 }
-unfolding nextOpenAnswer
-declined time windows days f =
-    let k = refuse (grounds time windows days) in
-    let wait = waiting time windows days in
-    ⊎-elim
-    (λ (e : eqb k 0 ≡ true). absurd (f (rw e (by-cond (λ (r : Answer). r .refusal ≡ 0) (ltb wait span) _ _ (λ l. refl) (λ l. refl)))))
-    (λ (e : eqb k 0 ≡ false). rw e refl)
-    (decided (eqb k 0))
+refusal time windows days k e = refused-is (grounds time windows days) _ e
 
 pub promises : Promises
-promises = record { open-minutes = open-minutes; with-window = with-window; without = without; fits = fits; declined = declined }
+promises = record { open-minutes = open-minutes; with-window = with-window; without = without; refusal = refusal }

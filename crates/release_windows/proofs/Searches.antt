@@ -1,65 +1,22 @@
 -- Laws of the searches: `some` through a list, and `first` below a bound.
 --
---   and-true, or-true, or-intro, is-false, clash, decided, by-cond, lt-or-ge     tests as facts
 --   some-turn, some-hit, some-end     a loop that looks for one that passes: none so far, one found, none at all; some-none: then each fails
 --   some-mem, mem-some                some passes exactly when a member does; mem-at: an element is a member; drop-past: nothing is left
---   first-le, first-passes, first-least     `first` is at most the bound, passes below it, and nothing before it does
---   first-is, first-none              so it is that one; none passes
---   first-less, first-keep            with a smaller bound
+--   first-less, first-keep            `first` with a smaller bound
 --   first-cong, first-or              tests that agree; the first that passes one test or the other
-use Prim.Native.Nat.{ℕ, zero, suc, _+_, _≤_, _<_, zero-le, suc-le-suc}
-use native.Mathlib.Nat.{le-of-suc-le-suc, not-suc-le-zero, eq-or-lt-of-le, le-antisymm}
-use native.Mathlib.Decide.{decLt}
+use Prim.Native.Nat.{ℕ, zero, suc, _+_, _≤_, _<_}
+use native.Mathlib.Nat.{le-of-suc-le-suc, not-suc-le-zero}
 use native.Mathlib.Numerals.{add-one}
 use native.Mathlib.Omega.{arith}
 use mathlib.Core.Path.{_≡_, refl, sym, ap, ap₂, _∙_}
 use mathlib.Core.Logic.{_⊎_, inl, inr, ⊎-elim}
-use mathlib.Core.Bool.{Bool, true, false, _&&_, _||_, cond, true≢false, false≢true}
+use mathlib.Core.Bool.{Bool, true, false, _||_, cond, false≢true}
 use mathlib.Core.List.{List, [], _∷_, List·Memᴰ, List·Memᴰ·head, List·Memᴰ·tail, List·Memᴰ·cases-cons, List·Memᴰ·not-nil}
 use lib.ListN.{length, getD, drop}
 use lib.Seq.{drop-cons}
-use Rattle.release_windows.specs.Windows.{some, first}
-
--- ---- tests
-
-pub and-true : (a b : Bool) → (a && b) ≡ true → (a ≡ true) × (b ≡ true)
-and-true true b e = (refl, e)
-and-true false b e = absurd (false≢true e)
-
-pub or-true : (a b : Bool) → (a || b) ≡ true → (a ≡ true) ⊎ (b ≡ true)
-or-true true b e = inl refl
-or-true false b e = inr e
-
-pub or-intro : (a b : Bool) → (a ≡ true) ⊎ (b ≡ true) → (a || b) ≡ true
-or-intro true b h = refl
-or-intro false b h = ⊎-elim (λ p. absurd (false≢true p)) (λ q. q) h
-
-pub or-false : (a b : Bool) → (a || b) ≡ false → (a ≡ false) × (b ≡ false)
-or-false true b e = absurd (true≢false e)
-or-false false b e = (refl, e)
-
-pub is-false : (a : Bool) → (a ≡ true → ⊥) → a ≡ false
-is-false true f = absurd (f refl)
-is-false false f = refl
-
-pub clash : {a : Bool} → a ≡ true → a ≡ false → ⊥
-clash p q = true≢false (sym p ∙ q)
-
-pub decided : (a : Bool) → (a ≡ true) ⊎ (a ≡ false)
-decided true = inl refl
-decided false = inr refl
-
--- a choice has what both of its branches have
-pub by-cond {ℓ κ} : {A : Type ℓ} (P : A → Type κ) (b : Bool) (x y : A) → (b ≡ true → P x) → (b ≡ false → P y) → P (cond b x y)
-by-cond P true x y f g = f refl
-by-cond P false x y f g = g refl
-
-pub lt-or-ge : (a b : ℕ) → (a < b) ⊎ (b ≤ a)
-lt-or-ge a b = go (decLt a b)
-  where
-    go : Dec (a < b) → (a < b) ⊎ (b ≤ a)
-    go (yes h) = inl h
-    go (no f) = inr (omega arith)
+use Rattle.basics.specs.Bounds.{first}
+use Rattle.basics.proofs.BoundLaws.{or-true, or-intro, is-false, clash, first-passes, first-least, first-is, first-none}
+use Rattle.release_windows.specs.Windows.{some}
 
 -- ---- through a list
 
@@ -110,43 +67,6 @@ module _ (p : ℕ → Bool) where
     some-end h e = sym (ap (some p) (drop-past xs i h)) ∙ e
 
 -- ---- below a bound
-
-pub first-le : (p : ℕ → Bool) (n : ℕ) → first n p ≤ n
-unfolding first
-first-le p zero = zero-le
-first-le p (suc n) = by-cond (λ r. r ≤ suc n) (p zero) _ _ (λ e. zero-le) (λ e. suc-le-suc (first-le (λ k. p (suc k)) n))
-
-pub first-passes : (p : ℕ → Bool) (n : ℕ) → first n p < n → p (first n p) ≡ true
-unfolding first
-first-passes p zero = λ h. absurd (not-suc-le-zero h)
-first-passes p (suc n) =
-    by-cond (λ r. r < suc n → p r ≡ true) (p zero) _ _ (λ e h. e)
-    (λ e h. first-passes (λ k. p (suc k)) n (le-of-suc-le-suc h))
-
-pub first-least : (p : ℕ → Bool) (n k : ℕ) → k < first n p → p k ≡ false
-unfolding first
-first-least p zero k = λ h. absurd (not-suc-le-zero h)
-first-least p (suc n) zero =
-    by-cond (λ r. zero < r → p zero ≡ false) (p zero) _ _ (λ e h. absurd (not-suc-le-zero h)) (λ e h. e)
-first-least p (suc n) (suc k) =
-    by-cond (λ r. suc k < r → p (suc k) ≡ false) (p zero) _ _ (λ e h. absurd (not-suc-le-zero h))
-    (λ e h. first-least (λ j. p (suc j)) n k (le-of-suc-le-suc h))
-
-pub first-none : (p : ℕ → Bool) (n : ℕ) → ((j : ℕ) → j < n → p j ≡ false) → first n p ≡ n
-first-none p n f =
-    ⊎-elim (λ e. e) (λ l. absurd (clash (first-passes p n l) (f (first n p) l))) (eq-or-lt-of-le (first-le p n))
-
--- what passes is not before the first
-pub first-before : (p : ℕ → Bool) (n k : ℕ) → p k ≡ true → first n p ≤ k
-first-before p n k e = ⊎-elim (λ l. absurd (clash e (first-least p n k l))) (λ l. l) (lt-or-ge k (first n p))
-
--- the least that passes, from the three facts that make it so
-pub first-is : (p : ℕ → Bool) (n k : ℕ) → k < n → p k ≡ true → ((j : ℕ) → j < k → p j ≡ false) → first n p ≡ k
-first-is p n k h e f =
-    ⊎-elim
-    (λ l. absurd (clash (first-passes p n (omega (arith, l, h))) (f (first n p) l)))
-    (λ l. le-antisymm (first-before p n k e) l)
-    (lt-or-ge (first n p) k)
 
 -- with a smaller bound
 pub first-less : (p : ℕ → Bool) (n b : ℕ) → first n p < b → b ≤ n → first b p ≡ first n p

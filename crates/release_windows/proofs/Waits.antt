@@ -13,8 +13,10 @@ use mathlib.Core.List.{List}
 use borrow.Author.Tests.{lt-ltb, le-ltb, ltb-false, eq-eqb, ne-eqb, eqb-false}
 use lib.Dec.{eqb, ltb}
 use lib.ListN.{length, getD, drop}
-use Rattle.release_windows.specs.Windows.{week, startOf, lengthOf, outside, some, inWindow, inSome, first}
-use Rattle.release_windows.proofs.Searches.{or-false, first-is, first-none, first-less, first-keep, first-cong, first-or, some-next, drop-past}
+use Rattle.basics.specs.Bounds.{first}
+use Rattle.basics.proofs.BoundLaws.{or-false, first-is, first-none}
+use Rattle.release_windows.specs.Windows.{week, startOf, lengthOf, outside, some, inWindow, inSome}
+use Rattle.release_windows.proofs.Searches.{first-less, first-keep, first-cong, first-or, some-next, drop-past}
 
 -- ---- the range
 

@@ -16,10 +16,11 @@ use mathlib.Core.List.{List, [], _∷_}
 use borrow.Author.Tests.{lt-ltb, ltb-true, eqb-true}
 use lib.Dec.{eqb}
 use lib.ListN.{length}
-use Rattle.release_windows.specs.Windows.{day, week, startOf, lengthOf, some, inWindow, inSome, isOpen, first}
+use Rattle.basics.specs.Bounds.{first}
+use Rattle.basics.proofs.BoundLaws.{or-true, or-intro, is-false, clash, decided, by-cond, lt-or-ge, first-passes, first-before}
+use Rattle.release_windows.specs.Windows.{day, week, startOf, lengthOf, some, inWindow, inSome, isOpen}
 use Rattle.release_windows.specs.Answers.{span, maxDays, waiting}
 use Rattle.release_windows.specs.Promises.{Held}
-use Rattle.release_windows.proofs.Searches.{or-true, or-intro, is-false, clash, decided, by-cond, lt-or-ge, first-passes, first-before}
 use Rattle.release_windows.proofs.Waits.{InRange, wait-none, wait-some}
 use Rattle.release_windows.proofs.Jumps.{open-where}
 

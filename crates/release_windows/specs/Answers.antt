@@ -2,20 +2,21 @@
 --
 --   maxTime, maxWindows, maxDays      the greatest time, and how many windows and closed days there may be
 --   span                              within so many minutes there is an open one, where there is a window at all (65 weeks; a theorem)
---   Answer                            the specification's numbers; `refusal` is 0 where the call is not declined
---   refuse                            the number of the first ground that holds, or 0 for none
+--   Opening                           what the call answers
 --   grounds                           31, 30, 29, in this order
 --   waiting                           the minutes from the time to the first open one, or `span` if none of that many is open
 --   nextOpenAnswer                    the first open minute at or after the time, or never
---   numbersOf, isRefused              those numbers for each case of the code's answer; the case in which the call is declined
+--   openingOf                         what each case of the code's answer says
 --   Called                            a call and what it gave, as the contract of next_open has it
 use Prim.Native.Nat.{ℕ, _+_, _-_, _^_}
 use mathlib.Core.Path.{_≡_}
-use mathlib.Core.Bool.{Bool, true, false, cond, not, _||_}
+use mathlib.Core.Bool.{cond, _||_}
 use mathlib.Core.List.{List, [], _∷_}
-use lib.Dec.{eqb, ltb}
+use lib.Dec.{ltb}
 use lib.ListN.{length}
-use Rattle.release_windows.specs.Windows.{outside, some, isOpen, first}
+use Rattle.basics.specs.Bounds.{first}
+use Rattle.basics.specs.Refusals.{Ground, Answered, refused, answered, answer}
+use Rattle.release_windows.specs.Windows.{outside, some, isOpen}
 use Rattle.release_windows.specs.declared.NextOpen.{NextOpen}
 use Rattle.release_windows.specs.declared.NextOpen.the-variants.{Minute, Never, Refused}
 
@@ -31,16 +32,11 @@ maxDays = 64
 abbrev pub span : ℕ
 span = 655200
 
-pub record Answer : Type 0 where
-  pub refusal : ℕ
-  pub never : ℕ  -- 1 if no minute is open, else 0
-  pub minute : ℕ  -- the first open minute; 0 if there is none, or if the call is declined
+pub data Opening : Type 0 where
+  minute : ℕ → Opening  -- the first open minute
+  never : Opening  -- no minute is open
 
-unfoldable pub refuse : List (Bool × ℕ) → ℕ
-refuse [] = 0
-refuse (ground ∷ later) = cond (ground .0) (ground .1) (refuse later)
-
-unfoldable pub grounds : ℕ → List ℕ → List ℕ → List (Bool × ℕ)
+unfoldable pub grounds : ℕ → List ℕ → List ℕ → List Ground
 grounds time windows days =
     (ltb maxTime time, 31)
     ∷ (ltb maxWindows (length windows) || ltb maxDays (length days), 30)
@@ -50,28 +46,17 @@ grounds time windows days =
 unfoldable pub waiting : ℕ → List ℕ → List ℕ → ℕ
 waiting time windows days = first span (λ k. isOpen windows days (time + k))
 
-unfoldable pub nextOpenAnswer : ℕ → List ℕ → List ℕ → Answer
+unfoldable pub nextOpenAnswer : ℕ → List ℕ → List ℕ → Answered Opening
 nextOpenAnswer time windows days =
-    let k = refuse (grounds time windows days) in
     let wait = waiting time windows days in
-    let found : Answer = record { refusal = 0; never = 0; minute = time + wait } in
-    let none : Answer = record { refusal = 0; never = 1; minute = 0 } in
-    cond (eqb k 0) (cond (ltb wait span) found none) (record { refusal = k; never = 0; minute = 0 })
+    answer (grounds time windows days) (cond (ltb wait span) (minute (time + wait)) never)
 
 -- ---- the code's answer
 
-abbrev pub numbersOf : NextOpen → Answer
-numbersOf (Minute m) = record { refusal = 0; never = 0; minute = m }
-numbersOf Never = record { refusal = 0; never = 1; minute = 0 }
-numbersOf (Refused k) = record { refusal = k; never = 0; minute = 0 }
-
--- Minute 0 and a refusal numbered 0 would have the same numbers: this tells them apart.
-abbrev pub isRefused : NextOpen → Bool
-isRefused (Minute m) = false
-isRefused Never = false
-isRefused (Refused k) = true
+abbrev pub openingOf : NextOpen → Answered Opening
+openingOf (Minute m) = answered (minute m)
+openingOf Never = answered never
+openingOf (Refused k) = refused k
 
 abbrev pub Called : ℕ → List ℕ → List ℕ → NextOpen → Type 0
-Called time windows days r =
-    (numbersOf r ≡ nextOpenAnswer time windows days)
-    × (isRefused r ≡ not (eqb ((nextOpenAnswer time windows days) .refusal) 0))
+Called time windows days r = openingOf r ≡ nextOpenAnswer time windows days

@@ -9,9 +9,8 @@
 --   inSome windows m      it is in one of the windows
 --   isClosed days m       its day, counted from minute 0, is one of the closed days
 --   isOpen                it is in a window, and its day is not closed
---   first n p             the least number below n that passes, or n if none does (bounded search)
-use Prim.Native.Nat.{ℕ, zero, suc, _+_, _-_, _/_, _%_, _^_}
-use mathlib.Core.Bool.{Bool, false, cond, not, _&&_, _||_}
+use Prim.Native.Nat.{ℕ, _+_, _-_, _/_, _%_, _^_}
+use mathlib.Core.Bool.{Bool, false, not, _&&_, _||_}
 use mathlib.Core.List.{List, [], _∷_}
 use lib.Dec.{eqb, ltb}
 
@@ -46,7 +45,3 @@ isClosed days m = some (eqb (m / day)) days
 
 unfoldable pub isOpen : List ℕ → List ℕ → ℕ → Bool
 isOpen windows days m = not (isClosed days m) && inSome windows m
-
-unfoldable pub first : ℕ → (ℕ → Bool) → ℕ
-first zero p = zero
-first (suc n) p = cond (p zero) zero (suc (first n (λ k. p (suc k))))

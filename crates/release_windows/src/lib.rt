@@ -2,7 +2,7 @@
 // is whole minutes since a Saturday, 00:00, and weeks begin on Saturday.
 //
 //   start_of, length_of          a window is one 64-bit number: its start in the low 32 bits, its length in the high
-//   refusal                      the grounds on which a call is declined
+//   refusal                      the grounds on which a call is refused
 //   wait_for, least_wait         the minutes until a window, or one of the windows, is open
 //   is_closed                    a day is one of the closed days
 //   minutes_to_open              the minutes until a window is open on a day that is not closed: jumps from midnight to midnight over closed
@@ -12,8 +12,10 @@ ghost use mathlib.Core.Path.{_≡_};
 ghost use Prim.Native.Nat.{_+_, _^_, _≤_, _<_};
 ghost use mathlib.Core.Bool.{false};
 ghost use lib.Dec.{eqb};
-ghost use Rattle.release_windows.specs.Windows.{week, startOf, lengthOf, outside, some, inWindow, inSome, first};
-ghost use Rattle.release_windows.specs.Answers.{maxTime, refuse, grounds, waiting, Called};
+ghost use Rattle.basics.specs.Bounds.{first};
+ghost use Rattle.basics.specs.Refusals.{refuse};
+ghost use Rattle.release_windows.specs.Windows.{week, startOf, lengthOf, outside, some, inWindow, inSome};
+ghost use Rattle.release_windows.specs.Answers.{maxTime, grounds, waiting, Called};
 
 pub const MAX_TIME: usize = 2147483647;
 

@@ -3,30 +3,26 @@
 --   refuse-shared                          a ground that holds and that the calls share decides
 --   refuse-25, refuse-26, refuse-none      where no ground holds that the calls share, those that replay adds do
 --   accepted                               no ground holds, so the store holds a table, and the log is not too long
---   of-answer                              what holds of the walk and of the refusal, each where it is given, holds of the answer
+--   Walks, walks                           what an answer tells: no ground holds, and the answer is the walk
 --   refused-answer, walk-answer            what the call answers where one holds, and where none does
 use Prim.Native.Nat.{ℕ, _%_, _≤_, _<_}
 use native.Mathlib.Omega.{arith}
 use mathlib.Core.Path.{_≡_, refl, sym, ap, _∙_, subst}
-use mathlib.Core.Bool.{cond, not}
 use mathlib.Core.List.{List, []}
-use borrow.Author.Tests.{eqb-true, eqb-false, ne-eqb, eq-eqb, ltb-false, lt-ltb, le-ltb}
-use lib.Dec.{eqb}
+use borrow.Author.Tests.{ne-eqb, eq-eqb, ltb-false, lt-ltb, le-ltb}
 use lib.ListN.{length}
+use Rattle.basics.specs.Refusals.{refuse, answered}
 use Rattle.model.specs.Sets.{maxStates, Set, size}
-use Rattle.basics.specs.Refusals.{refuse}
 use Rattle.model.specs.Stores.{setAt, tableOf, sharedGrounds}
 use Rattle.model.specs.Promises.{IsLeast}
 use Rattle.model.proofs.SetLaws.{in-subset}
-use Rattle.basics.proofs.BoundLaws.{by-cond}
-use Rattle.basics.proofs.RefusalLaws.{refuse-append, refuse-clear}
+use Rattle.basics.proofs.RefusalLaws.{refuse-append, clear-refuse, refuse-clear, answer-refused, answer-none, answered-clear, answered-value}
 use Rattle.model.proofs.Acceptance.{Store, accepted-store, store-accepted, well-formed}
 use Rattle.model.proofs.StoreLaws.{row-is}
 use Rattle.reach.specs.Reached.{reachBy}
 use Rattle.reach.proofs.Walks.{reaching}
-use Rattle.replay.specs.Logs.{entryBytes, maxLog, followed, seen, percentOf, remainderOf, logGrounds, reachableCount, replayGrounds, Replay, walkThrough, declined, replayAnswer}
-use Rattle.replay.specs.Answers.{replayedOf, isRefused, Called}
-use Rattle.replay.specs.declared.Replayed.{Replayed}
+use Rattle.replay.specs.Logs.{entryBytes, maxLog, followed, seen, percentOf, remainderOf, logGrounds, reachableCount, replayGrounds, Replay, walkThrough, replayAnswer}
+use Rattle.replay.specs.Answers.{replayedOf, Called}
 use Rattle.replay.specs.declared.Replayed.the-variants.{Walk, Refused}
 use Rattle.replay.proofs.Walking.{followed-cong}
 use Rattle.replay.proofs.Following.{allRows}
@@ -66,37 +62,31 @@ accepted store n g bytes e z =
 
 abbrev counts : ℕ → ℕ → ℕ → Replay
 counts k states reached =
-    record { refusal = 0; followed = k; seen = states; percent = percentOf states reached; remainder = remainderOf states reached }
+    record { followed = k; seen = states; percent = percentOf states reached; remainder = remainderOf states reached }
 
--- what holds of the walk where no ground holds, and of the refusal where one does, holds of the answer
-pub of-answer : (store : List ℕ) (n g : ℕ) (log : List ℕ) (P : Replay → Type 0)
-    → (refuse (replayGrounds store n g (length log)) ≡ 0 → P (walkThrough (tableOf store n g) log))
-    → ((refuse (replayGrounds store n g (length log)) ≡ 0 → ⊥) → P (declined (refuse (replayGrounds store n g (length log)))))
-    → P (replayAnswer store n g log)
+pub record Walks (store : List ℕ) (n g : ℕ) (log : List ℕ) (a : Replay) : Type 0 where
+  pub held : Store store n g
+  pub short : length log ≤ maxLog
+  pub is : a ≡ walkThrough (tableOf store n g) log
+
+pub walks : (store : List ℕ) (n g : ℕ) (log : List ℕ) {a : Replay} → replayAnswer store n g log ≡ answered a → Walks store n g log a
 unfolding replayAnswer
-of-answer store n g log P walked refused =
-    let k = refuse (replayGrounds store n g (length log)) in
-    by-cond P (eqb k 0) _ _ (λ q. walked (eqb-true k 0 q)) (λ q. refused (eqb-false k 0 q))
+walks store n g log e =
+    let grounds = replayGrounds store n g (length log) in
+    let parts = accepted store n g (length log) refl (clear-refuse grounds (answered-clear grounds _ e)) in
+    record { held = parts .0; short = parts .1; is = answered-value grounds _ e }
 
 module _ (store : List ℕ) (n g : ℕ) (log : List ℕ) {k : ℕ} (e : k ≡ refuse (replayGrounds store n g (length log))) where
-  answer-is : cond (eqb k 0) (walkThrough (tableOf store n g) log) (declined k) ≡ replayAnswer store n g log
-  unfolding replayAnswer
-  answer-is = ap (λ (j : ℕ). cond (eqb j 0) (walkThrough (tableOf store n g) log) (declined j)) e
-
-  -- the case follows from the numbers
-  called : (r : Replayed) → replayedOf r ≡ replayAnswer store n g log → isRefused r ≡ not (eqb ((replayedOf r) .refusal) 0) → Called store n g log r
-  called r q c = (q, c ∙ ap (λ (a : Replay). not (eqb (a .refusal) 0)) q)
-
   pub refused-answer : (k ≡ 0 → ⊥) → Called store n g log (Refused k)
-  unfolding declined
-  refused-answer f = called (Refused k) (rw (ne-eqb k 0 f) at answer-is) (sym (ap not (ne-eqb k 0 f)))
+  unfolding replayAnswer
+  refused-answer f = sym (answer-refused (replayGrounds store n g (length log)) _ e f)
 
   -- m entries that hold the states of X, and Y for the states that can be reached
   pub walk-answer : k ≡ 0 → {m s r p q : ℕ} {X Y initial : Set}
       → m ≡ followed (allRows store) log → X ≡ seen log m → s ≡ size X
       → initial ≡ setAt store 0 → IsLeast (reachBy store initial) Y → r ≡ size Y
       → p ≡ percentOf s r → q ≡ remainderOf s r → Called store n g log (Walk m s p q)
-  unfolding walkThrough tableOf
+  unfolding replayAnswer replayGrounds walkThrough tableOf
   walk-answer z {m} {s} {r} {p} {q} {X} {Y} {initial} em ex es ei ey er ep eq =
       let t = tableOf store n g in
       let held = accepted store n g (length log) e z .0 in
@@ -107,6 +97,6 @@ module _ (store : List ℕ) (n g : ℕ) (log : List ℕ) {k : ℕ} (e : k ≡ re
       let states : s ≡ size (seen log (followed t log)) = es ∙ ap size (ex ∙ ap (seen log) walked) in
       let least = subst (λ (Z : Set). IsLeast (reachBy store Z) Y) ei ey in
       let reached : r ≡ reachableCount t = er ∙ ap size (reaching .reached-is store n g (setAt store 0) Y ok (in-subset (ok .initial)) least) in
-      let counted : replayedOf (Walk m s p q) ≡ counts m s r = λ i. record { refusal = 0; followed = m; seen = s; percent = ep i; remainder = eq i } in
+      let counted : replayedOf (Walk m s p q) ≡ answered (counts m s r) = λ i. answered (record { followed = m; seen = s; percent = ep i; remainder = eq i }) in
       let answer : counts m s r ≡ walkThrough t log = λ i. counts (walked i) (states i) (reached i) in
-      called (Walk m s p q) (counted ∙ answer ∙ (rw z at answer-is)) refl
+      counted ∙ ap answered answer ∙ sym (answer-none (replayGrounds store n g (length log)) _ refl (sym e ∙ z))

@@ -4,20 +4,20 @@
 use Prim.Native.Nat.{ℕ, _*_, _%_, _≤_, _<_}
 use native.Mathlib.Nat.{mod-lt}
 use native.Mathlib.Omega.{arith}
-use mathlib.Core.Path.{refl}
+use mathlib.Core.Path.{_≡_, sym, subst}
 use mathlib.Core.List.{List}
 use borrow.Author.Tests.{eqb-false}
 use lib.Dec.{eqb}
-use lib.ListN.{length}
+use Rattle.basics.specs.Refusals.{answered}
 use Rattle.model.specs.Sets.{maxStates}
 use Rattle.model.specs.Stores.{tableOf}
 use Rattle.basics.proofs.BoundLaws.{by-cond}
 use Rattle.model.proofs.Counting.{size-most}
 use Rattle.model.proofs.Acceptance.{well-formed}
 use Rattle.reach.specs.Reached.{reachable}
-use Rattle.replay.specs.Logs.{maxLog, followed, seen, remainderOf, reachableCount, Replay, walkThrough, declined, replayAnswer}
+use Rattle.replay.specs.Logs.{maxLog, followed, seen, remainderOf, reachableCount, Replay, walkThrough, replayAnswer}
 use Rattle.replay.proofs.Fronts.{entries-long}
-use Rattle.replay.proofs.Answering.{accepted, of-answer}
+use Rattle.replay.proofs.Answering.{walks}
 use Rattle.replay.proofs.Walks.{within, walk-is}
 
 pub record ReplayRange (a : Replay) : Type 0 where
@@ -34,18 +34,16 @@ remainder-small s r h =
     let some : 0 < r = omega (arith, eqb-false r 0 q) in
     omega (arith, mod-lt (100 * s) {m = r} some))
 
-pub replay-range : (store : List ℕ) (n g : ℕ) (log : List ℕ) → ReplayRange (replayAnswer store n g log)
-unfolding walkThrough declined
-replay-range store n g log =
-    of-answer store n g log ReplayRange
-    (λ z.
+pub replay-range : (store : List ℕ) (n g : ℕ) (log : List ℕ) {a : Replay} → replayAnswer store n g log ≡ answered a → ReplayRange a
+unfolding walkThrough
+replay-range store n g log e =
     let t = tableOf store n g in
-    let held = accepted store n g (length log) refl z in
-    let ok = well-formed store n g (held .0) in
-    record {
-      followed = omega (arith, within t ok log, entries-long log, held .1);
+    let told = walks store n g log e in
+    let ok = well-formed store n g (told .held) in
+    subst ReplayRange (sym (told .is))
+    (record {
+      followed = omega (arith, within t ok log, entries-long log, told .short);
       seen = size-most (seen log (followed t log));
       percent = walk-is t ok log .coverage .most;
       remainder = remainder-small _ (reachableCount t) (size-most (reachable t (t .initial)));
     })
-    (λ f. record { followed = omega arith; seen = omega arith; percent = omega arith; remainder = omega arith })

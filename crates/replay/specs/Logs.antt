@@ -8,8 +8,8 @@
 --   reachableCount t                 how many states can be reached from the initial ones, these included
 --   percentOf, remainderOf           the coverage in whole percent, and the exact remainder
 --   Replay, replayGrounds            what the call answers; its grounds, in order
---   walkThrough t log, declined k    the answer where no ground holds, and where ground k does
---   replayAnswer store n g log       the answer: `refusal` is 0 where the call is not declined, and every other field is 0 where it is
+--   walkThrough t log                the answer where no ground holds
+--   replayAnswer store n g log       the answer, refusals included
 --
 -- The call is lent the store and the log to read only: it has no buffer that it could change.
 use Prim.Native.Nat.{ℕ, zero, suc, _*_, _/_, _%_}
@@ -18,9 +18,9 @@ use mathlib.Core.List.{List, [], _∷_, _++_}
 use lib.Dec.{eqb, ltb}
 use lib.ListN.{length}
 use Rattle.basics.specs.Bounds.{any, first}
+use Rattle.basics.specs.Refusals.{Ground, Answered, answer}
 use Rattle.model.specs.Sets.{Set, member, setOf, size}
 use Rattle.model.specs.Tables.{Table}
-use Rattle.basics.specs.Refusals.{Ground, refuse}
 use Rattle.model.specs.Stores.{tableOf, sharedGrounds}
 use Rattle.model.specs.Blocks.{le16At}
 use Rattle.reach.specs.Reached.{reachable}
@@ -63,7 +63,6 @@ remainderOf states reached = cond (eqb reached 0) 0 (100 * states % reached)
 -- ---- the call
 
 pub record Replay : Type 0 where
-  pub refusal : ℕ
   pub followed : ℕ  -- entries
   pub seen : ℕ  -- different states among them
   pub percent : ℕ
@@ -81,13 +80,7 @@ walkThrough t log =
     let k = followed t log in
     let states = size (seen log k) in
     let reached = reachableCount t in
-    record { refusal = 0; followed = k; seen = states; percent = percentOf states reached; remainder = remainderOf states reached }
+    record { followed = k; seen = states; percent = percentOf states reached; remainder = remainderOf states reached }
 
-unfoldable pub declined : ℕ → Replay
-declined k = record { refusal = k; followed = 0; seen = 0; percent = 0; remainder = 0 }
-
-unfoldable pub replayAnswer : List ℕ → ℕ → ℕ → List ℕ → Replay
-replayAnswer store n g log =
-    let k = refuse (replayGrounds store n g (length log)) in
-    let walked = walkThrough (tableOf store n g) log in
-    cond (eqb k 0) walked (declined k)
+unfoldable pub replayAnswer : List ℕ → ℕ → ℕ → List ℕ → Answered Replay
+replayAnswer store n g log = answer (replayGrounds store n g (length log)) (walkThrough (tableOf store n g) log)

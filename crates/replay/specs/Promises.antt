@@ -6,7 +6,7 @@
 --   SeenIs             the states counted are those that the followed entries hold, each once
 --   CoverageIs         the coverage, by division with remainder
 --   WalkIs             all of it, and what can be reached
---   Promises           of every call that is not declined, of every one that is, beside a check that says safe, and of two stores
+--   Promises           of every call that is answered, of every one that is refused, beside a check that says safe, and of two stores
 use Prim.Native.Nat.{ℕ, _+_, _*_, _%_, _≤_, _<_}
 use mathlib.Core.Path.{_≡_}
 use mathlib.Core.Logic.{_↔_}
@@ -14,15 +14,16 @@ use mathlib.Core.Bool.{Bool, true, false, _&&_}
 use mathlib.Core.List.{List, [], _∷_}
 use lib.ListN.{length, take}
 use Rattle.basics.specs.Bounds.{tabulate}
+use Rattle.basics.specs.Refusals.{refuse, refused, answered}
 use Rattle.model.specs.Sets.{member, size}
 use Rattle.model.specs.Tables.{Table}
-use Rattle.basics.specs.Refusals.{refuse}
 use Rattle.model.specs.Stores.{storeWords, tableOf, sharedGrounds}
+use Rattle.model.specs.Calls.{Decision as Answer}
 use Rattle.reach.specs.Reached.{reachable, walks, ReachableIs}
 use Rattle.rounds.specs.declared.Decision.{Decision}
-use Rattle.rounds.specs.Answers.{answerOf, isRefused as declinesCheck, Called as CalledDecide}
+use Rattle.rounds.specs.Answers.{answerOf, Called as CalledDecide}
 use Rattle.replay.specs.Logs.{entryBytes, maxLog, entryCount, entry, seen, reachableCount, replayGrounds, Replay, replayAnswer}
-use Rattle.replay.specs.Answers.{replayedOf, isRefused, Called}
+use Rattle.replay.specs.Answers.{replayedOf, Called}
 use Rattle.replay.specs.declared.Replayed.{Replayed}
 
 unfoldable pub entries : List ℕ → List ℕ
@@ -61,25 +62,24 @@ pub record WalkIs (t : Table) (log : List ℕ) (a : Replay) : Type 0 where
   pub reachable-few : reachableCount t ≤ t .n
 
 pub record Promises : Type 0 where
-  pub walk : (store : List ℕ) (n g : ℕ) (log : List ℕ) (r : Replayed)
-      → Called store n g log r → isRefused r ≡ false → WalkIs (tableOf store n g) log (replayedOf r)
-  -- where a check of the table is not declined and says safe, at any allowance, no followed entry is forbidden
-  pub safe : (store : List ℕ) (n g allowance : ℕ) (before : List ℕ) (d : Decision) (after : List ℕ) (log : List ℕ) (r : Replayed)
-      → CalledDecide store n g allowance before d after → declinesCheck (d .verdict) ≡ false → (answerOf d) .verdict ≡ 0
-      → Called store n g log r
-      → (i : ℕ) → i < (replayedOf r) .followed → member ((tableOf store n g) .forbidden) (entry log i) ≡ false
+  pub walk : (store : List ℕ) (n g : ℕ) (log : List ℕ) (r : Replayed) (w : Replay)
+      → Called store n g log r → replayedOf r ≡ answered w → WalkIs (tableOf store n g) log w
+  -- where a check of the table is answered and says safe, at any allowance, no followed entry is forbidden
+  pub safe : (store : List ℕ) (n g allowance : ℕ) (before : List ℕ) (d : Decision) (after : List ℕ) (a : Answer) (log : List ℕ) (r : Replayed) (w : Replay)
+      → CalledDecide store n g allowance before d after → answerOf d ≡ answered a → a .verdict ≡ 0
+      → Called store n g log r → replayedOf r ≡ answered w
+      → (i : ℕ) → i < w .followed → member ((tableOf store n g) .forbidden) (entry log i) ≡ false
   -- without states, as in an untouched draft
-  pub draft : (store : List ℕ) (log : List ℕ) (r : Replayed)
-      → Called store 0 0 log r → isRefused r ≡ false → replayedOf r ≡ record { refusal = 0; followed = 0; seen = 0; percent = 0; remainder = 0 }
-  -- a call that declines gives the number of the first ground that holds, and 0 in every other field
-  pub declined : (store : List ℕ) (n g : ℕ) (log : List ℕ) (r : Replayed)
-      → Called store n g log r → isRefused r ≡ true
-      → replayedOf r ≡ record { refusal = refuse (replayGrounds store n g (length log)); followed = 0; seen = 0; percent = 0; remainder = 0 }
+  pub draft : (store : List ℕ) (log : List ℕ) (r : Replayed) (w : Replay)
+      → Called store 0 0 log r → replayedOf r ≡ answered w → w ≡ record { followed = 0; seen = 0; percent = 0; remainder = 0 }
+  -- a refused call gives the number of the first ground that holds
+  pub refusal : (store : List ℕ) (n g : ℕ) (log : List ℕ) (r : Replayed) (k : ℕ)
+      → Called store n g log r → replayedOf r ≡ refused k → k ≡ refuse (replayGrounds store n g (length log))
   -- where no ground holds that the calls share: an odd length is 25, one over the greatest too; else a length over it is 26
   pub odd : (store : List ℕ) (n g : ℕ) (log : List ℕ) (r : Replayed)
-      → Called store n g log r → refuse (sharedGrounds store n g) ≡ 0 → (length log % entryBytes ≡ 0 → ⊥) → (replayedOf r) .refusal ≡ 25
+      → Called store n g log r → refuse (sharedGrounds store n g) ≡ 0 → (length log % entryBytes ≡ 0 → ⊥) → replayedOf r ≡ refused 25
   pub long : (store : List ℕ) (n g : ℕ) (log : List ℕ) (r : Replayed)
-      → Called store n g log r → refuse (sharedGrounds store n g) ≡ 0 → length log % entryBytes ≡ 0 → maxLog < length log → (replayedOf r) .refusal ≡ 26
+      → Called store n g log r → refuse (sharedGrounds store n g) ≡ 0 → length log % entryBytes ≡ 0 → maxLog < length log → replayedOf r ≡ refused 26
   -- of every call on two stores that are alike in their first words: none after them is read
   pub first-words : (store other : List ℕ) → storeWords ≤ length store → storeWords ≤ length other → take storeWords store ≡ take storeWords other
       → (n g : ℕ) (log : List ℕ) → replayAnswer store n g log ≡ replayAnswer other n g log

@@ -108,7 +108,7 @@ fn coverage(states: usize, reached: usize) -> Covered
     }
 }
 
-// Why a log of so many bytes is declined, or 0.
+// Why a log of so many bytes is refused, or 0.
 fn replay_refusal(store: &[u64], n: usize, g: usize, bytes: usize) -> u8
     ensures { λ r. ⌜ r ≡ refuse (replayGrounds (now (store .entry)) n g bytes) ⌝ }
 {
@@ -125,7 +125,7 @@ fn replay_refusal(store: &[u64], n: usize, g: usize, bytes: usize) -> u8
     0
 }
 
-// What the call answers: the entries followed, the different states among them, and the coverage; or why it declines.
+// What the call answers: the entries followed, the different states among them, and the coverage; or why it is refused.
 pub enum Replayed {
     Walk {
         followed: usize,

@@ -8,7 +8,7 @@
 --   rewriting          specs/Rewriting
 use Prim.Native.Nat.{ℕ, _+_, _*_, _≤_, _<_}
 use native.Mathlib.Omega.{arith}
-use mathlib.Core.Path.{_≡_, sym, ap, ap₂, _∙_, subst}
+use mathlib.Core.Path.{_≡_, refl, sym, ap, ap₂, _∙_, subst}
 use mathlib.Core.Logic.{inl, ⊎-elim, _↔_}
 use mathlib.Core.Bool.{true, false, cond}
 use mathlib.Core.List.{List, []}
@@ -19,19 +19,19 @@ use Rattle.model.specs.Sets.{maxStates, Set, member, states, union, empty}
 use Rattle.model.specs.Tables.{Table, Dialogue, hangs, tableFrom}
 use Rattle.model.specs.Rounds.{run}
 use Rattle.model.specs.Paths.{smallestPath}
-use Rattle.basics.specs.Refusals.{refuse}
+use Rattle.basics.specs.Refusals.{refuse, Answered, answered, unlessRefused}
 use Rattle.model.specs.Stores.{storeWords, dialogueOf, tableOf, layout, beyond}
 use Rattle.model.specs.Blocks.{contentsOf}
 use Rattle.model.specs.Contents.{oldForm, newForm, heads, setWidth, headerBytes, setNumber}
 use Rattle.model.specs.Files.{fileOf}
-use Rattle.model.specs.Calls.{overwrite, maxAllowance, Decision, decideGrounds, decideLimits, decideAnswer, decideBuffer, decisionOf, declined, statesIn, groupsIn, readBuffer}
+use Rattle.model.specs.Calls.{overwrite, maxAllowance, Decision, decideGrounds, decideLimits, decideAnswer, decideBuffer, decisionOf, statesIn, groupsIn, readBuffer}
 use Rattle.model.specs.Resting.{Dead}
 use Rattle.model.specs.RoundTrip.{WriteRead}
 use Rattle.basics.proofs.BoundLaws.{clash, same-test, getD-tabulate}
 use Rattle.model.proofs.SetLaws.{Proper, setOf-proper, In, in-bound, in-union, union-in, in-states, states-in, same-set}
 use Rattle.model.proofs.HangLaws.{dead-none, none-dead, hangs-in}
 use Rattle.model.proofs.ListLaws.{length-overwrite}
-use Rattle.basics.proofs.RefusalLaws.{refuse-none, refuse-skip}
+use Rattle.basics.proofs.RefusalLaws.{refuse-none, refuse-skip, answer-none}
 use Rattle.model.proofs.ContentLaws.{setIn-proper, dialogueIn-row, heads-each, sets-each}
 use Rattle.model.proofs.StoreLaws.{Holds, Laid, length-layout, overwrite-holds, holds-layout, Within, beyond-below, below-beyond, clean-malformed, holds-clean, holds-dialogue}
 use Rattle.model.proofs.Acceptance.{Store, accepted-store, store-accepted}
@@ -173,16 +173,15 @@ module _ (input : List ℕ) (old : OldFile input) where
     buffer-is = read-back .buffer ∙ ap (λ xs. overwrite xs store) (sym (holds-layout filled now holds))
 
     answers : (allowance room : ℕ) → allowance ≤ maxAllowance → maxStates ≤ room
-        → decideAnswer filled n g allowance room ≡ decisionOf (oldTable (oldDialogue input)) (run (oldTable (oldDialogue input)) allowance)
+        → decideAnswer filled n g allowance room ≡ answered (decisionOf (oldTable (oldDialogue input)) (run (oldTable (oldDialogue input)) allowance))
     unfolding decideAnswer decideGrounds
     answers allowance room a h =
-        let t = tableOf filled n g in
         let none : refuse (decideGrounds filled n g allowance room) ≡ 0 =
         store-accepted filled n g (decideLimits allowance room) held
         ∙ refuse-skip _ 20 _ (le-ltb maxAllowance allowance a)
         ∙ refuse-skip _ 21 _ (le-ltb room maxStates h)
         ∙ refuse-none in
-        ap (λ (k : ℕ). cond (eqb k 0) (decisionOf t (run t allowance)) (declined k)) none ∙ ap (λ (u : Table). decisionOf u (run u allowance)) table-is
+        answer-none (decideGrounds filled n g allowance room) _ refl none ∙ ap (λ (u : Table). answered (decisionOf u (run u allowance))) table-is
 
     same-decisions : SameDecisions (oldTable (oldDialogue input)) filled n g
     unfolding decideBuffer
@@ -190,7 +189,7 @@ module _ (input : List ℕ) (old : OldFile input) where
         record {
           answers = answers;
           buffers = λ allowance path a h.
-              ap₂ (λ (x : Decision) (xs : List ℕ). cond (eqb (x .verdict) 1) (overwrite xs path) path) (answers allowance (length path) a h) (ap smallestPath table-is);
+              ap₂ (λ (x : Answered Decision) (xs : List ℕ). unlessRefused path (λ d. cond (eqb (d .verdict) 1) (overwrite xs path) path) x) (answers allowance (length path) a h) (ap smallestPath table-is);
         }
 
 pub rewriting : Rewriting

@@ -18,7 +18,7 @@ use Rattle.model.specs.Sets.{maxStates, Set, member, empty, states}
 use Rattle.model.specs.Tables.{Table, Dialogue, isDeadEnd, tableFrom}
 use Rattle.model.specs.Rounds.{run}
 use Rattle.model.specs.Paths.{smallestPath}
-use Rattle.basics.specs.Refusals.{refuse}
+use Rattle.basics.specs.Refusals.{refuse, answered}
 use Rattle.model.specs.Stores.{storeWords, restingAt, setAt, dialogueOf, layout, AcceptedStore}
 use Rattle.model.specs.Blocks.{contentsOf}
 use Rattle.model.specs.Contents.{oldForm, newForm, dialogueIn}
@@ -50,7 +50,7 @@ newFile input = fileOf newForm 0 (rewritten (oldDialogue input))
 
 pub record SameDecisions (t : Table) (store : List ℕ) (n g : ℕ) : Type 0 where
   pub answers : (allowance room : ℕ) → allowance ≤ maxAllowance → maxStates ≤ room
-      → decideAnswer store n g allowance room ≡ decisionOf t (run t allowance)
+      → decideAnswer store n g allowance room ≡ answered (decisionOf t (run t allowance))
   pub buffers : (allowance : ℕ) (path : List ℕ) → allowance ≤ maxAllowance → maxStates ≤ length path
       → decideBuffer store n g allowance path ≡ cond (eqb ((decisionOf t (run t allowance)) .verdict) 1) (overwrite (smallestPath t) path) path
 
@@ -58,7 +58,7 @@ pub record Rewriting : Type 0 where
   -- each table without resting states has an old file, which the old form reads back
   pub old-files : (store : List ℕ) (n g : ℕ) (other : List ℕ) → Bounded (2 ^ 64) store → AcceptedStore store n g → setAt store restingAt ≡ empty
       → storeWords ≤ length other
-      → (readAnswerAs oldForm (fileOf oldForm 0 (dialogueOf store n g)) 0 (length other) ≡ record { refusal = 0; n = n; g = g })
+      → (readAnswerAs oldForm (fileOf oldForm 0 (dialogueOf store n g)) 0 (length other) ≡ answered (record { n = n; g = g }))
       × (readBufferAs oldForm (fileOf oldForm 0 (dialogueOf store n g)) 0 other ≡ overwrite (take storeWords store) other)
   -- its dead ends, and no other state, rest
   pub resting : (d : Dialogue) (s : ℕ) → s < maxStates → (member ((rewritten d) .resting) s ≡ true) ↔ ((s < d .n) × Dead d s)
@@ -66,7 +66,7 @@ pub record Rewriting : Type 0 where
   pub table : (d : Dialogue) (s : ℕ) → member ((tableFrom (rewritten d)) .forbidden) s ≡ member (d .marked) s
   -- of every old file, and of every store that its new file is read into
   pub accepted : (input store : List ℕ) → OldFile input → storeWords ≤ length store
-      → readAnswer (newFile input) 0 (length store) ≡ record { refusal = 0; n = statesIn input; g = groupsIn oldForm input }
+      → readAnswer (newFile input) 0 (length store) ≡ answered (record { n = statesIn input; g = groupsIn oldForm input })
   pub held : (input store : List ℕ) → OldFile input → storeWords ≤ length store
       → readBuffer (newFile input) 0 store ≡ overwrite (layout (rewritten (oldDialogue input))) store
   pub decisions : (input store : List ℕ) → OldFile input → storeWords ≤ length store

@@ -4,18 +4,18 @@
 --   refuse-20, refuse-21, refuse-none          where no ground holds that the calls share, those that decide adds do
 use Prim.Native.Nat.{ℕ, _≤_, _<_}
 use mathlib.Core.Path.{_≡_, refl, sym, ap, ap₂, _∙_, subst}
-use mathlib.Core.Bool.{true, not, cond}
+use mathlib.Core.Bool.{true, cond}
 use mathlib.Core.List.{List, []}
-use borrow.Author.Tests.{ne-eqb, lt-ltb, le-ltb, ltb-false}
+use borrow.Author.Tests.{lt-ltb, le-ltb, ltb-false}
 use lib.Dec.{eqb}
 use lib.ListN.{length}
 use Rattle.model.specs.Sets.{maxStates, Set, empty, size}
 use Rattle.model.specs.Rounds.{Outcome, safe, unsafe, undecided, run}
 use Rattle.model.specs.Paths.{shortest, hasPath, smallestPath}
-use Rattle.basics.specs.Refusals.{refuse}
+use Rattle.basics.specs.Refusals.{refuse, Answered, answered, unlessRefused}
 use Rattle.model.specs.Stores.{tableOf, sharedGrounds}
-use Rattle.model.specs.Calls.{overwrite, maxAllowance, Decision as Answer, decideLimits, decideGrounds, decisionOf, declined, decideAnswer, decideBuffer}
-use Rattle.basics.proofs.RefusalLaws.{refuse-append, refuse-clear}
+use Rattle.model.specs.Calls.{overwrite, maxAllowance, Decision as Answer, decideLimits, decideGrounds, decisionOf, decideAnswer, decideBuffer}
+use Rattle.basics.proofs.RefusalLaws.{refuse-append, refuse-clear, answer-refused, answer-none}
 use Rattle.model.proofs.Acceptance.{Store, accepted-store, store-accepted, well-formed}
 use Rattle.model.proofs.RoundLaws.{unsafe-path}
 use Rattle.model.proofs.PathLaws.{has-path}
@@ -26,7 +26,7 @@ use Rattle.rounds.specs.declared.Ending.{Ending}
 use Rattle.rounds.specs.declared.Ended.{Ended}
 use Rattle.rounds.specs.declared.Verdict.{Verdict}
 use Rattle.rounds.specs.declared.Verdict.the-variants.{Safe, Unsafe, Undecided, Refused}
-use Rattle.rounds.specs.Answers.{endsWith, outcomeOf, invariantOf, stepsIn, answersWith, isRefused, Called}
+use Rattle.rounds.specs.Answers.{endsWith, outcomeOf, invariantOf, stepsIn, answersWith, Called}
 
 -- ---- refusals
 
@@ -53,7 +53,7 @@ module _ (store : List ℕ) (n g allowance room : ℕ) (e : refuse (sharedGround
   unfolding refuse
   refuse-none h l = rw (le-ltb maxAllowance allowance h, le-ltb room maxStates l) at refuse-late
 
--- what a check that is not declined knows of its arguments
+-- what a check that is answered knows of its arguments
 pub accepted : (store : List ℕ) (n g allowance room : ℕ) {k : ℕ} → k ≡ refuse (decideGrounds store n g allowance room) → k ≡ 0
     → Store store n g × (maxStates ≤ room)
 unfolding decideGrounds
@@ -71,42 +71,39 @@ ended-is {r} {o} x q both =
 
 module _ (store : List ℕ) (n g allowance : ℕ) (path : List ℕ) where
   -- the verdict v of a check, the invariant X beside it, and what is left in the buffer
-  abbrev pub Answered : Verdict → Set → List ℕ → Type 0
-  Answered v X after = Called store n g allowance path (record { verdict = v; invariant = record { words = X } }) after
+  abbrev pub Gives : Verdict → Set → List ℕ → Type 0
+  Gives v X after = Called store n g allowance path (record { verdict = v; invariant = record { words = X } }) after
 
-  -- the buffer and the case follow from the numbers
-  answered : (v : Verdict) (X : Set) → answersWith v X ≡ decideAnswer store n g allowance (length path)
-      → isRefused v ≡ not (eqb ((answersWith v X) .refusal) 0)
-      → Answered v X (cond (eqb ((answersWith v X) .verdict) 1) (overwrite (smallestPath (tableOf store n g)) path) path)
+  abbrev left : Answered Answer → List ℕ
+  left = unlessRefused path (λ (a : Answer). cond (eqb (a .verdict) 1) (overwrite (smallestPath (tableOf store n g)) path) path)
+
+  -- the invariant and the buffer follow from the numbers
+  gives : (v : Verdict) (X : Set) → answersWith v X ≡ decideAnswer store n g allowance (length path)
+      → X ≡ unlessRefused empty (λ (a : Answer). a .invariant) (answersWith v X) → Gives v X (left (answersWith v X))
   unfolding decideBuffer
-  answered v X q c = (
-    q,
-    ap (λ (a : Answer). cond (eqb (a .verdict) 1) (overwrite (smallestPath (tableOf store n g)) path) path) q,
-    c ∙ ap (λ (a : Answer). not (eqb (a .refusal) 0)) q,
-  )
+  gives v X q x = (q, x ∙ ap (unlessRefused empty (λ (a : Answer). a .invariant)) q, ap left q)
 
-  -- k is the ground on which the call is declined, or 0
+  -- k is the ground on which the call is refused, or 0
   module _ {k : ℕ} (e : k ≡ refuse (decideGrounds store n g allowance (length path))) where
-    answer-is : cond (eqb k 0) (decisionOf (tableOf store n g) (run (tableOf store n g) allowance)) (declined k) ≡ decideAnswer store n g allowance (length path)
+    pub refused-answer : {X : Set} → (k ≡ 0 → ⊥) → X ≡ empty → Gives (Refused k) X path
     unfolding decideAnswer
-    answer-is = ap (λ (j : ℕ). cond (eqb j 0) (decisionOf (tableOf store n g) (run (tableOf store n g) allowance)) (declined j)) e
-
-    pub refused-answer : {X : Set} → (k ≡ 0 → ⊥) → X ≡ empty → Answered (Refused k) X path
-    unfolding declined
-    refused-answer f x =
-        answered (Refused k) _ (ap (answersWith (Refused k)) x ∙ (rw (ne-eqb k 0 f) at answer-is)) (sym (ap not (ne-eqb k 0 f)))
+    refused-answer f x = gives (Refused k) _ (sym (answer-refused (decideGrounds store n g allowance (length path)) _ e f)) x
 
     module _ (z : k ≡ 0) where
-      decided-answer : {o : Outcome} → o ≡ run (tableOf store n g) allowance → decisionOf (tableOf store n g) o ≡ decideAnswer store n g allowance (length path)
-      decided-answer q = ap (decisionOf (tableOf store n g)) q ∙ (rw z at answer-is)
+      decided-answer : {o : Outcome} → o ≡ run (tableOf store n g) allowance
+          → answered (decisionOf (tableOf store n g) o) ≡ decideAnswer store n g allowance (length path)
+      unfolding decideAnswer decideGrounds
+      decided-answer q =
+          ap (λ (o : Outcome). answered (decisionOf (tableOf store n g) o)) q
+          ∙ sym (answer-none (decideGrounds store n g allowance (length path)) _ refl (sym e ∙ z))
 
-      pub safe-answer : {i m : ℕ} {X : Set} → safe i X ≡ run (tableOf store n g) allowance → m ≡ size X → Answered (Safe i m) X path
+      pub safe-answer : {i m : ℕ} {X : Set} → safe i X ≡ run (tableOf store n g) allowance → m ≡ size X → Gives (Safe i m) X path
       unfolding decisionOf
-      safe-answer {i} {X = X} q h = answered (Safe i _) X (ap (λ (m : ℕ). answersWith (Safe i m) X) h ∙ decided-answer q) refl
+      safe-answer {i} {X = X} q h = gives (Safe i _) X (ap (λ (m : ℕ). answersWith (Safe i m) X) h ∙ decided-answer q) refl
 
-      pub undecided-answer : {i : ℕ} {X : Set} → undecided i ≡ run (tableOf store n g) allowance → X ≡ empty → Answered (Undecided i) X path
+      pub undecided-answer : {i : ℕ} {X : Set} → undecided i ≡ run (tableOf store n g) allowance → X ≡ empty → Gives (Undecided i) X path
       unfolding decisionOf
-      undecided-answer {i} q x = answered (Undecided i) _ (ap (answersWith (Undecided i)) x ∙ decided-answer q) refl
+      undecided-answer {i} q x = gives (Undecided i) _ (ap (answersWith (Undecided i)) x ∙ decided-answer q) refl
 
       -- an unsafe check has a path, and finds it
       path-found : {i : ℕ} → unsafe i ≡ run (tableOf store n g) allowance → hasPath (tableOf store n 0) ≡ true
@@ -117,10 +114,10 @@ module _ (store : List ℕ) (n g allowance : ℕ) (path : List ℕ) where
 
       pub unsafe-answer : {i d : ℕ} {X : Set} {found : Found} {after : List ℕ} → unsafe i ≡ run (tableOf store n g) allowance → X ≡ empty
           → found ≡ foundIn (tableOf store n 0) → after ≡ pathWritten (tableOf store n 0) path → d ≡ stepsIn found
-          → Answered (Unsafe i d) X after
+          → Gives (Unsafe i d) X after
       unfolding decisionOf foundIn pathWritten
       unsafe-answer {i} {d} q x f w h =
           let p = path-found q in
           let steps : d ≡ shortest (tableOf store n g) = rw (h, f, foundIn, p, shortest-groups store n g) in
-          let both = answered (Unsafe i d) _ (ap₂ (λ (m : ℕ) (X : Set). answersWith (Unsafe i m) X) steps x ∙ decided-answer q) refl in
-          (both .0, rw (w, pathWritten, p, ← smallestPath-groups store n g) (both .1), both .2)
+          let all = gives (Unsafe i d) _ (ap₂ (λ (m : ℕ) (X : Set). answersWith (Unsafe i m) X) steps x ∙ decided-answer q) refl in
+          (all .0, all .1, rw (w, pathWritten, p, ← smallestPath-groups store n g) (all .2))

@@ -9,17 +9,17 @@ use native.Mathlib.Nat.{le-refl, le-of-eq}
 use native.Mathlib.Omega.{arith}
 use mathlib.Core.Path.{_≡_, refl, sym, ap, ap₂, _∙_, subst}
 use mathlib.Core.List.{List, [], _∷_}
-use borrow.Author.Tests.{ne-eqb}
 use lib.ListN.{length, drop, replicate, drop-of-length-le}
 use lib.Seq.{drop-cons}
 use Rattle.basics.specs.Bounds.{tabulate}
 use Rattle.model.specs.Sets.{maxStates, Set, empty, meet, members, firstStates}
 use Rattle.model.specs.Tables.{notForbidden}
 use Rattle.model.specs.Rounds.{iterate, roundOf, firstRound}
-use Rattle.basics.specs.Refusals.{refuse}
+use Rattle.basics.specs.Refusals.{refuse, Answered, answered, unlessRefused}
 use Rattle.model.specs.Stores.{setAt, tableOf, sharedGrounds}
 use Rattle.model.specs.Calls.{overwrite}
 use Rattle.basics.proofs.BoundLaws.{length-tabulate, getD-tabulate}
+use Rattle.basics.proofs.RefusalLaws.{answer-refused, answer-none}
 use Rattle.model.proofs.ListLaws.{concat-cong}
 use Rattle.model.proofs.SetLaws.{_⊆_, meet-in, difference-in}
 use Rattle.model.proofs.CoverLaws.{notForbidden-within}
@@ -112,7 +112,9 @@ module _ (store : List ℕ) (n g : ℕ) where
   pub order-refused : {k : ℕ} → k ≡ refuse (sharedGrounds store n g) → (k ≡ 0 → ⊥)
       → Ordered store n g (record { expansion = ExpansionRefused k; states = replicate maxStates 0 })
   unfolding orderAnswer padded overwrite
-  order-refused {k} e f = let some = ne-eqb k 0 f in (rw (← e, some), rw (← e, some, some))
+  order-refused {k} e f =
+      let gives = answer-refused (sharedGrounds store n g) _ e f in
+      (sym gives, sym (ap (unlessRefused (padded []) (λ (a : OrderAnswer). a .states)) gives))
 
   module _ (none : refuse (sharedGrounds store n g) ≡ 0) (few : n ≤ maxStates) where
     pub order-listed : {Z initial : Set} {rows : List Set} {order : List ℕ} {count : ℕ} → Z ≡ notForbidden n ((tableOf store n 0) .forbidden)
@@ -127,7 +129,8 @@ module _ (store : List ℕ) (n g : ℕ) where
         ap₂ (λ (R : List Set) (X : Set). orderBy store R X Z) c i
         ∙ ap (λ (X : Set). orderBy store (covers n (X ∷ t .groups)) (setAt store 0) X) z
         ∙ order-is store n g few (Z0 ∷ t .groups) Z0 (notForbidden-within n ((tableOf store n 0) .forbidden)) in
-        let listed : OrderAnswer = record { refusal = 0; count = length (forwardOrder t (Z0 ∷ t .groups) Z0); states = padded (forwardOrder t (Z0 ∷ t .groups) Z0) } in
-        let numbers : (record { refusal = 0; count = _; states = _ }) ≡ listed =
-        ap₂ (λ (k : ℕ) (xs : List ℕ). record { refusal = 0; count = k; states = xs }) (m ∙ ap length same) (o ∙ ap padded same) in
-        (rw none numbers, rw none)
+        let listed : ℕ → List ℕ → Answered OrderAnswer = λ k xs. answered (record { count = k; states = xs }) in
+        let gives =
+        ap₂ listed (m ∙ ap length same) (o ∙ ap padded same)
+        ∙ sym (answer-none (sharedGrounds store n g) _ refl none) in
+        (gives, ap (unlessRefused (padded []) (λ (a : OrderAnswer). a .states)) gives)

@@ -4,14 +4,13 @@
 --   outcomeOf r       how the rounds ended, as the model's outcome
 --   invariantOf o     the invariant that goes with an outcome: R where it is safe, and the empty set where it is not
 --   answerOf r        what decide answers, in the specification's numbers for each of its cases
---   isRefused v       the case in which decide is declined
 --   Called            a call of decide and what it gave: its contract
 use Prim.Native.Nat.{ℕ}
 use mathlib.Core.Path.{_≡_}
-use mathlib.Core.Bool.{Bool, true, false, not}
+use mathlib.Core.Bool.{Bool, true, false}
 use mathlib.Core.List.{List}
-use lib.Dec.{eqb}
 use lib.ListN.{length}
+use Rattle.basics.specs.Refusals.{Answered, refused, answered, unlessRefused}
 use Rattle.model.specs.Sets.{Set, empty, union, subset}
 use Rattle.model.specs.Rounds.{Outcome, safe, unsafe, undecided}
 use Rattle.model.specs.Calls.{Decision as Answer, decideAnswer, decideBuffer}
@@ -68,25 +67,19 @@ abbrev pub stepsIn : Found → ℕ
 stepsIn (Steps d) = d
 stepsIn Nothing = 0
 
-abbrev pub answersWith : Verdict → Set → Answer
-answersWith (Safe i k) R = record { refusal = 0; verdict = 0; count = i; invariant = R; size = k; steps = 0 }
-answersWith (Unsafe i d) R = record { refusal = 0; verdict = 1; count = i; invariant = R; size = 0; steps = d }
-answersWith (Undecided i) R = record { refusal = 0; verdict = 2; count = i; invariant = R; size = 0; steps = 0 }
-answersWith (Refused k) R = record { refusal = k; verdict = 0; count = 0; invariant = R; size = 0; steps = 0 }
+abbrev pub answersWith : Verdict → Set → Answered Answer
+answersWith (Safe i k) R = answered (record { verdict = 0; count = i; invariant = R; size = k; steps = 0 })
+answersWith (Unsafe i d) R = answered (record { verdict = 1; count = i; invariant = R; size = 0; steps = d })
+answersWith (Undecided i) R = answered (record { verdict = 2; count = i; invariant = R; size = 0; steps = 0 })
+answersWith (Refused k) R = refused k
 
-abbrev pub answerOf : Decision → Answer
+abbrev pub answerOf : Decision → Answered Answer
 answerOf r = answersWith (r .verdict) (r .invariant .words)
 
--- Safe with count and size 0 and a refusal numbered 0 would have the same numbers: this tells them apart.
-abbrev pub isRefused : Verdict → Bool
-isRefused (Safe i k) = false
-isRefused (Unsafe i d) = false
-isRefused (Undecided i) = false
-isRefused (Refused k) = true
-
--- The contract of decide: its answer, the path buffer before and after, and whether it is declined.
+-- The contract of decide: its answer, the set that stands beside the verdict (empty where the call is refused), and the path buffer before and
+-- after.
 abbrev pub Called : List ℕ → ℕ → ℕ → ℕ → List ℕ → Decision → List ℕ → Type 0
 Called store n g allowance before r after =
     (answerOf r ≡ decideAnswer store n g allowance (length before))
+    × (r .invariant .words ≡ unlessRefused empty (λ a. a .invariant) (decideAnswer store n g allowance (length before)))
     × (after ≡ decideBuffer store n g allowance before)
-    × (isRefused (r .verdict) ≡ not (eqb ((decideAnswer store n g allowance (length before)) .refusal) 0))

@@ -3,15 +3,16 @@
 --   OrderPromises     all of it; `InOrder` says what an order is
 use Prim.Native.Nat.{ℕ, _≤_}
 use mathlib.Core.Path.{_≡_}
-use mathlib.Core.Bool.{true, false}
+use mathlib.Core.Bool.{true}
 use mathlib.Core.List.{List}
 use lib.ListN.{length, take}
+use Rattle.basics.specs.Refusals.{answered}
 use Rattle.model.specs.Sets.{maxStates, Set, subset, firstStates}
 use Rattle.model.specs.Rounds.{firstRound}
 use Rattle.model.specs.Stores.{storeWords, tableOf}
 use Rattle.rounds.specs.Steps.{covers}
 use Rattle.rounds.specs.Order.{orderBy, InOrder}
-use Rattle.rounds.specs.OrderAnswers.{orderAnswer, orderedOf, isRefused, Ordered}
+use Rattle.rounds.specs.OrderAnswers.{OrderAnswer, orderAnswer, orderedOf, Ordered}
 use Rattle.rounds.specs.declared.FirstOrder.{FirstOrder}
 
 pub record OrderPromises : Type 0 where
@@ -19,9 +20,8 @@ pub record OrderPromises : Type 0 where
   pub forward : (store : List ℕ) (n g : ℕ) (L : List Set) (Z : Set) → n ≤ maxStates → subset Z (firstStates n) ≡ true
       → InOrder (tableOf store n g) L Z (orderBy store (covers n L) ((tableOf store n g) .initial) Z)
   -- what first_order returns is the order of the first round
-  pub first-order : (store : List ℕ) (n g : ℕ) (r : FirstOrder) → Ordered store n g r → isRefused (r .expansion) ≡ false
-      → InOrder (tableOf store n g) ((firstRound (tableOf store n g)) .list) ((firstRound (tableOf store n g)) .Z)
-      (take ((orderedOf r) .count) ((orderedOf r) .states))
+  pub first-order : (store : List ℕ) (n g : ℕ) (r : FirstOrder) (a : OrderAnswer) → Ordered store n g r → orderedOf r ≡ answered a
+      → InOrder (tableOf store n g) ((firstRound (tableOf store n g)) .list) ((firstRound (tableOf store n g)) .Z) (take (a .count) (a .states))
   -- on two stores that are alike in their first words: none after them is read
   pub first-words : (store other : List ℕ) → storeWords ≤ length store → storeWords ≤ length other → take storeWords store ≡ take storeWords other
       → (n g : ℕ) → orderAnswer store n g ≡ orderAnswer other n g

@@ -381,13 +381,13 @@ pub fn run(store: &[u64], n: usize, g: usize, allowance: usize) -> Ended
 
 // ---- the order of the first round
 
-// How many states were expanded, or the number of the ground on which the call is declined.
+// How many states were expanded, or the number of the ground on which the call is refused.
 pub enum Expansion {
     Listed(usize),
     Refused(u8),
 }
 
-// The answer, with the states beside it where it is not declined.
+// The answer, with the states beside it where it is not refused.
 pub struct FirstOrder {
     pub expansion: Expansion,
     pub states: Order,
@@ -423,7 +423,7 @@ pub fn first_order(store: &[u64], n: usize, g: usize) -> FirstOrder
 // As many refinements as there can be states.
 pub const MAX_ALLOWANCE: usize = MAX_STATES;
 
-// Why a check is declined, or 0.
+// Why a check is refused, or 0.
 fn decide_refusal(store: &[u64], n: usize, g: usize, allowance: usize, room: usize) -> u8
     ensures { λ r. ⌜ r ≡ refuse (decideGrounds (now (store .entry)) n g allowance room) ⌝ }
 {
@@ -441,7 +441,7 @@ fn decide_refusal(store: &[u64], n: usize, g: usize, allowance: usize, room: usi
 }
 
 // The verdicts, each with its count of refinements: safe with the number of states of the invariant, unsafe with the steps of the path.
-// `Refused` has the number of the ground on which the call is declined.
+// `Refused` has the number of the ground on which the call is refused.
 pub enum Verdict {
     Safe { count: usize, size: usize },
     Unsafe { count: usize, steps: usize },

@@ -1,14 +1,20 @@
--- The structs of the calls for C, as the model's answers: field by field, under the same names.
+-- The structs of the calls for C, for an answer and for a refusal: this is the one place that says their numbers. A refused call has its number in
+-- `refusal`, which is 0 for an answer, and none of the numbers that an answer can have where one could be taken for it.
 --
---   decisionFields, shortestFields, withinFields, tableFields, fileFields     what decide, shortest path, within, read and write return
---   replayFields, sessionFields, modalFields, minuteFields                    what replay, the calls of an edit session, decide with possible steps and next
---                                                                             open minute return
-use Rattle.model.specs.Calls.{Decision, Shortest, TableRead, Written}
-use Rattle.paths.specs.Within.{Answer}
+--   noVerdict, noAnswer         the verdict, and the yes or no, of a refused call
+--   noTable                     n and g of a refused read, which every call refuses (FailsSafe)
+--   noMinute                    the minute where there is none, of a refused call and of never: past every time
+--   refusalNumber               the number of a refused call, or 0: what distances and generate return
+--   decisionFields, shortestFields, withinFields, tableFields, fileFields, replayFields, sessionFields, modalFields, minuteFields
+--                               decide, shortest path, within, read, write, replay, the calls of an edit session, decide modal, next open minute
+use Prim.Native.Nat.{ℕ, _-_, _^_}
+use mathlib.Core.Bool.{Bool, true, false}
+use Rattle.basics.specs.Refusals.{Answered, refused, answered}
+use Rattle.model.specs.Sets.{Set, empty}
+use Rattle.model.specs.Calls.{Decision, Shortest, TableRead}
 use Rattle.replay.specs.Logs.{Replay}
-use Rattle.edit_session.specs.Edits.{Answer as SessionAnswer}
 use Rattle.modal.specs.Modal.{ModalAnswer}
-use Rattle.release_windows.specs.Answers.{Answer as MinuteAnswer}
+use Rattle.release_windows.specs.Answers.{Opening, minute, never}
 use Rattle.shuntberry.specs.declared.DecisionFields.{DecisionFields}
 use Rattle.shuntberry.specs.declared.ShortestFields.{ShortestFields}
 use Rattle.shuntberry.specs.declared.WithinFields.{WithinFields}
@@ -19,32 +25,61 @@ use Rattle.shuntberry.specs.declared.SessionFields.{SessionFields}
 use Rattle.shuntberry.specs.declared.ModalFields.{ModalFields}
 use Rattle.shuntberry.specs.declared.MinuteFields.{MinuteFields}
 
--- all but `reserved`
-abbrev pub decisionFields : DecisionFields → Decision
-decisionFields r =
-    record { refusal = r .refusal; verdict = r .verdict; count = r .count; invariant = r .invariant; size = r .size; steps = r .steps }
+abbrev pub noVerdict : ℕ
+noVerdict = 255
 
-abbrev pub shortestFields : ShortestFields → Shortest
-shortestFields r = record { refusal = r .refusal; found = r .found; steps = r .steps }
+abbrev pub noAnswer : ℕ
+noAnswer = 255
 
-abbrev pub withinFields : WithinFields → Answer
-withinFields r = record { refusal = r .refusal; within = r .within }
+abbrev pub noTable : ℕ
+noTable = 65535
 
-abbrev pub tableFields : TableFields → TableRead
-tableFields r = record { refusal = r .refusal; n = r .n; g = r .g }
+abbrev pub noMinute : ℕ
+noMinute = 2 ^ 32 - 1
 
-abbrev pub fileFields : FileFields → Written
-fileFields r = record { refusal = r .refusal; length = r .length }
+abbrev pub refusalNumber : {A : Type 0} → Answered A → ℕ
+refusalNumber (refused k) = k
+refusalNumber (answered a) = 0
 
-abbrev pub replayFields : ReplayFields → Replay
-replayFields r = record { refusal = r .refusal; followed = r .followed; seen = r .seen; percent = r .percent; remainder = r .remainder }
+abbrev pub decisionFields : Answered Decision → DecisionFields
+decisionFields (refused k) =
+    record { invariant = empty; refusal = k; verdict = noVerdict; count = 0; size = 0; steps = 0; reserved = 0 }
+decisionFields (answered a) =
+    record { invariant = a .invariant; refusal = 0; verdict = a .verdict; count = a .count; size = a .size; steps = a .steps; reserved = 0 }
 
--- all but `reserved`
-abbrev pub sessionFields : SessionFields → SessionAnswer
-sessionFields r = record { refusal = r .refusal; reachable = r .reachable }
+abbrev pub shortestFields : Answered Shortest → ShortestFields
+shortestFields (refused k) = record { refusal = k; found = noAnswer; steps = 0 }
+shortestFields (answered a) = record { refusal = 0; found = a .found; steps = a .steps }
 
-abbrev pub modalFields : ModalFields → ModalAnswer
-modalFields r = record { refusal = r .refusal; verdict = r .verdict; invariant = r .invariant; size = r .size; steps = r .steps }
+abbrev pub withinFields : Answered Bool → WithinFields
+withinFields (refused k) = record { refusal = k; within = noAnswer }
+withinFields (answered true) = record { refusal = 0; within = 1 }
+withinFields (answered false) = record { refusal = 0; within = 0 }
 
-abbrev pub minuteFields : MinuteFields → MinuteAnswer
-minuteFields r = record { refusal = r .refusal; never = r .never; minute = r .minute }
+abbrev pub tableFields : Answered TableRead → TableFields
+tableFields (refused k) = record { refusal = k; n = noTable; g = noTable }
+tableFields (answered a) = record { refusal = 0; n = a .n; g = a .g }
+
+-- The length of a refused write is 0: any other would invite a read past what is in the caller's buffer.
+abbrev pub fileFields : Answered ℕ → FileFields
+fileFields (refused k) = record { refusal = k; length = 0 }
+fileFields (answered l) = record { refusal = 0; length = l }
+
+abbrev pub replayFields : Answered Replay → ReplayFields
+replayFields (refused k) = record { refusal = k; followed = 0; seen = 0; percent = 0; remainder = 0 }
+replayFields (answered a) =
+    record { refusal = 0; followed = a .followed; seen = a .seen; percent = a .percent; remainder = a .remainder }
+
+-- A refused opening gives the empty set, a refused edit the set X that it was handed.
+abbrev pub sessionFields : Set → Answered Set → SessionFields
+sessionFields X (refused k) = record { reachable = X; refusal = k; reserved = 0 }
+sessionFields X (answered Y) = record { reachable = Y; refusal = 0; reserved = 0 }
+
+abbrev pub modalFields : Answered ModalAnswer → ModalFields
+modalFields (refused k) = record { invariant = empty; refusal = k; verdict = noVerdict; size = 0; steps = 0 }
+modalFields (answered a) = record { invariant = a .invariant; refusal = 0; verdict = a .verdict; size = a .size; steps = a .steps }
+
+abbrev pub minuteFields : Answered Opening → MinuteFields
+minuteFields (refused k) = record { refusal = k; never = noAnswer; minute = noMinute }
+minuteFields (answered (minute m)) = record { refusal = 0; never = 0; minute = m }
+minuteFields (answered never) = record { refusal = 0; never = 1; minute = noMinute }

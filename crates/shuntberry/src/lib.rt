@@ -1,16 +1,16 @@
 // The calls for C (include/shuntberry.h). Each only calls the call of the same name and lays its answer out in a struct of the
-// specification's numbers (docs/SPECIFICATION.md, "Refusals"): `refusal` is 0 where the call was not declined, and every other field is 0
-// where it was (but an edit of a session gives back the set that it was handed). An answer of the refusal alone is just that number.
+// specification's numbers. specs/Fields says which, for an answer and for a refusal; specs/FailsSafe, that a refusal is none of the numbers of an answer.
 ghost use mathlib.Core.Path.{_≡_};
 ghost use Prim.Native.Nat.{_≤_};
 ghost use lib.ListN.{length};
-ghost use Rattle.model.specs.Sets.{maxStates};
+ghost use Rattle.basics.specs.Refusals.{refused};
+ghost use Rattle.model.specs.Sets.{empty, maxStates};
 ghost use Rattle.model.specs.Files.{maxFile};
 ghost use Rattle.model.specs.Calls.{decideAnswer, decideBuffer, shortestAnswer, shortestBuffer, readAnswer, readBuffer, writeAnswer, writeBuffer};
 ghost use Rattle.model.proofs.Ranges.{DecisionRange, ReadRange};
 ghost use Rattle.rounds.specs.Answers.{answerOf};
 ghost use Rattle.paths.specs.Answers.{shortestOf};
-ghost use Rattle.paths.specs.Distances.{distancesRefusal, distancesBuffer, refusalOf};
+ghost use Rattle.paths.specs.Distances.{distancesAnswer, distancesBuffer, distancesOf};
 ghost use Rattle.paths.specs.Within.{withinAnswer, answerOf as withinOf};
 ghost use Rattle.file_reading.specs.ReadAnswers.{readOf};
 ghost use Rattle.file_writing.specs.WriteAnswers.{writtenOf};
@@ -24,8 +24,9 @@ ghost use Rattle.edit_session.specs.Answers.{answerOf as sessionOf};
 ghost use Rattle.modal.specs.Modal.{modalAnswer, modalBuffer};
 ghost use Rattle.modal.specs.Answers.{answerOf as modalOf};
 ghost use Rattle.modal.proofs.Ranges.{ModalRange};
-ghost use Rattle.release_windows.specs.Answers.{nextOpenAnswer, numbersOf};
-ghost use Rattle.shuntberry.specs.Fields.{decisionFields, shortestFields, withinFields, tableFields, fileFields, replayFields, sessionFields, modalFields, minuteFields};
+ghost use Rattle.release_windows.specs.Answers.{nextOpenAnswer, openingOf};
+ghost use Rattle.shuntberry.specs.Small.{WhereAnswered};
+ghost use Rattle.shuntberry.specs.Fields.{refusalNumber, decisionFields, shortestFields, withinFields, tableFields, fileFields, replayFields, sessionFields, modalFields, minuteFields};
 use edit_session::Session;
 use edit_session::Status;
 use edit_session::add_step;
@@ -56,6 +57,12 @@ use rounds::decide;
 use state_set::StateSet;
 use state_set::WORDS;
 
+// What stands where a refused call has no answer (specs/Fields).
+const NO_VERDICT: u32 = 255;
+const NO_ANSWER: u32 = 255;
+const NO_TABLE: u32 = 65_535;
+const NO_MINUTE: u32 = 4_294_967_295;
+
 // ---- decide
 
 #[repr(C)]
@@ -69,9 +76,24 @@ pub struct DecisionFields {
     pub reserved: u32,
 }
 
+fn refused_decision(refusal: u8) -> DecisionFields
+    ensures { λ r. ⌜ r ≡ decisionFields (refused refusal) ⌝ }
+{
+    let none = StateSet::empty();
+    DecisionFields {
+        invariant: none.words,
+        refusal: refusal as u32,
+        verdict: NO_VERDICT,
+        count: 0,
+        size: 0,
+        steps: 0,
+        reserved: 0,
+    }
+}
+
 fn lay_out_decision(answer: Decision) -> DecisionFields
-    requires { ⌜ DecisionRange (answerOf answer) ⌝ }
-    ensures { λ r. ⌜ (decisionFields r ≡ answerOf answer) × (r .reserved ≡ 0) ⌝ }
+    requires { ⌜ WhereAnswered DecisionRange (answerOf answer) ⌝ }
+    ensures { λ r. ⌜ r ≡ decisionFields (answerOf answer) ⌝ }
 {
     let verdict = answer.verdict;
     let invariant = answer.invariant.words;
@@ -103,15 +125,7 @@ fn lay_out_decision(answer: Decision) -> DecisionFields
             steps: 0,
             reserved: 0,
         },
-        Verdict::Refused(refusal) => DecisionFields {
-            invariant,
-            refusal: refusal as u32,
-            verdict: 0,
-            count: 0,
-            size: 0,
-            steps: 0,
-            reserved: 0,
-        },
+        Verdict::Refused(refusal) => refused_decision(refusal),
     }
 }
 
@@ -123,8 +137,8 @@ pub extern "C" fn shuntberry_decide(
     allowance: usize,
     path: &mut [u16],
 ) -> DecisionFields
-    ensures { λ r. ⌜ (decisionFields r ≡ decideAnswer (now (store .entry)) n g allowance (length (now (path .entry))))
-        × ((r .reserved ≡ 0) × (now (path .exit) ≡ decideBuffer (now (store .entry)) n g allowance (now (path .entry)))) ⌝ }
+    ensures { λ r. ⌜ (r ≡ decisionFields (decideAnswer (now (store .entry)) n g allowance (length (now (path .entry)))))
+        × (now (path .exit) ≡ decideBuffer (now (store .entry)) n g allowance (now (path .entry))) ⌝ }
 {
     lay_out_decision(decide(store, n, g, allowance, path))
 }
@@ -139,8 +153,8 @@ pub struct ShortestFields {
 }
 
 fn lay_out_shortest(answer: Shortest) -> ShortestFields
-    requires { ⌜ (shortestOf answer) .steps ≤ maxStates ⌝ }
-    ensures { λ r. ⌜ shortestFields r ≡ shortestOf answer ⌝ }
+    requires { ⌜ WhereAnswered (λ a. a .steps ≤ maxStates) (shortestOf answer) ⌝ }
+    ensures { λ r. ⌜ r ≡ shortestFields (shortestOf answer) ⌝ }
 {
     match answer {
         Shortest::Path { steps } => ShortestFields {
@@ -155,7 +169,7 @@ fn lay_out_shortest(answer: Shortest) -> ShortestFields
         },
         Shortest::Refused(refusal) => ShortestFields {
             refusal: refusal as u32,
-            found: 0,
+            found: NO_ANSWER,
             steps: 0,
         },
     }
@@ -168,7 +182,7 @@ pub extern "C" fn shuntberry_shortest_path(
     g: usize,
     path: &mut [u16],
 ) -> ShortestFields
-    ensures { λ r. ⌜ (shortestFields r ≡ shortestAnswer (now (store .entry)) n g (length (now (path .entry))))
+    ensures { λ r. ⌜ (r ≡ shortestFields (shortestAnswer (now (store .entry)) n g (length (now (path .entry)))))
         × (now (path .exit) ≡ shortestBuffer (now (store .entry)) n g (now (path .entry))) ⌝ }
 {
     lay_out_shortest(shortest_path(store, n, g, path))
@@ -178,7 +192,7 @@ pub extern "C" fn shuntberry_shortest_path(
 
 // The refusal, or 0.
 fn refusal_number(answer: DistancesAnswer) -> u32
-    ensures { λ r. ⌜ r ≡ refusalOf answer ⌝ }
+    ensures { λ r. ⌜ r ≡ refusalNumber (distancesOf answer) ⌝ }
 {
     match answer {
         DistancesAnswer::Written => 0,
@@ -188,7 +202,7 @@ fn refusal_number(answer: DistancesAnswer) -> u32
 
 #[no_mangle]
 pub extern "C" fn shuntberry_distances(store: &[u64], n: usize, g: usize, out: &mut [u16]) -> u32
-    ensures { λ r. ⌜ (r ≡ distancesRefusal (now (store .entry)) n g (length (now (out .entry))))
+    ensures { λ r. ⌜ (r ≡ refusalNumber (distancesAnswer (now (store .entry)) n g (length (now (out .entry)))))
         × (now (out .exit) ≡ distancesBuffer (now (store .entry)) n g (now (out .entry))) ⌝ }
 {
     refusal_number(distances(store, n, g, out))
@@ -203,7 +217,7 @@ pub struct WithinFields {
 }
 
 fn lay_out_within(answer: WithinAnswer) -> WithinFields
-    ensures { λ r. ⌜ withinFields r ≡ withinOf answer ⌝ }
+    ensures { λ r. ⌜ r ≡ withinFields (withinOf answer) ⌝ }
 {
     match answer {
         WithinAnswer::Yes => WithinFields {
@@ -216,14 +230,14 @@ fn lay_out_within(answer: WithinAnswer) -> WithinFields
         },
         WithinAnswer::Refused(refusal) => WithinFields {
             refusal: refusal as u32,
-            within: 0,
+            within: NO_ANSWER,
         },
     }
 }
 
 #[no_mangle]
 pub extern "C" fn shuntberry_within(store: &[u64], n: usize, g: usize, k: usize) -> WithinFields
-    ensures { λ r. ⌜ withinFields r ≡ withinAnswer (now (store .entry)) n g k ⌝ }
+    ensures { λ r. ⌜ r ≡ withinFields (withinAnswer (now (store .entry)) n g k) ⌝ }
 {
     lay_out_within(within(store, n, g, k))
 }
@@ -238,8 +252,8 @@ pub struct TableFields {
 }
 
 fn lay_out_table(answer: TableRead) -> TableFields
-    requires { ⌜ ReadRange (readOf answer) ⌝ }
-    ensures { λ r. ⌜ tableFields r ≡ readOf answer ⌝ }
+    requires { ⌜ WhereAnswered ReadRange (readOf answer) ⌝ }
+    ensures { λ r. ⌜ r ≡ tableFields (readOf answer) ⌝ }
 {
     match answer {
         TableRead::Table { n, g } => TableFields {
@@ -249,15 +263,15 @@ fn lay_out_table(answer: TableRead) -> TableFields
         },
         TableRead::Refused(refusal) => TableFields {
             refusal: refusal as u32,
-            n: 0,
-            g: 0,
+            n: NO_TABLE,
+            g: NO_TABLE,
         },
     }
 }
 
 #[no_mangle]
 pub extern "C" fn shuntberry_read(input: &[u8], site: usize, store: &mut [u64]) -> TableFields
-    ensures { λ r. ⌜ (tableFields r ≡ readAnswer (now (input .entry)) site (length (now (store .entry))))
+    ensures { λ r. ⌜ (r ≡ tableFields (readAnswer (now (input .entry)) site (length (now (store .entry)))))
         × (now (store .exit) ≡ readBuffer (now (input .entry)) site (now (store .entry))) ⌝ }
 {
     lay_out_table(read(input, site, store))
@@ -272,8 +286,8 @@ pub struct FileFields {
 }
 
 fn lay_out_file(answer: Written) -> FileFields
-    requires { ⌜ (writtenOf answer) .length ≤ maxFile ⌝ }
-    ensures { λ r. ⌜ fileFields r ≡ writtenOf answer ⌝ }
+    requires { ⌜ WhereAnswered (λ l. l ≤ maxFile) (writtenOf answer) ⌝ }
+    ensures { λ r. ⌜ r ≡ fileFields (writtenOf answer) ⌝ }
 {
     match answer {
         Written::File(length) => FileFields {
@@ -295,7 +309,7 @@ pub extern "C" fn shuntberry_write(
     site: usize,
     output: &mut [u8],
 ) -> FileFields
-    ensures { λ r. ⌜ (fileFields r ≡ writeAnswer (now (store .entry)) n g site (length (now (output .entry))))
+    ensures { λ r. ⌜ (r ≡ fileFields (writeAnswer (now (store .entry)) n g site (length (now (output .entry)))))
         × (now (output .exit) ≡ writeBuffer (now (store .entry)) n g site (now (output .entry))) ⌝ }
 {
     lay_out_file(write(store, n, g, site, output))
@@ -304,7 +318,7 @@ pub extern "C" fn shuntberry_write(
 // ---- generate
 
 fn lay_out_generated(answer: Generated) -> u32
-    ensures { λ r. ⌜ r ≡ (generatedOf answer) .refusal ⌝ }
+    ensures { λ r. ⌜ r ≡ refusalNumber (generatedOf answer) ⌝ }
 {
     match answer {
         Generated::Filled => 0,
@@ -314,7 +328,7 @@ fn lay_out_generated(answer: Generated) -> u32
 
 #[no_mangle]
 pub extern "C" fn shuntberry_generate(seed: u32, n: usize, fan_out: usize, store: &mut [u64]) -> u32
-    ensures { λ r. ⌜ (r ≡ (generateAnswer n «fan_out» (length (now (store .entry)))) .refusal)
+    ensures { λ r. ⌜ (r ≡ refusalNumber (generateAnswer n «fan_out» (length (now (store .entry)))))
         × (now (store .exit) ≡ generateBuffer seed n «fan_out» (now (store .entry))) ⌝ }
 {
     lay_out_generated(generate(seed, n, fan_out, store))
@@ -332,8 +346,8 @@ pub struct ReplayFields {
 }
 
 fn lay_out_replay(answer: Replayed) -> ReplayFields
-    requires { ⌜ ReplayRange (replayedOf answer) ⌝ }
-    ensures { λ r. ⌜ replayFields r ≡ replayedOf answer ⌝ }
+    requires { ⌜ WhereAnswered ReplayRange (replayedOf answer) ⌝ }
+    ensures { λ r. ⌜ r ≡ replayFields (replayedOf answer) ⌝ }
 {
     match answer {
         Replayed::Walk {
@@ -360,7 +374,7 @@ fn lay_out_replay(answer: Replayed) -> ReplayFields
 
 #[no_mangle]
 pub extern "C" fn shuntberry_replay(store: &[u64], n: usize, g: usize, log: &[u8]) -> ReplayFields
-    ensures { λ r. ⌜ replayFields r ≡ replayAnswer (now (store .entry)) n g (now (log .entry)) ⌝ }
+    ensures { λ r. ⌜ r ≡ replayFields (replayAnswer (now (store .entry)) n g (now (log .entry))) ⌝ }
 {
     lay_out_replay(replay(store, n, g, log))
 }
@@ -381,7 +395,7 @@ pub struct SessionFields {
 }
 
 fn lay_out_session(answer: Session) -> SessionFields
-    ensures { λ r. ⌜ (sessionFields r ≡ sessionOf answer) × (r .reserved ≡ 0) ⌝ }
+    ensures { λ r. ⌜ r ≡ sessionFields (answer .reachable .words) (sessionOf answer) ⌝ }
 {
     let status = answer.status;
     let reachable = answer.reachable.words;
@@ -401,7 +415,7 @@ fn lay_out_session(answer: Session) -> SessionFields
 
 #[no_mangle]
 pub extern "C" fn shuntberry_open(store: &[u64], n: usize, g: usize) -> SessionFields
-    ensures { λ r. ⌜ (sessionFields r ≡ openAnswer (now (store .entry)) n g) × (r .reserved ≡ 0) ⌝ }
+    ensures { λ r. ⌜ r ≡ sessionFields empty (openAnswer (now (store .entry)) n g) ⌝ }
 {
     lay_out_session(open(store, n, g))
 }
@@ -415,8 +429,8 @@ pub extern "C" fn shuntberry_add_step(
     from: usize,
     to: usize,
 ) -> SessionFields
-    ensures { λ r. ⌜ (sessionFields r ≡ editAnswer (now (store .entry)) n g (reachable .words) (add from to))
-        × ((r .reserved ≡ 0) × (now (store .exit) ≡ editBuffer (now (store .entry)) n g (add from to))) ⌝ }
+    ensures { λ r. ⌜ (r ≡ sessionFields (reachable .words) (editAnswer (now (store .entry)) n g (reachable .words) (add from to)))
+        × (now (store .exit) ≡ editBuffer (now (store .entry)) n g (add from to)) ⌝ }
 {
     let words = reachable.words;
     lay_out_session(add_step(store, n, g, StateSet { words }, from, to))
@@ -431,8 +445,8 @@ pub extern "C" fn shuntberry_remove_step(
     from: usize,
     to: usize,
 ) -> SessionFields
-    ensures { λ r. ⌜ (sessionFields r ≡ editAnswer (now (store .entry)) n g (reachable .words) (remove from to))
-        × ((r .reserved ≡ 0) × (now (store .exit) ≡ editBuffer (now (store .entry)) n g (remove from to))) ⌝ }
+    ensures { λ r. ⌜ (r ≡ sessionFields (reachable .words) (editAnswer (now (store .entry)) n g (reachable .words) (remove from to)))
+        × (now (store .exit) ≡ editBuffer (now (store .entry)) n g (remove from to)) ⌝ }
 {
     let words = reachable.words;
     lay_out_session(remove_step(store, n, g, StateSet { words }, from, to))
@@ -449,9 +463,22 @@ pub struct ModalFields {
     pub steps: u32,
 }
 
+fn refused_modal(refusal: u8) -> ModalFields
+    ensures { λ r. ⌜ r ≡ modalFields (refused refusal) ⌝ }
+{
+    let none = StateSet::empty();
+    ModalFields {
+        invariant: none.words,
+        refusal: refusal as u32,
+        verdict: NO_VERDICT,
+        size: 0,
+        steps: 0,
+    }
+}
+
 fn lay_out_modal(answer: ModalDecision) -> ModalFields
-    requires { ⌜ ModalRange (modalOf answer) ⌝ }
-    ensures { λ r. ⌜ modalFields r ≡ modalOf answer ⌝ }
+    requires { ⌜ WhereAnswered ModalRange (modalOf answer) ⌝ }
+    ensures { λ r. ⌜ r ≡ modalFields (modalOf answer) ⌝ }
 {
     let verdict = answer.verdict;
     let invariant = answer.invariant.words;
@@ -477,13 +504,7 @@ fn lay_out_modal(answer: ModalDecision) -> ModalFields
             size: size as u32,
             steps: steps as u32,
         },
-        ModalVerdict::Refused(refusal) => ModalFields {
-            invariant,
-            refusal: refusal as u32,
-            verdict: 0,
-            size: 0,
-            steps: 0,
-        },
+        ModalVerdict::Refused(refusal) => refused_modal(refusal),
     }
 }
 
@@ -495,7 +516,7 @@ pub extern "C" fn shuntberry_decide_modal(
     possible: &[u64],
     path: &mut [u16],
 ) -> ModalFields
-    ensures { λ r. ⌜ (modalFields r ≡ modalAnswer (now (store .entry)) n g (now (possible .entry)) (length (now (path .entry))))
+    ensures { λ r. ⌜ (r ≡ modalFields (modalAnswer (now (store .entry)) n g (now (possible .entry)) (length (now (path .entry)))))
         × (now (path .exit) ≡ modalBuffer (now (store .entry)) n g (now (possible .entry)) (now (path .entry))) ⌝ }
 {
     lay_out_modal(decide_modal(store, n, g, possible, path))
@@ -511,7 +532,7 @@ pub struct MinuteFields {
 }
 
 fn lay_out_minute(answer: NextOpen) -> MinuteFields
-    ensures { λ r. ⌜ minuteFields r ≡ numbersOf answer ⌝ }
+    ensures { λ r. ⌜ r ≡ minuteFields (openingOf answer) ⌝ }
 {
     match answer {
         NextOpen::Minute(minute) => MinuteFields {
@@ -522,19 +543,19 @@ fn lay_out_minute(answer: NextOpen) -> MinuteFields
         NextOpen::Never => MinuteFields {
             refusal: 0,
             never: 1,
-            minute: 0,
+            minute: NO_MINUTE,
         },
         NextOpen::Refused(refusal) => MinuteFields {
             refusal: refusal as u32,
-            never: 0,
-            minute: 0,
+            never: NO_ANSWER,
+            minute: NO_MINUTE,
         },
     }
 }
 
 #[no_mangle]
 pub extern "C" fn shuntberry_next_open(time: usize, windows: &[u64], closed: &[u32]) -> MinuteFields
-    ensures { λ r. ⌜ minuteFields r ≡ nextOpenAnswer time (now (windows .entry)) (now (closed .entry)) ⌝ }
+    ensures { λ r. ⌜ r ≡ minuteFields (nextOpenAnswer time (now (windows .entry)) (now (closed .entry))) ⌝ }
 {
     lay_out_minute(next_open(time, windows, closed))
 }

@@ -5,12 +5,12 @@
 --
 --   zeros xs                     each word of xs is 0
 --   zeros-getD, nonZero-none     words that are 0 from a place on: each of them reads 0, `nonZero` finds none
---   fits store n g allowance     decide declines on no ground, if the path buffer is long enough; fits-accepted: so it does
+--   fits store n g allowance     no ground of decide holds, if the path buffer is long enough; fits-accepted: so it does
 --   answer-is, buffer-is         an accepted call answers with the outcome of the rounds, and writes the path where that is unsafe
 --   decides                      the three facts make a `Decides`
 use Prim.Native.Nat.{ℕ, zero, suc, _≤_, zero-le}
 use native.Mathlib.Nat.{not-suc-le-zero, le-of-suc-le-suc}
-use mathlib.Core.Path.{_≡_, refl, ap}
+use mathlib.Core.Path.{_≡_, refl, ap, _∙_}
 use mathlib.Core.Bool.{Bool, true, false, cond, not, _&&_, _||_}
 use mathlib.Core.List.{List, [], _∷_}
 use borrow.Author.Tests.{eqb-true, eq-eqb, leb-true, le-ltb}
@@ -21,10 +21,11 @@ use Rattle.model.specs.Sets.{maxStates}
 use Rattle.model.specs.Tables.{Dialogue}
 use Rattle.model.specs.Rounds.{run}
 use Rattle.model.specs.Paths.{smallestPath}
-use Rattle.basics.specs.Refusals.{refuse}
+use Rattle.basics.specs.Refusals.{refuse, answered}
 use Rattle.model.specs.Stores.{maxGroups, markedAt, restingAt, groupAt, rowAt, storeWords, setAt, tableOf, layout, beyond, nonZero, malformed, badStates}
 use Rattle.model.specs.Calls.{release, overwrite, Decision, decisionOf, decideGrounds, decideAnswer, decideBuffer}
 use Rattle.basics.proofs.BoundLaws.{and-true, not-true, is-false, clash, any-find}
+use Rattle.basics.proofs.RefusalLaws.{answer-none}
 use Rattle.worked_tables.specs.Worked.{stored, Decides}
 
 -- ---- unused words
@@ -81,11 +82,11 @@ module _ (store : List ℕ) (n g allowance : ℕ) where
       (rw (le-ltb room maxStates h) (eqb-true (refuse plain) 0 (parts .0))))
 
   answer-is : (answer : Decision) → fits ≡ true → decisionOf (tableOf store n g) (run (tableOf store n g) allowance) ≡ answer
-      → (room : ℕ) → maxStates ≤ room → decideAnswer store n g allowance room ≡ answer
-  unfolding decideAnswer
-  answer-is answer f e room h = rw (fits-accepted room f h) e
+      → (room : ℕ) → maxStates ≤ room → decideAnswer store n g allowance room ≡ answered answer
+  unfolding decideAnswer decideGrounds
+  answer-is answer f e room h = answer-none (decideGrounds store n g allowance room) _ refl (fits-accepted room f h) ∙ ap answered e
 
-  buffer-is : (answer : Decision) (path states : List ℕ) → decideAnswer store n g allowance (length path) ≡ answer
+  buffer-is : (answer : Decision) (path states : List ℕ) → decideAnswer store n g allowance (length path) ≡ answered answer
       → cond (eqb (answer .verdict) 1) (smallestPath (tableOf store n g)) [] ≡ states
       → decideBuffer store n g allowance path ≡ overwrite states path
   unfolding decideBuffer overwrite

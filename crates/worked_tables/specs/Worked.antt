@@ -12,6 +12,7 @@ use Prim.Native.Nat.{ℕ, _-_, _≤_}
 use mathlib.Core.Path.{_≡_}
 use mathlib.Core.List.{List, [], _∷_}
 use lib.ListN.{length}
+use Rattle.basics.specs.Refusals.{answered}
 use Rattle.model.specs.Sets.{maxStates}
 use Rattle.model.specs.Tables.{Table, Dialogue}
 use Rattle.model.specs.Rounds.{backwardNumber}
@@ -29,23 +30,23 @@ stored t = tableOf (layout t) (t .n) (length (t .groups))
 
 pub record Decides (t : Dialogue) (allowance : ℕ) (answer : Decision) (states : List ℕ) : Type 0 where
   pub answers : (path : List ℕ) → maxStates ≤ length path
-      → decideAnswer (layout t) (t .n) (length (t .groups)) allowance (length path) ≡ answer
+      → decideAnswer (layout t) (t .n) (length (t .groups)) allowance (length path) ≡ answered answer
   pub writes : (path : List ℕ) → maxStates ≤ length path
       → decideBuffer (layout t) (t .n) (length (t .groups)) allowance path ≡ overwrite states path
 
 abbrev pub Safe : Dialogue → ℕ → ℕ → List ℕ → Type 0
 Safe t allowance count invariant =
     Decides t allowance
-    (record { refusal = 0; verdict = 0; count = count; invariant = set invariant; size = length invariant; steps = 0 }) []
+    (record { verdict = 0; count = count; invariant = set invariant; size = length invariant; steps = 0 }) []
 
 abbrev pub Unsafe : Dialogue → ℕ → ℕ → List ℕ → Type 0
 Unsafe t allowance count path =
     Decides t allowance
-    (record { refusal = 0; verdict = 1; count = count; invariant = set []; size = 0; steps = length path - 1 }) path
+    (record { verdict = 1; count = count; invariant = set []; size = 0; steps = length path - 1 }) path
 
 abbrev pub Undecided : Dialogue → ℕ → ℕ → Type 0
 Undecided t allowance count =
-    Decides t allowance (record { refusal = 0; verdict = 2; count = count; invariant = set []; size = 0; steps = 0 }) []
+    Decides t allowance (record { verdict = 2; count = count; invariant = set []; size = 0; steps = 0 }) []
 
 -- ---- the eight lines
 

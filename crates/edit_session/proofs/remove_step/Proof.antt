@@ -5,7 +5,7 @@ use borrow.Author.Needs.{needs}
 use borrow.Author.Tests.{not-true, not-false}
 use Rattle.edit_session.specs.Edits.{remove}
 use Rattle.edit_session.proofs.Tables.{edited-longer}
-use Rattle.edit_session.proofs.Answering.{accepted, lit-removed, removed-nothing, removed-changes, edit-declined, edit-nothing, edit-changes}
+use Rattle.edit_session.proofs.Answering.{accepted, lit-removed, removed-nothing, removed-changes, edit-refused, edit-nothing, edit-changes}
 use Rattle.edit_session.proofs.remove_step.Statement.{statement}
 use Rattle.edit_session.proofs.remove_step.Tie as tie
 
@@ -15,14 +15,14 @@ remove-step-spec =
     (tie.spec
     (λ c κs. search needs)
     (λ c. search needs)
-    (λ c. edit-declined _ _ _ _ (remove _ _) _ _ (c .before .edit-refusal .ensures) (c .if1 .taken) refl refl refl)
+    (λ c. edit-refused _ _ _ (remove _ _) _ _ _ (c .before .edit-refusal .ensures) (c .if1 .taken) refl refl refl)
     (λ c κs.
     let held = accepted _ _ _ _ _ (c .before .before .edit-refusal .ensures) (c .before .if1 .left) in
     (omega (arith, held .1, held .0 .small), held .0 .long))
     (λ c. search needs)
     (λ c.
     let tested = c .before .before .before in
-    edit-nothing _ _ _ _ (remove _ _) _ _ (tested .before .edit-refusal .ensures) (tested .if1 .left) refl
+    edit-nothing _ _ _ (remove _ _) _ _ _ (tested .before .edit-refusal .ensures) (tested .if1 .left) refl
     (removed-nothing _ _ _ (c .before .has-step .ensures) (not-true _ (c .if2 .taken))) refl refl)
     (λ c κs.
     let tested = c .before .before .before .before in
@@ -40,7 +40,7 @@ remove-step-spec =
     let tested = old .before .before .before in
     let refused = tested .before .edit-refusal .ensures in
     let held = accepted _ _ _ _ _ refused (tested .if1 .left) in
-    edit-changes _ _ _ _ (remove _ _) _ _ refused (tested .if1 .left) refl
+    edit-changes _ _ _ (remove _ _) _ _ _ refused (tested .if1 .left) refl
     (removed-changes _ _ _ (old .before .has-step .ensures) (not-false _ (old .if2 .left)))
     (lit-removed _ _ _ _ _ _ (held .0) (held .1) (held .2) (rubbed .rub-out .ensures) (c .from-initial .ensures))
     (rubbed .rub-out .ensures)))

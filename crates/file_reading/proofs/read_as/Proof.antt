@@ -9,7 +9,7 @@ use Rattle.model.specs.Blocks.{blockBytes}
 use Rattle.model.specs.Calls.{readGroundsAs}
 use Rattle.file_blocks.specs.Places.{formOf}
 use Rattle.file_blocks.proofs.BlockLaws.{contentsRoom}
-use Rattle.file_reading.proofs.Grounds.{joined-long, outer-declines, room-enough, draft-accepted, short-input, some-block, content-decides, second-least, table-inside, declined, draft-read, table-read}
+use Rattle.file_reading.proofs.Grounds.{joined-long, outer-refuses, room-enough, draft-accepted, short-input, some-block, content-decides, second-least, table-inside, refuses, draft-read, table-read}
 use Rattle.file_reading.proofs.Joining.{joined-room, joined-fits, joined}
 use Rattle.file_reading.proofs.read_as.Statement.{statement}
 use Rattle.file_reading.proofs.read_as.Tie as tie
@@ -32,7 +32,7 @@ read-as-spec =
     tie.close
     (tie.spec
     (λ c κs. search needs)
-    (λ c. declined _ _ _ _ (outer-declines _ _ _ (c .before .outer-refusal .ensures) _ (c .if1 .taken)) (c .if1 .taken))
+    (λ c. refuses _ _ _ _ (outer-refuses _ _ _ (c .before .outer-refusal .ensures) _ (c .if1 .taken)) (c .if1 .taken))
     (λ c κs. room-enough _ _ _ (c .before .before .before .outer-refusal .ensures) (c .before .before .if1 .left))
     (λ c. search needs)
     (λ c.
@@ -50,7 +50,7 @@ read-as-spec =
     (λ c. joined-fits _ contentsRoom (c .before .before .before .join .ensures))
     (λ c. sym (joined-long _ (joined _ contentsRoom (c .before .before .before .before .join .ensures))))
     (λ c κs. joined _ contentsRoom (c .before .before .before .before .join .ensures))
-    (λ c. declined _ _ _ _ (ground (c .before)) (c .if3 .taken))
+    (λ c. refuses _ _ _ _ (ground (c .before)) (c .if3 .taken))
     (λ c κs. search needs)
     (λ c.
     let none = c .before in

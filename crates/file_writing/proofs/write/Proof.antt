@@ -1,6 +1,6 @@
 -- `write`: the grounds in their order, then the blocks.
 use borrow.Author.Needs.{needs}
-use Rattle.file_writing.proofs.WriteLaws.{held, declined-short, declined-site, declined-shared, draft-written, declined-room, written}
+use Rattle.file_writing.proofs.WriteLaws.{held, refused-short, refused-site, refused-shared, draft-written, refused-room, written}
 use Rattle.file_writing.proofs.write.Statement.{statement}
 use Rattle.file_writing.proofs.write.Tie as tie
 
@@ -8,12 +8,12 @@ pub write-spec : {M : Type 1} → statement M
 write-spec =
     tie.close
     (tie.spec
-    (λ c. declined-short _ _ _ _ _ (c .if1 .taken))
-    (λ c. declined-site _ _ _ _ _ (c .before .if1 .left) (c .if2 .taken))
+    (λ c. refused-short _ _ _ _ _ (c .if1 .taken))
+    (λ c. refused-site _ _ _ _ _ (c .before .if1 .left) (c .if2 .taken))
     (λ c κs. search needs)
     (λ c.
     let known = c .before .before in
-    declined-shared _ _ _ _ _ (known .before .if1 .left) (known .if2 .left) _ (c .before .refusal .ensures) (c .if3 .taken))
+    refused-shared _ _ _ _ _ (known .before .if1 .left) (known .if2 .left) _ (c .before .refusal .ensures) (c .if3 .taken))
     (λ c.
     let accepted = c .before in
     let known = accepted .before .before in
@@ -28,7 +28,7 @@ write-spec =
     let some = c .before .before .before in
     let accepted = some .before in
     let known = accepted .before .before in
-    declined-room _ _ _ _ _ (known .before .if1 .left) (known .if2 .left) _ (accepted .before .refusal .ensures) (accepted .if3 .left) (some .if4 .left) (c .before .blocks-for .result) (cc) (search needs))
+    refused-room _ _ _ _ _ (known .before .if1 .left) (known .if2 .left) _ (accepted .before .refusal .ensures) (accepted .if3 .left) (some .if4 .left) (c .before .blocks-for .result) (cc) (search needs))
     (λ c κs.
     let accepted = c .before .before .before .before .before in
     (held _ _ _ _ (accepted .before .refusal .ensures) (accepted .if3 .left), accepted .before .before .if2 .left, search needs, search needs))

@@ -11,7 +11,7 @@ use Rattle.modal.proofs.Deciding.{refused-answer, certain-ready, possib
 use Rattle.modal.proofs.decide_modal.Statement.{statement}
 use Rattle.modal.proofs.decide_modal.Tie as tie
 
--- what a call that is not declined knows
+-- what a call that is answered knows
 ok : (c : tie.Else1)
     → ModalHeld (c .before .before .before .before .before .args .store .now) (c .before .before .before .before .before .args .n) (c .before .before .before .before .before .args .g) (c .before .before .before .before .before .args .possible .now)
     × (maxStates ≤ length (c .before .before .before .before .before .args .path .now))

@@ -4,7 +4,7 @@ use borrow.Author.Needs.{needs}
 use Rattle.model.proofs.Acceptance.{Store}
 use Rattle.paths.specs.declared.Found.the-variants.{Steps, Nothing}
 use Rattle.paths.proofs.Groups.{holds-table}
-use Rattle.paths.proofs.Answers.{answer-refused, accepted, answer-short, answer-found}
+use Rattle.paths.proofs.Answers.{accepted, shortest-refused, shortest-short, shortest-found}
 use Rattle.paths.proofs.shortest_path.Statement.{statement}
 use Rattle.paths.proofs.shortest_path.Tie as tie
 
@@ -17,18 +17,18 @@ shortest-path-spec =
     tie.close
     (tie.spec
     (λ c κs. search needs)
-    (λ c. answer-refused _ _ _ _ (c .before .refusal .ensures) (c .if1 .taken))
-    (λ c. answer-short _ _ _ _ (held (c .before)) (c .if2 .taken))
+    (λ c. shortest-refused _ _ _ _ (c .before .refusal .ensures) (c .if1 .taken))
+    (λ c. shortest-short _ _ _ _ (held (c .before)) (c .if2 .taken))
     (λ c κs. (holds-table _ _ _ (held (c .before .before)), c .before .if2 .left))
     (λ c. search needs)
     (λ c. search needs)
     (λ c. search needs)
     (λ c.
     let found = c .before .before .before .before .before in
-    answer-found _ _ _ _ (held (found .before .before .before)) {found = Steps _} (found .before .before .if2 .left)
+    shortest-found _ _ _ _ (held (found .before .before .before)) {found = Steps _} (found .before .before .if2 .left)
     (sym (c .before .steps .given .1) ∙ found .find-path .ensures .0) (found .find-path .ensures .1))
     (λ c. search needs)
     (λ c.
     let found = c .before .before .before .before in
-    answer-found _ _ _ _ (held (found .before .before .before)) {found = Nothing} (found .before .before .if2 .left)
+    shortest-found _ _ _ _ (held (found .before .before .before)) {found = Nothing} (found .before .before .if2 .left)
     (sym (c .enum-told .given .1) ∙ found .find-path .ensures .0) (found .find-path .ensures .1)))

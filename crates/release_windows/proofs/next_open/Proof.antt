@@ -2,7 +2,7 @@
 use native.Mathlib.Omega.{arith}
 use mathlib.Core.Path.{sym, _∙_}
 use borrow.Author.Needs.{needs}
-use Rattle.release_windows.proofs.Answering.{Sound, sound, declined, answered, never}
+use Rattle.release_windows.proofs.Answering.{Sound, sound, refuses, opened, never-opens}
 use Rattle.release_windows.proofs.next_open.Statement.{statement}
 use Rattle.release_windows.proofs.next_open.Tie as tie
 
@@ -15,13 +15,13 @@ next-open-spec =
     tie.close
     (tie.spec
     (λ c κs. search needs)
-    (λ c. declined _ _ _ (c .before .refusal .ensures) (c .if1 .taken))
+    (λ c. refuses _ _ _ (c .before .refusal .ensures) (c .if1 .taken))
     (λ c κs. (held c .no-later, held c .in-range))
     (λ c. record { fits = omega (arith, held (c .before .before) .no-later, c .if2 .taken) })
     (λ c. record { fits = omega (arith, held (c .before .before) .no-later, c .if2 .taken) })
     (λ c.
     let d = c .before .before in
-    answered _ _ _ (d .before .refusal .ensures) (d .if1 .left) (c .before .minutes-to-open .ensures) (c .if2 .taken))
+    opened _ _ _ (d .before .refusal .ensures) (d .if1 .left) (c .before .minutes-to-open .ensures) (c .if2 .taken))
     (λ c.
     let d = c .before .before in
-    never _ _ _ (d .before .refusal .ensures) (d .if1 .left) (c .before .minutes-to-open .ensures) (c .if2 .left)))
+    never-opens _ _ _ (d .before .refusal .ensures) (d .if1 .left) (c .before .minutes-to-open .ensures) (c .if2 .left)))

@@ -2,7 +2,8 @@
 use mathlib.Core.Path.{sym, _∙_}
 use borrow.Author.Needs.{needs}
 use borrow.Author.Tests.{lt-ltb, le-ltb}
-use Rattle.release_windows.specs.Answers.{refuse, grounds}
+use Rattle.basics.specs.Refusals.{refuse}
+use Rattle.release_windows.specs.Answers.{grounds}
 use Rattle.release_windows.proofs.refusal.Statement.{statement}
 use Rattle.release_windows.proofs.refusal.Tie as tie
 

@@ -6,11 +6,12 @@ use Rattle.model.specs.Sets.{Set}
 use Rattle.model.proofs.Ranges.{DecisionRange}
 use Rattle.rounds.specs.declared.Verdict.{Verdict}
 use Rattle.rounds.specs.Answers.{answersWith}
+use Rattle.shuntberry.specs.Small.{WhereAnswered}
 use Rattle.shuntberry.proofs.lay_out_decision.Statement.{statement}
 use Rattle.shuntberry.proofs.lay_out_decision.Tie as tie
 
 -- the range of the numbers, once the verdict is known
-known : {v w : Verdict} (X : Set) → v ≡ w → DecisionRange (answersWith v X) → DecisionRange (answersWith w X)
+known : {v w : Verdict} (X : Set) → v ≡ w → WhereAnswered DecisionRange (answersWith v X) → WhereAnswered DecisionRange (answersWith w X)
 known X e range = rw e at range
 
 pub lay-out-decision-spec : {M : Type 1} → statement M
@@ -27,7 +28,7 @@ lay-out-decision-spec =
     (λ c. let r = known _ (c .before .verdict3 .given .1) (c .before .before .before .before .pre) in record { fits = omega (arith, r .count) })
     (λ c. search needs)
     (λ c. search needs)
-    (λ c. (rw (c .before .verdict .given .1) refl, refl))
-    (λ c. (rw (c .before .verdict2 .given .1) refl, refl))
-    (λ c. (rw (c .before .verdict3 .given .1) refl, refl))
-    (λ c. (rw (c .before .verdict4 .given .1) refl, refl)))
+    (λ c. rw (c .before .verdict .given .1) refl)
+    (λ c. rw (c .before .verdict2 .given .1) refl)
+    (λ c. rw (c .before .verdict3 .given .1) refl)
+    (λ c. rw (c .before .verdict4 .given .1) (c .refused-decision .ensures)))

@@ -3,6 +3,7 @@ use mathlib.Core.Path.{sym, ap}
 use native.Mathlib.Omega.{arith}
 use borrow.Author.Needs.{needs}
 use Rattle.file_writing.specs.WriteAnswers.{writtenOf}
+use Rattle.shuntberry.specs.Fields.{fileFields}
 use Rattle.shuntberry.proofs.lay_out_file.Statement.{statement}
 use Rattle.shuntberry.proofs.lay_out_file.Tie as tie
 
@@ -14,5 +15,5 @@ lay-out-file-spec =
     (λ c. let small = rw (c .before .answer .given .1) at (c .before .before .before .pre) in record { fits = omega (arith, small) })
     (λ c. search needs)
     (λ c. search needs)
-    (λ c. sym (ap writtenOf (c .before .answer .given .1)))
-    (λ c. sym (ap writtenOf (c .before .answer2 .given .1))))
+    (λ c. sym (ap (λ a. fileFields (writtenOf a)) (c .before .answer .given .1)))
+    (λ c. sym (ap (λ a. fileFields (writtenOf a)) (c .before .answer2 .given .1))))

@@ -6,11 +6,12 @@ use Rattle.model.specs.Sets.{Set}
 use Rattle.modal.proofs.Ranges.{ModalRange}
 use Rattle.modal.specs.declared.ModalVerdict.{ModalVerdict}
 use Rattle.modal.specs.Answers.{answersWith}
+use Rattle.shuntberry.specs.Small.{WhereAnswered}
 use Rattle.shuntberry.proofs.lay_out_modal.Statement.{statement}
 use Rattle.shuntberry.proofs.lay_out_modal.Tie as tie
 
 -- the range of the numbers, once the verdict is known
-known : {v w : ModalVerdict} (X : Set) → v ≡ w → ModalRange (answersWith v X) → ModalRange (answersWith w X)
+known : {v w : ModalVerdict} (X : Set) → v ≡ w → WhereAnswered ModalRange (answersWith v X) → WhereAnswered ModalRange (answersWith w X)
 known X e range = rw e at range
 
 pub lay-out-modal-spec : {M : Type 1} → statement M
@@ -29,4 +30,4 @@ lay-out-modal-spec =
     (λ c. rw (c .before .verdict .given .1) refl)
     (λ c. rw (c .before .verdict2 .given .1) refl)
     (λ c. rw (c .before .verdict3 .given .1) refl)
-    (λ c. rw (c .before .verdict4 .given .1) refl))
+    (λ c. rw (c .before .verdict4 .given .1) (c .refused-modal .ensures)))

@@ -3,6 +3,7 @@ use mathlib.Core.Path.{sym, ap}
 use native.Mathlib.Omega.{arith}
 use borrow.Author.Needs.{needs}
 use Rattle.replay.specs.Answers.{replayedOf}
+use Rattle.shuntberry.specs.Fields.{replayFields}
 use Rattle.shuntberry.proofs.lay_out_replay.Statement.{statement}
 use Rattle.shuntberry.proofs.lay_out_replay.Tie as tie
 
@@ -17,5 +18,5 @@ lay-out-replay-spec =
     (λ c. let small = rw (c .before .answer .given .1) at (c .before .before .before .pre) in record { fits = omega (arith, small .remainder) })
     (λ c. search needs)
     (λ c. search needs)
-    (λ c. sym (ap replayedOf (c .before .answer .given .1)))
-    (λ c. sym (ap replayedOf (c .before .answer2 .given .1))))
+    (λ c. sym (ap (λ a. replayFields (replayedOf a)) (c .before .answer .given .1)))
+    (λ c. sym (ap (λ a. replayFields (replayedOf a)) (c .before .answer2 .given .1))))

@@ -11,5 +11,5 @@ lay-out-session-spec =
     (λ c. search needs)
     (λ c. search needs)
     (λ c. search needs)
-    (λ c. (rw (c .enum-told .given .1) refl, refl))
-    (λ c. (rw (c .before .status .given .1) refl, refl)))
+    (λ c. rw (c .enum-told .given .1) refl)
+    (λ c. rw (c .before .status .given .1) refl))

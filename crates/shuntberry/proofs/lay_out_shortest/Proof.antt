@@ -3,6 +3,7 @@ use mathlib.Core.Path.{sym, ap}
 use native.Mathlib.Omega.{arith}
 use borrow.Author.Needs.{needs}
 use Rattle.paths.specs.Answers.{shortestOf}
+use Rattle.shuntberry.specs.Fields.{shortestFields}
 use Rattle.shuntberry.proofs.lay_out_shortest.Statement.{statement}
 use Rattle.shuntberry.proofs.lay_out_shortest.Tie as tie
 
@@ -15,6 +16,6 @@ lay-out-shortest-spec =
     (λ c. search needs)
     (λ c. search needs)
     (λ c. search needs)
-    (λ c. sym (ap shortestOf (c .before .answer .given .1)))
-    (λ c. sym (ap shortestOf (c .enum-told .given .1)))
-    (λ c. sym (ap shortestOf (c .before .answer2 .given .1))))
+    (λ c. sym (ap (λ a. shortestFields (shortestOf a)) (c .before .answer .given .1)))
+    (λ c. sym (ap (λ a. shortestFields (shortestOf a)) (c .enum-told .given .1)))
+    (λ c. sym (ap (λ a. shortestFields (shortestOf a)) (c .before .answer2 .given .1))))

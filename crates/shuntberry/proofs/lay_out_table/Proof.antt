@@ -3,6 +3,7 @@ use mathlib.Core.Path.{sym, ap}
 use native.Mathlib.Omega.{arith}
 use borrow.Author.Needs.{needs}
 use Rattle.file_reading.specs.ReadAnswers.{readOf}
+use Rattle.shuntberry.specs.Fields.{tableFields}
 use Rattle.shuntberry.proofs.lay_out_table.Statement.{statement}
 use Rattle.shuntberry.proofs.lay_out_table.Tie as tie
 
@@ -15,5 +16,5 @@ lay-out-table-spec =
     (λ c. let small = rw (c .before .answer .given .1) at (c .before .before .before .pre) in record { fits = omega (arith, small .n, small .g) })
     (λ c. search needs)
     (λ c. search needs)
-    (λ c. sym (ap readOf (c .before .answer .given .1)))
-    (λ c. sym (ap readOf (c .before .answer2 .given .1))))
+    (λ c. sym (ap (λ a. tableFields (readOf a)) (c .before .answer .given .1)))
+    (λ c. sym (ap (λ a. tableFields (readOf a)) (c .before .answer2 .given .1))))

@@ -1,6 +1,7 @@
 -- `shuntberry_distances`: the answer of `distances` as a number.
-use mathlib.Core.Path.{_∙_}
+use mathlib.Core.Path.{ap, _∙_}
 use borrow.Author.Needs.{needs}
+use Rattle.shuntberry.specs.Fields.{refusalNumber}
 use Rattle.shuntberry.proofs.shuntberry_distances.Statement.{statement}
 use Rattle.shuntberry.proofs.shuntberry_distances.Tie as tie
 
@@ -11,4 +12,4 @@ shuntberry-distances-spec =
     (λ c κs. search needs)
     (λ c κs. search needs)
     (λ c. search needs)
-    (λ c. let found = c .before .before .before .distances .ensures in (c .refusal-number .ensures ∙ found .0, found .1)))
+    (λ c. let found = c .before .before .before .distances .ensures in (c .refusal-number .ensures ∙ ap refusalNumber (found .0), found .1)))

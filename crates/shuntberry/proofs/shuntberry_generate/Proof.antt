@@ -1,7 +1,7 @@
 -- `shuntberry_generate`: the answer of `generate`, laid out.
 use mathlib.Core.Path.{ap, _∙_}
 use borrow.Author.Needs.{needs}
-use Rattle.generator.specs.Load.{GenerateAnswer}
+use Rattle.shuntberry.specs.Fields.{refusalNumber}
 use Rattle.shuntberry.proofs.shuntberry_generate.Statement.{statement}
 use Rattle.shuntberry.proofs.shuntberry_generate.Tie as tie
 
@@ -14,4 +14,4 @@ shuntberry-generate-spec =
     (λ c. search needs)
     (λ c.
     let generated = c .before .before .before .generate .ensures in
-    (c .lay-out-generated .ensures ∙ ap (λ (a : GenerateAnswer). a .refusal) (generated .0), generated .1)))
+    (c .lay-out-generated .ensures ∙ ap refusalNumber (generated .0), generated .1)))

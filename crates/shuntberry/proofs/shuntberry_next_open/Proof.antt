@@ -1,6 +1,7 @@
 -- `shuntberry_next_open`: the answer of `next_open`, laid out.
-use mathlib.Core.Path.{_∙_}
+use mathlib.Core.Path.{ap, _∙_}
 use borrow.Author.Needs.{needs}
+use Rattle.shuntberry.specs.Fields.{minuteFields}
 use Rattle.shuntberry.proofs.shuntberry_next_open.Statement.{statement}
 use Rattle.shuntberry.proofs.shuntberry_next_open.Tie as tie
 
@@ -10,4 +11,4 @@ shuntberry-next-open-spec =
     (tie.spec
     (λ c κs. search needs)
     (λ c κs. search needs)
-    (λ c. c .lay-out-minute .ensures ∙ c .before .next-open .ensures .0))
+    (λ c. c .lay-out-minute .ensures ∙ ap minuteFields (c .before .next-open .ensures)))

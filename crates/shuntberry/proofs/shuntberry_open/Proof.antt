@@ -1,6 +1,8 @@
 -- `shuntberry_open`: the answer of `open`, laid out.
-use mathlib.Core.Path.{_∙_}
+use mathlib.Core.Path.{ap₂, _∙_}
 use borrow.Author.Needs.{needs}
+use Rattle.shuntberry.specs.Fields.{sessionFields}
+use Rattle.shuntberry.proofs.Answering.{beside}
 use Rattle.shuntberry.proofs.shuntberry_open.Statement.{statement}
 use Rattle.shuntberry.proofs.shuntberry_open.Tie as tie
 
@@ -10,4 +12,4 @@ shuntberry-open-spec =
     (tie.spec
     (λ c κs. search needs)
     (λ c κs. search needs)
-    (λ c. let laid = c .lay-out-session .ensures in (laid .0 ∙ c .before .«open» .ensures .0, laid .1)))
+    (λ c. let opened = c .before .«open» .ensures in c .lay-out-session .ensures ∙ ap₂ sessionFields (opened .1) (opened .0) ∙ beside _ _))

@@ -1,7 +1,10 @@
 -- `shuntberry_read`: the answer of `read`, whose numbers are small, laid out.
-use mathlib.Core.Path.{_∙_}
+use mathlib.Core.Path.{sym, ap, _∙_, subst}
 use borrow.Author.Needs.{needs}
-use Rattle.model.proofs.Ranges.{read-range}
+use Rattle.model.proofs.Ranges.{ReadRange, read-range}
+use Rattle.shuntberry.specs.Fields.{tableFields}
+use Rattle.shuntberry.specs.Small.{WhereAnswered}
+use Rattle.shuntberry.proofs.Answering.{where-answered}
 use Rattle.shuntberry.proofs.shuntberry_read.Statement.{statement}
 use Rattle.shuntberry.proofs.shuntberry_read.Tie as tie
 
@@ -10,6 +13,6 @@ shuntberry-read-spec =
     tie.close
     (tie.spec
     (λ c κs. search needs)
-    (λ c κs. rw (c .before .before .read .ensures .0) (read-range _ _ _))
+    (λ c κs. subst (WhereAnswered ReadRange) (sym (c .before .before .read .ensures .0)) (where-answered ReadRange _ (read-range _ _ _)))
     (λ c. search needs)
-    (λ c. let given = c .before .before .before .read .ensures in (c .lay-out-table .ensures ∙ given .0, given .1)))
+    (λ c. let given = c .before .before .before .read .ensures in (c .lay-out-table .ensures ∙ ap tableFields (given .0), given .1)))

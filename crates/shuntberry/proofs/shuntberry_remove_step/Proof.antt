@@ -1,6 +1,8 @@
 -- `shuntberry_remove_step`: the answer of `remove_step`, laid out.
-use mathlib.Core.Path.{_∙_}
+use mathlib.Core.Path.{ap₂, _∙_}
 use borrow.Author.Needs.{needs}
+use Rattle.shuntberry.specs.Fields.{sessionFields}
+use Rattle.shuntberry.proofs.Answering.{beside}
 use Rattle.shuntberry.proofs.shuntberry_remove_step.Statement.{statement}
 use Rattle.shuntberry.proofs.shuntberry_remove_step.Tie as tie
 
@@ -12,6 +14,5 @@ shuntberry-remove-step-spec =
     (λ c κs. search needs)
     (λ c. search needs)
     (λ c.
-    let laid = c .lay-out-session .ensures in
     let edited = c .before .before .before .remove-step .ensures in
-    (laid .0 ∙ edited .0, (laid .1, edited .1))))
+    (c .lay-out-session .ensures ∙ ap₂ sessionFields (edited .1) (edited .0) ∙ beside _ _, edited .2)))

@@ -1,7 +1,10 @@
 -- `shuntberry_replay`: the answer of `replay`, whose numbers are small, laid out.
-use mathlib.Core.Path.{_∙_}
+use mathlib.Core.Path.{sym, ap, _∙_, subst}
 use borrow.Author.Needs.{needs}
-use Rattle.replay.proofs.Ranges.{replay-range}
+use Rattle.replay.proofs.Ranges.{ReplayRange, replay-range}
+use Rattle.shuntberry.specs.Fields.{replayFields}
+use Rattle.shuntberry.specs.Small.{WhereAnswered}
+use Rattle.shuntberry.proofs.Answering.{where-answered}
 use Rattle.shuntberry.proofs.shuntberry_replay.Statement.{statement}
 use Rattle.shuntberry.proofs.shuntberry_replay.Tie as tie
 
@@ -10,5 +13,5 @@ shuntberry-replay-spec =
     tie.close
     (tie.spec
     (λ c κs. search needs)
-    (λ c κs. rw (c .replay .ensures .0) (replay-range _ _ _ _))
-    (λ c. c .lay-out-replay .ensures ∙ c .before .replay .ensures .0))
+    (λ c κs. subst (WhereAnswered ReplayRange) (sym (c .replay .ensures)) (where-answered ReplayRange _ (replay-range _ _ _ _)))
+    (λ c. c .lay-out-replay .ensures ∙ ap replayFields (c .before .replay .ensures)))

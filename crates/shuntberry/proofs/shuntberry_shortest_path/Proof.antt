@@ -1,15 +1,24 @@
 -- `shuntberry_shortest_path`: the answer of `shortest_path`, whose steps are few, laid out.
-use mathlib.Core.Path.{_∙_}
+use mathlib.Core.Path.{sym, ap, _∙_, subst}
 use borrow.Author.Needs.{needs}
+use Prim.Native.Nat.{_≤_}
+use Rattle.model.specs.Sets.{maxStates}
+use Rattle.model.specs.Calls.{Shortest}
 use Rattle.model.proofs.Ranges.{shortest-range}
+use Rattle.shuntberry.specs.Fields.{shortestFields}
+use Rattle.shuntberry.specs.Small.{WhereAnswered}
+use Rattle.shuntberry.proofs.Answering.{where-answered}
 use Rattle.shuntberry.proofs.shuntberry_shortest_path.Statement.{statement}
 use Rattle.shuntberry.proofs.shuntberry_shortest_path.Tie as tie
+
+abbrev few : Shortest → Type 0
+few a = a .steps ≤ maxStates
 
 pub shuntberry-shortest-path-spec : {M : Type 1} → statement M
 shuntberry-shortest-path-spec =
     tie.close
     (tie.spec
     (λ c κs. search needs)
-    (λ c κs. rw (c .before .before .shortest-path .ensures .0) (shortest-range _ _ _ _))
+    (λ c κs. subst (WhereAnswered few) (sym (c .before .before .shortest-path .ensures .0)) (where-answered few _ (shortest-range _ _ _ _)))
     (λ c. search needs)
-    (λ c. let found = c .before .before .before .shortest-path .ensures in (c .lay-out-shortest .ensures ∙ found .0, found .1)))
+    (λ c. let found = c .before .before .before .shortest-path .ensures in (c .lay-out-shortest .ensures ∙ ap shortestFields (found .0), found .1)))

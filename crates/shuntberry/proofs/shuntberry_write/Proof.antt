@@ -1,7 +1,12 @@
 -- `shuntberry_write`: the answer of `write`, whose length is small, laid out.
-use mathlib.Core.Path.{_∙_}
+use mathlib.Core.Path.{sym, ap, _∙_, subst}
 use borrow.Author.Needs.{needs}
+use Prim.Native.Nat.{ℕ, _≤_}
+use Rattle.model.specs.Files.{maxFile}
 use Rattle.model.proofs.Ranges.{write-range}
+use Rattle.shuntberry.specs.Fields.{fileFields}
+use Rattle.shuntberry.specs.Small.{WhereAnswered}
+use Rattle.shuntberry.proofs.Answering.{where-answered}
 use Rattle.shuntberry.proofs.shuntberry_write.Statement.{statement}
 use Rattle.shuntberry.proofs.shuntberry_write.Tie as tie
 
@@ -10,6 +15,6 @@ shuntberry-write-spec =
     tie.close
     (tie.spec
     (λ c κs. search needs)
-    (λ c κs. rw (c .before .before .write .ensures .0) (write-range _ _ _ _ _))
+    (λ c κs. subst (WhereAnswered (λ (l : ℕ). l ≤ maxFile)) (sym (c .before .before .write .ensures .0)) (where-answered (λ (l : ℕ). l ≤ maxFile) _ (write-range _ _ _ _ _)))
     (λ c. search needs)
-    (λ c. let written = c .before .before .before .write .ensures in (c .lay-out-file .ensures ∙ written .0, written .1)))
+    (λ c. let written = c .before .before .before .write .ensures in (c .lay-out-file .ensures ∙ ap fileFields (written .0), written .1)))
