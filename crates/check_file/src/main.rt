@@ -11,6 +11,7 @@ ghost use Rattle.rounds.specs.Answers.{answerOf};
 ghost use Rattle.report.specs.Put.{room, Front};
 ghost use Rattle.check_file.specs.CheckText.{tableText, checkText};
 ghost use Rattle.check_file.specs.Numbers.{numbersOf};
+use file_input::Input;
 use file_input::input_room;
 use file_input::read_input;
 use file_reading::TableRead;
@@ -34,13 +35,16 @@ const SITE: usize = 0;
 // A read that failed prints no verdict: it must not pass for an empty file, which is a draft, nor for a part of a file.
 fn main() {
     let mut input = input_room();
-    let got = read_input(&mut input);
-    if got.failed {
-        io::write_all(STDERR_FILENO, b"check: the input could not be read\n");
-        return;
-    }
+    let length = match read_input(&mut input) {
+        Input::Ended(length) => length,
+        Input::Full => input.len(),
+        Input::Failed => {
+            io::write_all(STDERR_FILENO, b"check: the input could not be read\n");
+            return;
+        }
+    };
     let mut out = [0u8; ROOM];
-    let end = check(&input[..got.length], &mut out);
+    let end = check(&input[..length], &mut out);
     io::write_all(STDOUT_FILENO, &out[..end]);
 }
 

@@ -1,56 +1,67 @@
 // A file on standard input, as the programs read it.
 //
-//   Input, read_input    whether a read failed, and how many bytes were read
-//   input_room           where the file is read into
+//   Input, read_input          how reading ended, and how many bytes were read
+//   ReadResult, read_result    what one read means
+//   input_room                 where the file is read into
 ghost use mathlib.Core.Path.{_≡_};
 ghost use Prim.Native.Nat.{_+_};
 ghost use lib.ListN.{length};
 ghost use Rattle.model.specs.Files.{maxFile};
-ghost use Rattle.io.specs.Counts.{Counts};
+ghost use Rattle.file_input.specs.Reads.{readResult, Within};
 use file_blocks::MAX_FILE;
 use libc::STDIN_FILENO;
 
 // One byte more than the largest file.
 const INPUT: usize = MAX_FILE + 1;
 
-// Whether a read failed, and how many bytes were read before that or up to the end of the input.
-pub struct Input {
-    pub failed: bool,
-    pub length: usize,
+// How reading ended: the input ended after so many bytes, before the room was full; the room is full; or a read failed.
+// Only an input that ended has a number, so that a full room is taken whole, and nothing is taken of an input that failed.
+pub enum Input {
+    Ended(usize),
+    Full,
+    Failed,
 }
 
 // Reads until the room is full, the input ends or a read fails. (`io::read_full` does not tell the last two apart.)
 pub fn read_input(room: &mut [u8]) -> Input
-    ensures { λ r. ⌜ Counts (r .length) (now (room .exit)) ⌝ }
+    ensures { λ r. ⌜ Within r (length (now (room .exit))) ⌝ }
 {
     let mut length = 0;
     while length < room.len() {
+        let left = room.len() - length;
         let got = libc::read(STDIN_FILENO, &mut room[length..]);
-        if got < 0 {
-            return Input {
-                failed: true,
-                length,
-            };
+        match read_result(got, left) {
+            ReadResult::Bytes(more) => length += more,
+            ReadResult::End => return Input::Ended(length),
+            ReadResult::Failed => return Input::Failed,
         }
-        let more = io::count(got, room);
-        if more == 0 {
-            return Input {
-                failed: false,
-                length,
-            };
-        }
-        // no read says so
-        if room.len() - length < more {
-            return Input {
-                failed: true,
-                length,
-            };
-        }
-        length += more;
     }
-    Input {
-        failed: false,
-        length,
+    Input::Full
+}
+
+// What one read means: so many bytes, one at least; the end of the input; or an error.
+enum ReadResult {
+    Bytes(usize),
+    End,
+    Failed,
+}
+
+// Of the number that C's read returned, and the room that it was lent. More bytes than there is room for is an error too:
+// C's read promises that it does not happen, and if it did, nothing that was read could be trusted.
+fn read_result(got: isize, room: usize) -> ReadResult
+    ensures { λ r. ⌜ r ≡ readResult got room ⌝ }
+{
+    if got < 0 {
+        return ReadResult::Failed;
+    }
+    let more = got as usize;
+    if more == 0 {
+        return ReadResult::End;
+    }
+    if more <= room {
+        ReadResult::Bytes(more)
+    } else {
+        ReadResult::Failed
     }
 }
 

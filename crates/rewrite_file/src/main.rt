@@ -19,6 +19,7 @@ ghost use Rattle.model.specs.Calls.{overwrite};
 ghost use Rattle.report.specs.Put.{Front};
 ghost use Rattle.rewrite_file.specs.RewriteText.{restedStore, writeText, rewriteText};
 use file_blocks::MAX_FILE;
+use file_input::Input;
 use file_input::input_room;
 use file_input::read_input;
 use file_reading::TableRead;
@@ -40,13 +41,16 @@ const SITE: usize = 0;
 // A read that failed writes nothing: it must not pass for an empty file, which is a draft, nor for a part of a file.
 fn main() {
     let mut input = input_room();
-    let got = read_input(&mut input);
-    if got.failed {
-        io::write_all(STDERR_FILENO, b"rewrite: the input could not be read\n");
-        return;
-    }
+    let length = match read_input(&mut input) {
+        Input::Ended(length) => length,
+        Input::Full => input.len(),
+        Input::Failed => {
+            io::write_all(STDERR_FILENO, b"rewrite: the input could not be read\n");
+            return;
+        }
+    };
     let mut out = file_room();
-    let end = rewrite(&input[..got.length], &mut out);
+    let end = rewrite(&input[..length], &mut out);
     if !io::write_all(STDOUT_FILENO, &out[..end]) {
         io::write_all(STDERR_FILENO, b"rewrite: the output could not be written\n");
     }

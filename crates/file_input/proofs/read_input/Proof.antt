@@ -1,9 +1,10 @@
--- `read_input`: what was read lies within the room.
+-- `read_input`: what was read lies within the room, and each read that gives bytes leaves less of it.
 use Prim.Native.Nat.{_-_, _≤_}
+use native.Mathlib.Omega.{arith}
 use mathlib.Core.Path.{_≡_}
 use borrow.Author.Needs.{needs}
 use lib.ListN.{length}
-use Rattle.file_input.proofs.Counting.{counts}
+use Rattle.file_input.proofs.Results.{bytes-fit}
 use Rattle.file_input.proofs.read_input.Statement.{statement}
 use Rattle.file_input.proofs.read_input.Tie as tie
 
@@ -23,17 +24,18 @@ read-input-spec =
     (λ c. search needs)
     (λ c. search needs)
     (λ c. search needs)
+    (λ c. search needs)
+    (λ c κs. search needs)
     (λ c κs. search needs)
     (λ c. search needs)
-    (λ c. counts _ _ (search needs))
-    (λ c κs. search needs)
-    (λ c. search needs)
-    (λ c. counts _ _ (search needs))
-    (λ c. search needs)
-    (λ c. search needs)
-    (λ c. counts _ _ (search needs))
+    (λ c. omega (arith, bytes-fit _ _ (c .before .before .before .read-result .ensures) (c .before .more .given .1)))
+    (λ c. omega (arith, bytes-fit _ _ (c .before .before .before .read-result .ensures) (c .before .more .given .1)))
+    (λ c. omega (arith, bytes-fit _ _ (c .before .before .before .read-result .ensures) (c .before .more .given .1)))
     (λ c. search needs)
     (λ c. search needs)
     (λ c. search needs)
     (λ c. search needs)
-    (λ c. counts _ _ (search needs)))
+    (λ c. search needs)
+    (λ c. search needs)
+    (λ c. search needs)
+    (λ c. search needs))
