@@ -129,8 +129,7 @@ module _ (store : List ℕ) (n g : ℕ) (possible : List ℕ) (ok : ModalHeld st
       unfolding decideBuffer
       as-decide =
           let T = tableOf store n g in
-          let says-T = subst (λ (u : Table). SaysSafe u (releaseCheck u) ⊎ SaysUnsafe u (releaseCheck u)) same-certain (says-certain store n g possible ok) in
-          (
+          let says-T = subst (λ (u : Table). SaysSafe u (releaseCheck u) ⊎ SaysUnsafe u (releaseCheck u)) same-certain (says-certain store n g possible ok) in (
             decide-answers,
             subst (λ (xs : List ℕ). AsDecide (releaseCheck T) xs both (left before)) (sym (ap (unlessRefused before decided-left) decide-answers))
                 (subst

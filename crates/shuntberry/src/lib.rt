@@ -59,8 +59,11 @@ use state_set::WORDS;
 
 // What stands where a refused call has no answer (specs/Fields).
 const NO_VERDICT: u32 = 255;
+
 const NO_ANSWER: u32 = 255;
+
 const NO_TABLE: u32 = 65_535;
+
 const NO_MINUTE: u32 = 4_294_967_295;
 
 // ---- decide
