@@ -1,97 +1,39 @@
--- Which text it is, from what the calls answer.
+-- What the call gave, in a buffer that holds any text, for site 0.
 --
---   decided-size                  the size that goes with a decision is that of its invariant
---   decided-steps                 the steps that go with it are few
---   table-refused, table-report   the text of a table, from the numbers of decide's answer
---   report-range                  what a report asks of those numbers
-use Prim.Native.Nat.{ℕ, _≤_, _<_}
+--   text-put         the text of the file, at the front
+--   never-refused    and no refusal
+use Prim.Native.Nat.{ℕ, _≤_}
 use native.Mathlib.Omega.{arith}
-use mathlib.Core.Path.{_≡_, refl, sym, ap, _∙_, subst}
+use mathlib.Core.Path.{_≡_, sym, ap, _∙_}
 use mathlib.Core.List.{List}
-use borrow.Author.Tests.{eq-eqb, ne-eqb, ltb-true}
-use Rattle.model.specs.Sets.{maxStates, empty, size}
-use Rattle.model.specs.Tables.{Table}
-use Rattle.model.specs.Rounds.{Outcome, safe, unsafe, undecided, run}
-use Rattle.model.specs.Paths.{shortest, hasPath}
-use Rattle.model.specs.Stores.{maxGroups, tableOf}
-use Rattle.model.specs.Calls.{release, Decision, decisionOf, decideAnswer, decideBuffer}
-use Rattle.model.specs.Promises.{Accepted}
-use Rattle.model.proofs.SetLaws.{empty-in}
-use Rattle.model.proofs.Counting.{size-bound}
-use Rattle.model.proofs.WellFormed.{WellFormed}
-use Rattle.model.proofs.RoundLaws.{unsafe-path}
-use Rattle.model.proofs.PathLaws.{has-path}
-use Rattle.model.proofs.Acceptance.{Store, well-formed, check-of}
-use Rattle.model.proofs.Ranges.{decide-range}
-use Rattle.report.specs.Text.{reportText, refusedText}
-use Rattle.check_file.specs.declared.Numbers.{Numbers}
-use Rattle.check_file.specs.Numbers.{numbersOf}
-use Rattle.check_file.specs.CheckText.{zeroPath, tableText}
+use borrow.Author.Tests.{le-ltb}
+use lib.ListN.{length, drop, length-append}
+use Rattle.basics.specs.Refusals.{refused, answered, unlessRefused}
+use Rattle.basics.proofs.RefusalLaws.{answer-clear, answered-is, answered-not-refused}
+use Rattle.model.specs.Blocks.{maxSite}
+use Rattle.model.specs.Calls.{overwrite}
+use Rattle.report.specs.Put.{textRoom, Front}
+use Rattle.file_check.specs.CheckText.{releaseCheck, FileVerdict, checkText}
+use Rattle.file_check.specs.CheckAnswers.{CheckedFile, checkedFile, checkGrounds, checkAnswer, checkBuffer}
+use Rattle.file_input.proofs.Counting.{counts}
 
-size-empty : 0 ≡ size empty
-size-empty = omega (arith, size-bound {X = empty} {n = 0} (λ s h. absurd (empty-in h)))
+module _ (input before : List ℕ) (roomy : textRoom ≤ length before) where
+  clear : checkAnswer input 0 (length before) ≡ answered (checkedFile (releaseCheck input 0))
+  unfolding checkAnswer
+  clear = answer-clear (checkGrounds 0 (length before)) _ (le-ltb maxSite 0 (omega arith), (le-ltb (length before) textRoom roomy, tt))
 
-decided-size : (t : Table) (o : Outcome) → (decisionOf t o) .size ≡ size ((decisionOf t o) .invariant)
-unfolding decisionOf
-decided-size t (safe i R) = refl
-decided-size t (unsafe i) = size-empty
-decided-size t (undecided i) = size-empty
+  pub never-refused : {k : ℕ} → refused k ≡ checkAnswer input 0 (length before) → ⊥
+  never-refused e = answered-not-refused (sym (e ∙ clear))
 
--- a path has fewer steps than there can be states
-decided-steps : (t : Table) → WellFormed t → t .n ≤ maxStates → (o : Outcome) → run t release ≡ o → (decisionOf t o) .steps < maxStates
-unfolding decisionOf hasPath
-decided-steps t w h (safe i R) q = omega arith
-decided-steps t w h (unsafe i) q =
-    let path = unsafe-path t w release q in
-    omega (arith, ltb-true (shortest t) (t .n) (has-path w (path .0) (path .1)))
-decided-steps t w h (undecided i) q = omega arith
-
--- r has the numbers of a release check's answer
-module _ (store : List ℕ) (n g : ℕ) {r : Numbers} (e : r ≡ numbersOf (decideAnswer store n g release maxStates)) where
-  abbrev answer : Decision
-  answer = decideAnswer store n g release maxStates
-
-  pub table-refused : (r .refusal ≡ 0 → ⊥) → refusedText (r .refusal) ≡ tableText store n g
-  unfolding tableText
-  table-refused f = rw (e, ne-eqb (answer .refusal) 0 (λ z. f (ap (λ (x : Numbers). x .refusal) e ∙ z)))
-
-  -- the check is not declined
-  module _ (z : r .refusal ≡ 0) where
-    accepted : Accepted store n g release maxStates
-    accepted = record { accepted = sym (ap (λ (x : Numbers). x .refusal) e) ∙ z }
-
-    pub report-range : (n ≤ maxStates) × (g ≤ maxGroups) × (r .count ≤ release) × (r .steps < maxStates)
-    unfolding tableOf
-    report-range =
-        let held = check-of store n g release maxStates accepted .held in
-        let range = decide-range store n g release maxStates in
-        let t = tableOf store n g in
-        let steps =
-        subst (λ (a : Decision). a .steps < maxStates) (sym (check-of store n g release maxStates accepted .answer))
-        (decided-steps t (well-formed store n g held) (small-table held) (run t release) refl) in
-        (held .small, held .few, rw e (range .count), rw e steps)
-      where
-        small-table : Store store n g → (tableOf store n g) .n ≤ maxStates
-        small-table h = h .small
-
-    answer-size : answer .size ≡ size (answer .invariant)
-    answer-size =
-        let t = tableOf store n g in
-        subst (λ (a : Decision). a .size ≡ size (a .invariant)) (sym (check-of store n g release maxStates accepted .answer)) (decided-size t (run t release))
-
-    whole : record { refusal = 0; verdict = r .verdict; count = r .count; invariant = r .invariant .words; size = size (r .invariant .words); steps = r .steps } ≡ answer
-    whole = λ i.
-        record {
-          refusal = sym (accepted .accepted) i;
-          verdict = (e i) .verdict;
-          count = (e i) .count;
-          invariant = (e i) .invariant .words;
-          size = (ap (λ (x : Numbers). size (x .invariant .words)) e ∙ sym answer-size) i;
-          steps = (e i) .steps;
-        }
-
-    pub table-report : {path : List ℕ} → path ≡ decideBuffer store n g release zeroPath
-        → reportText n g (record { refusal = 0; verdict = r .verdict; count = r .count; invariant = r .invariant .words; size = size (r .invariant .words); steps = r .steps }) path ≡ tableText store n g
-    unfolding tableText
-    table-report p =
-        rw (p, eq-eqb (answer .refusal) 0 (accepted .accepted)) (ap (λ (a : Decision). reportText n g a (decideBuffer store n g release zeroPath)) whole)
+  pub text-put : {after : List ℕ} {l : ℕ} {v : FileVerdict} → answered (record { length = l; verdict = v }) ≡ checkAnswer input 0 (length before)
+      → after ≡ checkBuffer input 0 before → length after ≡ length before → Front (checkText input 0) before l after
+  unfolding checkBuffer overwrite
+  text-put {after} {l} e b same =
+      let text = checkText input 0 in
+      let ends : l ≡ length text = ap (λ (c : CheckedFile). c .length) (answered-is (e ∙ clear)) in
+      let bytes : after ≡ overwrite text before = b ∙ ap (unlessRefused before (λ (c : CheckedFile). overwrite text before)) clear in
+      record {
+        ends = ends;
+        bytes = bytes;
+        within = counts l after (omega (arith, ends, ap length bytes, length-append text (drop (length text) before)));
+      }

@@ -73,7 +73,7 @@ module _ (xs : List ℕ) (n f : ℕ) (old : List ℕ) (a : Accepted n f (length 
   unfolding loadFrom
   filled-sets = holds-sets filled (loadFrom xs n f) filled-holds refl (omega arith) (a .small)
 
--- ---- every call answers for a store of which none of the grounds that they share holds
+-- ---- every call accepts a store of which no ground that they share holds
 
 module _ (store : List ℕ) (n g : ℕ) (s : Store store n g) where
   accepts : Accepts store n g

@@ -1,7 +1,7 @@
 -- What is promised of the call generate; `LoadsKept.loads` proves it.
 --
 --   Accepts store n g    write, given output enough, decide and shortest path, given a path buffer, and decide an allowance, in bounds,
---                        answer for the store: no ground that the calls share holds of it
+--                        accept the store: no ground that the calls share holds of it
 --   Loads                of every call of generate: what it filled, what it left alone
 use Prim.Native.Nat.{ℕ, _≤_}
 use mathlib.Core.Path.{_≡_}

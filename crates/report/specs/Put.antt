@@ -1,7 +1,7 @@
 -- Texts in a buffer: what the contracts of the functions that put them there say.
 --
 --   numberLimit, numberBytes              numbers are of 16 bits, and take so many bytes at most; spacedBytes: with the space before
---   room                                  bytes that hold any report
+--   textRoom                              bytes that hold any report
 --   Front text before end after           text stands at the front of the buffer, up to `end`, and the rest is as before
 --   Put most text at before end after     text, of at most so many bytes, stands in the buffer from `at` up to `end`: a piece of a report
 use Prim.Native.Nat.{ℕ, _+_, _*_, _≤_}
@@ -23,8 +23,8 @@ abbrev pub spacedBytes : ℕ
 spacedBytes = 1 + numberBytes
 
 -- What the states take, and more than enough for the rest.
-abbrev pub room : ℕ
-room = 1024 + spacedBytes * maxStates
+abbrev pub textRoom : ℕ
+textRoom = 1024 + spacedBytes * maxStates
 
 pub record Front (text before : List ℕ) (end : ℕ) (after : List ℕ) : Type 0 where
   pub ends : end ≡ length text

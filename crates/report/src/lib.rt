@@ -1,7 +1,8 @@
-// What the program `check` prints (docs/SPECIFICATION.md, "The program"), put into a lent buffer.
+// What is printed for a file (docs/SPECIFICATION.md, "The program"), put into a lent buffer.
 //
-//   write_refused, write_report     the whole text at the front of the buffer; the answer is its length
-//   put_*                           a piece of it at the place `at`; the answer is the place after it
+//   write_safe, write_unsafe, write_undecided, write_refused
+//                   the whole text at the front of the buffer; the answer is its length
+//   put_*           a piece of it at the place `at`; the answer is the place after it
 //
 // Each piece asks for the room that its longest text takes, and says that its text takes no more. All numbers are of 16 bits, as a path's
 // entries are, so each takes five bytes at most, and a state with the space before it six.
@@ -9,55 +10,63 @@ ghost use Prim.Native.Nat.{_+_, _*_, _≤_, _<_};
 ghost use mathlib.Core.Bool.{cond};
 ghost use mathlib.Core.List.{[], _∷_, _++_};
 ghost use lib.Dec.{eqb};
-ghost use lib.ListN.{length, take};
-ghost use Rattle.model.specs.Sets.{maxStates, member, members, size};
+ghost use lib.ListN.{length};
+ghost use Rattle.model.specs.Sets.{maxStates, member, members};
 ghost use Rattle.model.specs.Stores.{maxGroups};
 ghost use Rattle.model.specs.Calls.{release};
-ghost use Rattle.report.specs.Text.{ascii, decimal, spaced, byVerdict, statesLine, verdictLine, invariantLine, pathLine, reportText, refusedText};
-ghost use Rattle.report.specs.Put.{numberLimit, numberBytes, spacedBytes, room, Front, Put};
+ghost use Rattle.report.specs.Text.{ascii, decimal, spaced, statesLine, verdictLine, invariantLine, pathLine, safeText, unsafeText, undecidedText, refusedText};
+ghost use Rattle.report.specs.Put.{numberLimit, numberBytes, spacedBytes, textRoom, Front, Put};
 use state_set::StateSet;
 use state_set::WORDS;
 
 // A number and the space before it.
 const SPACED: usize = 6;
 
-// The specs' room is the same number.
+// The specs' textRoom is the same number.
 pub const ROOM: usize = 1024 + SPACED * 64 * WORDS;
 
+pub fn write_safe(n: usize, g: usize, count: usize, invariant: StateSet, out: &mut [u8]) -> usize
+    requires { ⌜ (n ≤ maxStates) × (g ≤ maxGroups) × (count ≤ release) × (textRoom ≤ length (now out)) ⌝ }
+    ensures { λ r. ⌜ Front (safeText n g count (invariant .words)) (now (out .entry)) r (now (out .exit)) ⌝ }
+{
+    let a = put_head(n, g, b"safe", count, out);
+    put_invariant_line(invariant, a, out)
+}
+
+// The path has its states and nothing else.
+pub fn write_unsafe(n: usize, g: usize, count: usize, path: &[u16], out: &mut [u8]) -> usize
+    requires { ⌜ (n ≤ maxStates) × (g ≤ maxGroups) × (count ≤ release) × (length (now path) ≤ maxStates) × (textRoom ≤ length (now out)) ⌝ }
+    ensures { λ r. ⌜ Front (unsafeText n g count (now (path .entry))) (now (out .entry)) r (now (out .exit)) ⌝ }
+{
+    let a = put_head(n, g, b"unsafe", count, out);
+    put_path_line(path, a, out)
+}
+
+pub fn write_undecided(n: usize, g: usize, count: usize, out: &mut [u8]) -> usize
+    requires { ⌜ (n ≤ maxStates) × (g ≤ maxGroups) × (count ≤ release) × (textRoom ≤ length (now out)) ⌝ }
+    ensures { λ r. ⌜ Front (undecidedText n g count) (now (out .entry)) r (now (out .exit)) ⌝ }
+{
+    put_head(n, g, b"undecided", count, out)
+}
+
 pub fn write_refused(refusal: u8, out: &mut [u8]) -> usize
-    requires { ⌜ room ≤ length (now out) ⌝ }
+    requires { ⌜ textRoom ≤ length (now out) ⌝ }
     ensures { λ r. ⌜ Front (refusedText refusal) (now (out .entry)) r (now (out .exit)) ⌝ }
 {
     let a = put_number(b"refused ", refusal as usize, 0, out);
     put(b"\n", a, out)
 }
 
-// The path is the buffer as decide left it.
-pub fn write_report(
-    n: usize,
-    g: usize,
-    verdict: usize,
-    count: usize,
-    invariant: StateSet,
-    steps: usize,
-    path: &[u16],
-    out: &mut [u8],
-) -> usize
-    requires { ⌜ (n ≤ maxStates) × (g ≤ maxGroups) × (count ≤ release) × (steps < maxStates) × (steps < length (now path)) × (room ≤ length (now out)) ⌝ }
-    ensures { λ r. ⌜ Front (reportText n g (record { refusal = 0; verdict = verdict; count = count; invariant = invariant .words; size = size (invariant .words); steps = steps }) (now (path .entry))) (now (out .entry)) r (now (out .exit)) ⌝ }
+// ---- lines
+
+// Lines 1 and 2, at the front; the word is the verdict's.
+fn put_head(n: usize, g: usize, word: &[u8], count: usize, out: &mut [u8]) -> usize
+    requires { ⌜ (n < numberLimit) × (g < numberLimit) × (length (now word) ≤ 9) × (count < numberLimit) × (textRoom ≤ length (now out)) ⌝ }
+    ensures { λ r. ⌜ Put (39 + 3 * numberBytes) (statesLine n g ++ verdictLine (now (word .entry)) count) 0 (now (out .entry)) r (now (out .exit)) ⌝ }
 {
     let a = put_states_line(n, g, 0, out);
-    let b = put_verdict_line(verdict, count, a, out);
-    if verdict == 0 {
-        return put_invariant_line(invariant, b, out);
-    }
-    if verdict == 1 {
-        return put_path_line(path, steps + 1, b, out);
-    }
-    b
+    put_verdict_line(word, count, a, out)
 }
-
-// ---- lines
 
 fn put_states_line(n: usize, g: usize, at: usize, out: &mut [u8]) -> usize
     requires { ⌜ (n < numberLimit) × (g < numberLimit) × (at + (16 + 2 * numberBytes) ≤ length (now out)) ⌝ }
@@ -68,18 +77,18 @@ fn put_states_line(n: usize, g: usize, at: usize, out: &mut [u8]) -> usize
     put(b"\n", b, out)
 }
 
-fn put_verdict_line(verdict: usize, count: usize, at: usize, out: &mut [u8]) -> usize
-    requires { ⌜ (count < numberLimit) × (at + (23 + numberBytes) ≤ length (now out)) ⌝ }
-    ensures { λ r. ⌜ Put (23 + numberBytes) (verdictLine verdict count) at (now (out .entry)) r (now (out .exit)) ⌝ }
+fn put_verdict_line(word: &[u8], count: usize, at: usize, out: &mut [u8]) -> usize
+    requires { ⌜ (length (now word) ≤ 9) × (count < numberLimit) × (at + (23 + numberBytes) ≤ length (now out)) ⌝ }
+    ensures { λ r. ⌜ Put (23 + numberBytes) (verdictLine (now (word .entry)) count) at (now (out .entry)) r (now (out .exit)) ⌝ }
 {
-    let a = put_verdict(verdict, at, out);
+    let a = put(word, at, out);
     let b = put_number(b" refinements ", count, a, out);
     put(b"\n", b, out)
 }
 
 fn put_invariant_line(x: StateSet, at: usize, out: &mut [u8]) -> usize
     requires { ⌜ at + (12 + numberBytes + spacedBytes * maxStates) ≤ length (now out) ⌝ }
-    ensures { λ r. ⌜ Put (12 + numberBytes + spacedBytes * maxStates) (invariantLine (size (x .words)) (members (x .words))) at (now (out .entry)) r (now (out .exit)) ⌝ }
+    ensures { λ r. ⌜ Put (12 + numberBytes + spacedBytes * maxStates) (invariantLine (x .words)) at (now (out .entry)) r (now (out .exit)) ⌝ }
 {
     let states = x.count();
     let a = put_number(b"invariant ", states, at, out);
@@ -88,29 +97,16 @@ fn put_invariant_line(x: StateSet, at: usize, out: &mut [u8]) -> usize
     put(b"\n", c, out)
 }
 
-fn put_path_line(path: &[u16], count: usize, at: usize, out: &mut [u8]) -> usize
-    requires { ⌜ (count ≤ length (now path)) × (count ≤ maxStates) × (at + (5 + spacedBytes * maxStates) ≤ length (now out)) ⌝ }
-    ensures { λ r. ⌜ Put (5 + spacedBytes * maxStates) (pathLine (take count (now (path .entry)))) at (now (out .entry)) r (now (out .exit)) ⌝ }
+fn put_path_line(path: &[u16], at: usize, out: &mut [u8]) -> usize
+    requires { ⌜ (length (now path) ≤ maxStates) × (at + (5 + spacedBytes * maxStates) ≤ length (now out)) ⌝ }
+    ensures { λ r. ⌜ Put (5 + spacedBytes * maxStates) (pathLine (now (path .entry))) at (now (out .entry)) r (now (out .exit)) ⌝ }
 {
     let a = put(b"path", at, out);
-    let b = put_path(path, count, a, out);
+    let b = put_path(path, a, out);
     put(b"\n", b, out)
 }
 
 // ---- parts of lines
-
-fn put_verdict(verdict: usize, at: usize, out: &mut [u8]) -> usize
-    requires { ⌜ at + 9 ≤ length (now out) ⌝ }
-    ensures { λ r. ⌜ Put 9 (byVerdict verdict (ascii "safe") (ascii "unsafe") (ascii "undecided")) at (now (out .entry)) r (now (out .exit)) ⌝ }
-{
-    if verdict == 0 {
-        return put(b"safe", at, out);
-    }
-    if verdict == 1 {
-        return put(b"unsafe", at, out);
-    }
-    put(b"undecided", at, out)
-}
 
 fn put_states_or_none(x: StateSet, count: usize, at: usize, out: &mut [u8]) -> usize
     requires { ⌜ at + spacedBytes * maxStates ≤ length (now out) ⌝ }
@@ -145,13 +141,13 @@ fn put_member(x: StateSet, s: usize, at: usize, out: &mut [u8]) -> usize
     at
 }
 
-// The first so many states of the path, each after a space.
-fn put_path(path: &[u16], count: usize, at: usize, out: &mut [u8]) -> usize
-    requires { ⌜ (count ≤ length (now path)) × (at + spacedBytes * count ≤ length (now out)) ⌝ }
-    ensures { λ r. ⌜ Put (spacedBytes * count) (spaced (take count (now (path .entry)))) at (now (out .entry)) r (now (out .exit)) ⌝ }
+// The states of the path, each after a space.
+fn put_path(path: &[u16], at: usize, out: &mut [u8]) -> usize
+    requires { ⌜ at + spacedBytes * length (now path) ≤ length (now out) ⌝ }
+    ensures { λ r. ⌜ Put (spacedBytes * length (now (path .entry))) (spaced (now (path .entry))) at (now (out .entry)) r (now (out .exit)) ⌝ }
 {
     let mut end = at;
-    for i in 0..count {
+    for i in 0..path.len() {
         end = put_spaced(path[i] as usize, end, out);
     }
     end

@@ -4,6 +4,7 @@ use native.Mathlib.Omega.{arith}
 use mathlib.Core.Path.{_≡_}
 use borrow.Author.Needs.{needs}
 use lib.ListN.{length, take}
+use lib.Seq.{take-all}
 use Rattle.report.specs.Text.{spaced}
 use Rattle.report.specs.Put.{spacedBytes, Put}
 use Rattle.report.proofs.Putting.{put-none, put-then, put-most}
@@ -12,10 +13,10 @@ use Rattle.report.proofs.put_path.Statement.{statement}
 use Rattle.report.proofs.put_path.Tie as tie
 
 abbrev Inv-loop : tie.InvT-loop
-Inv-loop path count at out₀ end₀ i₀ out end i = (i ≤ count) × Put (spacedBytes * i) (spaced (take i path)) at out₀ end out
+Inv-loop path at out₀ end₀ i₀ i-end out end i = (i ≤ length path) × Put (spacedBytes * i) (spaced (take i path)) at out₀ end out
 
 abbrev μ-loop : tie.MeasureT-loop
-μ-loop path count at out₀ end₀ i₀ out end i = count - i
+μ-loop path at out₀ end₀ i₀ i-end out end i = length path - i
 
 loop-holds : tie.Need-loop-holds Inv-loop μ-loop
 unfolding spaced
@@ -32,9 +33,8 @@ loop-again c =
 
 returns : tie.Need-returns Inv-loop μ-loop
 returns c =
-    let at = c .before .loop in
-    let all : at .i ≡ c .before .before .before .before .args .count = omega arith in
-    rw (← all) (at .inv .1)
+    let inv = c .before .loop .inv in
+    put-most (omega arith) (rw (take-all _ _ (c .loop-test .left)) at (inv .1))
 
 pub put-path-spec : {M : Type 1} → statement M
 put-path-spec =

@@ -1,8 +1,9 @@
 -- `report::put_verdict_line` meets its contract: its pieces one after the other.
+use native.Mathlib.Omega.{arith}
 use mathlib.Core.List.{append-assoc}
 use borrow.Author.Needs.{needs}
 use Rattle.report.specs.Text.{ascii, verdictLine}
-use Rattle.report.proofs.Putting.{put-then}
+use Rattle.report.proofs.Putting.{put-then, put-most}
 use Rattle.report.proofs.put_verdict_line.Statement.{statement}
 use Rattle.report.proofs.put_verdict_line.Tie as tie
 
@@ -12,7 +13,7 @@ returns c =
     let third = c .before .before in
     let second = third .before .before .before .before .before in
     let first = second .before .before .before .before .before in
-    simp append-assoc (put-then (first .put-verdict .ensures) (put-then (second .put-number .ensures) (third .put .ensures)))
+    simp append-assoc (put-most (omega arith) (put-then (first .put .ensures) (put-then (second .put-number .ensures) (third .put2 .ensures))))
 
 pub put-verdict-line-spec : {M : Type 1} → statement M
 put-verdict-line-spec =

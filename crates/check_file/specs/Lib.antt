@@ -1,3 +1,0 @@
-pub mod CheckText
-pub mod Numbers
-pub mod Reported
