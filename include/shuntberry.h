@@ -1,7 +1,7 @@
 /*
  * Shuntberry: is a forbidden state of a dialogue table reachable, and by which steps?
  *
- * The calls are decide, shortest path, distances, within, read, write, generate, replay, those of an edit
+ * The calls are check (from a file to a verdict and its text), decide, shortest path, distances, within, read, write, generate, replay, those of an edit
  * session (open, add a step, remove a step) and decide modal (for tables with steps that are only possible), and
  * beside them next open minute, which says when a release may be loaded and reads no table. Link
  * target/staticlib/libshuntberry.a, which `rt staticlib shuntberry` makes. Nothing is allocated, nothing is
@@ -91,6 +91,7 @@ extern "C" {
 #define SHUNTBERRY_UNREACHABLE 65535 /* the distance of a state from which no forbidden state can be reached */
 #define SHUNTBERRY_BLOCK_BYTES 512   /* a file is whole blocks of this many bytes */
 #define SHUNTBERRY_FILE_BYTES 37376  /* the length of the largest file, 73 blocks */
+#define SHUNTBERRY_CHECK_TEXT 4096   /* the room that the text of any file takes (check) */
 #define SHUNTBERRY_MAX_SITE 65520    /* the greatest site number */
 #define SHUNTBERRY_MAX_FAN_OUT 16    /* the greatest fan-out of a generated table */
 #define SHUNTBERRY_MAX_LOG 32768     /* the greatest length of a pump's log, in bytes: 16,384 entries */
@@ -217,6 +218,41 @@ static inline const char *shuntberry_refusal_text(uint32_t refusal)
 #define SHUNTBERRY_NODISCARD
 #endif
 
+/* What shuntberry_check answers. */
+struct shuntberry_checked {
+    size_t length;         /* bytes of text at the front of the buffer; of a refused call 0 */
+    size_t n;              /* the table's number of states; SHUNTBERRY_NO_TABLE where the file or the call is refused */
+    uint32_t refusal;      /* 0, or the number of the refusal of the call itself */
+    uint32_t file_refusal; /* 0, or the number with which the file is refused, which is an answer: the text says so */
+    uint32_t verdict;      /* SHUNTBERRY_SAFE or SHUNTBERRY_UNSAFE; SHUNTBERRY_NO_VERDICT where the file or the call is refused */
+    uint32_t reserved;     /* 0 */
+};
+
+/*
+ * The simplest right use of the library: one call from a file's bytes to the verdict of a release check and to
+ * the text that the program `check` prints for it, which stands at the front of `text`; no other byte is touched.
+ * The text has no 0 at its end: `length` says how long it is.
+ *
+ *     struct shuntberry_checked checked = shuntberry_check(input, length, 0, text, sizeof text);
+ *     if (shuntberry_checked_is_safe(checked)) ...
+ *
+ * An input of no bytes is a draft: safe, with n 0. Lend one byte more than SHUNTBERRY_FILE_BYTES to what reads
+ * the file, so that a longer one is seen to be too long.
+ *
+ * Refuses with 24, or 19 where the text has under SHUNTBERRY_CHECK_TEXT bytes. A file that is refused is an
+ * answer: `file_refusal` has the number that shuntberry_read gives.
+ */
+SHUNTBERRY_NODISCARD
+struct shuntberry_checked shuntberry_check(const uint8_t *input, size_t input_len, size_t site, uint8_t *text,
+                                           size_t text_len);
+
+/* Whether the call and the file were accepted, the verdict is safe and the table has states: 1 or 0. */
+static inline int shuntberry_checked_is_safe(struct shuntberry_checked checked)
+{
+    return checked.refusal == SHUNTBERRY_ACCEPTED && checked.file_refusal == SHUNTBERRY_ACCEPTED
+        && checked.verdict == SHUNTBERRY_SAFE && checked.n > 0;
+}
+
 /* What shuntberry_decide answers. */
 struct shuntberry_decision {
     uint64_t invariant[SHUNTBERRY_SET_WORDS]; /* if safe, a set with the initial states, the successors of each of its states, and no forbidden state; else empty */
@@ -334,6 +370,16 @@ struct shuntberry_file {
 SHUNTBERRY_NODISCARD
 struct shuntberry_file shuntberry_write(const uint64_t *store, size_t store_len, size_t n, size_t g, size_t site,
                                         uint8_t *output, size_t output_len);
+
+/*
+ * Rewrites a file of site 0 of the form before version 4 as the same table in the form of today, with its dead ends, and
+ * no other state, resting: at the front of `output`, and no other byte. decide says of it what it said before.
+ *
+ * Refuses with the number with which the old form refuses the file (11 to 18; a file of today's form gets 15), or
+ * with 19; nothing is written then.
+ */
+SHUNTBERRY_NODISCARD
+struct shuntberry_file shuntberry_rewrite(const uint8_t *input, size_t input_len, uint8_t *output, size_t output_len);
 
 /*
  * Fills the first SHUNTBERRY_STORE_WORDS words of `store` with the table that a seed gives, and touches no other word:

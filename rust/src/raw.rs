@@ -9,6 +9,7 @@ pub const SAFE: u32 = 0;
 pub const UNSAFE: u32 = 1;
 pub const UNDECIDED: u32 = 2;
 pub const DEPENDS: u32 = 3;
+pub const NO_VERDICT: u32 = 255;
 
 #[repr(C)]
 #[derive(Clone, Copy, Debug, PartialEq, Eq)]
@@ -95,7 +96,33 @@ pub struct Minute {
     pub minute: u32,
 }
 
+#[repr(C)]
+#[derive(Clone, Copy, Debug, PartialEq, Eq)]
+pub struct Checked {
+    pub length: usize,
+    pub n: usize,
+    pub refusal: u32,
+    pub file_refusal: u32,
+    pub verdict: u32,
+    pub reserved: u32,
+}
+
 unsafe extern "C" {
+    pub fn shuntberry_check(
+        input: *const u8,
+        input_len: usize,
+        site: usize,
+        text: *mut u8,
+        text_len: usize,
+    ) -> Checked;
+
+    pub fn shuntberry_rewrite(
+        input: *const u8,
+        input_len: usize,
+        output: *mut u8,
+        output_len: usize,
+    ) -> File;
+
     pub fn shuntberry_decide(
         store: *const u64,
         store_len: usize,
