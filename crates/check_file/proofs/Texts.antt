@@ -17,23 +17,24 @@ use Rattle.file_check.specs.CheckText.{releaseCheck, FileVerdict, checkText}
 use Rattle.file_check.specs.CheckAnswers.{CheckedFile, checkedFile, checkGrounds, checkAnswer, checkBuffer}
 use Rattle.file_input.proofs.Counting.{counts}
 
-module _ (input before : List ℕ) (roomy : textRoom ≤ length before) where
-  clear : checkAnswer input 0 (length before) ≡ answered (checkedFile (releaseCheck input 0))
-  unfolding checkAnswer
-  clear = answer-clear (checkGrounds 0 (length before)) _ (le-ltb maxSite 0 (omega arith), (le-ltb (length before) textRoom roomy, tt))
+clear : (input : List ℕ) (room : ℕ) → textRoom ≤ room → checkAnswer input 0 room ≡ answered (checkedFile (releaseCheck input 0))
+unfolding checkAnswer
+clear input room roomy = answer-clear (checkGrounds 0 room) _ (le-ltb maxSite 0 (omega arith), (le-ltb room textRoom roomy, tt))
 
-  pub never-refused : {k : ℕ} → refused k ≡ checkAnswer input 0 (length before) → ⊥
-  never-refused e = answered-not-refused (sym (e ∙ clear))
+pub text-put : (input before : List ℕ) {after : List ℕ} {l : ℕ} {v : FileVerdict} → textRoom ≤ length before
+    → answered (record { length = l; verdict = v }) ≡ checkAnswer input 0 (length before)
+    → after ≡ checkBuffer input 0 before → length after ≡ length before → Front (checkText input 0) before l after
+unfolding checkBuffer overwrite
+text-put input before {after} {l} roomy e b same =
+    let text = checkText input 0 in
+    let given = clear input (length before) roomy in
+    let ends : l ≡ length text = ap (λ (c : CheckedFile). c .length) (answered-is (e ∙ given)) in
+    let bytes : after ≡ overwrite text before = b ∙ ap (unlessRefused before (λ (c : CheckedFile). overwrite text before)) given in
+    record {
+      ends = ends;
+      bytes = bytes;
+      within = counts l after (omega (arith, ends, ap length bytes, length-append text (drop (length text) before)));
+    }
 
-  pub text-put : {after : List ℕ} {l : ℕ} {v : FileVerdict} → answered (record { length = l; verdict = v }) ≡ checkAnswer input 0 (length before)
-      → after ≡ checkBuffer input 0 before → length after ≡ length before → Front (checkText input 0) before l after
-  unfolding checkBuffer overwrite
-  text-put {after} {l} e b same =
-      let text = checkText input 0 in
-      let ends : l ≡ length text = ap (λ (c : CheckedFile). c .length) (answered-is (e ∙ clear)) in
-      let bytes : after ≡ overwrite text before = b ∙ ap (unlessRefused before (λ (c : CheckedFile). overwrite text before)) clear in
-      record {
-        ends = ends;
-        bytes = bytes;
-        within = counts l after (omega (arith, ends, ap length bytes, length-append text (drop (length text) before)));
-      }
+pub never-refused : (input : List ℕ) {k room : ℕ} → refused k ≡ checkAnswer input 0 room → textRoom ≤ room → ⊥
+never-refused input {k} {room} e roomy = answered-not-refused (sym (e ∙ clear input room roomy))
