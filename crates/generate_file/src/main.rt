@@ -6,13 +6,14 @@
 //   number_of        what a word says as a number
 //   file_room        where the file is put
 //   put_file         the file of a load at the front of a lent buffer; write_out: to standard output
-//   say_refused      what is said where the load is declined
+//   say_refused      what is said where the load is refused
 //
 // A program has no status of its own: where anything goes wrong, it says so on standard error, and the script sees that.
 ghost use mathlib.Core.Path.{_≡_};
 ghost use Prim.Native.Nat.{_≤_, min};
 ghost use lib.ListN.{length};
 ghost use Rattle.model.specs.Files.{maxFile};
+ghost use Rattle.file_writing.specs.WriteAnswers.{writtenOf};
 ghost use Rattle.generate_file.specs.Words.{wordOf};
 ghost use Rattle.generate_file.specs.LoadFile.{fileMade, fileBuffer};
 use file_blocks::MAX_FILE;
@@ -128,7 +129,7 @@ fn file_room() -> [u8; MAX_FILE]
 // What generate filled, write writes.
 fn put_file(seed: u32, n: usize, f: usize, out: &mut [u8]) -> Written
     requires { ⌜ maxFile ≤ length (now out) ⌝ }
-    ensures { λ r. ⌜ (r ≡ fileMade n f) × (now (out .exit) ≡ fileBuffer seed n f (now (out .entry))) ⌝ }
+    ensures { λ r. ⌜ (writtenOf r ≡ fileMade n f) × (now (out .exit) ≡ fileBuffer seed n f (now (out .entry))) ⌝ }
 {
     let mut store = [0u64; STORE_WORDS];
     match generate(seed, n, f, &mut store) {

@@ -1,4 +1,5 @@
 -- `put_file`: write's file of what generate filled, or generate's refusal.
+use mathlib.Core.Path.{_∙_}
 use borrow.Author.Needs.{needs}
 use Rattle.generate_file.proofs.Files.{made-file, made-refused}
 use Rattle.generate_file.proofs.put_file.Statement.{statement}
@@ -18,8 +19,8 @@ put-file-spec =
     (λ c.
     let written = c .before .before in
     let made = written .before .before .before .before .before .before in
-    made-file _ _ _ _ _ (made .generate .result) (made .generate .ensures) (search needs) (search needs) _ _ _ (search needs) (written .write .ensures .0)
-    (written .write .ensures .1))
+    let file = made-file _ _ _ _ _ (made .generate .result) (made .generate .ensures) (search needs) (search needs) _ (search needs) in
+    (written .write .ensures .0 ∙ file .0, written .write .ensures .1 ∙ file .1))
     (λ c.
     let made = c .before .before .before .before in
     made-refused _ _ _ _ _ (made .generate .result) (made .generate .ensures) (search needs) _ _ (c .before .refusal .given .1)))
