@@ -107,7 +107,11 @@ modal-promises =
           (_, same .0, of-call store n g possible before r after a call e (AsDecide _ (decideBuffer store n g release before)) (same .1));
       refusal = λ store n g possible before r after k call e.
           let given = sym (call .0) ∙ e in
-          (refused-is (modalGrounds store n g possible (length before)) _ given, call .2 ∙ ap (unlessRefused before (left store n g possible before)) given);
+          (
+            refused-is (modalGrounds store n g possible (length before)) _ given,
+            call .1 ∙ ap (unlessRefused empty (λ (b : ModalAnswer). b .invariant)) given,
+            call .2 ∙ ap (unlessRefused before (left store n g possible before)) given,
+          );
       draft = λ store possible before e long roomy zero. draft-safe store possible before e long roomy zero;
       draft-17 = λ store possible before e long i h f. draft-17 store possible before e long i h f;
       figure = refl;

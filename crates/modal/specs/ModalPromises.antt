@@ -93,10 +93,10 @@ pub record ModalPromises : Type 0 where
       → CalledModal store n g possible before r after → answerOf r ≡ answered a
       → ((s : ℕ) → s < n → setAt possible (WORDS * s) ≡ setAt store (rowAt s))
       → (d : Decision) × (decideAnswer store n g release (length before) ≡ answered d) × AsDecide d (decideBuffer store n g release before) a after
-  -- of every call that is refused: the number of the first ground that holds; the buffer is as it was
+  -- of every call that is refused: the number of the first ground that holds; the set beside it is empty, and the buffer is as it was
   pub refusal : (store : List ℕ) (n g : ℕ) (possible before : List ℕ) (r : ModalDecision) (after : List ℕ) (k : ℕ)
       → CalledModal store n g possible before r after → answerOf r ≡ refused k
-      → (k ≡ refuse (modalGrounds store n g possible (length before))) × (after ≡ before)
+      → (k ≡ refuse (modalGrounds store n g possible (length before))) × (r .invariant .words ≡ empty) × (after ≡ before)
   -- a table without states is safe where the words of possible steps are all 0, and is refused with 17 where one is not
   pub draft : (store possible before : List ℕ) → refuse (sharedGrounds store 0 0) ≡ 0 → possibleWords ≤ length possible → maxStates ≤ length before
       → ((i : ℕ) → i < possibleWords → getD possible i 0 ≡ 0)

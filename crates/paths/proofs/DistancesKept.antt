@@ -163,6 +163,7 @@ promises =
           let gives = sym (c .0) ∙ e in
           (refused-is (distancesGrounds store n g (length before)) tt gives, c .1 ∙ ap (unlessRefused before _) gives);
       distances = λ store n g before r after c e. measured store n g before after (written store n g before r after c e);
+      within-refusal = λ store n g k r j c e. refused-is (sharedGrounds store n g) _ (sym c ∙ e);
       within = λ store n g k r yes c e.
           let grounds = sharedGrounds store n g in
           let gives = sym c ∙ e in

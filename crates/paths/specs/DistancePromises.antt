@@ -15,7 +15,7 @@ use Rattle.model.specs.Sets.{member}
 use Rattle.model.specs.Tables.{Table}
 use Rattle.model.specs.Paths.{leads, isPath, unreachable}
 use Rattle.basics.specs.Refusals.{refuse, refused, answered}
-use Rattle.model.specs.Stores.{storeWords, tableOf}
+use Rattle.model.specs.Stores.{storeWords, tableOf, sharedGrounds}
 use Rattle.paths.specs.Distances.{distancesGrounds, distancesAnswer, distancesBuffer, distancesOf, CalledDistances}
 use Rattle.paths.specs.Within.{withinAnswer, answerOf as withinOf, CalledWithin}
 use Rattle.paths.specs.declared.DistancesAnswer.{DistancesAnswer}
@@ -52,6 +52,8 @@ pub record DistancePromises : Type 0 where
       → CalledDistances store n g before r after → distancesOf r ≡ answered tt → Measured (tableOf store n g) before after
   pub within : (store : List ℕ) (n g k : ℕ) (r : WithinAnswer) (yes : Bool)
       → CalledWithin store n g k r → withinOf r ≡ answered yes → WithinIs (tableOf store n g) k yes
+  pub within-refusal : (store : List ℕ) (n g k : ℕ) (r : WithinAnswer) (j : ℕ) → CalledWithin store n g k r → withinOf r ≡ refused j
+      → j ≡ refuse (sharedGrounds store n g)
   -- the two calls agree
   pub agree : (store : List ℕ) (n g : ℕ) (before : List ℕ) (r : DistancesAnswer) (after : List ℕ) (k : ℕ) (w : WithinAnswer)
       → CalledDistances store n g before r after → distancesOf r ≡ answered tt → CalledWithin store n g k w

@@ -1,5 +1,8 @@
 -- The demands of the call: the model's promises, by the contract of decide.
-use mathlib.Core.Path.{sym, _∙_, subst, subst₂}
+use mathlib.Core.Path.{sym, ap, _∙_, subst, subst₂}
+use Rattle.basics.specs.Refusals.{unlessRefused}
+use Rattle.model.specs.Sets.{empty}
+use Rattle.model.specs.Calls.{Decision}
 use Rattle.model.specs.Stores.{tableOf}
 use Rattle.model.specs.Promises.{Carries, Demand2, Demand3, SameAnswer}
 use Rattle.model.proofs.Kept.{promises, untouched}
@@ -9,8 +12,9 @@ pub demands : Demands
 demands =
     record {
       refusal = λ store n g allowance before r after k c e.
-          let left = untouched .decide store n g allowance before k (sym (c .0) ∙ e) in
-          (left .0, c .2 ∙ left .1);
+          let given = sym (c .0) ∙ e in
+          let left = untouched .decide store n g allowance before k given in
+          (left .0, c .1 ∙ ap (unlessRefused empty (λ (a : Decision). a .invariant)) given, c .2 ∙ left .1);
       answer = λ store n g allowance before r after a c e. promises .answer store n g allowance before a (sym (c .0) ∙ e);
       stops = λ store n g allowance before r after a c e. promises .stops store n g allowance before a (sym (c .0) ∙ e);
       carries = λ store n g allowance before r after a c e.

@@ -4,12 +4,13 @@ use mathlib.Core.Path.{_≡_, refl, sym, ap, _∙_, subst}
 use mathlib.Core.List.{List, []}
 use lib.ListN.{length, take, drop, replicate}
 use lib.Seq.{take-at}
+use Rattle.basics.specs.Refusals.{unlessRefused}
 use Rattle.model.specs.Sets.{maxStates}
 use Rattle.model.specs.Tables.{Table}
 use Rattle.model.specs.Rounds.{firstRound}
 use Rattle.model.specs.Stores.{tableOf, sharedGrounds}
 use Rattle.model.specs.Calls.{overwrite}
-use Rattle.basics.proofs.RefusalLaws.{answered-value}
+use Rattle.basics.proofs.RefusalLaws.{answered-value, refused-is}
 use Rattle.model.proofs.SetLaws.{subset-in}
 use Rattle.model.proofs.FirstWords.{same-call}
 use Rattle.rounds.specs.Order.{forwardOrder, padded, InOrder}
@@ -40,5 +41,8 @@ promises =
           let is = answered-value (sharedGrounds store n g) (listed t) (sym (c .0) ∙ e) in
           subst (InOrder t ((firstRound t) .list) ((firstRound t) .Z))
           (sym (ap (λ (a : OrderAnswer). take (a .count) (a .states)) is ∙ padded-front (firstOrder t))) (in-order t ((firstRound t) .list) ((firstRound t) .Z));
+      refusal = λ store n g r k c e.
+          let given = sym (c .0) ∙ e in
+          (refused-is (sharedGrounds store n g) (listed (tableOf store n g)) given, c .1 ∙ ap (unlessRefused (padded []) (λ (a : OrderAnswer). a .states)) given);
       first-words = λ store other long long′ e n g. same-call store other long long′ e listed n g [] refl;
     }

@@ -8,6 +8,7 @@ use mathlib.Core.Path.{_≡_}
 use mathlib.Core.List.{List}
 use lib.ListN.{length, take}
 use Rattle.basics.specs.Refusals.{refuse, refused, answered}
+use Rattle.model.specs.Sets.{empty}
 use Rattle.model.specs.Stores.{storeWords, tableOf}
 use Rattle.model.specs.Rounds.{run}
 use Rattle.model.specs.Calls.{Decision as Answer, release, decideGrounds, decisionOf}
@@ -16,10 +17,10 @@ use Rattle.rounds.specs.declared.Decision.{Decision}
 use Rattle.rounds.specs.Answers.{answerOf, Called}
 
 pub record Demands : Type 0 where
-  -- a refused call: the number is that of the first ground that holds, and the buffer is as it was
+  -- a refused call: the number is that of the first ground that holds, the set beside it is empty, and the buffer is as it was
   pub refusal : (store : List ℕ) (n g allowance : ℕ) (before : List ℕ) (r : Decision) (after : List ℕ) (k : ℕ)
       → Called store n g allowance before r after → answerOf r ≡ refused k
-      → (k ≡ refuse (decideGrounds store n g allowance (length before))) × (after ≡ before)
+      → (k ≡ refuse (decideGrounds store n g allowance (length before))) × (r .invariant .words ≡ empty) × (after ≡ before)
   -- verdict, count, invariant and d are those of the rounds
   pub answer : (store : List ℕ) (n g allowance : ℕ) (before : List ℕ) (r : Decision) (after : List ℕ) (a : Answer)
       → Called store n g allowance before r after → answerOf r ≡ answered a

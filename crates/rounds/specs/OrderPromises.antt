@@ -4,14 +4,14 @@
 use Prim.Native.Nat.{ℕ, _≤_}
 use mathlib.Core.Path.{_≡_}
 use mathlib.Core.Bool.{true}
-use mathlib.Core.List.{List}
+use mathlib.Core.List.{List, []}
 use lib.ListN.{length, take}
-use Rattle.basics.specs.Refusals.{answered}
+use Rattle.basics.specs.Refusals.{refuse, refused, answered}
 use Rattle.model.specs.Sets.{maxStates, Set, subset, firstStates}
 use Rattle.model.specs.Rounds.{firstRound}
-use Rattle.model.specs.Stores.{storeWords, tableOf}
+use Rattle.model.specs.Stores.{storeWords, tableOf, sharedGrounds}
 use Rattle.rounds.specs.Steps.{covers}
-use Rattle.rounds.specs.Order.{orderBy, InOrder}
+use Rattle.rounds.specs.Order.{orderBy, padded, InOrder}
 use Rattle.rounds.specs.OrderAnswers.{OrderAnswer, orderAnswer, orderedOf, Ordered}
 use Rattle.rounds.specs.declared.FirstOrder.{FirstOrder}
 
@@ -22,6 +22,9 @@ pub record OrderPromises : Type 0 where
   -- what first_order returns is the order of the first round
   pub first-order : (store : List ℕ) (n g : ℕ) (r : FirstOrder) (a : OrderAnswer) → Ordered store n g r → orderedOf r ≡ answered a
       → InOrder (tableOf store n g) ((firstRound (tableOf store n g)) .list) ((firstRound (tableOf store n g)) .Z) (take (a .count) (a .states))
+  -- a refused call gives the number of the first ground that holds, and no state
+  pub refusal : (store : List ℕ) (n g : ℕ) (r : FirstOrder) (k : ℕ) → Ordered store n g r → orderedOf r ≡ refused k
+      → (k ≡ refuse (sharedGrounds store n g)) × (r .states ≡ padded [])
   -- on two stores that are alike in their first words: none after them is read
   pub first-words : (store other : List ℕ) → storeWords ≤ length store → storeWords ≤ length other → take storeWords store ≡ take storeWords other
       → (n g : ℕ) → orderAnswer store n g ≡ orderAnswer other n g

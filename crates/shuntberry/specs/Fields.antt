@@ -1,5 +1,5 @@
 -- The structs of the calls for C, for an answer and for a refusal: this is the one place that says their numbers. A refused call has its number in
--- `refusal`, which is 0 for an answer, and none of the numbers that an answer can have where one could be taken for it.
+-- `refusal`, which is 0 for an answer. Its fields that answer hold no answer; its other fields are 0, empty, or as they were handed in (FailsSafe).
 --
 --   noVerdict, noAnswer         the verdict, and the yes or no, of a refused call
 --   noTable                     n and g of a refused read, which every call refuses (FailsSafe)
@@ -41,6 +41,7 @@ noTable = 65535
 abbrev pub noMinute : ℕ
 noMinute = 2 ^ 32 - 1
 
+-- Distances and generate return this alone, and leave their buffer as it was where it is not 0: nothing else tells.
 abbrev pub refusalNumber : {A : Type 0} → Answered A → ℕ
 refusalNumber (refused k) = k
 refusalNumber (answered a) = 0

@@ -284,7 +284,7 @@ fn is_groups_alone(n: usize, g: usize) -> bool
     if n == 0 { g != 0 } else { false }
 }
 
-// Why a store with n states and g groups is declined, or 0.
+// Why a store with n states and g groups is refused, or 0.
 pub fn refusal(store: &[u64], n: usize, g: usize) -> u8
     ensures { λ r. ⌜ r ≡ refuse (sharedGrounds (now (store .entry)) n g) ⌝ }
 {
