@@ -15,11 +15,11 @@
 --   header                                  n and g, read from the first block
 --   small-store, far-site, no-input,        what `outer_refusal` returns for grounds 10 and 24, for no bytes, for ground 11,
 --   part-block, long-input, blocks-decide   and where these do not hold
---   outer-refuses                          a ground that it found decides
+--   outer-refuses                           a ground that it found decides
 --   room-enough, draft-accepted,            where it found none: what `read_as` may do, and
 --   short-input, some-block
 --   content-decides                         that the grounds of the contents decide
---   refuses, draft-read, table-read        the contract of `read_as` in each case; second-least, table-inside: what it may do
+--   refuses, draft-read, table-read         the contract of `read_as` in each case; second-least, table-inside: what it may do
 use Prim.Native.Nat.{ℕ, _+_, _*_, _-_, _/_, _%_, _≤_, _<_}
 use native.Mathlib.Nat.{add-assoc, le-antisymm}
 use native.Mathlib.Omega.{arith}
