@@ -6,12 +6,12 @@
 --   safe-line, safe-verdict
 --                   so nothing else says safe
 --   reported        specs/Reported
-use Prim.Native.Nat.{ℕ, suc, _+_, _≤_, _<_}
+use Prim.Native.Nat.{ℕ, suc, _≤_, _<_}
 use native.Mathlib.Numerals.{add-one}
 use native.Mathlib.Omega.{arith}
-use mathlib.Core.Path.{_≡_, refl, sym, ap, ap₂, _∙_, subst}
+use mathlib.Core.Path.{_≡_, refl, sym, ap, _∙_, subst}
 use mathlib.Core.Logic.{_⊎_, inl, inr, ⊎-elim}
-use mathlib.Core.Bool.{Bool, true, false, cond, or-true}
+use mathlib.Core.Bool.{cond, or-true}
 use mathlib.Core.List.{List, []}
 use borrow.Author.Tests.{lt-ltb, le-ltb, ne-eqb}
 use lib.Dec.{eqb}
@@ -21,10 +21,9 @@ use Rattle.basics.specs.Refusals.{refuse, Answered, refused, answered, unlessRe
 use Rattle.basics.proofs.BoundLaws.{is-false}
 use Rattle.basics.proofs.RefusalLaws.{answer-none, answered-value, refused-is}
 use Rattle.model.specs.Sets.{maxStates, bit, member, number, setOf, empty, members, size}
-use Rattle.model.specs.Tables.{Table}
 use Rattle.model.specs.Rounds.{run}
 use Rattle.model.specs.Paths.{isPath}
-use Rattle.model.specs.Stores.{storeWords, tableOf}
+use Rattle.model.specs.Stores.{storeWords}
 use Rattle.model.specs.Blocks.{maxSite}
 use Rattle.model.specs.Contents.{newForm}
 use Rattle.model.specs.Files.{maxFile}
@@ -35,10 +34,9 @@ use Rattle.model.proofs.CallLaws.{read-refused, read-none, read-buffer}
 use Rattle.model.proofs.RoundTrips.{taken, filled-held}
 use Rattle.model.proofs.Kept.{promises}
 use Rattle.model.proofs.Drafts.{draft}
-use Rattle.report.specs.Text.{ascii, digits, decimal, spaced, statesLine, verdictLine, invariantLine, safeText, unsafeText, reportText, refusedText}
-use Rattle.file_check.specs.declared.Checked.{Checked}
+use Rattle.report.specs.Text.{ascii, digits, decimal, spaced, statesLine, verdictLine, invariantLine, safeText, reportText, refusedText}
 use Rattle.file_check.specs.CheckText.{zeroStore, zeroPath, ReleaseCheck, checkTable, releaseCheck, textFor, verdictFor, FileVerdict, safe, unsafe, refusedFile, checkText, fileVerdict}
-use Rattle.file_check.specs.CheckAnswers.{CheckedFile, checkedFile, checkGrounds, checkAnswer, checkBuffer, checkedOf, CalledCheck}
+use Rattle.file_check.specs.CheckAnswers.{CheckedFile, checkedFile, checkGrounds, checkAnswer, checkBuffer}
 use Rattle.file_check.specs.Reported.{fileTable, NoPath, SafeReport, UnsafeReport, afterLine, Reported}
 use Rattle.file_check.proofs.Lines.{unsafe-line, refused-end}
 

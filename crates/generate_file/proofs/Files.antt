@@ -10,7 +10,7 @@ use mathlib.Core.List.{List, []}
 use lib.Dec.{eqb}
 use lib.ListN.{length}
 use Rattle.basics.specs.Bounds.{concat}
-use Rattle.basics.specs.Refusals.{Ground, Answered, refused, answered, unlessRefused}
+use Rattle.basics.specs.Refusals.{Ground, Answered, refused, unlessRefused}
 use Rattle.basics.proofs.BoundLaws.{length-tabulate}
 use Rattle.basics.proofs.RefusalLaws.{clear-refuse, answer-refused, answer-clear, answer-none, answered-not-refused, answered-clear, refused-is}
 use Rattle.model.specs.Stores.{storeWords, dialogueOf}

@@ -5,13 +5,11 @@
 use Prim.Native.Nat.{ℕ, _≤_}
 use native.Mathlib.Omega.{arith}
 use mathlib.Core.Path.{_≡_, sym, ap, _∙_, subst}
-use mathlib.Core.List.{List, []}
+use mathlib.Core.List.{List}
 use lib.ListN.{length}
-use Rattle.basics.specs.Refusals.{refuse, Answered, refused, answered, unlessRefused}
-use Rattle.model.specs.Stores.{storeWords}
-use Rattle.model.specs.Contents.{oldForm}
+use Rattle.basics.specs.Refusals.{refused, answered, unlessRefused}
 use Rattle.model.specs.Files.{maxFile}
-use Rattle.model.specs.Calls.{overwrite, TableRead, readGroundsAs, readAnswerAs}
+use Rattle.model.specs.Calls.{overwrite, TableRead}
 use Rattle.file_input.proofs.Counting.{counts}
 use Rattle.report.specs.Text.{refusedText, textOf}
 use Rattle.report.specs.Put.{Front}
