@@ -35,7 +35,7 @@
  * hold no answer, so that one who forgets to test `refusal` does not take them for one:
  *  - a verdict is SHUNTBERRY_NO_VERDICT; `found`, `within` and `never` are SHUNTBERRY_NO_ANSWER;
  *  - n and g of a refused read are SHUNTBERRY_NO_TABLE, which every call that takes n refuses;
- *  - `minute` is SHUNTBERRY_NO_MINUTE, which is later than any open minute;
+ *  - `minute` is SHUNTBERRY_NO_MINUTE, which is later than any minute that the call gives (keep it unsigned);
  *  - a set is empty, but a refused edit of a session gives back the set that it was handed;
  *  - counts, sizes, steps and coverage are 0, and so is `length` of write: a greater one would invite its
  *    caller to read past the buffer.
@@ -70,7 +70,7 @@ extern "C" {
  *  - a state without successors is forbidden unless it is resting, so a table filled as before, with none
  *    resting, may be unsafe where it was safe;
  *  - files have another form. One of the form before gets SHUNTBERRY_GROUPS from shuntberry_read; of one of
- *    site 0 `./rewrite` makes a new one, in which its dead ends rest, so that decide answers as it did.
+ *    site 0 shuntberry_rewrite makes a new one, in which its dead ends rest, so that decide answers as it did.
  *
  * From 5 on a refused call has no answer in its other fields, where it had 0, which is SHUNTBERRY_SAFE too:
  * SHUNTBERRY_NO_VERDICT, SHUNTBERRY_NO_ANSWER, SHUNTBERRY_NO_TABLE and SHUNTBERRY_NO_MINUTE. The last is also the
@@ -205,12 +205,12 @@ static inline const char *shuntberry_refusal_text(uint32_t refusal)
 #define SHUNTBERRY_NO_VERDICT 255 /* for a verdict (decide, decide modal) */
 #define SHUNTBERRY_NO_ANSWER 255  /* for a yes or no, 1 or 0: found, within, never */
 #define SHUNTBERRY_NO_TABLE 65535 /* for n and g (read). Every call that takes n refuses this one, with 14 unless 10 or 24 comes before */
-#define SHUNTBERRY_NO_MINUTE 4294967295u /* for the minute (next open), also where none is ever open: later than any that is */
+#define SHUNTBERRY_NO_MINUTE 4294967295u /* for the minute (next open), also where none is ever open: later than any that the call gives */
 
 /* ---- The calls ---- */
 
 /* Stands at each call: a compiler that knows how to warns where the result, and with it a refusal, is not looked at. */
-#if (defined(__cplusplus) && __cplusplus >= 201703L) || (defined(__STDC_VERSION__) && __STDC_VERSION__ > 201710L)
+#if (defined(__cplusplus) && __cplusplus >= 201703L) || (defined(__STDC_VERSION__) && __STDC_VERSION__ >= 202311L)
 #define SHUNTBERRY_NODISCARD [[nodiscard]]
 #elif defined(__GNUC__)
 #define SHUNTBERRY_NODISCARD __attribute__((warn_unused_result))
@@ -309,7 +309,8 @@ struct shuntberry_shortest shuntberry_shortest_path(const uint64_t *store, size_
  * is never changed.
  * `distances_len` is the number of places. Returns 0, or the number of the refusal.
  *
- * Refuses with 10, 14, 15, 17 or 23.
+ * Refuses with 10, 14, 15, 17 or 23; the buffer is then as it was before, and nothing else tells: look at what is
+ * returned.
  */
 SHUNTBERRY_NODISCARD
 uint32_t shuntberry_distances(const uint64_t *store, size_t store_len, size_t n, size_t g, uint16_t *distances,
@@ -335,7 +336,7 @@ struct shuntberry_within shuntberry_within(const uint64_t *store, size_t store_l
 /* What shuntberry_read answers. */
 struct shuntberry_table {
     uint32_t refusal; /* 0, or the number of the refusal */
-    uint32_t n;       /* the table's number of states; of a refused call SHUNTBERRY_NO_TABLE */
+    uint32_t n;       /* the table's number of states; of a refused call SHUNTBERRY_NO_TABLE, which is no bound for a loop */
     uint32_t g;       /* the table's number of groups; of a refused call SHUNTBERRY_NO_TABLE */
 };
 
