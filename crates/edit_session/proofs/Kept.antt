@@ -26,7 +26,7 @@ use Rattle.model.proofs.SetLaws.{in-subset, in-union}
 use Rattle.basics.proofs.RefusalLaws.{refuse-none as refuse-end, clear-refuse, answer-refused, answered-not-refused, answered-clear, answered-is, answered-value, refused-is}
 use Rattle.model.proofs.Acceptance.{Store, accepted-store, store-accepted, well-formed}
 use Rattle.edit_session.specs.declared.Session.{Session}
-use Rattle.edit_session.specs.Edits.{Edit, add, remove, source, target, changesNothing, edited, opened, lit, openAnswer, noStates, editAnswer, editBuffer}
+use Rattle.edit_session.specs.Edits.{Edit, add, remove, source, target, changesNothing, edited, opened, lit, openAnswer, noStates, editAnswer}
 use Rattle.edit_session.specs.Answers.{answerOf, CalledOpen, CalledEdit}
 use Rattle.edit_session.specs.Promises.{inRow, names, stepAfter, counted, Ran, SessionIs, Promises}
 use Rattle.edit_session.proofs.Rows.{Outside}
