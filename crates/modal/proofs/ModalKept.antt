@@ -106,8 +106,7 @@ modal-promises =
           let same = as-decide store n g possible (held .0) equal before (held .1) in
           (_, same .0, of-call store n g possible before r after a call e (AsDecide _ (decideBuffer store n g release before)) (same .1));
       refusal = λ store n g possible before r after k call e.
-          let given = sym (call .0) ∙ e in
-          (
+          let given = sym (call .0) ∙ e in (
             refused-is (modalGrounds store n g possible (length before)) _ given,
             call .1 ∙ ap (unlessRefused empty (λ (b : ModalAnswer). b .invariant)) given,
             call .2 ∙ ap (unlessRefused before (left store n g possible before)) given,
