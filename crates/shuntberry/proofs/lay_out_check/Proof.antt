@@ -16,6 +16,8 @@ lay-out-check-spec =
     (λ c. search needs)
     (λ c. search needs)
     (λ c. search needs)
+    (λ c. search needs)
+    (λ c. search needs)
     (λ c. sym (ap (λ a. checkFields (checkedOf a)) (c .before .answer .given .1)))
     (λ c. sym (ap (λ a. checkFields (checkedOf a)) (c .before .answer2 .given .1)))
     (λ c. sym (ap (λ a. checkFields (checkedOf a)) (c .before .answer3 .given .1)))
