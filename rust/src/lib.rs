@@ -427,7 +427,7 @@ pub fn within(store: &[u64], n: usize, g: usize, k: usize) -> Result<bool, Refus
 ///
 /// Refused with 10, 24, 11, 12, 13, 14, 15, 16, 17 or 18. A block that was made for another site is refused
 /// with 13 where it stands at its own number, and with 12 elsewhere. A file of the old form, which has no resting
-/// set, is refused with 15; the program behind `./rewrite` makes a new one of it.
+/// set, is refused with 15; `rewrite` makes a new one of it.
 pub fn read(input: &[u8], site: usize, store: &mut [u64]) -> Result<TableRead, Refused> {
     // SAFETY: as in `decide`.
     let table = unsafe {

@@ -4,7 +4,7 @@
 --   Within        what reading a whole input may answer, in a room of so many bytes
 --
 -- No contract says what C's read returns on which input, nor which bytes it puts into the room. So `Within` is what holds for every run of reads;
--- that the answer is the one for the reads that were made is tested (tests/draft, tests/rewrite, tests/input).
+-- that the answer is the one for the reads that were made is tested (tests/programs, tests/input).
 use Prim.Native.Nat.{ℕ, zero, suc, _<_}
 use mathlib.Core.Bool.{cond}
 use lib.Dec.{leb}

@@ -1,4 +1,4 @@
-// The program behind `./rewrite < OLD > NEW` (the specification, "Rewriting an old file"): reads a file of the old form on standard input and
+// Rewriting an old file (the specification, "Rewriting an old file"): reads a file of the old form on standard input and
 // writes the same table in the new form, with its dead ends resting.
 //
 //   main         reads, calls and writes
