@@ -128,7 +128,7 @@ extern "C" {
 #define SHUNTBERRY_PATH_SHORT 21        /* the path buffer has under SHUNTBERRY_PATH_PLACES places (decide, shortest path, decide modal) */
 #define SHUNTBERRY_FAN_OUT 22           /* the fan-out is over 16 (generate) */
 #define SHUNTBERRY_DISTANCES_SHORT 23   /* the distance buffer has fewer than n places (distances) */
-#define SHUNTBERRY_SITE 24              /* the site is over 65,520 (read, write); given straight after 10 */
+#define SHUNTBERRY_SITE 24              /* the site is over 65,520 (read, write, check); given straight after 10 */
 #define SHUNTBERRY_LOG_ODD 25           /* the log's length is odd, also where it is over 32,768 (replay) */
 #define SHUNTBERRY_LOG_LONG 26          /* the log has over 32,768 bytes (replay) */
 #define SHUNTBERRY_STEP_STATE 27        /* a state number of the step is n or more (add a step, remove a step) */

@@ -22,6 +22,10 @@ enum { SET_BYTES = 8 * SHUNTBERRY_SET_WORDS };
 _Static_assert(sizeof(struct shuntberry_decision) == SET_BYTES + 24, "decision");
 _Static_assert(offsetof(struct shuntberry_decision, refusal) == SET_BYTES, "decision.refusal");
 _Static_assert(offsetof(struct shuntberry_decision, reserved) == SET_BYTES + 20, "decision.reserved");
+_Static_assert(sizeof(struct shuntberry_checked) == 32, "checked");
+_Static_assert(offsetof(struct shuntberry_checked, n) == 8, "checked.n");
+_Static_assert(offsetof(struct shuntberry_checked, file_refusal) == 20, "checked.file_refusal");
+_Static_assert(offsetof(struct shuntberry_checked, reserved) == 28, "checked.reserved");
 _Static_assert(sizeof(struct shuntberry_shortest) == 12, "shortest");
 _Static_assert(sizeof(struct shuntberry_within) == 8, "within");
 _Static_assert(offsetof(struct shuntberry_within, refusal) == 0, "within.refusal");
@@ -60,6 +64,7 @@ enum {
 static uint64_t store[SHUNTBERRY_STORE_WORDS], other[SHUNTBERRY_STORE_WORDS];
 static uint64_t possible[SHUNTBERRY_POSSIBLE_WORDS];
 static uint8_t file[SHUNTBERRY_FILE_BYTES];
+static uint8_t text[SHUNTBERRY_CHECK_TEXT];
 static uint16_t path[SHUNTBERRY_PATH_PLACES];
 static uint16_t distances[SHUNTBERRY_MAX_STATES + 1]; /* one place past the states */
 
@@ -200,16 +205,85 @@ static void hangs(void)
     memset(resting, 0, set);
 }
 
-/* Table E as versions 1 to 3 wrote it: one block, with the check 97. */
+static struct shuntberry_checked check(size_t length, size_t site, size_t room)
+{
+    return shuntberry_check(file, length, site, text, room);
+}
+
+/* The answer of a check of `file`, which is refused: nothing in it can be taken for safe. */
+static int is_refused_file(struct shuntberry_checked checked, uint32_t refusal)
+{
+    return checked.refusal == SHUNTBERRY_ACCEPTED && checked.file_refusal == refusal &&
+           checked.verdict == SHUNTBERRY_NO_VERDICT && checked.n == SHUNTBERRY_NO_TABLE &&
+           !shuntberry_checked_is_safe(checked);
+}
+
+/* Table E as versions 1 to 3 wrote it: one block, with the check 97. Rewritten it is safe, as it was; 01 has its answer. */
 static void old_file(void)
 {
     static const uint8_t front[] = {0, 0, 3, 0, 0, 0, 1, 4, 1, 4, 0};
+    static const char answer[] = "states 3 groups 0\nsafe refinements 1\ninvariant 1: 0\n";
     uint8_t block[SHUNTBERRY_BLOCK_BYTES] = {0};
 
     memcpy(block, front, sizeof front);
     block[SHUNTBERRY_BLOCK_BYTES - 2] = 97;
     struct shuntberry_table table = shuntberry_read(block, sizeof block, 0, other, SHUNTBERRY_STORE_WORDS);
     require(table.refusal == SHUNTBERRY_GROUPS, "a file of the old form");
+
+    memset(file, PAINT, sizeof file);
+    struct shuntberry_file rewritten = shuntberry_rewrite(block, sizeof block, file, SHUNTBERRY_BLOCK_BYTES - 1);
+    require(rewritten.refusal == SHUNTBERRY_OUTPUT_SHORT && rewritten.length == 0, "rewrite, a short output");
+    require(is_painted(file, sizeof file), "rewrite, a refused call writes nothing");
+    rewritten = shuntberry_rewrite(block, sizeof block, file, sizeof file);
+    require(rewritten.refusal == SHUNTBERRY_ACCEPTED && rewritten.length == SHUNTBERRY_BLOCK_BYTES, "rewrite");
+    require(is_painted(file + rewritten.length, sizeof file - rewritten.length), "rewrite, past the new file");
+    require(shuntberry_rewrite(file, rewritten.length, block, sizeof block).refusal == SHUNTBERRY_GROUPS,
+            "rewrite of a new file");
+
+    memset(text, PAINT, sizeof text);
+    struct shuntberry_checked checked = check(rewritten.length, 0, sizeof text);
+    require(shuntberry_checked_is_safe(checked) && checked.n == 3, "check of E");
+    require(checked.length == strlen(answer) && memcmp(text, answer, checked.length) == 0, "what check says of E");
+    require(is_painted(text + checked.length, sizeof text - checked.length), "check, past its text");
+    require(is_refused_file(check(rewritten.length, 1, sizeof text), SHUNTBERRY_BLOCK_CHECK), "check at another site");
+    require(is_refused_file(check(rewritten.length - 1, 0, sizeof text), SHUNTBERRY_INPUT_LENGTH), "check of a cut file");
+    file[4] ^= 1;
+    require(is_refused_file(check(rewritten.length, 0, sizeof text), SHUNTBERRY_BLOCK_CHECK), "check of a damaged file");
+    require(is_refused_file(shuntberry_check(block, sizeof block, 0, text, sizeof text), SHUNTBERRY_GROUPS),
+            "check of a file of the old form");
+}
+
+/* The corridor's file is unsafe; a draft is safe but no table to release; a call that is refused writes nothing. */
+static void checks(void)
+{
+    static const char front[] = "states 512 groups 0\nunsafe refinements ", draft[] = "states 0 groups 0\nsafe refinements 0\ninvariant 0: none\n";
+    struct shuntberry_file written = shuntberry_write(store, SHUNTBERRY_STORE_WORDS, STATES, 0, 0, file, sizeof file);
+    struct shuntberry_checked checked = check(written.length, 0, sizeof text);
+    require(checked.refusal == SHUNTBERRY_ACCEPTED && checked.file_refusal == SHUNTBERRY_ACCEPTED &&
+                checked.verdict == SHUNTBERRY_UNSAFE && checked.n == STATES && !shuntberry_checked_is_safe(checked),
+            "check of the corridor");
+    require(checked.length > strlen(front) && memcmp(text, front, strlen(front)) == 0, "what check says of the corridor");
+
+    checked = shuntberry_check(NULL, 0, 0, text, sizeof text);
+    require(checked.refusal == SHUNTBERRY_ACCEPTED && checked.verdict == SHUNTBERRY_SAFE && checked.n == 0, "check of a draft");
+    require(!shuntberry_checked_is_safe(checked), "a draft is nothing to release");
+    require(checked.length == strlen(draft) && memcmp(text, draft, checked.length) == 0, "what check says of a draft");
+
+    memset(text, PAINT, sizeof text);
+    const uint32_t refusals[] = {
+        check(written.length, SHUNTBERRY_MAX_SITE + 1, sizeof text).refusal,
+        check(written.length, 0, SHUNTBERRY_CHECK_TEXT - 1).refusal,
+        shuntberry_check(NULL, 0, 0, NULL, 0).refusal,
+        shuntberry_check(NULL, 0, SIZE_MAX, NULL, 0).refusal,
+    };
+    require(refusals[0] == SHUNTBERRY_SITE && refusals[1] == SHUNTBERRY_OUTPUT_SHORT &&
+                refusals[2] == SHUNTBERRY_OUTPUT_SHORT && refusals[3] == SHUNTBERRY_SITE,
+            "the refusals of check");
+    checked = check(written.length, 0, 0);
+    require(checked.verdict == SHUNTBERRY_NO_VERDICT && checked.n == SHUNTBERRY_NO_TABLE && checked.length == 0 &&
+                !shuntberry_checked_is_safe(checked),
+            "check, a refused call");
+    require(is_painted(text, sizeof text), "check, a refused call writes nothing");
 }
 
 static uint32_t decide(size_t words, size_t n, size_t g, size_t allowance, size_t room)
@@ -802,7 +876,13 @@ static void only_safe_is_safe(void)
             const struct shuntberry_modal modal = {.refusal = numbers[i], .verdict = numbers[k]};
             const int safe = numbers[i] == SHUNTBERRY_ACCEPTED && numbers[k] == SHUNTBERRY_SAFE;
             require(shuntberry_is_safe(decision) == safe && shuntberry_modal_is_safe(modal) == safe, "is safe");
+            for (size_t j = 0; j < count; j++) {
+                const struct shuntberry_checked checked = {
+                    .n = 1, .refusal = numbers[i], .file_refusal = numbers[j], .verdict = numbers[k]};
+                require(shuntberry_checked_is_safe(checked) == (safe && numbers[j] == SHUNTBERRY_ACCEPTED), "checked is safe");
+            }
         }
+    require(!shuntberry_checked_is_safe((struct shuntberry_checked){0}), "a record of zeros is not safe");
 }
 
 static void *on_painted_stack(void *unused)
@@ -812,6 +892,7 @@ static void *on_painted_stack(void *unused)
     load();
     hangs();
     old_file();
+    checks();
     refusals();
     replays();
     sessions();
