@@ -60,7 +60,7 @@ def object_of(expected):
     words = expected.split()
     if words[0] == "refused":
         return {"verdict": "refused", "refusal": int(words[1]), "ground": RULES[words[1]].split("|")[0]}
-    found = {"verdict": words[4], "states": int(words[1]), "groups": int(words[3]), "refinements": int(words[6])}
+    found = {"verdict": words[4] if int(words[1]) else "draft", "states": int(words[1]), "groups": int(words[3]), "refinements": int(words[6])}
     if words[4] == "safe":
         found["invariant"] = sorted(model.numbers(words[9:]))
     elif words[4] == "unsafe":
@@ -245,7 +245,7 @@ for how, end in ((), "\n"), (("-0",), "\0"):
         gives(UNSAFE, f"{a}: safe\n{b}: unsafe\n{summary([SAFE, UNSAFE])}", "check-all", "--from", listed, *how)
         gives(UNSAFE, f"{a}: safe\n{a}: safe\n{b}: unsafe\n{summary([SAFE, SAFE, UNSAFE])}", "check-all", *how, a, "--from", listed)
     listed.write_text(f"{a}{end}{end}{b}{end}")
-    gives(FAILED, f"{a}: safe\n: failed\n{b}: unsafe\n{summary([SAFE, FAILED, UNSAFE])}", "check-all", "--from", listed, *how, err="No such file")
+    gives(FAILED, f"{a}: safe\n\"\": failed\n{b}: unsafe\n{summary([SAFE, FAILED, UNSAFE])}", "check-all", "--from", listed, *how, err="No such file")
 listed.write_text("")
 for words in (), ("--",), ("-0", a), ("--from",), ("-x",), ("--json=1", a):
     wrong("usage: shuntberry check-all", "check-all", *words)
@@ -254,7 +254,7 @@ wrong("has no names", "check-all", "--from", listed, a)
 wrong("No such file", "check-all", "--from", WORK / "missing", a)
 
 # files that fail are no drafts, and each is named
-lines = f"{a}: safe\n{TABLES}/missing: failed\n: failed\n{b}: unsafe\n{summary([SAFE, FAILED, FAILED, UNSAFE])}"
+lines = f"{a}: safe\n{TABLES}/missing: failed\n\"\": failed\n{b}: unsafe\n{summary([SAFE, FAILED, FAILED, UNSAFE])}"
 given = gives(FAILED, lines, "check-all", a, TABLES / "missing", "", b, err=f"check-all: {TABLES}/missing could not be read: No such file")
 found = [json.loads(line) for line in call("check-all", "--json", TABLES / "missing").out.splitlines()]
 need(found[0]["verdict"] == "failed" and "No such file" in found[0]["why"], found)
@@ -314,12 +314,16 @@ for words in (), (a,), (a, out, out), ("--json", a, out), ("--text", a, out):
 out.unlink()
 gives(FAILED, "", "release", TABLES / "missing", out, err="No such file")
 need(not out.exists(), "release of a file that is missing")
+gives(REFUSED, "refused 13\n", "release", TABLES / "bad-check.table", WORK / "never", err="nothing was released: it is refused 13: .*damaged, or was made for another site")
+gives(REFUSED, "refused 11\n", "release", TABLES / "e.txt", WORK / "never", err="it looks like a text")
 # where the verdict cannot be printed nothing is released
 with open("/dev/full", "wb") as full:
     gives(FAILED, b"", "release", a, out, err="No space left", stdout=full)
 need(not out.exists(), "released though nothing was printed")
 os.symlink("behind", WORK / "link")
+gives(FAILED, None, "release", a, WORK / "link", err="it is a link to nothing")
+(WORK / "behind").write_bytes(b"what was there")
 gives(SAFE, None, "release", a, WORK / "link")
-need((WORK / "link").is_symlink() or (WORK / "link").read_bytes() == a.read_bytes(), "release to a link")
+need((WORK / "link").is_symlink() and (WORK / "behind").read_bytes() == a.read_bytes(), "release to a link")
 need(not list(WORK.glob(".shuntberry*")), "a part is left")
 group("release")

@@ -206,6 +206,27 @@ gives(SAFE, "", "encode", "-o", link, TABLES / "e.txt")
 need(behind.stat().st_mode & 0o777 == 0o640 and behind.read_bytes() == E.read_bytes(), "who may read it")
 long = "x" * 255
 gives(SAFE, "", "encode", "-o", WORK / long, TABLES / "h1.txt")
+# the input itself is no place for the output, by whatever name: a file does not hold what a text does
+source, names = WORK / "source", WORK / "names"
+for file, words in (TABLES / "e.txt", ["encode"]), (E, ["decode"]), (E, ["picture"]), (TABLES / "old-e.table", ["rewrite"]):
+    source.write_bytes(file.read_bytes())
+    (WORK / "hard").unlink(missing_ok=True)
+    os.link(source, WORK / "hard")
+    for out_name in source, f"{WORK}/./source", WORK / "hard":
+        gives(FAILED, None, *words, "-o", out_name, source, err="input and output are one file")
+        with open(source, "rb") as piped:
+            gives(FAILED, None, *words, "-o", out_name, stdin=piped, err="input and output are one file")
+    need(source.read_bytes() == file.read_bytes(), "the input was written over", words)
+names.write_bytes((TABLES / "e.txt").read_bytes())
+gives(FAILED, None, "picture", "--names", names, "-o", names, E, err="input and output are one file")
+need(names.read_bytes() == (TABLES / "e.txt").read_bytes(), "the names were written over")
+# a link to nothing, and a word that is an option
+os.symlink("nothing-there", WORK / "loose")
+for words in ["encode", "-o", WORK / "loose", TABLES / "e.txt"], ["release", A, WORK / "loose"]:
+    gives(FAILED, None, *words, err="it is a link to nothing")
+    need((WORK / "loose").is_symlink() and not (WORK / "nothing-there").exists(), "a link to nothing was written over")
+gives(FAILED, None, "encode", "-o", "-o", TABLES / "e.txt", err="-o wants a word behind it", cwd=WORK)
+need(not (WORK / "-o").exists(), "a file called -o")
 group("outputs by their names")
 
 # ---- signals: at many moments, to every command that writes a file

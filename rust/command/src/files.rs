@@ -29,6 +29,7 @@ pub const OUT: Opt = Opt {
 #[derive(Clone, Copy, Debug)]
 pub struct Input<'c> {
     path: Option<&'c Path>,
+    out: Option<&'c Path>,
     no_input: bool,
 }
 
@@ -37,6 +38,7 @@ impl<'c> Input<'c> {
     pub fn of(call: &'c Call, path: Option<&'c Path>) -> Input<'c> {
         Input {
             path,
+            out: call.path(&OUT),
             no_input: call.no_input,
         }
     }
@@ -45,6 +47,7 @@ impl<'c> Input<'c> {
     pub fn named(path: &'c Path) -> Input<'c> {
         Input {
             path: Some(path),
+            out: None,
             no_input: false,
         }
     }
@@ -69,7 +72,8 @@ impl<'c> Input<'c> {
     /// The same, where standard input may be empty.
     pub fn take_or_nothing(self, most: usize) -> Result<Vec<u8>, Failure> {
         let mut file = self.open()?;
-        if sys::is_file_due() && is_output(&file) {
+        let to_out = self.out.is_some_and(|out| is_named(&file, out));
+        if to_out || sys::is_file_due() && is_output(&file) {
             return Err(Failure::Failed("input and output are one file".to_string()));
         }
         read_whole(&mut file, most).map_err(|error| {
@@ -99,9 +103,17 @@ impl<'c> Input<'c> {
 /// Whether a file on a disk is standard output too. The shell has emptied it then, or what is written goes into what is read.
 fn is_output(file: &File) -> bool {
     let output = io::stdout().as_fd().try_clone_to_owned().map(File::from);
-    let same = |a: &Metadata, b: &Metadata| a.is_file() && a.dev() == b.dev() && a.ino() == b.ino();
-    match (file.metadata(), output.and_then(|output| output.metadata())) {
-        (Ok(input), Ok(output)) => same(&input, &output),
+    is_same(file, output.and_then(|output| output.metadata()))
+}
+
+/// Whether it is the file of a name: to put another in its place would take away what was read, with the names that a file does not hold.
+fn is_named(file: &File, name: &Path) -> bool {
+    is_same(file, fs::metadata(name))
+}
+
+fn is_same(file: &File, other: io::Result<Metadata>) -> bool {
+    match (file.metadata(), other) {
+        (Ok(a), Ok(b)) => a.is_file() && a.dev() == b.dev() && a.ino() == b.ino(),
         _ => false,
     }
 }
@@ -190,7 +202,7 @@ pub fn replace(path: &Path, bytes: &[u8]) -> Result<(), Failure> {
 }
 
 fn replaced(path: &Path, bytes: &[u8]) -> io::Result<()> {
-    let path = &fs::canonicalize(path).unwrap_or(path.to_path_buf()); // behind a link
+    let path = &behind_links(path)?;
     let there = fs::metadata(path).ok();
     if let Some(data) = &there {
         let kind = data.file_type();
@@ -227,6 +239,14 @@ fn replaced(path: &Path, bytes: &[u8]) -> io::Result<()> {
     // The new name too, as far as the file system can.
     let _ = File::open(folder).and_then(|folder| folder.sync_all());
     Ok(())
+}
+
+/// The file that a name stands for. A link to nothing is none: what it should lead to, a disk that is not there for one, would stay without the file.
+fn behind_links(path: &Path) -> io::Result<PathBuf> {
+    fs::canonicalize(path).or_else(|_| match fs::symlink_metadata(path) {
+        Ok(data) if data.is_symlink() => Err(io::Error::other("it is a link to nothing")),
+        _ => Ok(path.to_path_buf()),
+    })
 }
 
 /// A new file in a folder, which a signal takes away.

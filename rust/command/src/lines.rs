@@ -143,6 +143,14 @@ pub fn alphabet(name: &str) -> Option<&'static str> {
     (name.chars().all(fits) && name.chars().count() <= MAX_NAME).then_some(first)
 }
 
+/// The first character of a word that is no plain letter, digit or sign, by its number: it may look like one.
+pub fn strange(word: &str) -> String {
+    match word.chars().find(|c| !c.is_ascii()) {
+        Some(c) => format!(" (it has the character U+{:04X})", u32::from(c)),
+        None => String::new(),
+    }
+}
+
 /// The alphabet that a letter is of.
 fn alphabet_of(c: char) -> Option<&'static str> {
     let alphabet = match c {

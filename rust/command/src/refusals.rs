@@ -19,9 +19,11 @@ pub fn hint(refused: Refused) -> Option<&'static str> {
 
 /// What is said of a file that is refused: the number, the ground, and what may help.
 pub fn ground(refused: Refused, file: &[u8]) -> String {
-    let more = match (refused.0, file) {
-        (13, _) => "; --site N reads the file of another site",
-        _ if is_old(refused, file) => {
+    let more = match refused {
+        Refused::BLOCK_CHECK => {
+            "; it is damaged, or was made for another site, which --site N reads"
+        }
+        Refused::GROUPS if !has_new_form(file) => {
             "; this file is of the old form, and the command rewrite makes a new one of it"
         }
         _ if looks_like_text(file) => "; it looks like a text, which --text reads",
@@ -30,7 +32,20 @@ pub fn ground(refused: Refused, file: &[u8]) -> String {
     format!("{refused}{more}")
 }
 
-/// Whether it is refused for its second number, and that is one of the old form: its high byte, behind the block's number and n, is below 128.
-fn is_old(refused: Refused, file: &[u8]) -> bool {
-    refused.0 == 15 && file.get(5).is_some_and(|&high| high < 0x80)
+/// The same of a file that is refused as one of the old form.
+pub fn old_ground(refused: Refused, file: &[u8]) -> String {
+    let more = match refused {
+        Refused::BLOCK_CHECK => "; it is damaged, or was not made for site 0",
+        Refused::GROUPS if has_new_form(file) => "; this file is of the new form already",
+        _ if looks_like_text(file) => {
+            "; it looks like a text, of which the command encode makes a file"
+        }
+        _ => "",
+    };
+    format!("{refused}{more}")
+}
+
+/// Whether the second number of a file is one of the new form: its high byte, behind the block's number and n, is 128 or more.
+fn has_new_form(file: &[u8]) -> bool {
+    file.get(5).is_some_and(|&high| high >= 0x80)
 }

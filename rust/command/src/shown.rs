@@ -6,13 +6,17 @@ use std::fmt::Write;
 use std::os::unix::ffi::OsStrExt;
 
 /// A name as it is; in quotes, with escapes, where it has characters that cannot be seen or change how a line looks, or bytes that are no
-/// UTF-8, or begins with a quote itself.
+/// UTF-8, or begins with a quote itself, or is empty.
 pub fn shown(name: impl AsRef<OsStr>) -> String {
     let name = name.as_ref();
     match name.to_str() {
-        Some(plain) if !plain.starts_with('"') && !plain.contains(is_hidden) => plain.to_string(),
+        Some(plain) if is_plain(plain) => plain.to_string(),
         _ => quoted(name.as_bytes()),
     }
+}
+
+fn is_plain(name: &str) -> bool {
+    !name.is_empty() && !name.starts_with('"') && !name.contains(is_hidden)
 }
 
 fn quoted(bytes: &[u8]) -> String {

@@ -80,21 +80,21 @@ impl Source {
         } else {
             source.file = take(input, FILE_BYTES + 1)?;
             if let Some(path) = call.path(&NAMES) {
-                source.names = source.names_of(path)?;
+                source.names = source.names_of(Input::of(call, Some(path)))?;
             }
         }
         Ok(source)
     }
 
     /// The names that a text has; of a file that is refused none, since there is no table to compare.
-    fn names_of(&self, path: &Path) -> Result<Names, Failure> {
-        let text = parsed(Input::named(path), text::parse)?;
+    fn names_of(&self, input: Input) -> Result<Names, Failure> {
+        let text = parsed(input, text::parse)?;
         match Table::read(&self.file, self.site) {
             Ok(table) if table != text.table => Err(Failure::Mistakes(
                 Vec::new(),
                 format!(
                     "{} is the text of another table, so its names say nothing here",
-                    Input::named(path).shown()
+                    input.shown()
                 ),
             )),
             Ok(_) => Ok(text.names),

@@ -18,7 +18,9 @@
 //! one alphabet. The text is gone through once for each sort of fact, and nothing is kept of it but what a table can hold and the first
 //! mistakes: a text of any length takes little room.
 
-use crate::lines::{MAX_NAME, Mistake, Mistakes, Names, alphabet, cut, number, quoted, said};
+use crate::lines::{
+    MAX_NAME, Mistake, Mistakes, Names, alphabet, cut, number, quoted, said, strange,
+};
 use crate::table::{Set, Table};
 use shuntberry::{MAX_GROUPS, MAX_STATES, StateSet};
 use std::collections::{BTreeMap, BTreeSet, HashMap};
@@ -247,8 +249,9 @@ impl Reader {
     fn alphabet_of(&mut self, name: &str) -> Result<(), String> {
         let Some(letters) = alphabet(name).filter(|_| name != NONE) else {
             return Err(format!(
-                "{} is no name: it has Latin, Greek or Cyrillic letters, digits, - _ and ., begins with a letter, has {MAX_NAME} characters at most, and is not {NONE}",
-                quoted(name)
+                "{} is no name: it has letters of one alphabet (Latin, Greek or Cyrillic), digits, - _ and ., begins with a letter, has {MAX_NAME} characters at most, and is not {NONE}{}",
+                quoted(name),
+                strange(name)
             ));
         };
         let &mut (first, line) = self.alphabet.get_or_insert((letters, self.at));
@@ -283,9 +286,14 @@ impl Reader {
             "group" => self.group(line),
             "step" => self.step(line),
             "possible" if self.takes_possible => self.step(line),
-            "possible" => self.mistake("possible steps are for the command options alone"),
+            "possible" => self.mistake("possible steps are for the command options alone: write two texts without such lines, one with these steps as step lines, and encode both"),
             word => self.mistake(format!(
-                "a line begins with states, state, initial, forbidden, resting, group or step, and not with {}",
+                "a line begins with states, state, initial, forbidden, resting, group{}, and not with {}",
+                if self.takes_possible {
+                    ", step or possible"
+                } else {
+                    " or step"
+                },
                 quoted(word)
             )),
         }
@@ -405,8 +413,9 @@ impl Reader {
                 "{NONE} stands alone behind initial, forbidden, resting or group"
             )),
             (None, None) => Err(format!(
-                "{} is no number, and no line gives a state this name",
-                quoted(word)
+                "{} is no number, and no line gives a state this name{}",
+                quoted(word),
+                strange(word)
             )),
         }
     }

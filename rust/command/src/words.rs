@@ -146,6 +146,7 @@ impl Call {
             (Some(_), Some(value)) => value,
             (Some(value), None) => rest
                 .next()
+                .filter(|next| command.options.iter().all(|other| *next != other.name))
                 .ok_or_else(|| {
                     Failure::Wrong(format!("{name} wants a word behind it: {name} {value}"))
                 })?

@@ -166,7 +166,13 @@ impl Answer {
 
     /// As JSON, behind what stands in the object already.
     pub fn object(&self, object: Object, names: &Names) -> Object {
-        let object = object.text("verdict", self.word());
+        // Who looks at this word alone must not take an empty file for a table that may be released.
+        let word = if self.is_draft() {
+            "draft"
+        } else {
+            self.word()
+        };
+        let object = object.text("verdict", word);
         if let Judged::Refused(refused) = self.judged {
             return object
                 .plain("refusal", refused.0)

@@ -7,7 +7,7 @@ use crate::json::Object;
 use crate::shown::shown;
 use crate::source::{JSON, parsed};
 use crate::words::{Call, Command, Opt, Output};
-use shuntberry::next_open;
+use shuntberry::{Refused, next_open};
 
 const AT: Opt = Opt {
     name: "--at",
@@ -41,8 +41,13 @@ fn run(call: &Call) -> Done {
     })?;
     let input = Input::of(call, call.name(0));
     let house = parsed(input, house::parse)?;
-    let found = next_open(at.minute(), &house.windows, &house.closed)
-        .map_err(|refused| Failure::Refused(refused, format!("{}: {refused}", input.shown())))?;
+    let found = next_open(at.minute(), &house.windows, &house.closed).map_err(|refused| {
+        let about = match refused {
+            Refused::TIME => format!("{} {}", AT.name, shown(word)),
+            _ => input.shown(),
+        };
+        Failure::Refused(refused, format!("{about}: {refused}"))
+    })?;
     let moment = found.map(|minute| Moment::at(minute as usize));
     let said = match call.has(&JSON) {
         true => object(at, moment).line(),

@@ -168,8 +168,12 @@ impl Answer {
     }
 
     fn object(&self, modal: &Modal) -> Object {
+        let word = match modal.table.n() {
+            0 => "draft",
+            _ => self.word,
+        };
         let mut object = Object::default()
-            .text("verdict", self.word)
+            .text("verdict", word)
             .plain("states", modal.table.n())
             .plain("groups", modal.table.g());
         if let Some(invariant) = self.invariant {

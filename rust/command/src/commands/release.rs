@@ -3,6 +3,7 @@
 use crate::commands::check::{Answer, Judged};
 use crate::failure::{Done, Failure, status};
 use crate::files::{Input, print, replace, say};
+use crate::refusals::ground;
 use crate::shown::shown;
 use crate::source::{SITE, site};
 use crate::table::{Set, Table};
@@ -43,6 +44,10 @@ fn run(call: &Call) -> Done {
             shown(from)
         ))
     };
+    if let Judged::Refused(refused) = answer.judged {
+        nothing(&format!("it is {}", ground(refused, &file)));
+        return Ok(answer.status());
+    }
     if answer.judged != Judged::Safe {
         nothing(&format!("it is {}", answer.word()));
         return Ok(answer.status());

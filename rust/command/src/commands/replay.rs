@@ -1,7 +1,7 @@
 //! `replay`: a pump's log walked through a table, and how much of it that covers.
 
 use crate::failure::{Done, Failure, status};
-use crate::files::{Input, TEXT_BYTES, print};
+use crate::files::{Input, TEXT_BYTES, print, say};
 use crate::json::Object;
 use crate::lines::{Mistake, Mistakes, Names, number, quoted, said};
 use crate::source::{JSON, NAMES, SITE, Source, TEXT, parsed};
@@ -33,15 +33,23 @@ fn run(call: &Call) -> Done {
     };
     let source = Source::of(call, Some(file))?;
     let table = source.table()?;
+    let log_input = Input::named(log);
     let log = match call.has(&TEXT_LOG) {
-        true => text_log(Input::named(log), &source.names)?,
-        false => Input::named(log).take(TEXT_BYTES)?,
+        true => text_log(log_input, &source.names)?,
+        false => log_input.take(TEXT_BYTES)?,
     };
+    if !call.has(&TEXT_LOG) && is_printed(&log) {
+        say(&format!(
+            "replay: {} looks like a text, which --text-log reads\n",
+            log_input.shown()
+        ));
+    }
     let walk = Walk::of(&table, &source.names, &log).map_err(|refused| {
-        Failure::Refused(
-            refused,
-            format!("{}: {refused}", Input::named(file).shown()),
-        )
+        let about = match refused {
+            Refused::LOG_ODD | Refused::LOG_LONG => log_input.shown(),
+            _ => source.shown.clone(),
+        };
+        Failure::Refused(refused, format!("{about}: {refused}"))
     })?;
     let said = match call.has(&JSON) {
         true => walk.object().line(),
@@ -51,19 +59,33 @@ fn run(call: &Call) -> Done {
     Ok(status::DONE)
 }
 
+/// Whether bytes are all such as are typed. In a log every second one is the high byte of a state's number, 0 or 1.
+fn is_printed(log: &[u8]) -> bool {
+    let is_typed = |byte: &u8| byte.is_ascii_graphic() || byte.is_ascii_whitespace();
+    !log.is_empty() && log.iter().all(is_typed)
+}
+
 /// The bytes of a log that is written in words, with the names that are known of the table's screens.
 fn text_log(input: Input, names: &Names) -> Result<Vec<u8>, Failure> {
     let words = parsed(input, words_of)?;
+    let hint = match names.is_empty() {
+        true => "; --names TEXT has the names of a file's screens",
+        false => "",
+    };
     let mut mistakes = Mistakes::default();
     let mut log = Vec::new();
     for (line, word) in words {
         let named = names.iter().find(|(_, name)| **name == word);
-        match number(&word).or(named.map(|(state, _)| *state)) {
-            // A number that no table has stays one.
-            Some(state) => log.extend(u16::try_from(state).unwrap_or(u16::MAX).to_le_bytes()),
+        let state = number(&word).or(named.map(|(state, _)| *state));
+        match state.map(u16::try_from) {
+            Some(Ok(state)) => log.extend(state.to_le_bytes()),
+            Some(Err(_)) => mistakes.push(Mistake {
+                line,
+                reason: format!("{} is too large: an entry has two bytes", quoted(&word)),
+            }),
             None => mistakes.push(Mistake {
                 line,
-                reason: format!("{} is no number, and no screen's name", quoted(&word)),
+                reason: format!("{} is no number, and no screen's name{hint}", quoted(&word)),
             }),
         }
     }

@@ -2,6 +2,7 @@
 
 use crate::failure::{Done, Failure, status};
 use crate::files::{Input, OUT, put_file};
+use crate::refusals::old_ground;
 use crate::words::{Call, Command, Output};
 use shuntberry::FILE_BYTES;
 use shuntberry::checking::rewrite;
@@ -22,8 +23,10 @@ fn run(call: &Call) -> Done {
     let input = Input::of(call, call.name(0));
     let old = input.take(FILE_BYTES + 1)?;
     let mut room = vec![0; FILE_BYTES];
-    let new = rewrite(&old, &mut room)
-        .map_err(|refused| Failure::Refused(refused, format!("{}: {refused}", input.shown())))?;
+    let new = rewrite(&old, &mut room).map_err(|refused| {
+        let said = old_ground(refused, &old);
+        Failure::Refused(refused, format!("{}: {said}", input.shown()))
+    })?;
     put_file(call, new)?;
     Ok(status::DONE)
 }

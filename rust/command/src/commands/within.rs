@@ -4,6 +4,7 @@ use crate::commands::check::with_names;
 use crate::failure::{Done, Failure, status};
 use crate::files::print;
 use crate::json::Object;
+use crate::shown::shown;
 use crate::source::{JSON, NAMES, SITE, Source, TEXT, name_lines};
 use crate::words::{Call, Command, Output, number_up_to};
 use shuntberry::{PATH_PLACES, shortest_path, within};
@@ -25,6 +26,13 @@ fn run(call: &Call) -> Done {
         return Err(Failure::Wrong("expected K [FILE]".to_string()));
     };
     let k = number_up_to(word, "number of steps", usize::MAX)?;
+    if word.to_str().is_none_or(|word| word.parse() != Ok(k)) {
+        return Err(Failure::Wrong(format!(
+            "'{}' is no number of steps: expected one up to {}",
+            shown(word),
+            usize::MAX
+        )));
+    }
     let source = Source::of(call, call.name(1))?;
     let table = source.table()?;
     let (store, n, g) = (table.store(), table.n(), table.g());
