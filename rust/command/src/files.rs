@@ -243,10 +243,14 @@ fn replaced(path: &Path, bytes: &[u8]) -> io::Result<()> {
 
 /// The file that a name stands for. A link to nothing is none: what it should lead to, a disk that is not there for one, would stay without the file.
 fn behind_links(path: &Path) -> io::Result<PathBuf> {
-    fs::canonicalize(path).or_else(|_| match fs::symlink_metadata(path) {
-        Ok(data) if data.is_symlink() => Err(io::Error::other("it is a link to nothing")),
-        _ => Ok(path.to_path_buf()),
-    })
+    let is_link = fs::symlink_metadata(path).is_ok_and(|data| data.is_symlink());
+    match fs::canonicalize(path) {
+        Ok(behind) => Ok(behind),
+        Err(_) if is_link && fs::metadata(path).is_err() => {
+            Err(io::Error::other("it is a link to nothing"))
+        }
+        Err(_) => Ok(path.to_path_buf()), // a new name, or a pipe behind /dev/stdout
+    }
 }
 
 /// A new file in a folder, which a signal takes away.
