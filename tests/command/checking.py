@@ -226,7 +226,8 @@ os.symlink("..", folder / "deep/loop")
 os.mkfifo(folder / "deep/er/pipe.table")
 lines = [f"{folder}/a.table: unsafe", f"{folder}/b.table: safe", f"{folder}/deep/er/pipe.table: failed", f"{folder}/deep/er/y.table: safe", f"{folder}/deep/z.table: safe"]
 given = gives(FAILED, "\n".join(lines) + "\n5 files: 3 safe, 1 unsafe, 0 refused, 0 drafts, 1 failed\n", "check-all", folder, err="pipe.table: it is no file")
-need(b"2 files whose name does not end in .table were not checked" in given.err, given)
+need(b"1 file whose name does not end in .table was not checked" in given.err, given)
+need(b"1 link to a folder was not followed" in given.err, given)
 os.remove(folder / "deep/er/pipe.table")
 os.remove(folder / "deep/loop")
 gives(UNSAFE, None, "check-all", folder, err="1 file whose name does not end in .table was not checked")
@@ -296,7 +297,8 @@ for path, expected in tables():
             out.unlink(missing_ok=True)
             if before:
                 out.write_bytes(before)
-            gives(status, expected, "release", *how, path, out, err=None if status == SAFE else "nothing was released")
+            remark = "no state is marked as forbidden, only hangs are" if table and table.forbidden() and not table.marked else None
+            gives(status, expected, "release", *how, path, out, err=remark if status == SAFE else "nothing was released")
             after = out.read_bytes() if out.exists() else None
             need(after == (path.read_bytes() if status == SAFE else before), f"release {path}: another OUT")
 need(call("release", TABLES / "g.table", out).err.count(b"no initial state") == 1, "g has no initial state")

@@ -67,6 +67,8 @@ def inspected(table, names):
         look.append("no state is initial, so that the table is safe whatever else is in it")
     if table.n and not table.forbidden():
         look.append("nothing is forbidden, so that the table is safe whatever else is in it")
+    if table.forbidden() and not table.marked:
+        look.append("no state is marked as forbidden: only hangs are")
     for words, states in [
         ("forbidden screens that can be reached", table.forbidden() & reachable), ("hangs, which have no way out and do not rest", hangs),
         ("screens that nothing reaches", table.states() - reachable),
@@ -136,6 +138,9 @@ def replayed(table, entries, names):
     followed, seen, reachable = model.replayed(table, entries)
     said = head(table) + f"entries {len(entries)} followed {followed}\n"
     breaks = None
+    shown = [at for at in range(followed) if entries[at] in table.forbidden()]
+    if shown:
+        said += f"entry {shown[0] + 1} is forbidden: {screen(entries[shown[0]], names)}\n"
     if followed < len(entries):
         entry = entries[followed]
         if entry >= table.n:
@@ -151,7 +156,8 @@ def replayed(table, entries, names):
     said += f"coverage {percent} percent remainder {remainder}: {len(seen)} of {len(reachable)}\n"
     said += f"not seen {len(left)}: {', '.join(screen(s, names) for s in left) or 'none'}\n"
     found = {
-        "states": table.n, "groups": len(table.groups), "entries": len(entries), "followed": followed, "breaks": breaks, "seen": len(seen),
+        "states": table.n, "groups": len(table.groups), "entries": len(entries), "followed": followed,
+        "forbidden": shown[0] + 1 if shown else None, "breaks": breaks, "seen": len(seen),
         "reachable": len(reachable), "percent": percent, "remainder": remainder, "not_seen": left,
     }
     return said, found | ({"names": {str(s): name for s, name in names.items()}} if names else {})

@@ -122,23 +122,48 @@ fn add(path: &Path, files: &mut Vec<Entry>) {
         return files.push(Entry::Named(path.to_path_buf()));
     }
     let before = files.len();
-    let mut others = 0;
-    search(path, files, &mut others);
+    let mut passed = Passed::default();
+    search(path, files, &mut passed);
     if files.len() == before {
         let why = "there is no file in it whose name ends in .table".to_string();
         files.push(Entry::Fails(path.to_path_buf(), why));
-    } else if others > 0 {
-        say(&format!(
-            "check-all: {}: {others} file{} whose name does not end in .table {} not checked\n",
-            shown(path),
-            if others == 1 { "" } else { "s" },
-            if others == 1 { "was" } else { "were" }
-        ));
+    } else {
+        passed.say(path);
+    }
+}
+
+/// How many things in a folder were passed over.
+#[derive(Default)]
+struct Passed {
+    others: usize,
+    links: usize,
+}
+
+impl Passed {
+    fn say(&self, folder: &Path) {
+        let (one, many) = (("", "was"), ("s", "were"));
+        let ending = |count| if count == 1 { one } else { many };
+        if self.others > 0 {
+            let (s, were) = ending(self.others);
+            say(&format!(
+                "check-all: {}: {} file{s} whose name does not end in .table {were} not checked\n",
+                shown(folder),
+                self.others
+            ));
+        }
+        if self.links > 0 {
+            let (s, were) = ending(self.links);
+            say(&format!(
+                "check-all: {}: {} link{s} to a folder {were} not followed\n",
+                shown(folder),
+                self.links
+            ));
+        }
     }
 }
 
 /// The files below a folder, in the order of their names. A link to a folder is not followed: it could lead in a circle.
-fn search(folder: &Path, files: &mut Vec<Entry>, others: &mut usize) {
+fn search(folder: &Path, files: &mut Vec<Entry>, passed: &mut Passed) {
     let read = fs::read_dir(folder).and_then(|entries| entries.collect::<io::Result<Vec<_>>>());
     let mut entries = match read {
         Ok(entries) => entries,
@@ -151,11 +176,13 @@ fn search(folder: &Path, files: &mut Vec<Entry>, others: &mut usize) {
     for entry in entries {
         let path = entry.path();
         if entry.file_type().is_ok_and(|kind| kind.is_dir()) {
-            search(&path, files, others);
+            search(&path, files, passed);
         } else if path.extension().is_some_and(|end| end == "table") {
             files.push(Entry::Found(path));
+        } else if path.is_dir() {
+            passed.links += 1;
         } else {
-            *others += 1;
+            passed.others += 1;
         }
     }
 }

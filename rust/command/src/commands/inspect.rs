@@ -173,6 +173,7 @@ impl<'t> Found<'t> {
         let reached = forbidden.iter().copied();
         let reached = reached.filter(|&s| self.reachable.contains(s)).collect();
         let initial = self.table.set(Set::Initial).states().count();
+        let marked = self.table.set(Set::Marked).states().count();
         let whole = [
             (
                 n == 0,
@@ -188,6 +189,11 @@ impl<'t> Found<'t> {
                 n > 0 && forbidden.is_empty(),
                 "nothing-forbidden",
                 "nothing is forbidden, so that the table is safe whatever else is in it",
+            ),
+            (
+                marked == 0 && !forbidden.is_empty(),
+                "nothing-marked",
+                "no state is marked as forbidden: only hangs are",
             ),
         ];
         let mut remarks: Vec<Remark> = whole

@@ -65,15 +65,30 @@ fn run(call: &Call) -> Done {
     if answer.status() != status::DONE {
         return Ok(status::FAILED);
     }
+    if is_unmarked(&file, site)? {
+        say(&format!(
+            "release: {}: look at it: no state is marked as forbidden, only hangs are\n",
+            shown(from)
+        ));
+    }
     need_place(to)?;
     replace(to, &file)?;
     Ok(status::DONE)
 }
 
+fn table_of(file: &[u8], site: usize) -> Result<Table, Failure> {
+    Table::read(file, site).map_err(|refused| Failure::Refused(refused, refused.to_string()))
+}
+
+/// Whether hangs alone are forbidden: a state that nothing reaches may be one by accident, and the forbidden ones be forgotten.
+fn is_unmarked(file: &[u8], site: usize) -> Result<bool, Failure> {
+    let table = table_of(file, site)?;
+    Ok(table.set(Set::Marked) == StateSet::default() && !table.forbidden().is_empty())
+}
+
 /// Why it says little of a table that it is safe.
 fn vacuous(file: &[u8], site: usize) -> Result<Option<&'static str>, Failure> {
-    let table = Table::read(file, site)
-        .map_err(|refused| Failure::Refused(refused, refused.to_string()))?;
+    let table = table_of(file, site)?;
     Ok(match table {
         _ if table.set(Set::Initial) == StateSet::default() => {
             Some("the table has no initial state, so that it is safe whatever else is in it")

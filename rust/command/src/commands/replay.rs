@@ -167,6 +167,13 @@ impl<'t> Walk<'t> {
         Some((at + 1, entry, why))
     }
 
+    /// The first followed entry that shows a forbidden screen: then the table is unsafe, and this pump was there.
+    fn forbidden(&self) -> Option<usize> {
+        let forbidden = self.table.forbidden();
+        let followed = &self.entries[..self.found.followed];
+        followed.iter().position(|s| forbidden.contains(s))
+    }
+
     /// The screens that can be reached and that no followed entry shows.
     fn not_seen(&self) -> Vec<usize> {
         let followed = &self.entries[..self.found.followed];
@@ -182,6 +189,10 @@ impl<'t> Walk<'t> {
             self.entries.len(),
             found.followed
         );
+        if let Some(at) = self.forbidden() {
+            let screen = self.screen(self.entries[at]);
+            said += &format!("entry {} is forbidden: {screen}\n", at + 1);
+        }
         if let Some((place, entry, why)) = self.broken() {
             said += &format!(
                 "entry {place} breaks the walk: {}: {why}\n",
@@ -211,6 +222,10 @@ impl<'t> Walk<'t> {
             .plain("groups", self.table.g())
             .plain("entries", self.entries.len())
             .plain("followed", found.followed);
+        let object = match self.forbidden() {
+            None => object.plain("forbidden", "null"),
+            Some(at) => object.plain("forbidden", at + 1),
+        };
         let object = match self.broken() {
             None => object.plain("breaks", "null"),
             Some((place, entry, why)) => object.object(
