@@ -231,6 +231,9 @@ group("outputs by their names")
 
 # ---- signals: at many moments, to every command that writes a file
 
+# A gate that was started in the background, or by nohup, has these ignored, and so has what it starts.
+for number in signal.SIGHUP, signal.SIGINT, signal.SIGQUIT:
+    signal.signal(number, signal.SIG_DFL)
 ENDING = [number for number in signal.Signals if number not in (
     signal.SIGKILL, signal.SIGSTOP, signal.SIGCHLD, signal.SIGCONT, signal.SIGTSTP, signal.SIGTTIN, signal.SIGTTOU, signal.SIGURG, signal.SIGWINCH, signal.SIGPIPE, signal.SIGXFSZ)]
 
