@@ -1,8 +1,8 @@
 /*
  * Walks a pump's log through a table and prints how far it goes and how much of the table it covers.
  *
- *     cc -Iinclude examples/coverage.c target/staticlib/libshuntberry.a -o coverage
- *     ./coverage tables/b.table LOG
+ *     cc coverage.c $(pkg-config --cflags --libs shuntberry) -o coverage
+ *     ./coverage b.table LOG
  *
  * A log is a list of state numbers, two bytes each, low byte first. For the log 0 1 4 on table B:
  *

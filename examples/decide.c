@@ -1,8 +1,8 @@
 /*
  * Reads a table's file, decides it, and prints what the program `check` prints.
  *
- *     cc -Iinclude examples/decide.c target/staticlib/libshuntberry.a -o decide
- *     ./decide tables/e.table && echo release
+ *     cc decide.c $(pkg-config --cflags --libs shuntberry) -o decide
+ *     ./decide e.table && echo release
  *
  * It ends with 0 where the table is safe and all was printed, 1 where it is unsafe, 2 where a call refuses, 3 for
  * anything else, and 4 where it is undecided or has no states.

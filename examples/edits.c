@@ -2,8 +2,8 @@
  * Draws steps into a table and rubs them out, and prints which states can be reached after each. The file is not
  * changed.
  *
- *     cc -Iinclude examples/edits.c target/staticlib/libshuntberry.a -o edits
- *     ./edits tables/b.table 1-2 4+2 0+4 5+0
+ *     cc edits.c $(pkg-config --cflags --libs shuntberry) -o edits
+ *     ./edits b.table 1-2 4+2 0+4 5+0
  *
  * A+B adds the step from A to B, A-B removes it. For table B:
  *

@@ -1,46 +1,48 @@
 /*
  * Shuntberry: is a forbidden state of a dialogue table reachable, and by which steps?
  *
- * The calls are check (from a file to a verdict and its text), decide, shortest path, distances, within, read, write, generate, replay, those of an edit
- * session (open, add a step, remove a step) and decide modal (for tables with steps that are only possible), and
- * beside them next open minute, which says when a release may be loaded and reads no table. Link
- * target/staticlib/libshuntberry.a, which `rt staticlib shuntberry` makes. Nothing is allocated, nothing is
- * kept between calls, and no call fails other than by a refusal number. Calls may be made from several
- * threads at once, as long as no buffer that one of them writes is lent to another. A call takes less than
- * 256 KiB of stack (tests/outside measures it on the longest path).
+ * The calls are check (from a file to a verdict and its text), decide, shortest path, distances, within, read, write,
+ * rewrite (for files of the old form), generate, replay, the calls of an edit session (open, add a step, remove a step),
+ * decide modal (for tables with steps that are only possible), and next open minute, which says when a release may be
+ * loaded and reads no table.
  *
- * Where ./dist has put the library, pkg-config has the flags to compile and link with it, as shuntberry.
+ * `pkg-config --cflags --libs shuntberry` gives the flags to compile and link with the shared library, which the program
+ * then loads when it starts. `pkg-config --variable=archive shuntberry` names libshuntberry.a, with the same proved
+ * objects: link that instead for a program that needs no Shuntberry where it runs.
+ *
+ * Nothing is allocated, nothing is kept between calls, and a call fails only with a refusal number. Calls may be made
+ * from several threads at once, as long as no buffer that one of them writes is lent to another. A call takes less than
+ * 128 KiB of stack (measured on the longest path).
  *
  * A TABLE has n states, numbered 0 to n - 1, with n from 0 to SHUNTBERRY_MAX_STATES, and g
- * groups, with g from 0 to SHUNTBERRY_MAX_GROUPS;
- * a table without states, an untouched draft, has no groups either, and its file has no bytes.
+ * groups, with g from 0 to SHUNTBERRY_MAX_GROUPS. A table without states, an untouched draft, has no groups either, and
+ * its file has no bytes.
  * A SET of states is SHUNTBERRY_SET_WORDS words: state s is the bit of value 2^(s % 64) in word s / 64.
- * A STORE is at least SHUNTBERRY_STORE_WORDS words: the initial set, the marked set, the resting set, as many
- * groups as there can be, and for each state that there can be the set of its successors (the offsets are
+ * A STORE is at least SHUNTBERRY_STORE_WORDS words: the initial set, the marked set, the resting set, room for
+ * SHUNTBERRY_MAX_GROUPS groups, and for each of SHUNTBERRY_MAX_STATES states the set of its successors (the offsets are
  * below). The words of groups from g up and of rows from n up are 0. Words past the first
  * SHUNTBERRY_STORE_WORDS are neither read nor written. A PATH is a list of 16-bit numbers, one for each state.
  *
- * A state is FORBIDDEN if it is marked, or if it has no successor and is not resting (a hang, a screen with no
- * way out). A marked state is forbidden whether it rests or not; for a state with a successor resting means
- * nothing. In every call below a forbidden state is one of these; shuntberry_decide_modal takes the possible
- * steps of a state for its successors there.
+ * A state is FORBIDDEN if it is marked, or if it has no successor and is not resting (a hang: a screen with no
+ * way out). A marked state is forbidden whether it is resting or not. For a state with a successor, resting means
+ * nothing. This is the meaning of forbidden in every call below, except that in shuntberry_decide_modal the possible
+ * steps of a state count as its successors.
  *
  * Each buffer is a pointer and the number of its elements. As with any C buffer, the pointer must be
  * valid for that many elements and aligned for its type, and a buffer that a call writes must not
- * overlap another one of that call. Of no elements nothing is read or written, so there the pointer may
- * be anything, null included (tests/outside tries it). Beyond that a call may be given anything: what
- * it does not accept, it refuses.
+ * overlap another buffer of that call. If the number of elements is 0, nothing is read or written there, and the
+ * pointer may be anything, also null. Apart from this, a call may be given anything: it refuses what it does not accept.
  *
- * A REFUSED call has a refusal number in `refusal`, and every buffer is as it was before. Its other fields
- * hold no answer, so that one who forgets to test `refusal` does not take them for one:
+ * A REFUSED call has a refusal number in `refusal`, and every buffer is as it was before the call. Its other fields
+ * hold no answer, so a caller that forgets to test `refusal` does not take them for one:
  *  - a verdict is SHUNTBERRY_NO_VERDICT; `found`, `within` and `never` are SHUNTBERRY_NO_ANSWER;
  *  - n and g of a refused read are SHUNTBERRY_NO_TABLE, which every call that takes n refuses;
  *  - `minute` is SHUNTBERRY_NO_MINUTE, which is later than any minute that the call gives (keep it unsigned);
- *  - a set is empty, but a refused edit of a session gives back the set that it was handed;
- *  - counts, sizes, steps and coverage are 0, and so is `length` of write: a greater one would invite its
- *    caller to read past the buffer.
- * distances and generate return the number alone. Where several grounds apply, the one that the call's comment
- * names first is given; for 12 and 13 the blocks are taken in order, 12 before 13 in each.
+ *  - a set is empty, but a refused edit of a session gives back the set that it was given;
+ *  - counts, sizes, steps and coverage are 0, and so is `length` of write: with a greater one, a caller might
+ *    read past the buffer.
+ * distances and generate return only the number. If several grounds hold, the call gives the one that its comment
+ * names first; for 12 and 13 the blocks are taken in order, 12 before 13 in each.
  */
 #ifndef SHUNTBERRY_H
 #define SHUNTBERRY_H
@@ -55,29 +57,30 @@ extern "C" {
 /* ---- Version ---- */
 
 /*
- * Goes up by one with each change for which a program must be changed or compiled again; CHANGELOG.md has
- * what changed. 1 is the header that had no such macro. From 2 on shuntberry_read and shuntberry_write
- * are given the site of the file, behind the input and behind g: their signatures changed. Site 0 gives
- * the files of version 1. From 3 on a table has up to 512 states: a set is 8 words, a store 4,624, a path
- * 16-bit numbers in a buffer of at least 512 places (SHUNTBERRY_PATH_PLACES, where SHUNTBERRY_PATH_BYTES
- * was), the allowance goes to 512. The file of a table of up to 256 states is as it was; the largest has
+ * It goes up by one with each change that makes it necessary to change or recompile a program; CHANGELOG.md says
+ * what changed. 1 is the header that had no such macro. From 2 on, shuntberry_read and shuntberry_write
+ * are given the site of the file, after the input and after g: their signatures changed. Site 0 gives
+ * the files of version 1. From 3 on, a table has up to 512 states: a set has 8 words, a store 4,624; a path is
+ * 16-bit numbers in a buffer of at least 512 places (SHUNTBERRY_PATH_PLACES instead of SHUNTBERRY_PATH_BYTES);
+ * and the allowance goes up to 512. The file of a table of up to 256 states is as it was; the largest file has
  * 37,376 bytes.
  *
- * From 4 on a table has resting states:
- *  - a store is 4,632 words (one of 4,624 gets 10), with the resting set behind the marked one, so that groups
- *    and rows have moved. SHUNTBERRY_FORBIDDEN is gone: what stood there is at SHUNTBERRY_MARKED, and is not all
+ * From 4 on, a table has resting states:
+ *  - a store has 4,632 words (one of 4,624 gets 10), with the resting set after the marked one, so groups
+ *    and rows have moved. SHUNTBERRY_FORBIDDEN is gone: what was there is at SHUNTBERRY_MARKED, and is not all
  *    that is forbidden;
- *  - a state without successors is forbidden unless it is resting, so a table filled as before, with none
- *    resting, may be unsafe where it was safe;
- *  - files have another form. One of the form before gets SHUNTBERRY_GROUPS from shuntberry_read; of one of
- *    site 0 shuntberry_rewrite makes a new one, in which its dead ends rest, so that decide answers as it did.
+ *  - a state without successors is forbidden unless it is resting. So a table that is filled as before, with no
+ *    state resting, may now be unsafe though it was safe;
+ *  - files have another form. shuntberry_read refuses a file of the old form with SHUNTBERRY_GROUPS. If it is of
+ *    site 0, shuntberry_rewrite makes a new file of it, in which its dead ends are resting, so decide answers as it did.
  *
- * From 5 on a refused call has no answer in its other fields, where it had 0, which is SHUNTBERRY_SAFE too:
- * SHUNTBERRY_NO_VERDICT, SHUNTBERRY_NO_ANSWER, SHUNTBERRY_NO_TABLE and SHUNTBERRY_NO_MINUTE. The last is also the
- * minute of `never`. What an accepted call gives is else as it was, and so are signatures and files.
+ * From 5 on, the other fields of a refused call hold no answer: SHUNTBERRY_NO_VERDICT, SHUNTBERRY_NO_ANSWER,
+ * SHUNTBERRY_NO_TABLE and SHUNTBERRY_NO_MINUTE. Before they were 0, which is also SHUNTBERRY_SAFE.
+ * SHUNTBERRY_NO_MINUTE is also the minute of `never`. Otherwise an accepted call gives what it gave before, and
+ * signatures and files are as they were.
  */
 #define SHUNTBERRY_VERSION 5
-#define SHUNTBERRY_VERSION_TEXT "5.0.0" /* all of it: that number, then one for what is new, and one for the rest */
+#define SHUNTBERRY_VERSION_TEXT "5.1.0" /* all of it: that number, then one for what is new, and one for the rest */
 
 /* ---- Sizes ---- */
 
@@ -91,7 +94,7 @@ extern "C" {
 #define SHUNTBERRY_UNREACHABLE 65535 /* the distance of a state from which no forbidden state can be reached */
 #define SHUNTBERRY_BLOCK_BYTES 512   /* a file is whole blocks of this many bytes */
 #define SHUNTBERRY_FILE_BYTES 37376  /* the length of the largest file, 73 blocks */
-#define SHUNTBERRY_CHECK_TEXT 4096   /* the room that the text of any file takes (check) */
+#define SHUNTBERRY_CHECK_TEXT 4096   /* the least length of the buffer for the text of a file, in bytes (check) */
 #define SHUNTBERRY_MAX_SITE 65520    /* the greatest site number */
 #define SHUNTBERRY_MAX_FAN_OUT 16    /* the greatest fan-out of a generated table */
 #define SHUNTBERRY_MAX_LOG 32768     /* the greatest length of a pump's log, in bytes: 16,384 entries */
@@ -103,7 +106,7 @@ extern "C" {
 /* ---- Where the sets stand in a store, as the index of their first word ---- */
 
 #define SHUNTBERRY_INITIAL 0                          /* the initial set */
-#define SHUNTBERRY_MARKED SHUNTBERRY_SET_WORDS        /* the marked set: states that are forbidden whatever they lead to */
+#define SHUNTBERRY_MARKED SHUNTBERRY_SET_WORDS        /* the marked set: states that are forbidden, whether they are resting or not */
 #define SHUNTBERRY_RESTING (2 * SHUNTBERRY_SET_WORDS) /* the resting set: states that may lead nowhere */
 #define SHUNTBERRY_GROUP(j) (SHUNTBERRY_SET_WORDS * (SHUNTBERRY_HEAD_SETS + (j))) /* group j */
 #define SHUNTBERRY_ROW(s) SHUNTBERRY_GROUP(SHUNTBERRY_MAX_GROUPS + (s))           /* the successors of state s */
@@ -114,16 +117,16 @@ extern "C" {
 /* ---- Refusal numbers ---- */
 
 #define SHUNTBERRY_ACCEPTED 0           /* the call was not refused */
-#define SHUNTBERRY_STORE_SHORT 10       /* the store has under SHUNTBERRY_STORE_WORDS words (all calls but next open), or the possible steps under SHUNTBERRY_POSSIBLE_WORDS (decide modal) */
-#define SHUNTBERRY_INPUT_LENGTH 11      /* the input's length is no multiple of 512, or over SHUNTBERRY_FILE_BYTES (read) */
-#define SHUNTBERRY_BLOCK_NUMBER 12      /* block k does not hold the number k (read) */
-#define SHUNTBERRY_BLOCK_CHECK 13       /* a block's stored check is not its check for the site (read) */
-#define SHUNTBERRY_STATES 14            /* n is over SHUNTBERRY_MAX_STATES, or 0 with g above 0, in a block or in generate (all calls but next open) */
-#define SHUNTBERRY_GROUPS 15            /* g is over SHUNTBERRY_MAX_GROUPS; in read, the file's second number is below 32,768 (as in files of version 3 and before) or over 32,832 (all calls but generate and next open) */
-#define SHUNTBERRY_BLOCK_COUNT 16       /* the file has too few or too many blocks for its n and g (read) */
-#define SHUNTBERRY_STRAY_BIT 17         /* a set, the resting one included, holds a state from n up, or a word of an unused group or row is not 0 (all calls but generate and next open); in decide modal also of the possible steps */
-#define SHUNTBERRY_FILLER 18            /* a byte past the contents is not 0 (read) */
-#define SHUNTBERRY_OUTPUT_SHORT 19      /* the output is shorter than the file (write) */
+#define SHUNTBERRY_STORE_SHORT 10       /* the store has under SHUNTBERRY_STORE_WORDS words (all calls with a store), or the possible steps under SHUNTBERRY_POSSIBLE_WORDS (decide modal) */
+#define SHUNTBERRY_INPUT_LENGTH 11      /* the input's length is no multiple of 512, or over SHUNTBERRY_FILE_BYTES (read, rewrite) */
+#define SHUNTBERRY_BLOCK_NUMBER 12      /* block k does not hold the number k (read, rewrite) */
+#define SHUNTBERRY_BLOCK_CHECK 13       /* a block's stored check is not its check for the site (read, rewrite) */
+#define SHUNTBERRY_STATES 14            /* n is over SHUNTBERRY_MAX_STATES, or 0 with g above 0, in a block or in generate (rewrite, and all calls with a store) */
+#define SHUNTBERRY_GROUPS 15            /* g is over SHUNTBERRY_MAX_GROUPS; in read, the file's second number is below 32,768 (as in files of version 3 and before) or over 32,832 (rewrite, and all calls with a store but generate) */
+#define SHUNTBERRY_BLOCK_COUNT 16       /* the file has too few or too many blocks for its n and g (read, rewrite) */
+#define SHUNTBERRY_STRAY_BIT 17         /* a set, the resting one included, holds a state from n up, or a word of an unused group or row is not 0 (rewrite, and all calls with a store but generate); in decide modal also of the possible steps */
+#define SHUNTBERRY_FILLER 18            /* a byte past the contents is not 0 (read, rewrite) */
+#define SHUNTBERRY_OUTPUT_SHORT 19      /* the output is shorter than the file (write, rewrite), or has under SHUNTBERRY_CHECK_TEXT bytes (check) */
 #define SHUNTBERRY_ALLOWANCE 20         /* the allowance is over SHUNTBERRY_MAX_ALLOWANCE (decide) */
 #define SHUNTBERRY_PATH_SHORT 21        /* the path buffer has under SHUNTBERRY_PATH_PLACES places (decide, shortest path, decide modal) */
 #define SHUNTBERRY_FAN_OUT 22           /* the fan-out is over 16 (generate) */
@@ -138,8 +141,8 @@ extern "C" {
 #define SHUNTBERRY_TIME 31              /* the time is over 2^31 - 1 (next open) */
 
 /*
- * The ground of a refusal, in words; of a number that is none, 0 included, that it is none. The words are those
- * of `check --explain` and of the manual page.
+ * The ground of a refusal, in words. A number that is no refusal, such as 0, gets words that say so. The words are
+ * those of `check --explain` and of the manual page.
  */
 static inline const char *shuntberry_refusal_text(uint32_t refusal)
 {
@@ -196,20 +199,20 @@ static inline const char *shuntberry_refusal_text(uint32_t refusal)
 /* ---- Verdicts ---- */
 
 #define SHUNTBERRY_SAFE 0      /* no forbidden state can be reached from an initial one (decide modal: in no choice) */
-#define SHUNTBERRY_UNSAFE 1    /* one can: the path buffer holds how (decide modal: in every choice) */
+#define SHUNTBERRY_UNSAFE 1    /* one can be reached: the path buffer shows how (decide modal: in every choice) */
 #define SHUNTBERRY_UNDECIDED 2 /* the allowance was used up before either was known (decide) */
-#define SHUNTBERRY_DEPENDS 3   /* with the certain steps alone none can, with all possible steps one can: the path buffer holds how (decide modal) */
+#define SHUNTBERRY_DEPENDS 3   /* none can be reached with the certain steps alone, one can with all possible steps: the path buffer shows how (decide modal) */
 
 /* ---- What a refused call has in place of an answer ---- */
 
 #define SHUNTBERRY_NO_VERDICT 255 /* for a verdict (decide, decide modal) */
 #define SHUNTBERRY_NO_ANSWER 255  /* for a yes or no, 1 or 0: found, within, never */
-#define SHUNTBERRY_NO_TABLE 65535 /* for n and g (read). Every call that takes n refuses this one, with 14 unless 10 or 24 comes before */
-#define SHUNTBERRY_NO_MINUTE 4294967295u /* for the minute (next open), also where none is ever open: later than any that the call gives */
+#define SHUNTBERRY_NO_TABLE 65535 /* for n and g (read). Every call that takes n refuses this one, with 14 unless 10 or 24 comes first */
+#define SHUNTBERRY_NO_MINUTE 4294967295u /* for the minute (next open), also if no minute is ever open: later than any that the call gives */
 
 /* ---- The calls ---- */
 
-/* Stands at each call: a compiler that knows how to warns where the result, and with it a refusal, is not looked at. */
+/* Is put before each call: compilers that know it warn if nobody looks at the result, and so at a refusal. */
 #if (defined(__cplusplus) && __cplusplus >= 201703L) || (defined(__STDC_VERSION__) && __STDC_VERSION__ >= 202311L)
 #define SHUNTBERRY_NODISCARD [[nodiscard]]
 #elif defined(__GNUC__)
@@ -223,23 +226,23 @@ struct shuntberry_checked {
     size_t length;         /* bytes of text at the front of the buffer; of a refused call 0 */
     size_t n;              /* the table's number of states; SHUNTBERRY_NO_TABLE where the file or the call is refused */
     uint32_t refusal;      /* 0, or the number of the refusal of the call itself */
-    uint32_t file_refusal; /* 0, or the number with which the file is refused, which is an answer: the text says so */
+    uint32_t file_refusal; /* 0, or the number with which the file is refused; that is an answer, and the text says so */
     uint32_t verdict;      /* SHUNTBERRY_SAFE or SHUNTBERRY_UNSAFE; SHUNTBERRY_NO_VERDICT where the file or the call is refused */
     uint32_t reserved;     /* 0 */
 };
 
 /*
- * The simplest right use of the library: one call from a file's bytes to the verdict of a release check and to
- * the text that the program `check` prints for it, which stands at the front of `text`; no other byte is touched.
+ * The simplest right way to use the library: one call from a file's bytes to the verdict of a release check and to
+ * the text that the program `check` prints for it. The text is put at the front of `text`; no other byte is touched.
  * The text has no 0 at its end: `length` says how long it is.
  *
  *     struct shuntberry_checked checked = shuntberry_check(input, length, 0, text, sizeof text);
  *     if (shuntberry_checked_is_safe(checked)) ...
  *
- * An input of no bytes is a draft: safe, with n 0. Lend one byte more than SHUNTBERRY_FILE_BYTES to what reads
- * the file, so that a longer one is seen to be too long.
+ * An input of no bytes is a draft: safe, with n 0. Read the file into a buffer of one byte more than
+ * SHUNTBERRY_FILE_BYTES, so that a longer file is seen to be too long.
  *
- * Refuses with 24, or 19 where the text has under SHUNTBERRY_CHECK_TEXT bytes. A file that is refused is an
+ * Refuses with 24, or with 19 if `text` has under SHUNTBERRY_CHECK_TEXT bytes. That a file is refused is an
  * answer: `file_refusal` has the number that shuntberry_read gives.
  */
 SHUNTBERRY_NODISCARD
@@ -268,9 +271,9 @@ struct shuntberry_decision {
  * Decides by rounds of forward and backward fixpoints, with at most `allowance` refinements between
  * them. With SHUNTBERRY_MAX_ALLOWANCE the answer is never undecided. `path_len` is the number of places.
  *
- * If unsafe, steps + 1 places at the front of `path` are the states of a shortest path from an initial
- * to a forbidden state, of all such paths the one with the smallest first state, then the smallest
- * second, and so on; no other place is touched. If safe or undecided, nothing is written.
+ * If unsafe, the first steps + 1 places of `path` are the states of a shortest path from an initial
+ * to a forbidden state. Of all shortest paths it is the one with the smallest first state, then the smallest
+ * second, and so on. No other place is touched. If safe or undecided, nothing is written.
  * The store is never changed.
  *
  * Refuses with 10, 14, 15, 17, 20 or 21.
@@ -279,7 +282,11 @@ SHUNTBERRY_NODISCARD
 struct shuntberry_decision shuntberry_decide(const uint64_t *store, size_t store_len, size_t n, size_t g,
                                              size_t allowance, uint16_t *path, size_t path_len);
 
-/* Whether the call was accepted and the verdict is safe: 1 or 0. */
+/*
+ * Whether the call was accepted and the verdict is safe: 1 or 0. It is 1 also for n = 0, a draft, which is what
+ * shuntberry_read makes of no bytes: of an empty file, or of a read that failed and was taken for one. So look at n
+ * too, or use shuntberry_check and shuntberry_checked_is_safe, which is 0 then.
+ */
 static inline int shuntberry_is_safe(struct shuntberry_decision decision)
 {
     return decision.refusal == SHUNTBERRY_ACCEPTED && decision.verdict == SHUNTBERRY_SAFE;
@@ -293,8 +300,8 @@ struct shuntberry_shortest {
 };
 
 /*
- * Finds the path that shuntberry_decide gives, without the rounds: steps + 1 places at the front of
- * `path`, no other place touched. If there is no path, nothing is written. The store is never changed.
+ * Finds the path that shuntberry_decide gives, without the rounds. It is put into the first steps + 1 places of
+ * `path`, and no other place is touched. If there is no path, nothing is written. The store is never changed.
  *
  * Refuses with 10, 14, 15, 17 or 21.
  */
@@ -303,14 +310,13 @@ struct shuntberry_shortest shuntberry_shortest_path(const uint64_t *store, size_
                                                     uint16_t *path, size_t path_len);
 
 /*
- * Writes the distance of each state, which is the number of steps from it to the nearest forbidden
- * state (0 for a hang), at the front of `distances`: one place for each of the n states,
- * SHUNTBERRY_UNREACHABLE where no forbidden state can be reached. Places past n are not touched. The store
- * is never changed.
+ * Writes the distance of each state at the front of `distances`, one place for each of the n states. The distance is
+ * the number of steps from the state to the nearest forbidden state (0 for a forbidden state), or
+ * SHUNTBERRY_UNREACHABLE if no forbidden state can be reached. Places past n are not touched. The store is never changed.
  * `distances_len` is the number of places. Returns 0, or the number of the refusal.
  *
- * Refuses with 10, 14, 15, 17 or 23; the buffer is then as it was before, and nothing else tells: look at what is
- * returned.
+ * Refuses with 10, 14, 15, 17 or 23; the buffer is then as it was before. Only the returned number shows this: look
+ * at it.
  */
 SHUNTBERRY_NODISCARD
 uint32_t shuntberry_distances(const uint64_t *store, size_t store_len, size_t n, size_t g, uint16_t *distances,
@@ -325,8 +331,8 @@ struct shuntberry_within {
 /*
  * Is there a path of at most k steps from an initial to a forbidden state? For every k: for 0 it asks
  * for a state that is initial and forbidden, such as an initial hang. The search goes outward from the
- * initial states and stops at the first forbidden one, or when no new state is found. The store is never
- * changed.
+ * initial states, layer by layer. It stops at the first layer that holds a forbidden state, or when a layer
+ * brings no new state. The store is never changed.
  *
  * Refuses with 10, 14, 15 or 17.
  */
@@ -336,16 +342,18 @@ struct shuntberry_within shuntberry_within(const uint64_t *store, size_t store_l
 /* What shuntberry_read answers. */
 struct shuntberry_table {
     uint32_t refusal; /* 0, or the number of the refusal */
-    uint32_t n;       /* the table's number of states; of a refused call SHUNTBERRY_NO_TABLE, which is no bound for a loop */
+    uint32_t n;       /* the table's number of states; of a refused call SHUNTBERRY_NO_TABLE, so do not use it as the bound of a loop then */
     uint32_t g;       /* the table's number of groups; of a refused call SHUNTBERRY_NO_TABLE */
 };
 
 /*
- * Reads a block file of a site into the first SHUNTBERRY_STORE_WORDS words of `store`; no other word is touched. The input
- * is never changed. The check of each block starts from the site, so a block of another site that stands
- * at its own number is refused with 13. An input of no bytes is an untouched draft, at every site: n and g
- * are 0, and so is each of those words. So a read that failed must not be passed on as one of no bytes.
- * A file of the old form, as versions 1 to 3 wrote it, is refused with 15 (SHUNTBERRY_VERSION says what to do).
+ * Reads a block file of a site into the first SHUNTBERRY_STORE_WORDS words of `store`; no other word is touched.
+ * The input is never changed. The sum of each block starts from the site. So a block that was made for another
+ * site, is unaltered and stands at its own number is refused with 13, once all that is looked at before it passes.
+ *
+ * An input of no bytes is an untouched draft, at every site: n and g are 0, and so is each of those words. So do
+ * not pass on a read that failed as one of no bytes.
+ * A file of the old form, as versions 1 to 3 wrote it, is refused with 15; shuntberry_rewrite makes a new one of it.
  *
  * Refuses with 10, 24, 11, 12, 13, 14, 15, 16, 17 (of set bytes only) or 18.
  */
@@ -363,8 +371,8 @@ struct shuntberry_file {
  * Writes the table as a block file for a site at the front of `output`, and no other byte. An output of
  * SHUNTBERRY_FILE_BYTES is always long enough. The store is never changed.
  *
- * A refused call has the length of a draft, 0, since any other would invite a read past the output. A file of no
- * bytes is a table, and safe: so test `refusal` before anything is written to a disk.
+ * A refused call has the length 0, which is that of a draft: with any other length, a caller might read past the output.
+ * A file of no bytes is a table, and safe. So test `refusal` before you write anything to a disk.
  *
  * Refuses with 10, 24, 14, 15, 17 or 19.
  */
@@ -373,25 +381,26 @@ struct shuntberry_file shuntberry_write(const uint64_t *store, size_t store_len,
                                         uint8_t *output, size_t output_len);
 
 /*
- * Rewrites a file of site 0 of the form before version 4 as the same table in the form of today, with its dead ends, and
- * no other state, resting: at the front of `output`, and no other byte. decide says of it what it said before.
+ * Rewrites a file of site 0 of the old form, as versions 1 to 3 wrote it, in the new form: the same table with its dead
+ * ends, and no other state, resting. So decide answers on it as before. The new file is put at the front of `output`, and
+ * no other byte is touched. An output of SHUNTBERRY_FILE_BYTES is always long enough.
  *
- * Refuses with the number with which the old form refuses the file (11 to 18; a file of today's form gets 15), or
- * with 19; nothing is written then.
+ * If the old form refuses the file, refuses with that number (11 to 18; a file of the new form gets 15); otherwise with
+ * 19 if the output is too short. Nothing is written then. As with shuntberry_write, test `refusal` first.
  */
 SHUNTBERRY_NODISCARD
 struct shuntberry_file shuntberry_rewrite(const uint8_t *input, size_t input_len, uint8_t *output, size_t output_len);
 
 /*
- * Fills the first SHUNTBERRY_STORE_WORDS words of `store` with the table that a seed gives, and touches no other word:
- * n states, of which state 0 is initial, state n - 1 marked and none resting, no groups, and for each state in
- * turn the next `fan_out` of a sequence of numbers, each modulo n, as its successors. (With a fan-out of 0 every
- * state is a hang.) Every call accepts the table, with g = 0. The numbers are 32 bits wide: the first is the
+ * Fills the first SHUNTBERRY_STORE_WORDS words of `store` with the table that a seed gives, and touches no other word.
+ * The table has n states and no groups; state 0 is initial, state n - 1 is marked, and none is resting. Each state in
+ * turn takes the next `fan_out` of a sequence of numbers; each modulo n is a successor. (With a fan-out of 0 every
+ * state is a hang.) Every call that takes a table accepts it, with g = 0. The numbers are 32 bits wide: the first is the
  * seed, each of the next 54 the one before plus 2,654,435,769, and each from the 56th on the sum of the
  * numbers 24 and 55 places back, all modulo 2^32; the states take those from the 56th on.
  *
- * Returns 0, or refuses with 10, 14 or 22; the store is then as it was before, so one that was zeroed still holds a
- * draft. There is no other field that could say so: look at what is returned.
+ * Returns 0, or refuses with 10, 14 or 22. The store is then as it was before, so a zeroed one still holds a draft.
+ * Only the returned number shows this: look at it.
  */
 SHUNTBERRY_NODISCARD
 uint32_t shuntberry_generate(uint32_t seed, size_t n, size_t fan_out, uint64_t *store, size_t store_len);
@@ -406,10 +415,11 @@ struct shuntberry_replay {
 };
 
 /*
- * Walks a pump's log through the table. The log is a list of state numbers of two bytes each, low byte
+ * Follows a pump's log through the table. The log is a list of state numbers of two bytes each, low byte
  * first. The first entry must be initial, each later one a successor of the entry before; an entry of
  * n or more is neither. The states that can be reached include the initial ones. A forbidden entry, marked
- * or a hang, is followed as any other; on a table that shuntberry_decide calls safe, none is. Nothing is written.
+ * or a hang, is followed like any other; but on a table that shuntberry_decide calls safe, no followed entry is
+ * forbidden. Nothing is written.
  *
  * Refuses with 10, 14, 15, 17, 25 or 26.
  */
@@ -419,21 +429,21 @@ struct shuntberry_replay shuntberry_replay(const uint64_t *store, size_t store_l
 
 /* ---- Edit sessions: the states that can be reached, while steps are drawn and rubbed out ---- */
 
-/* A set of states. It is handed in by value and comes back by value: no call keeps or changes the caller's own. */
+/* A set of states. It is passed and returned by value: no call keeps or changes the caller's own. */
 struct shuntberry_set {
     uint64_t words[SHUNTBERRY_SET_WORDS];
 };
 
 /* What the three calls of a session answer, by value. */
 struct shuntberry_session {
-    struct shuntberry_set reachable; /* the set after the call; of a refused edit the set that it was handed, of a refused opening the empty one */
+    struct shuntberry_set reachable; /* the set after the call; of a refused edit the set that it was given, of a refused opening the empty one */
     uint32_t refusal;                /* 0, or the number of the refusal */
     uint32_t reserved;               /* 0 */
 };
 
 /*
- * Opens a table: `reachable` is the set of the states that can be reached from the initial ones, these
- * included. Nothing is kept between calls: the session is the store and this set, and its caller keeps both.
+ * Opens a table: `reachable` is the set of the states that can be reached from the initial ones, including these.
+ * Nothing is kept between calls: the session is the store and this set, and the caller keeps both.
  * The store is not changed.
  *
  *     struct shuntberry_session now = shuntberry_open(store, store_len, n, g);
@@ -447,19 +457,19 @@ struct shuntberry_session shuntberry_open(const uint64_t *store, size_t store_le
 
 /*
  * Adds the step from `from` to `to` to the table in the store, or removes it: at most one word of the store
- * changes, in the row of `from`. `reachable` goes in by value, as the set comes back. After every list of edits
- * from an opened table, each handed the set that the one before gave, with the same n and g and the store
- * changed by nothing else between (else open again), the set is the one that shuntberry_open gives for the table
- * as edited; a refused edit counts as none.
+ * changes, in the row of `from`. After every list of edits from an opened table, the set is the one that
+ * shuntberry_open gives for the table as edited. For this, give each edit the set that the one before returned, and
+ * the same n and g, and let nothing else change the store between them; otherwise open again. A refused edit counts
+ * as none.
  *
- * Of any set that is handed in: adding a step that exists, or removing one that does not, changes neither
- * the set nor the store. Else adding a step from a state that is not in the set leaves the set alone, adding
- * one from a state that is in it joins to it all that `to` reaches, and removing one gives what the initial
- * states reach. States from n up in the set are no ground for a refusal: an addition keeps them, a removal
- * that takes a step out drops them.
+ * For any set that is given: adding a step that exists, or removing one that does not, changes neither
+ * the set nor the store. Otherwise, adding a step from a state that is not in the set leaves the set as it is; adding
+ * one from a state of the set adds to it all that `to` reaches, `to` included; and removing a step gives what the
+ * initial states reach. States from n up in the set are no reason to refuse: an addition keeps them, a removal of a
+ * step that exists drops them.
  *
- * Any edit may change what shuntberry_decide answers, also by making a hang or by giving one a way out: ask it
- * again. Which states are reached does not hang on which are forbidden.
+ * Any edit may change what shuntberry_decide answers, also by making a hang or by giving one a way out: call it
+ * again. Which states are reached does not depend on which are forbidden.
  *
  * Both refuse with 10, 14, 15, 17 or 27; store and set are then as they were before.
  */
@@ -472,7 +482,7 @@ struct shuntberry_session shuntberry_remove_step(uint64_t *store, size_t store_l
 
 /* What shuntberry_decide_modal answers. */
 struct shuntberry_modal {
-    uint64_t invariant[SHUNTBERRY_SET_WORDS]; /* if safe, that of a release check on the possible steps, which is one of every choice; if it depends, that on the certain steps; else empty */
+    uint64_t invariant[SHUNTBERRY_SET_WORDS]; /* if safe, that of a release check on the possible steps, which is an invariant of every choice; if it depends, that on the certain steps; else empty */
     uint32_t refusal; /* 0, or the number of the refusal */
     uint32_t verdict; /* SHUNTBERRY_SAFE, SHUNTBERRY_UNSAFE or SHUNTBERRY_DEPENDS; of a refused call SHUNTBERRY_NO_VERDICT */
     uint32_t size;    /* the number of states in the invariant */
@@ -480,26 +490,26 @@ struct shuntberry_modal {
 };
 
 /*
- * Decides for all pumps of a family at once, where some steps exist only with an option bought. The rows in
+ * Decides for all pumps of a family at once, if some steps exist only with an option bought. The rows in
  * `store` are the CERTAIN steps; `possible` has a second row for each state (SHUNTBERRY_POSSIBLE_ROW), its
- * POSSIBLE steps, with each certain one among them. The words of rows from n up are 0; those past the first
+ * POSSIBLE steps, which include the certain ones. The words of rows from n up are 0; those past the first
  * SHUNTBERRY_POSSIBLE_WORDS are not read. (The field's term is a modal transition system: its must steps and
  * its may steps.)
  *
- * A CHOICE has, for each state, all of its certain steps and any of the possible ones beside them, step by step,
- * whether or not such a pump is sold: SHUNTBERRY_DEPENDS may come of pumps that nobody makes. The verdict is
- * safe if every choice is safe, unsafe if every choice is unsafe, and else SHUNTBERRY_DEPENDS: the certain steps
- * alone are then a safe choice, and all possible steps an unsafe one. It is never undecided.
+ * A CHOICE has, for each state, all of its certain steps and any of the other possible ones, step by step,
+ * whether or not such a pump is sold: so SHUNTBERRY_DEPENDS may be due to pumps that nobody makes. The verdict is
+ * safe if every choice is safe, unsafe if every choice is unsafe, and otherwise SHUNTBERRY_DEPENDS: then the certain
+ * steps alone are a safe choice, and all possible steps are an unsafe one. It is never undecided.
  *
  * A state is forbidden if it is marked, or if it has no POSSIBLE step and is not resting: the same states for
- * every choice. So a state that has possible steps only is no hang here, even in a choice that leaves it none.
- * For shuntberry_decide it is one. So a choice that is safe here may be unsafe there, as a table of its own; and
- * of one and the same store, whose rows are the certain steps, that call may say unsafe and this one safe or
- * that it depends.
+ * every choice. So a state that has possible steps but no certain one is no hang here, even in a choice that gives it
+ * no step. For shuntberry_decide, which is given the choice as a table of its own, it is a hang unless it is resting.
+ * So a choice that is safe here may be unsafe there; and on one and the same store, whose rows are the certain steps,
+ * that call may say unsafe while this one says safe or that it depends.
  *
- * If unsafe, steps + 1 places at the front of `path` are the path that a release check gives on the certain
- * steps, which is one of every choice; if it depends, the path that it gives on the possible steps. No other
- * place is touched, and if safe none is. Where both rows of each state are equal, an accepted call has the
+ * If unsafe, the first steps + 1 places of `path` are the path that a release check gives on the certain
+ * steps, which is a path of every choice; if it depends, they are the path that it gives on the possible steps. No
+ * other place is touched, and if safe none is. If both rows of each state are equal, an accepted call has the
  * verdict, invariant, size, steps and path of shuntberry_decide with SHUNTBERRY_MAX_ALLOWANCE. Neither the store
  * nor `possible` is changed.
  *
@@ -510,7 +520,7 @@ struct shuntberry_modal shuntberry_decide_modal(const uint64_t *store, size_t st
                                                 const uint64_t *possible, size_t possible_len, uint16_t *path,
                                                 size_t path_len);
 
-/* Whether the call was accepted and every choice is safe: 1 or 0. */
+/* Whether the call was accepted and every choice is safe: 1 or 0. It is 1 also for n = 0, as shuntberry_is_safe is. */
 static inline int shuntberry_modal_is_safe(struct shuntberry_modal decision)
 {
     return decision.refusal == SHUNTBERRY_ACCEPTED && decision.verdict == SHUNTBERRY_SAFE;
@@ -519,9 +529,9 @@ static inline int shuntberry_modal_is_safe(struct shuntberry_modal decision)
 /* ---- When a release may be loaded ---- */
 
 /*
- * A weekly window: `length` minutes, from `start` minutes into the week on, which begins on Saturday at
- * 00:00. The number has the start in its low 32 bits and the length in its high 32. A start or length
- * that does not fit is given as 2^32 - 1, which is out of range too: the call refuses such a window, and
+ * A weekly window of `length` minutes, which begins `start` minutes after the beginning of the week. Weeks begin on
+ * Saturday at 00:00. The number has the start in its low 32 bits and the length in its high 32. A start or length
+ * that does not fit becomes 2^32 - 1, which is out of range too: so the call refuses such a window, and
  * never takes a part of the number for the whole.
  */
 static inline uint64_t shuntberry_window(uint64_t start, uint64_t length)
@@ -534,14 +544,14 @@ static inline uint64_t shuntberry_window(uint64_t start, uint64_t length)
 struct shuntberry_minute {
     uint32_t refusal; /* 0, or the number of the refusal */
     uint32_t never;   /* 1 if there is no window, so that no minute is ever open; else 0; of a refused call SHUNTBERRY_NO_ANSWER */
-    uint32_t minute;  /* the first open minute; SHUNTBERRY_NO_MINUTE where there is none, or the call is refused */
+    uint32_t minute;  /* the first open minute; SHUNTBERRY_NO_MINUTE if there is none, or if the call is refused */
 };
 
 /*
  * The first open minute at or after `time`. Time is whole minutes since 1 January 2000, 00:00, a Saturday.
  * A minute is open if it lies in one of the windows and its day is not closed. A window's first minute is
- * in, the minute after its last is out; it may run over the week's end, and it recurs in every week, the
- * one before minute 0 included. Days are counted from that Saturday as 0, and any 32-bit number may be
+ * in, the minute after its last is out. It may run over the week's end, and it recurs in every week, including
+ * the week before minute 0. Days are counted from that Saturday, which is day 0, and any 32-bit number may be
  * named; a day that is named twice counts twice towards the 64.
  *
  * With at least one window there always is an open minute, less than 655,200 minutes later; it may lie

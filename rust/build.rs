@@ -1,4 +1,4 @@
-//! Links `libshuntberry.a`: the one in this package's folder, where `./dist` puts it, else that of the repository that the package stands in.
+//! Links `libshuntberry.a`: the one in this package's folder, as the package is shipped, else the one that was proved around it.
 
 use std::env;
 use std::path::Path;
@@ -17,8 +17,8 @@ fn main() {
     println!("cargo::rerun-if-changed={}", archive.display());
     if !archive.is_file() {
         println!(
-            "cargo::error={} is missing: run `rt staticlib shuntberry` in the root of the repository",
-            archive.display()
+            "cargo::error={ARCHIVE} is missing in {}: copy the package whole from Shuntberry's archive, or with `cp -RL` from the installed one, where it is a link, or run `rt staticlib shuntberry` in the repository",
+            package.display()
         );
         return;
     }

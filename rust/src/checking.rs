@@ -1,16 +1,17 @@
 //! One call from a file's bytes to a verdict and its text: the simplest right use of the library.
 
-use crate::{Refused, accepted, raw};
+use crate::{Refused, accepted, front, raw};
 
 /// The room that the longest text of [`check`] takes.
 pub const CHECK_TEXT_BYTES: usize = 4_096;
 
 /// What [`check`] answers of a file, with the text that the program `check` prints for it: the front of the lent buffer.
 #[derive(Clone, Copy, Debug, PartialEq, Eq)]
+#[must_use = "an answer that is not looked at may be unsafe"]
 pub enum Checked<'t> {
     /// No forbidden state can be reached.
     Safe {
-        /// The number of states.
+        /// The number of states; 0 for a draft, which is nothing to release.
         n: usize,
         /// The states and groups, the refinements, an invariant: three lines.
         text: &'t [u8],
@@ -29,6 +30,14 @@ pub enum Checked<'t> {
         /// `refused N`, one line.
         text: &'t [u8],
     },
+}
+
+impl Checked<'_> {
+    /// Whether no forbidden state can be reached, of a table that has states.
+    #[must_use]
+    pub fn is_safe(&self) -> bool {
+        matches!(self, Checked::Safe { n: 1.., .. })
+    }
 }
 
 /// A release check of a file's bytes at a site. An input of no bytes is an untouched draft, with 0 states and safe, so a read that failed
@@ -50,6 +59,10 @@ pub enum Checked<'t> {
 ///     panic!("a session starts in a forbidden state");
 /// };
 /// assert_eq!(said, b"states 1 groups 0\nunsafe refinements 0\npath 0\n");
+///
+/// // A draft has no forbidden state, and is nothing to release.
+/// let draft = check(b"", 0, &mut text)?;
+/// assert!(matches!(draft, Checked::Safe { n: 0, .. }) && !draft.is_safe());
 ///
 /// // A file that is cut is refused, and that is an answer.
 /// let checked = check(&file[1..], 0, &mut text)?;
@@ -73,7 +86,7 @@ pub fn check<'t>(input: &[u8], site: usize, text: &'t mut [u8]) -> Result<Checke
 /// What the fields stand for, with the text at the front of its buffer. Nothing that is not known is taken for an answer.
 fn checked(said: raw::Checked, text: &[u8]) -> Result<Checked<'_>, Refused> {
     accepted(said.refusal)?;
-    let text = text.get(..said.length).ok_or(Refused::UNKNOWN_ANSWER)?;
+    let text = front(text, said.length)?;
     match (said.file_refusal, said.verdict) {
         (0, raw::SAFE) => Ok(Checked::Safe { n: said.n, text }),
         (0, raw::UNSAFE) => Ok(Checked::Unsafe { n: said.n, text }),
@@ -101,7 +114,5 @@ pub fn rewrite<'o>(input: &[u8], output: &'o mut [u8]) -> Result<&'o [u8], Refus
         )
     };
     accepted(file.refusal)?;
-    output
-        .get(..file.length as usize)
-        .ok_or(Refused::UNKNOWN_ANSWER)
+    front(output, file.length as usize)
 }

@@ -1,8 +1,29 @@
 //! Is a forbidden state of a dialogue table reachable, and by which steps?
 //!
-//! A safe wrapper around the proved library: [`decide`], [`shortest_path`], [`distances`], [`within`],
-//! [`read`], [`write()`], [`generate`], [`replay`], [`decide_modal`], [`next_open`] and an edit [`Session`], with slices in and enums out. No input makes a call panic: what the library does not accept, it
-//! refuses with a number ([`Refused`]), and every buffer is then as it was before.
+//! A safe wrapper around the proved library. A [`Table`] owns its words and has the calls as methods:
+//!
+//! ```
+//! use shuntberry::{Decision, MAX_ALLOWANCE, Table};
+//!
+//! // Three states; 0 is initial, 2 is marked forbidden; steps 0 → 0, 0 → 1 and 1 → 2.
+//! let table = Table::builder(3).initial([0]).marked([2]).steps([(0, 0), (0, 1), (1, 2)]).build()?;
+//! match table.decide(MAX_ALLOWANCE)? {
+//!     Decision::Safe { invariant, .. } => println!("safe: a session stays in {invariant:?}"),
+//!     Decision::Unsafe { path, .. } => assert_eq!(path, [0, 1, 2]),
+//!     Decision::Undecided { .. } => println!("not with this allowance"),
+//!     Decision::Draft => println!("a table without states: nothing to release"),
+//! }
+//! # Ok::<(), shuntberry::Refused>(())
+//! ```
+//!
+//! No input makes anything here panic: what the library does not accept, it refuses with a number ([`Refused`]), and every buffer is then as it
+//! was before.
+//!
+//! # The calls on lent words
+//!
+//! The methods are thin: the calls themselves, as they are proved, take slices and allocate nothing. They are [`decide`], [`shortest_path`],
+//! [`distances`], [`within`], [`read`], [`write()`], [`generate`], [`replay`], [`decide_modal`], and [`open`], [`add_step`] and [`remove_step`] with an edit
+//! [`Session`].
 //!
 //! A table has `n` states, numbered 0 to `n` − 1 ([`MAX_STATES`] at most), and `g` groups
 //! ([`MAX_GROUPS`] at most); one without states, an untouched draft, has no groups. It stands in a store of at least [`STORE_WORDS`] words of 64 bits, as
@@ -59,6 +80,14 @@
 
 pub mod checking;
 pub mod raw;
+
+mod builder;
+mod set;
+mod table;
+
+pub use builder::{NeedsInitial, NeedsMarked, NeedsSteps, TableBuilder};
+pub use set::{State, StateSet, States};
+pub use table::{Decision, ModalDecision, Report, Table, TableSession};
 
 use std::error::Error;
 use std::fmt;
@@ -119,28 +148,11 @@ pub const fn possible_row(s: usize) -> usize {
     s.saturating_mul(SET_WORDS)
 }
 
-/// A set of states: state s is the bit of value 2^(s mod 64) in word s / 64.
-#[derive(Clone, Copy, Debug, Default, PartialEq, Eq, Hash)]
-pub struct StateSet(pub [u64; SET_WORDS]);
-
-impl StateSet {
-    /// Whether the state is in the set.
-    pub fn contains(self, state: usize) -> bool {
-        self.0
-            .get(state / 64)
-            .is_some_and(|word| word >> (state % 64) & 1 == 1)
-    }
-
-    /// The states in the set, rising.
-    pub fn states(self) -> impl Iterator<Item = usize> {
-        (0..MAX_STATES).filter(move |&state| self.contains(state))
-    }
-}
-
 /// What [`decide`] found. `count` is the number of refinements that were made.
 #[derive(Clone, Copy, Debug, PartialEq, Eq)]
+#[must_use = "a verdict that is not looked at may be unsafe"]
 pub enum Verdict<'p> {
-    /// No forbidden state can be reached from an initial one.
+    /// No forbidden state can be reached from an initial one; so also of a table without states, a draft, which is nothing to release.
     Safe {
         /// The number of refinements.
         count: u32,
@@ -315,7 +327,7 @@ fn verdict(decision: raw::Decision, path: &[u16]) -> Result<Verdict<'_>, Refused
         }),
         raw::UNSAFE => Ok(Verdict::Unsafe {
             count,
-            path: states_of_path(path, decision.steps),
+            path: states_of_path(path, decision.steps)?,
         }),
         raw::UNDECIDED => Ok(Verdict::Undecided { count }),
         _ => Err(Refused::UNKNOWN_ANSWER),
@@ -364,7 +376,9 @@ pub fn shortest_path<'p>(
         )
     };
     accepted(shortest.refusal)?;
-    Ok(is_yes(shortest.found)?.then(|| states_of_path(path, shortest.steps)))
+    is_yes(shortest.found)?
+        .then(|| states_of_path(path, shortest.steps))
+        .transpose()
 }
 
 /// The distance of each state, the number of steps to the nearest forbidden one, at the front of
@@ -425,9 +439,9 @@ pub fn within(store: &[u64], n: usize, g: usize, k: usize) -> Result<bool, Refus
 /// input of no bytes is an untouched draft, at every site: `n` and `g` are 0, and so is each of those words. So a read that failed must
 /// not be passed on as one of no bytes.
 ///
-/// Refused with 10, 24, 11, 12, 13, 14, 15, 16, 17 or 18. A block that was made for another site is refused
-/// with 13 where it stands at its own number, and with 12 elsewhere. A file of the old form, which has no resting
-/// set, is refused with 15; `rewrite` makes a new one of it.
+/// Refused with 10, 24, 11, 12, 13, 14, 15, 16, 17 or 18. A block that was made for another site and is unaltered is
+/// refused with 13 where it stands at its own number, and with 12 where it does not, once all that is looked at before
+/// it passes. A file of the old form, which has no resting set, is refused with 15; [`checking::rewrite`] makes a new one of it.
 pub fn read(input: &[u8], site: usize, store: &mut [u64]) -> Result<TableRead, Refused> {
     // SAFETY: as in `decide`.
     let table = unsafe {
@@ -487,12 +501,13 @@ pub fn write<'o>(
         )
     };
     accepted(file.refusal)?;
-    Ok(front(output, file.length as usize))
+    front(output, file.length as usize)
 }
 
 /// Fills the first [`STORE_WORDS`] words of `store` with the table that a seed gives; no other word is
 /// touched. It has `n` states and no groups; state 0 is initial, state `n` − 1 marked, none rests, and each
-/// state has up to `fan_out` successors: with a fan-out of 0 every state is a hang. Every call accepts it, with `g` = 0.
+/// state has up to `fan_out` successors: with a fan-out of 0 every state is a hang. Every call that takes a table accepts
+/// it, with `g` = 0.
 ///
 /// Refused with 10, 14 or 22.
 ///
@@ -699,8 +714,9 @@ impl<'s> Session<'s> {
 
 /// What [`decide_modal`] found of the choices between the certain and the possible steps.
 #[derive(Clone, Copy, Debug, PartialEq, Eq)]
+#[must_use = "a verdict that is not looked at may be unsafe"]
 pub enum ModalVerdict<'p> {
-    /// Every choice is safe.
+    /// Every choice is safe; so also of a table without states, a draft, which is nothing to release.
     Safe {
         /// What a release check gives on the possible steps: an invariant of every choice.
         invariant: StateSet,
@@ -796,11 +812,11 @@ fn modal_verdict(decision: raw::Modal, path: &[u16]) -> Result<ModalVerdict<'_>,
     match decision.verdict {
         raw::SAFE => Ok(ModalVerdict::Safe { invariant }),
         raw::UNSAFE => Ok(ModalVerdict::Unsafe {
-            path: states_of_path(path, decision.steps),
+            path: states_of_path(path, decision.steps)?,
         }),
         raw::DEPENDS => Ok(ModalVerdict::Depends {
             invariant,
-            path: states_of_path(path, decision.steps),
+            path: states_of_path(path, decision.steps)?,
         }),
         _ => Err(Refused::UNKNOWN_ANSWER),
     }
@@ -845,7 +861,11 @@ pub fn next_open(
         )
     };
     accepted(answer.refusal)?;
-    Ok((!is_yes(answer.never)?).then_some(answer.minute))
+    match (is_yes(answer.never)?, answer.minute) {
+        (true, _) => Ok(None),
+        (false, raw::NO_MINUTE) => Err(Refused::UNKNOWN_ANSWER),
+        (false, minute) => Ok(Some(minute)),
+    }
 }
 
 /// The refusal of a call, if its number is one.
@@ -866,14 +886,19 @@ fn is_yes(number: u32) -> Result<bool, Refused> {
 }
 
 /// The `steps` + 1 states of a path at the front of its buffer.
-fn states_of_path(path: &[u16], steps: u32) -> &[u16] {
+fn states_of_path(path: &[u16], steps: u32) -> Result<&[u16], Refused> {
     front(path, (steps as usize).saturating_add(1))
 }
 
-/// The first `length` elements; all of them if there are fewer, which the library's contract excludes.
-fn front<T>(buffer: &[T], length: usize) -> &[T] {
-    buffer.get(..length).unwrap_or(buffer)
+/// The first `length` elements. Where there are fewer, the library did not fill what it says.
+fn front<T>(buffer: &[T], length: usize) -> Result<&[T], Refused> {
+    buffer.get(..length).ok_or(Refused::UNKNOWN_ANSWER)
 }
+
+/// The lines of the package's page, tried as all examples are.
+#[cfg(doctest)]
+#[doc = include_str!("../README.md")]
+struct Page;
 
 #[cfg(test)]
 mod tests {
@@ -897,6 +922,18 @@ mod tests {
         }
         assert_eq!(verdict(decision(raw::DEPENDS), &[]), Err(unknown));
         assert_eq!(is_yes(2), Err(unknown));
+    }
+
+    /// A path that is longer than its buffer was not written there.
+    #[test]
+    fn a_path_past_its_buffer_is_no_answer() {
+        let path = [0; PATH_PLACES];
+        let found = |steps| {
+            let mut long = decision(raw::UNSAFE);
+            long.steps = steps;
+            verdict(long, &path).is_ok()
+        };
+        assert!(found(511) && !found(512) && !found(u32::MAX));
     }
 
     fn decision(verdict: u32) -> raw::Decision {

@@ -1,4 +1,4 @@
-//! The calls as the library exports them for C; `include/shuntberry.h` has a comment for each
+//! The calls as the library exports them for C; the header `shuntberry.h` has a comment for each
 //! function and field, and says what a refused call has in them in place of an answer.
 
 #![allow(missing_docs)]
@@ -10,6 +10,7 @@ pub const UNSAFE: u32 = 1;
 pub const UNDECIDED: u32 = 2;
 pub const DEPENDS: u32 = 3;
 pub const NO_VERDICT: u32 = 255;
+pub const NO_MINUTE: u32 = u32::MAX;
 
 #[repr(C)]
 #[derive(Clone, Copy, Debug, PartialEq, Eq)]

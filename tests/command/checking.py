@@ -1,22 +1,37 @@
 #!/usr/bin/env python3
-"""check, check-all and release: on every file of tables/, whole and damaged, held to what tables/make.py works out."""
+"""check, check-all and release: on every file of tests/files, whole and damaged, held to what tests/expected/spec.py works out."""
+import fcntl
+import hashlib
 import json
+import mmap
 import os
 import random
+import re
+import signal
 import subprocess
+import time
 
 import support
-from support import DRAFT, FAILED, NO_RELEASE, REFUSED, SAFE, TABLES, TOP, UNSAFE, WORK, call, gives, group, need, status_of, tables
-import make
+from support import DRAFT, FAILED, NO_RELEASE, PROGRAM, REFUSED, SAFE, TABLES, TOP, UNSAFE, WORK, call, gives, group, need, status_of, tables
 import model
+import spec
 
 VERSION = (TOP / "VERSION").read_text().strip()
 ACCEPTED = [(path, expected) for path, expected in tables() if not expected.startswith("refused")]
-RULES = dict(line.split("|", 1) for line in (TOP / "scripts/refusals").read_text().splitlines() if not line.startswith("#"))
+RULES = dict(line.split("|", 1) for line in (TOP / "rust/command/refusals.txt").read_text().splitlines() if not line.startswith("#"))
 
 
 def said_of(status):
     return DRAFT if status == NO_RELEASE else None
+
+
+def vacuous(path):
+    """Why it says little that a table is safe, as the page has it."""
+    table = model.table_of(path.with_suffix(".txt").read_text()) if path.with_suffix(".txt").exists() else None
+    if not table or not table.n or table.initial and table.forbidden():
+        return None
+    why = "nothing in the table is forbidden" if table.initial else "the table has no initial state"
+    return f"{why}, so that it is safe whatever else is in it; release declines such a table\n"
 
 
 # ---- check, on every file
@@ -30,7 +45,7 @@ for path, expected in tables():
         gives(status, expected, "check", stdin=opened, err=said_of(status))
     gives(status, expected, under="check", input=file, err=said_of(status))
     gives(status, "", "check", "--quiet", path, err=said_of(status))
-group("check on the files of tables/")
+group("check on the files of tests/files")
 
 for path, expected in ACCEPTED:
     file = path.read_bytes()
@@ -76,9 +91,12 @@ for path, expected in tables():
         number = expected.split()[1]
         ground, hint = RULES[number].split("|")
         given = gives(REFUSED, expected, "check", "--explain", path, err="")
-        need(given.err.decode() == f"check: refused {number}: {ground}\ncheck: look whether {hint}\n", "other words", given)
+        old = "check: this file is of the old form, and the command rewrite makes a new one of it\n" if number == "15" and path.read_bytes()[5] < 128 else ""
+        need(given.err.decode() == f"check: refused {number}: {ground}\ncheck: look whether {hint}\n{old}", "other words", given)
     else:
-        gives(status, expected, "check", "--explain", path, err=said_of(status))
+        why = vacuous(path) if status == SAFE else None
+        given = gives(status, expected, "check", "--explain", path, err=why or said_of(status))
+        need(not why or given.err.decode() == f"check: {why}", given)
         text = path.with_suffix(".txt")
         gives(status, expected, "check", "--text", text, err=said_of(status))
         gives(status, expected, "check", "--names", text, path, err=said_of(status))
@@ -154,7 +172,7 @@ wrong("is a directory", "check", "/")
 wrong("No such file", "check", "--", "--explain")
 
 # about itself: with 0 where no 0 can pass for a verdict
-for words in ["--help"], ["help"], *(["help", name] for name in "check check-all release inspect within replay options next-open encode decode picture generate rewrite".split()):
+for words in ["--help"], ["help"], *(["help", name] for name in "check check-all release report inspect within replay options next-open encode decode picture generate rewrite".split()):
     given = gives(SAFE, None, *words)
     need(given.out.startswith(b"usage: shuntberry "), given)
     if len(words) == 2:
@@ -164,6 +182,8 @@ for words in ["--help"], ["help"], *(["help", name] for name in "check check-all
         given = gives(FAILED, None, words[1], "--hepl", err="did you mean|is no option")
         need(given.out == (b"failed\n" if words[1] in "encode decode picture generate rewrite".split() else b""), given)
 gives(SAFE, f"shuntberry (Shuntberry) {VERSION}\n", "--version")
+for command, usage in ("report", " -o OUT [--site N] [--names TEXT] FILE\n"), ("next-open", " --at DATE-TIME "), ("encode", " [-o OUT]"):  # what must be given has no brackets
+    need(usage in call("help", command).out.decode(), f"another usage of {command}", call("help", command))
 gives(FAILED, f"check (Shuntberry) {VERSION}\n", "--version", under="check")
 given = gives(FAILED, None, "--help", under="check")
 need(given.out.startswith(b"usage: check ") and not any(line.startswith((b"safe", b"states")) for line in given.out.splitlines()), given)
@@ -190,16 +210,24 @@ def worst(statuses):
     return max(statuses, key=[SAFE, NO_RELEASE, UNSAFE, REFUSED, FAILED].index)
 
 
+def counted(said, not_checked=0, not_followed=0):
+    """The last object of JSON, by the last line."""
+    numbers = map(int, re.findall(r"\d+", said))
+    return dict(zip(["files", "safe", "unsafe", "refused", "drafts", "failed"], numbers), not_checked=not_checked, not_followed=not_followed)
+
+
 def checks(*names, how=(), err=None):
     texts = [(TABLES / f"{name}.expected").read_text() for name in names]
     statuses = list(map(status_of, texts))
     paths = [f"{TABLES}/{name}.table" for name in names]
     lines = "".join(map(line_of, paths, texts)) + summary(statuses)
-    gives(worst(statuses), lines, "check-all", *how, *paths, err=err)
-    given = gives(worst(statuses), None, "check-all", "--json", *how, *paths, err=err)
+    said = "".join(f"check-all: {TABLES}/{name}.table: {vacuous(TABLES / f'{name}.table')}" for name in names if vacuous(TABLES / f"{name}.table"))
+    for json_too in (), ("--json",):
+        given = gives(worst(statuses), None if json_too else lines, "check-all", *json_too, *how, *paths, err=err or said and "")
+        need(given.err.decode() == said, "other remarks", given)
     objects = [json.loads(line) for line in given.out.splitlines()]
     need(objects[:-1] == [{"file": path} | object_of(text) for path, text in zip(paths, texts)], given)
-    need(objects[-1] == dict(zip(["files", "safe", "unsafe", "refused", "drafts", "failed"], map(int, __import__("re").findall(r"\d+", summary(statuses))))), given)
+    need(objects[-1] == counted(summary(statuses)), given)
 
 
 checks("a")
@@ -215,7 +243,7 @@ every = [path.stem for path, _ in tables()]
 checks(*every)
 random.shuffle(every)
 checks(*every)
-group("check-all on files of tables/")
+group("check-all on files of tests/files")
 
 # folders: what ends in .table, in the order of names, below it too; what is passed over is said
 folder = WORK / "folder"
@@ -228,6 +256,9 @@ lines = [f"{folder}/a.table: unsafe", f"{folder}/b.table: safe", f"{folder}/deep
 given = gives(FAILED, "\n".join(lines) + "\n5 files: 3 safe, 1 unsafe, 0 refused, 0 drafts, 1 failed\n", "check-all", folder, err="pipe.table: it is no file")
 need(b"1 file whose name does not end in .table was not checked" in given.err, given)
 need(b"1 link to a folder was not followed" in given.err, given)
+need(f"check-all: not checked: {folder}/other.bin\n" in given.err.decode(), given)
+last = json.loads(call("check-all", "--json", folder).out.splitlines()[-1])
+need(last == counted("5 files: 3 safe, 1 unsafe, 0 refused, 0 drafts, 1 failed", 1, 1), last)
 os.remove(folder / "deep/er/pipe.table")
 os.remove(folder / "deep/loop")
 gives(UNSAFE, None, "check-all", folder, err="1 file whose name does not end in .table was not checked")
@@ -236,6 +267,27 @@ gives(UNSAFE, None, "check-all", folder)
 nothing = WORK / "nothing"
 nothing.mkdir()
 given = gives(FAILED, f"{nothing}: failed\n1 file: 0 safe, 0 unsafe, 0 refused, 0 drafts, 1 failed\n", "check-all", nothing, err="no file in it whose name ends in .table")
+
+# .table in capitals is one; what is spelled otherwise is named, up to ten of them, in the order of names
+spelled = WORK / "spelled"
+spelled.mkdir()
+for name, place in ("a", "a.table"), ("b", "PUMP.TABLE"), ("b", "pump.Table"), ("b", "pump.table "), ("b", "pump.table.txt"), ("b", "two\nlines"):
+    (spelled / place).write_bytes((TABLES / f"{name}.table").read_bytes())
+lines = [f"{spelled}/PUMP.TABLE: unsafe", f"{spelled}/a.table: safe", f"{spelled}/pump.Table: unsafe", "3 files: 1 safe, 2 unsafe, 0 refused, 0 drafts, 0 failed"]
+said = [f"not checked: {spelled}/pump.table ", f"not checked: {spelled}/pump.table.txt", f'not checked: "{spelled}/two\\nlines"',
+        f"{spelled}: 3 files whose name does not end in .table were not checked"]
+given = gives(UNSAFE, "\n".join(lines) + "\n", "check-all", spelled, err="")
+need(given.err.decode() == "".join(f"check-all: {line}\n" for line in said), given)
+for i in range(9):
+    (spelled / f"{i}.txt").touch()
+given = gives(UNSAFE, "\n".join(lines) + "\n", "check-all", spelled, err="12 files whose name does not end in .table were not checked; 2 of them are not named here\n")
+need(given.err.count(b"not checked: ") == 10, given)
+last = json.loads(call("check-all", "--json", spelled, folder).out.splitlines()[-1])
+need(last == counted("7 files: 4 safe, 3 unsafe, 0 refused, 0 drafts, 0 failed", 12, 0), last)
+for place in spelled.iterdir():
+    if place.suffix.lower() == ".table":
+        place.unlink()
+gives(FAILED, f"{spelled}: failed\n{summary([FAILED])}", "check-all", spelled, err=f"not checked: {spelled}/0.txt\n(.*\n)*.*no file in it whose name ends in .table")
 
 # lists
 listed = WORK / "list"
@@ -285,6 +337,10 @@ group("check-all on folders, lists and names")
 
 # ---- release: just the bytes that were checked, and only where they are safe and say something
 
+def sum_line(path):
+    return f"SHA-256 {hashlib.sha256(path.read_bytes()).hexdigest()}\n"
+
+
 out = WORK / "released"
 for path, expected in tables():
     table = model.table_of(path.with_suffix(".txt").read_text()) if status_of(expected) != REFUSED else None
@@ -298,16 +354,18 @@ for path, expected in tables():
             if before:
                 out.write_bytes(before)
             remark = "no state is marked as forbidden, only hangs are" if table and table.forbidden() and not table.marked else None
-            gives(status, expected, "release", *how, path, out, err=remark if status == SAFE else "nothing was released")
+            printed = expected + sum_line(path) if status == SAFE else expected
+            gives(status, printed, "release", *how, path, out, err=remark if status == SAFE else "nothing was released")
             after = out.read_bytes() if out.exists() else None
             need(after == (path.read_bytes() if status == SAFE else before), f"release {path}: another OUT")
 need(call("release", TABLES / "g.table", out).err.count(b"no initial state") == 1, "g has no initial state")
 need(call("release", TABLES / "last-rests.table", out).err.count(b"nothing in the table is forbidden") == 1, "nothing is forbidden")
 file = WORK / "site"
 file.write_bytes(model.at_site(a.read_bytes(), 5))
-gives(SAFE, (TABLES / "a.expected").read_text(), "release", "--site", "5", file, out)
+gives(SAFE, (TABLES / "a.expected").read_text() + sum_line(file), "release", "--site", "5", file, out)
+need(sum_line(out).split()[1] == subprocess.run(["sha256sum", out], capture_output=True, text=True).stdout.split()[0], "sha256sum says something else")
 need(out.read_bytes() == file.read_bytes(), "release of another site")
-for target in WORK, "/dev/null", WORK / "missing/x", "":
+for target in WORK, "/dev/null", WORK / "missing/x", "", WORK / ("x" * 256), a / "x":
     given = gives(FAILED, (TABLES / "a.expected").read_text(), "release", a, target, err="could not be written")
 os.mkfifo(WORK / "fifo")
 gives(FAILED, None, "release", a, WORK / "fifo", err="it is no file")
@@ -317,11 +375,80 @@ out.unlink()
 gives(FAILED, "", "release", TABLES / "missing", out, err="No such file")
 need(not out.exists(), "release of a file that is missing")
 gives(REFUSED, "refused 13\n", "release", TABLES / "bad-check.table", WORK / "never", err="nothing was released: it is refused 13: .*damaged, or was made for another site")
-gives(REFUSED, "refused 11\n", "release", TABLES / "e.txt", WORK / "never", err="it looks like a text")
-# where the verdict cannot be printed nothing is released
+gives(REFUSED, "refused 11\n", "release", TABLES / "e.txt", WORK / "never", err="it looks like a text, of which the command encode makes a file\n")
+# of an old file of another site no message sends to rewrite, which would refuse it
+old = (TABLES / "old-e.table").read_bytes()
+for site, err in (0, "the command rewrite makes a new one of it"), (7, "rewrite reads for site 0 alone: have it saved anew"):
+    file.write_bytes(model.at_site(old, site))
+    how = ["--site", str(site), file]
+    gives(REFUSED, "refused 15\n", "release", *how, WORK / "never", err=err)
+    gives(REFUSED, "refused 15\n", "report", *how, "-o", WORK / "never", err=err)
+    gives(REFUSED, "refused 15\n", "check", "--explain", *how, err=err)
+    gives(REFUSED, "", "inspect", *how, err=err)
+gives(REFUSED, "refused 13\n", "rewrite", file, err="no command reads an old file of another site")
+need(not (WORK / "never").exists(), "something was released")
+# OUT that standard output goes to is not replaced: with > it was emptied, and is no draft afterwards; with >> it is as it was
+for how, before, after in ("wb", b"old", b"failed\n"), ("ab", b"old", b"old"), ("ab", b"", b"failed\n"):
+    for words in ("release", a, out), ("report", a, "-o", out), ("encode", "-o", out, TABLES / "a.txt"), ("decode", "-o", out, a), ("picture", "-o", out, a), ("release", a, "/dev/stdout"), ("generate", "-o", "/dev/stdout", "1", "2", "1"):
+        out.write_bytes(before)
+        with open(out, how) as opened:
+            gives(FAILED, None, *words, stdout=opened, err="could not be written: standard output goes there too")
+        need(out.read_bytes() == after, f"{words} {how}: {out.read_bytes()[:100]!r}")
+        os.link(out, WORK / "linked")
+        with open(WORK / "linked", "ab") as opened:
+            gives(FAILED, None, *words, stdout=opened, err="standard output goes there too")
+        need(out.read_bytes() == after, f"{words} {how}, by another name")
+        os.remove(WORK / "linked")
+# a write-protected OUT stays, also where the folder lets it be replaced, and for root
+for mode in 0o444, 0o400, 0o464, 0o000:
+    for words in ("release", a, out), ("report", a, "-o", out), ("encode", "-o", out, TABLES / "a.txt"), ("decode", "-o", out, a):
+        out.write_bytes(b"kept")
+        os.chmod(out, mode)
+        given = gives(FAILED, None, *words, err=f"{out} could not be written: it is write-protected")
+        need(b"SHA-256" not in given.out and out.stat().st_mode & 0o777 == mode, given)
+        os.chmod(out, 0o600)
+        need(out.read_bytes() == b"kept" and not list(WORK.glob(".shuntberry*")), f"{words}: a protected file was replaced")
+out.unlink()
+# where the verdict cannot be printed nothing is released; nor where the sum cannot, which comes last of all
 with open("/dev/full", "wb") as full:
     gives(FAILED, b"", "release", a, out, err="No space left", stdout=full)
 need(not out.exists(), "released though nothing was printed")
+def stopped_at_sum(then):
+    """A release whose verdict just fits into a pipe, so that it waits with the sum; then something happens."""
+    support.count += 1
+    there, here = os.pipe()
+    fcntl.fcntl(here, fcntl.F_SETPIPE_SZ, 2 * mmap.PAGESIZE)
+    os.write(here, bytes(mmap.PAGESIZE))
+    run = subprocess.Popen(["shuntberry", "release", a, out], executable=PROGRAM, stdout=here, stderr=subprocess.PIPE)
+    os.close(here)
+    while not list(WORK.glob(".shuntberry*")):  # the new file, which has not its name yet
+        need(run.poll() is None, "a release that did not wait")
+        time.sleep(0.001)
+    time.sleep(0.05)
+    need(not out.exists(), "released before the sum was printed")
+    then(run, there)
+    said = run.stderr.read()
+    run.stderr.close()
+    return run.wait(), said
+
+
+status, said = stopped_at_sum(lambda run, there: os.close(there))
+need(status == FAILED and b"standard output could not be written: Broken pipe" in said and not out.exists(), status, said)
+status, said = stopped_at_sum(lambda run, there: run.terminate())
+need(status == -signal.SIGTERM and not out.exists(), status, said)
+need(not list(WORK.glob(".shuntberry*")), "a part is left")
+
+
+def read_all(run, there):
+    got = b""
+    while part := os.read(there, 1 << 16):
+        got += part
+    os.close(there)
+    need(got.lstrip(b"\0").decode() == (TABLES / "a.expected").read_text() + sum_line(a), got)
+
+
+need(stopped_at_sum(read_all)[0] == SAFE and out.read_bytes() == a.read_bytes(), "a slow reader of a release")
+out.unlink()
 os.symlink("behind", WORK / "link")
 gives(FAILED, None, "release", a, WORK / "link", err="it is a link to nothing")
 (WORK / "behind").write_bytes(b"what was there")

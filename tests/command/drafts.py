@@ -1,5 +1,5 @@
 #!/usr/bin/env python3
-"""Random tables in all their forms, by tables/make.py, which shares no code with the library or with the command `shuntberry`.
+"""Random tables in all their forms, by tests/expected/spec.py, which shares no code with the library or with the command `shuntberry`.
 
     python3 tests/command/drafts.py FOLDER SEED COUNT
 
@@ -11,8 +11,8 @@ import random
 import sys
 from pathlib import Path
 
-sys.path.insert(0, str(Path(__file__).parent.parent.parent / "tables"))
-import make  # noqa: E402
+sys.path.insert(0, str(Path(__file__).parent.parent / "expected"))
+import spec  # noqa: E402
 
 
 def some(n, share):
@@ -24,7 +24,7 @@ def table():
     share = random.choice([0, 0.5 / max(n, 1), 1 / max(n, 1), 2 / max(n, 1), 0.5])
     groups = [some(n, random.random()) for _ in range(random.choice([0, 0, 1, 2, 5]))] if n else []
     steps = {(a, b) for a in range(n) for b in some(n, share)}
-    return make.Table(n, some(n, 0.2), some(n, 0.1), steps, groups, some(n, 0.3))
+    return spec.Table(n, some(n, 0.2), some(n, 0.1), steps, groups, some(n, 0.3))
 
 
 NAMES = ["home", "Set-Rate", "hard_limit", "a.b", "x1", "Größe", "initial", "step", "states", "-"]
@@ -62,9 +62,9 @@ def main():
     random.seed(seed)
     for i in range(count):
         drawn = table()
-        (folder / f"{i}.table").write_bytes(make.encode(drawn))
-        (folder / f"{i}.txt").write_text(make.text(drawn))
-        (folder / f"{i}.expected").write_text(make.printed(drawn))
+        (folder / f"{i}.table").write_bytes(spec.encode(drawn))
+        (folder / f"{i}.txt").write_text(spec.text(drawn))
+        (folder / f"{i}.expected").write_text(spec.printed(drawn))
         (folder / f"{i}.draft").write_bytes(draft(drawn).encode())
 
 

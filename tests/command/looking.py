@@ -1,5 +1,5 @@
 #!/usr/bin/env python3
-"""inspect, within, replay, options and next-open: on every file of tables/, and on random tables, logs and houses, held to model.py."""
+"""inspect, within, replay, options and next-open: on every file of tests/files, and on random tables, logs and houses, held to model.py."""
 import json
 import random
 from datetime import date, datetime, timedelta
@@ -7,8 +7,9 @@ from datetime import date, datetime, timedelta
 import support
 from support import FAILED, NO_RELEASE, REFUSED, SAFE, TABLES, TOP, UNSAFE, WORK, call, gives, group, need, status_of, tables
 import drafts
-import make
 import model
+import spec
+from model import screen
 
 SEED = random.randrange(2**30)
 random.seed(SEED)
@@ -18,7 +19,7 @@ for path, expected in tables():
         EVERY.append((model.table_of(path.with_suffix(".txt").read_text()), path))
 for i in range(40):
     table, path = drafts.table(), WORK / f"{i}.table"
-    path.write_bytes(make.encode(table))
+    path.write_bytes(spec.encode(table))
     EVERY.append((table, path))
 E = TABLES / "e.table"
 
@@ -34,7 +35,7 @@ def joined(numbers):
 def named(table):
     """A text of the table with names for some states, and these."""
     names = {s: f"screen-{s}" for s in range(table.n) if random.random() < 0.7}
-    text = make.text(table) + "".join(f"state {s} {name}\n" for s, name in names.items())
+    text = spec.text(table) + "".join(f"state {s} {name}\n" for s, name in names.items())
     path = WORK / "named.txt"
     path.write_text(text)
     return path, names
@@ -46,10 +47,6 @@ def below(names, states):
 
 # ---- inspect
 
-def screen(s, names):
-    return f"{s} {names[s]}" if s in names else str(s)
-
-
 def inspected(table, names):
     reachable, away = model.reached(table, table.initial), model.distances(table)
     hangs = table.dead_ends() - table.resting
@@ -60,21 +57,7 @@ def inspected(table, names):
         words += [f"groups {joined(groups)}"] if groups else []
         words += ["reachable" if s in reachable else "not reachable", f"distance {away.get(s, 'never')}"]
         said += f"state {screen(s, names)}: {', '.join(words)}\n"
-    look = []
-    if not table.n:
-        look.append("the table has no states: an untouched draft")
-    elif not table.initial:
-        look.append("no state is initial, so that the table is safe whatever else is in it")
-    if table.n and not table.forbidden():
-        look.append("nothing is forbidden, so that the table is safe whatever else is in it")
-    if table.forbidden() and not table.marked:
-        look.append("no state is marked as forbidden: only hangs are")
-    for words, states in [
-        ("forbidden screens that can be reached", table.forbidden() & reachable), ("hangs, which have no way out and do not rest", hangs),
-        ("screens that nothing reaches", table.states() - reachable),
-    ]:
-        if states:
-            look.append(f"{words}: {', '.join(screen(s, names) for s in sorted(states))}")
+    look = model.remarks(table, names)
     return said + ("".join(f"look at: {words}\n" for words in look) or "look at nothing in particular\n")
 
 
@@ -114,7 +97,7 @@ group(f"inspect, seed {SEED}")
 # ---- within
 
 for table, path in EVERY:
-    shortest = make.shortest_path(table)
+    shortest = spec.shortest_path(table)
     d = len(shortest) - 1 if shortest else None
     for k in sorted({0, 1, 2, 511, 65535, 2**64 - 1, *([d - 1, d, d + 1] if d else [])}):
         yes = d is not None and d <= k
@@ -138,7 +121,7 @@ def replayed(table, entries, names):
     followed, seen, reachable = model.replayed(table, entries)
     said = head(table) + f"entries {len(entries)} followed {followed}\n"
     breaks = None
-    shown = [at for at in range(followed) if entries[at] in table.forbidden()]
+    shown = [at for at in range(len(entries)) if entries[at] in table.forbidden()]
     if shown:
         said += f"entry {shown[0] + 1} is forbidden: {screen(entries[shown[0]], names)}\n"
     if followed < len(entries):
@@ -175,7 +158,7 @@ def walk(table):
 log = WORK / "log"
 for table, path in EVERY:
     for entries in [], walk(table), walk(table):
-        log.write_bytes(b"".join(map(make.two, entries)))
+        log.write_bytes(b"".join(map(spec.two, entries)))
         gives(SAFE, replayed(table, entries, {})[0], "replay", path, log)
         text, names = named(table)
         said, found = replayed(table, entries, names)
@@ -188,6 +171,10 @@ log.write_bytes(b"\0\0\1")
 gives(REFUSED, "", "replay", E, log, err=f"{log}: refused 25")
 log.write_text("0 1\n")
 gives(SAFE, None, "replay", E, log, err="looks like a text, which --text-log reads")
+for words in "0 1 #\n", "größe 1\r\n", "größe 12\r\n", "\ufeff0 1\n", "0\t1":
+    log.write_bytes(words.encode())
+    odd = log.stat().st_size % 2
+    gives(REFUSED if odd else SAFE, "" if odd else None, "replay", E, log, err="looks like a text, which --text-log reads")
 log.write_text("0 70000\n")
 gives(REFUSED, "", "replay", "--text-log", E, log, err="'70000' is too large")
 for length, number in (32768, None), (32769, 25), (32770, 26), (40001, 25):
@@ -213,7 +200,7 @@ def modal_said(table, possible, names):
     verdict, invariant, path = model.modal(table, possible)
     said, found = head(table) + f"{verdict}\n", {"verdict": verdict if table.n else "draft", "states": table.n, "groups": len(table.groups)}
     if invariant is not None:
-        said += f"invariant {len(invariant)}: {make.listing(sorted(invariant))}\n"
+        said += f"invariant {len(invariant)}: {spec.listing(sorted(invariant))}\n"
         found["invariant"] = sorted(invariant)
     if path is not None:
         said += f"path {joined(path)}\n"
@@ -231,7 +218,7 @@ for table, path in EVERY:
         continue
     for possible in table.steps, optional(table), optional(table), optional(table):
         other = WORK / "possible.table"
-        other.write_bytes(make.encode(make.Table(table.n, table.initial, table.marked, possible, table.groups, table.resting)))
+        other.write_bytes(spec.encode(spec.Table(table.n, table.initial, table.marked, possible, table.groups, table.resting)))
         status, said, found = modal_said(table, possible, {})
         gives(status, said, "options", path, "--possible", other)
         need(json.loads(gives(status, None, "options", "--json", "--possible", other, path).out) == found, found)
@@ -244,8 +231,8 @@ for table, path in EVERY:
         seen.add(found["verdict"])
         missing = sorted(table.steps)
         if missing:
-            fewer = make.Table(table.n, table.initial, table.marked, possible - {random.choice(missing)}, table.groups, table.resting)
-            other.write_bytes(make.encode(fewer))
+            fewer = spec.Table(table.n, table.initial, table.marked, possible - {random.choice(missing)}, table.groups, table.resting)
+            other.write_bytes(spec.encode(fewer))
             gives(REFUSED, "", "options", path, "--possible", other, err="refused 28")
 need(seen - {"draft"} == {"safe", "unsafe", "depends"}, seen)
 gives(REFUSED, "", "options", TABLES / "a.table", "--possible", TABLES / "b.table", err="not the same table but for their steps")
@@ -299,8 +286,8 @@ for word in "2026-12-24", "13:05", "1999-12-31T23:59", "2026-02-29T00:00", "2100
     "2026-12-24T13:60", "2026-12-24T13:05Z", "2026-12-24T13:05+01:00", "26-12-24T13:05", "2026-12-24T1:05", "", "now", "2026-12-24t13:05":
     gives(FAILED, "", "next-open", house, "--at", word, err="is no time: expected")
 for text, line, reason in [
-    ("", 1, "window none"), ("closed 2026-12-25\n", 1, "no line says when it is open"), ("window none\nwindow monday 22:00 for 6h\n", 2, "goes with no other"),
-    ("window monday 22:00 for 6h\nwindow none\n", 2, "goes with no other"), ("window monday 22:00\n", 1, "a window is written"),
+    ("", 1, "window none"), ("closed 2026-12-25\n", 1, "no line says when it is open"), ("window none\nwindow monday 22:00 for 6h\n", 2, "goes with no other window, and line 1 says none"),
+    ("window monday 22:00 for 6h\nwindow none\n", 2, "goes with no other window, and line 1 is one"), ("window monday 22:00\n", 1, "a window is written"),
     ("window Monday 22:00 for 6h\n", 1, "no day of the week"), ("window monday 24:00 for 6h\n", 1, "no time"), ("window monday 22:00 for 0h\n", 1, "no length"),
     ("window monday 22:00 for 169h\n", 1, "no length"), ("window monday 22:00 for 6\n", 1, "no length"), ("window monday 22:00 for 30m6h\n", 1, "no length"),
     ("window monday 22:00 for 6h 30m\n", 1, "a window is written"), ("window none\nclosed 2026-02-30\n", 2, "no date"), ("window none\nclosed tomorrow\n", 2, "no date"),

@@ -2,7 +2,7 @@
 import re
 from datetime import datetime, timedelta
 
-import make
+import spec
 
 
 def numbers(words):
@@ -15,25 +15,25 @@ def table_of(text):
     of = lambda fact: set().union(*(numbers(words[1:]) for words in lines if words[0] == fact))
     groups = [numbers(words[1:]) for words in lines if words[0] == "group"]
     steps = {(int(words[1]), int(b)) for words in lines if words[0] == "step" for b in words[3:]}
-    return make.Table(int(lines[0][1]), of("initial"), of("forbidden"), steps, groups, of("resting"))
+    return spec.Table(int(lines[0][1]), of("initial"), of("forbidden"), steps, groups, of("resting"))
 
 
 def printed_within(table, allowance):
     """What a draft check prints."""
-    before, make.ALLOWANCE = make.ALLOWANCE, allowance
-    verdict, count, _ = make.decide(table)
-    make.ALLOWANCE = before
+    before, spec.ALLOWANCE = spec.ALLOWANCE, allowance
+    verdict, count, _ = spec.decide(table)
+    spec.ALLOWANCE = before
     if verdict != "undecided":
-        return make.printed(table)
+        return spec.printed(table)
     return f"states {table.n} groups {len(table.groups)}\nundecided refinements {count}\n"
 
 
 def at_site(file, site):
     """A file of site 0 as one of another site: only the checks are others."""
     made = b""
-    for at in range(0, len(file), make.BLOCK):
-        body = file[at : at + make.BLOCK - 2]
-        made += body + make.two((make.check(body) + site) % make.PRIME)
+    for at in range(0, len(file), spec.BLOCK):
+        body = file[at : at + spec.BLOCK - 2]
+        made += body + spec.two((spec.check(body) + site) % spec.PRIME)
     return made
 
 
@@ -54,6 +54,31 @@ def distances(table):
     return found
 
 
+def screen(s, names):
+    """A state by its number, and its name if it has one."""
+    return f"{s} {names[s]}" if s in names else str(s)
+
+
+def remarks(table, names):
+    """What a reviewer should look at, a sentence each."""
+    reachable, hangs, look = reached(table, table.initial), table.dead_ends() - table.resting, []
+    if not table.n:
+        look.append("the table has no states: an untouched draft")
+    elif not table.initial:
+        look.append("no state is initial, so that the table is safe whatever else is in it")
+    if table.n and not table.forbidden():
+        look.append("nothing is forbidden, so that the table is safe whatever else is in it")
+    if table.forbidden() and not table.marked:
+        look.append("no state is marked as forbidden: only hangs are")
+    for words, states in [
+        ("forbidden screens that can be reached", table.forbidden() & reachable), ("hangs, which have no way out and do not rest", hangs),
+        ("screens that nothing reaches", table.states() - reachable - table.forbidden()),
+    ]:
+        if states:
+            look.append(f"{words}: {', '.join(screen(s, names) for s in sorted(states))}")
+    return look
+
+
 def replayed(table, entries):
     """How many entries are followed, the states that they hold, and all that can be reached."""
     followed = []
@@ -69,13 +94,13 @@ def modal(table, possible):
     """Verdict, invariant and path of a table with possible steps; forbidden are the same states for every choice."""
     forbidden = table.marked | {s for s in range(table.n) if s not in table.resting and not any(a == s for a, _ in possible)}
     # every state rests and just those are marked, so that the rounds take these for the forbidden ones
-    choice = lambda steps: make.Table(table.n, table.initial, forbidden, steps, table.groups, set(range(table.n)))
+    choice = lambda steps: spec.Table(table.n, table.initial, forbidden, steps, table.groups, set(range(table.n)))
     least, most = choice(table.steps), choice(possible)
-    if make.decide(most)[0] == "safe":
-        return "safe", make.decide(most)[2], None
-    if make.decide(least)[0] == "unsafe":
-        return "unsafe", None, make.shortest_path(least)
-    return "depends", make.decide(least)[2], make.shortest_path(most)
+    if spec.decide(most)[0] == "safe":
+        return "safe", spec.decide(most)[2], None
+    if spec.decide(least)[0] == "unsafe":
+        return "unsafe", None, spec.shortest_path(least)
+    return "depends", spec.decide(least)[2], spec.shortest_path(most)
 
 
 DAYS = ["monday", "tuesday", "wednesday", "thursday", "friday", "saturday", "sunday"]

@@ -2,7 +2,7 @@
 """Holds pictures to their tables: python3 tests/command/pictures.py PROGRAM FILE..
 
 PROGRAM is the command, each FILE a NAME.table with NAME.txt, its text, and NAME.expected, what `check` prints for it, beside it; the two are worked out by
-tables/make.py. Every state and step of the text is drawn, and no other; the kinds of a state are told by its class and by its look; the path and the
+tests/expected/spec.py. Every state and step of the text is drawn, and no other; the kinds of a state are told by its class and by its look; the path and the
 invariant are those of `check`; the distances are searched for here.
 """
 

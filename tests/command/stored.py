@@ -9,7 +9,7 @@ writes NAME.old and NAME.expected for each.
 import sys
 from pathlib import Path
 
-from files import blocks
+from old_files import blocks
 
 ANSWERS = Path(__file__).resolve().parents[2] / "rust/outside/old-answers.txt"
 RELEASE = "512"  # the allowance of a release check

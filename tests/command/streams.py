@@ -15,7 +15,7 @@ from pathlib import Path
 
 import support
 from support import DRAFT, FAILED, NO_RELEASE, PROGRAM, REFUSED, SAFE, TABLES, TOP, UNSAFE, WORK, call, gives, group, need, status_of
-import make
+import spec
 
 HERE = Path(__file__).parent
 A, B, E, H1 = (TABLES / f"{name}.table" for name in "a b e h1".split())
@@ -26,7 +26,7 @@ house.write_text("window none\n")
 # every command that ends with 0 where it prints, and one that has much to print
 PRINTING = [
     ["check", A], ["check", "--json", A], ["check", "--text", TABLES / "a.txt"], ["check", LARGEST], ["check-all", A, E], ["check-all", *[A] * 3000], ["inspect", A],
-    ["inspect", LARGEST], ["replay", A, log], ["options", A, "--possible", A], ["next-open", house, "--at", "2026-01-01T00:00"], ["encode", TABLES / "e.txt"],
+    ["report", A, "-o", WORK / "record.html"], ["inspect", LARGEST], ["replay", A, log], ["options", A, "--possible", A], ["next-open", house, "--at", "2026-01-01T00:00"], ["encode", TABLES / "e.txt"],
     ["encode", TABLES / "largest.txt"], ["decode", LARGEST], ["picture", LARGEST], ["generate", "7", "512", "2"], ["rewrite", TABLES / "old-largest.table"], ["--help"], ["--version"],
     ["help", "check"],
 ]
@@ -179,7 +179,7 @@ group("terminals")
 
 out = WORK / "new"
 for before in None, b"what was there":
-    for words in ["encode", TABLES / "largest.txt"], ["decode", LARGEST], ["picture", LARGEST], ["generate", "7", "512", "2"], ["rewrite", TABLES / "old-largest.table"], ["release", A]:
+    for words in ["encode", TABLES / "largest.txt"], ["decode", LARGEST], ["picture", LARGEST], ["generate", "7", "512", "2"], ["rewrite", TABLES / "old-largest.table"], ["release", A], ["report", LARGEST]:
         option = [] if words[0] == "release" else ["-o"]
         out.unlink(missing_ok=True)
         if before:
@@ -402,7 +402,7 @@ for words in [TOP / "check", "--version"], [TOP / "check", "--help"]:
 # a clone without the tools says what to do; one that cannot be built does not run what is there
 clone = WORK / "clone"
 (clone / "scripts").mkdir(parents=True)
-for name in "check", "shuntberry", "VERSION", "crates.txt", "scripts/native", "scripts/refusals":
+for name in "check", "shuntberry", "VERSION", "crates.txt", "scripts/native":
     (clone / name).write_bytes((TOP / name).read_bytes())
     os.chmod(clone / name, 0o755)
 bare = WORK / "bare"

@@ -1,4 +1,4 @@
-"""What the tests of the command share: calls, what they must give, and the files of tables/."""
+"""What the tests of the command share: calls, what they must give, and the files of tests/files."""
 import atexit
 import os
 import re
@@ -9,8 +9,8 @@ import tempfile
 from pathlib import Path
 
 TOP = Path(__file__).resolve().parents[2]
-TABLES = TOP / "tables"
-sys.path.insert(0, str(TABLES))
+TABLES = TOP / "tests" / "files"
+sys.path.insert(0, str(TOP / "tests" / "expected"))
 sys.path.insert(0, str(Path(__file__).parent))
 PROGRAM = sys.argv[1]
 SAFE, UNSAFE, REFUSED, FAILED, NO_RELEASE = range(5)
@@ -68,7 +68,7 @@ def group(what):
 
 
 def tables():
-    """The files of tables/, with what check prints of each."""
+    """The files of tests/files, with what check prints of each."""
     for path in sorted(TABLES.glob("*.table")):
         yield path, path.with_suffix(".expected").read_text()
 

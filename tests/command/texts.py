@@ -1,5 +1,5 @@
 #!/usr/bin/env python3
-"""encode, decode, picture, generate and rewrite: texts, files and loads held to tables/make.py, load.py and files.py; what stands on standard output, or in
+"""encode, decode, picture, generate and rewrite: texts, files and loads held to tests/expected/spec.py, load.py and old_files.py; what stands on standard output, or in
 OUT, where something is wrong."""
 import os
 import random
@@ -7,15 +7,14 @@ import re
 import shutil
 import subprocess
 import sys
-import time
 from pathlib import Path
 
 import support
 from support import FAILED, PROGRAM, REFUSED, SAFE, TABLES, TOP, WORK, call, gives, group, need, status_of, tables
-import files as old_files
 import load
-import make
 import model
+import old_files
+import spec
 
 HERE = Path(__file__).parent
 SEED = random.randrange(2**30)
@@ -26,7 +25,7 @@ def python(*words):
     subprocess.run([sys.executable, "-B", *map(str, words)], check=True)
 
 
-# ---- texts and files: those of tables/, and random ones
+# ---- texts and files: those of tests/files, and random ones
 
 drafts = WORK / "drafts"
 drafts.mkdir()
@@ -68,7 +67,7 @@ for site in 1, 65520:
     gives(SAFE, made, "encode", "--site", str(site), TABLES / "h1.txt")
     gives(SAFE, (TABLES / "h1.txt").read_bytes(), "decode", f"--site={site}", input=made)
     for command in "decode", "picture":
-        gives(REFUSED, "refused 13\n", command, input=made, err="--site N")
+        gives(REFUSED, "refused 13\n", command, input=made, err="made for another site: ask who made it, and do not try numbers")
 group("files that are refused, and sites")
 
 # ---- generate
@@ -114,7 +113,7 @@ for path in olds:
     gives(SAFE, "", "rewrite", path, "-o", WORK / "new")
     expected = path.with_suffix(".expected").read_text()
     gives(status_of(expected), expected, "check", WORK / "new", err="no states" if "states 0 " in expected else None)
-python(HERE / "files.py", drawn, SEED, 200)
+python(HERE / "old_files.py", drawn, SEED, 200)
 for path in drawn.glob("*.old"):
     gives(SAFE, path.with_suffix(".new").read_bytes(), "rewrite", path)
     gives(REFUSED, "refused 15\n", "rewrite", path.with_suffix(".new"), err="refused 15")
@@ -159,12 +158,10 @@ need(not (WORK / "x").exists() and not (WORK / "y").exists(), "a call that was w
 for option in "--site", "--allowance", "--svg":
     gives(FAILED, "failed\n", "rewrite", option, "1", err="no option")
 
-# texts without end take little time and room: in 400 MB
+# texts without end take little time and room: in 400 MB, and in ten seconds of the processor's time, whatever else the machine does
 def bounded(text, *words):
-    began = time.monotonic()
-    run = subprocess.run(["bash", "-c", 'ulimit -v 400000; exec "$@"', "-", PROGRAM, "encode"], input=text, capture_output=True)
+    run = subprocess.run(["bash", "-c", 'ulimit -v 400000 -t 10; exec "$@"', "-", PROGRAM, "encode"], input=text, capture_output=True)
     need(run.returncode == REFUSED and run.stdout == b"failed\n" and len(run.stderr) < 50_000, run.returncode, run.stderr[:500])
-    need(time.monotonic() - began < 10, "a long text takes long")
     return run.stderr
 
 
@@ -203,7 +200,7 @@ def drawn_by(status, out, err, place=fakes):
 
 
 dot('[ "$*" = -Tsvg ] && exec /bin/cat')
-drawn_by(SAFE, call("picture", E).out, None)
+drawn_by(FAILED, "failed\n", "what dot printed is no drawing of the table: there are words outside of its labels")
 drawn_by(FAILED, "failed\n", "dot of Graphviz, which is not installed", WORK / "nowhere")
 for commands in "exit 1", 'echo "<svg/>"; kill -9 $$', "true":
     dot(commands)
@@ -215,9 +212,20 @@ tangled = lambda n, steps: b"layout=sfdp" in call("picture", "--text", input=(
 chain = [(s, s + 1) for s in range(511)]
 need(not tangled(512, chain), "a corridor is drawn by layers")
 need(tangled(512, chain + [(2 * s, s) for s in range(256)]), "767 steps of 512 states are drawn by forces")
+# a table of which there is nothing to explain has no legend, which dot could not draw
+bland = WORK / "bland.txt"
+bland.write_text("states 2\ninitial none\nforbidden none\nstep 0 -> 1\nstep 1 -> 0\n")
+need(b'label=""' in call("picture", "--text", bland).out, "the legend of no kinds")
 if shutil.which("dot"):
+    need(b"</svg>" in call("picture", "--svg", "--text", bland).out, "a picture without a legend")
     for name in "b", "e", "d", "hang", "resting", "empty", "largest":
-        need(b"</svg>" in call("picture", "--svg", "--distances", "--groups", TABLES / f"{name}.table").out, name)
+        for how in (), ("--distances", "--groups"), ("--names", TABLES / f"{name}.txt"):
+            given = gives(SAFE, None, "picture", "--svg", *how, TABLES / f"{name}.table")
+            need(b"</svg>" in given.out, name)
+    for name in 'a"b\\c&amp;', "two\nlines\x01", "two  spaces", "größe", "\u202eright", "x" * 200, "<b>", "it's \\N \\G \\l %d", b"\xff\xfe":
+        shutil.copy(E, os.path.join(os.fsencode(WORK), os.fsencode(name)))
+        need(b"</svg>" in gives(SAFE, None, "picture", "--svg", "--", name, cwd=WORK).out, name)
+    gives(SAFE, None, "picture", "--svg", "--text", TOP / "examples/pump.txt")
 else:
     print("no dot: the pictures were not drawn")
 group("pictures")

@@ -52,7 +52,7 @@ _Static_assert(SHUNTBERRY_NO_ANSWER > 1, "no answer is neither yes nor no");
 _Static_assert(SHUNTBERRY_NO_TABLE > SHUNTBERRY_MAX_STATES, "no table has that many states");
 _Static_assert(SHUNTBERRY_NO_MINUTE > SHUNTBERRY_MAX_TIME + 655200u, "no minute is later than every open one");
 
-enum { STATES = SHUNTBERRY_MAX_STATES, STACK = 1 << 20, PAINT = 0xa5, STACK_LIMIT = 256 * 1024 };
+enum { STATES = SHUNTBERRY_MAX_STATES, STACK = 1 << 20, PAINT = 0xa5, STACK_LIMIT = 128 * 1024 };
 
 /* The file of a table with as many states and no group: two numbers of two bytes, then its sets, in blocks of four bytes more. */
 enum {
@@ -926,7 +926,7 @@ int main(void)
     size_t untouched = 0;
     while (untouched < STACK && stack[untouched] == PAINT)
         untouched++;
-    require(STACK - untouched < STACK_LIMIT, "the calls take 256 KiB of stack or more");
+    require(STACK - untouched < STACK_LIMIT, "the calls take 128 KiB of stack or more");
     printf("the calls from C: as expected, within %zu KiB of stack\n", (STACK - untouched + 1023) / 1024);
     free(stack);
     return 0;

@@ -1,5 +1,5 @@
 #!/usr/bin/env python3
-"""What examples/coverage.c prints for logs on the files of tables/, and how it ends, worked out here from the files' own bytes; for a refused one
+"""What examples/coverage.c prints for logs on the files of tests/files, and how it ends, worked out here from the files' own bytes; for a refused one
 the text beside it. It ends with 0 where all of a log is followed, 1 where it breaks, 2 where something is refused, 4 where there are no entries.
 
   tests/outside/coverage.py PROGRAM TABLE..
@@ -98,7 +98,7 @@ def main():
                 count += 1
     if not count:
         sys.exit("coverage: no table was tried")
-    print(f"the C example of coverage: {count} logs on the files of tables/ printed as expected")
+    print(f"the C example of coverage: {count} logs on the files of tests/files printed as expected")
 
 
 if __name__ == "__main__":

@@ -1,5 +1,5 @@
 #!/usr/bin/env python3
-"""What examples/decide.c prints for the files of tables/, and how it ends: the text beside each, and 0 for safe, 1 for unsafe, 2 for refused, 4
+"""What examples/decide.c prints for the files of tests/files, and how it ends: the text beside each, and 0 for safe, 1 for unsafe, 2 for refused, 4
 for a table without states. Then a safe file with each byte of it changed, and cut at each length: 2, and 4 where nothing is left.
 
   tests/outside/decide.py PROGRAM TABLE..
@@ -9,7 +9,7 @@ import sys
 import tempfile
 from pathlib import Path
 
-SAFE = Path("tables/e.table")
+SAFE = Path("tests/files/e.table")
 
 
 def status_of(text):
@@ -46,7 +46,7 @@ def main():
             damaged.write_bytes(whole[:length])
             text = "refused 11\n" if length else "states 0 groups 0\nsafe refinements 0\ninvariant 0: none\n"
             ends(damaged, text, f"{length} bytes of {SAFE}")
-    print(f"the C example of decide: {len(tables)} files of tables/, and {2 * len(whole)} damaged ones, printed and ended as expected")
+    print(f"the C example of decide: {len(tables)} files of tests/files, and {2 * len(whole)} damaged ones, printed and ended as expected")
 
 
 main()

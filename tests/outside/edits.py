@@ -1,5 +1,5 @@
 #!/usr/bin/env python3
-"""What examples/edits.c prints for lists of edits on the files of tables/, and how it ends, worked out here from the files' own bytes, with a
+"""What examples/edits.c prints for lists of edits on the files of tests/files, and how it ends, worked out here from the files' own bytes, with a
 search from the initial states after each edit; for a refused file the text beside it. It ends with 0 where nothing is refused, 2 where something
 is, 4 where the table has no states, and 3 on words that are no edits.
 
@@ -72,7 +72,7 @@ def main():
         ran = run(program, tables[0], ["0+0", word])
         if (ran.stdout, ran.returncode) != ("", 3):
             sys.exit(f"edits: {word!r} gives {ran.stdout!r}, status {ran.returncode}; expected nothing, 3")
-    print(f"the C example of edits: {count} lists on the files of tables/ printed as expected")
+    print(f"the C example of edits: {count} lists on the files of tests/files printed as expected")
 
 
 main()

@@ -1,14 +1,15 @@
 // Decide beside a graph search that has nothing in common with it: forward from the initial states, one state at a time, by a queue.
 // Printed is how many generated tables of each verdict there were, and in how many the two agree in verdict and in the length of the path;
-// at last a digest of decide's answers, whole. tests/expected.py makes the same tables anew and works out what this must print.
+// at last a digest of decide's answers, whole. tests/expected/programs.py makes the same tables anew and works out what this must print.
 use rounds::Decision;
 use rounds::MAX_ALLOWANCE;
 use rounds::Verdict;
 use rounds::decide;
+use state_set::MAX_STATES;
 use state_set::StateSet;
+use state_set::WORD_BITS;
 use state_set::WORDS;
 use table::MARKED_AT;
-use table::MAX_STATES;
 use table::RESTING_AT;
 use table::ROWS_AT;
 use table::STORE_WORDS;
@@ -34,9 +35,9 @@ const NONE: usize = 9999;
 fn holds(store: &[u64], at: usize, s: usize) -> bool {
     if at < store.len() {
         if s < MAX_STATES {
-            let i = at + s / 64;
+            let i = at + s / WORD_BITS;
             if i < store.len() {
-                return (store[i] >> (s % 64)) % 2 == 1;
+                return (store[i] >> (s % WORD_BITS)) % 2 == 1;
             }
         }
     }

@@ -1,6 +1,6 @@
 -- Laws of tests below a bound, and of lists made by `tabulate`.
 --
---   and-true, and-intro, or-true, or-intro     Boolean connectives as facts
+--   and-true, and-intro, or-true, or-intro, or-left, or-right, or-none, or-false     Boolean connectives as facts
 --   any-find, any-intro, any-none              some number below the bound passes; none does; any-start, -turn, -end: a loop that looks for one;
 --                                              any-cong: tests that agree
 --   all-at, all-intro, all-not                 each passes; one that does not
@@ -37,6 +37,15 @@ or-true false b e = inr e
 pub or-intro : (a b : Bool) → (a ≡ true) ⊎ (b ≡ true) → (a || b) ≡ true
 or-intro true b h = refl
 or-intro false b h = ⊎-elim (λ p. absurd (false≢true p)) (λ q. q) h
+
+pub or-left : (a b : Bool) → a ≡ true → (a || b) ≡ true
+or-left a b e = or-intro a b (inl e)
+
+pub or-right : (a b : Bool) → b ≡ true → (a || b) ≡ true
+or-right a b e = or-intro a b (inr e)
+
+pub or-none : (a b : Bool) → a ≡ false → b ≡ false → (a || b) ≡ false
+or-none a b e f = rw e f
 
 pub or-false : (a b : Bool) → (a || b) ≡ false → (a ≡ false) × (b ≡ false)
 or-false true b e = absurd (true≢false e)

@@ -1,7 +1,9 @@
 -- Laws of grounds of refusal: the number of the first that holds, over any list of them, and what is answered.
 --
---   refuse-none, refuse-skip, refuse-take     no ground is left; one that does not hold; one that does
---   refuse-append                             a ground that holds decides, whatever grounds come after
+--   First i, numberAt i, refuse-first         all grounds before number i are clear and it holds: its number is the refusal; where there are no more
+--                                             than i, and all are clear, that is 0
+--   refuse-or                                 a ground that holds where one of two does
+--   refuse-append, refuse-past                a ground that holds decides, whatever grounds come after; where none does, those that come after
 --   Clear                                     no ground of a list holds
 --   refuse-behind                             then those behind it decide; clear-refuse: nothing is refused
 --   numbered, refuse-clear                    where nothing is refused, no ground holds whose number is not 0, and the rest refuse nothing
@@ -20,7 +22,7 @@ use native.Mathlib.Numerals.{add-one}
 use native.Mathlib.Omega.{arith}
 use mathlib.Core.Path.{_≡_, refl, sym, ap, _∙_, subst}
 use mathlib.Core.Logic.{⊎-elim}
-use mathlib.Core.Bool.{Bool, true, false, not, _&&_, false≢true}
+use mathlib.Core.Bool.{Bool, true, false, not, _&&_, _||_, false≢true}
 use mathlib.Core.List.{List, [], _∷_, _++_, append-nil}
 use borrow.Author.Tests.{eqb-true, eqb-false}
 use lib.Dec.{eqb}
@@ -28,20 +30,29 @@ use Rattle.basics.specs.Bounds.{concat}
 use Rattle.basics.specs.Refusals.{Ground, refuse, Answered, refused, answered, answer, unlessRefused}
 use Rattle.basics.proofs.BoundLaws.{and-true, and-intro, not-true, decided, by-cond, below-suc}
 
--- ---- one ground after the other
+-- ---- the first that holds
 
-pub refuse-none : refuse [] ≡ 0
+abbrev pub First : ℕ → List Ground → Type 0
+First i [] = Unit {0}
+First zero (ground ∷ later) = ground .0 ≡ true
+First (suc i) (ground ∷ later) = (ground .0 ≡ false) × First i later
+
+abbrev pub numberAt : ℕ → List Ground → ℕ
+numberAt i [] = 0
+numberAt zero (ground ∷ later) = ground .1
+numberAt (suc i) (ground ∷ later) = numberAt i later
+
+pub refuse-first : (i : ℕ) (gs : List Ground) → First i gs → numberAt i gs ≡ refuse gs
 unfolding refuse
-refuse-none = refl
+refuse-first zero [] f = refl
+refuse-first (suc i) [] f = refl
+refuse-first zero (ground ∷ later) f = rw f
+refuse-first (suc i) (ground ∷ later) f = rw (f .0) (refuse-first i later (f .1))
 
-module _ (b : Bool) (k : ℕ) (later : List Ground) where
-  pub refuse-skip : b ≡ false → refuse ((b, k) ∷ later) ≡ refuse later
-  unfolding refuse
-  refuse-skip e = rw e
-
-  pub refuse-take : b ≡ true → refuse ((b, k) ∷ later) ≡ k
-  unfolding refuse
-  refuse-take e = rw e
+pub refuse-or : (a b : Bool) (k : ℕ) (later : List Ground) → refuse ((a || b, k) ∷ later) ≡ refuse ((a, k) ∷ (b, k) ∷ later)
+unfolding refuse
+refuse-or true b k later = refl
+refuse-or false b k later = refl
 
 pub refuse-append : (xs ys : List Ground) {k : ℕ} → k ≡ refuse xs → (k ≡ 0 → ⊥) → k ≡ refuse (xs ++ ys)
 unfolding refuse
@@ -77,6 +88,9 @@ refuse-clear (ground ∷ xs) ys m =
     by-cond (λ (r : ℕ). r ≡ 0 → Clear (ground ∷ xs) × (refuse ys ≡ 0)) (ground .0) (ground .1) (refuse (xs ++ ys))
     (λ t e. absurd (eqb-false (ground .1) 0 (not-true (eqb (ground .1) 0) (parts .0)) e))
     (λ t e. let rest = refuse-clear xs ys (parts .1) e in ((t, rest .0), rest .1))
+
+pub refuse-past : (xs ys : List Ground) {j k : ℕ} → numbered xs ≡ true → j ≡ refuse xs → j ≡ 0 → k ≡ refuse ys → k ≡ refuse (xs ++ ys)
+refuse-past xs ys m p z e = e ∙ sym (refuse-behind xs ys (refuse-clear xs [] m (ap refuse (append-nil xs) ∙ sym p ∙ z) .0))
 
 -- ---- lists joined
 

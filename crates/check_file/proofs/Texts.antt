@@ -22,13 +22,13 @@ unfolding checkAnswer
 clear input room roomy = answer-clear (checkGrounds 0 room) _ (le-ltb maxSite 0 (omega arith), (le-ltb room textRoom roomy, tt))
 
 pub text-put : (input before : List ℕ) {after : List ℕ} {l : ℕ} {v : FileVerdict} → textRoom ≤ length before
-    → answered (record { length = l; verdict = v }) ≡ checkAnswer input 0 (length before)
+    → answered (record { textLength = l; verdict = v }) ≡ checkAnswer input 0 (length before)
     → after ≡ checkBuffer input 0 before → length after ≡ length before → Front (checkText input 0) before l after
 unfolding checkBuffer overwrite
 text-put input before {after} {l} roomy e b same =
     let text = checkText input 0 in
     let given = clear input (length before) roomy in
-    let ends : l ≡ length text = ap (λ (c : CheckedFile). c .length) (answered-is (e ∙ given)) in
+    let ends : l ≡ length text = ap (λ (c : CheckedFile). c .textLength) (answered-is (e ∙ given)) in
     let bytes : after ≡ overwrite text before = b ∙ ap (unlessRefused before (λ (c : CheckedFile). overwrite text before)) given in
     record {
       ends = ends;

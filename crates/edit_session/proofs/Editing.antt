@@ -1,6 +1,6 @@
 -- One edit of a table whose reachable states are known.
 --
---   nothing-has, rowAfter-target, rowAfter-other     the step of an edit, before and after it
+--   nothing-has, changes-has, rowAfter-target, rowAfter-other     the step of an edit, before and after it
 --   of-edit                          what holds where an edit is refused, changes nothing, and changes the table holds of what the call gives
 --   Kept n g store e X after         after an edit: the set is still the one worked out afresh, and the rest of the table is as it was
 --   edit-keeps                       of every edit between states of the table
@@ -9,9 +9,9 @@ use Prim.Native.Nat.{ℕ, _<_}
 use native.Mathlib.Omega.{arith}
 use mathlib.Core.Path.{_≡_, refl, sym, ap, ap₂, _∙_, subst, subst₂}
 use mathlib.Core.Logic.{inl, inr, ⊎-elim}
-use mathlib.Core.Bool.{Bool, true, false, cond, _&&_}
+use mathlib.Core.Bool.{Bool, true, false, cond, not, _&&_}
 use mathlib.Core.List.{List, []}
-use borrow.Author.Tests.{eqb-true, eqb-false, not-true}
+use borrow.Author.Tests.{eqb-true, eqb-false, not-true, not-false}
 use lib.Dec.{eqb}
 use lib.ListN.{length, getD}
 use Rattle.model.specs.Sets.{maxStates, Set, member}
@@ -22,20 +22,24 @@ use Rattle.basics.proofs.BoundLaws.{and-true, is-false, clash, decided, same-te
 use Rattle.model.proofs.SetLaws.{in-single, single-in, in-union, union-in, in-difference, difference-in}
 use Rattle.model.proofs.StoreLaws.{row-is}
 use Rattle.model.proofs.Acceptance.{Store, store-accepted, well-formed}
-use Rattle.basics.proofs.RefusalLaws.{refuse-none as refuse-end, answer-refused}
+use Rattle.basics.proofs.RefusalLaws.{clear-refuse, answer-refused}
 use Rattle.reach.specs.Reached.{reachable}
-use Rattle.edit_session.specs.Edits.{Edit, add, remove, source, target, adds, hasStep, changesNothing, rowAfter, edited, opened, lit, noStates, editAnswer, editBuffer}
-use Rattle.edit_session.proofs.Rows.{Outside}
-use Rattle.edit_session.proofs.Tables.{edited-long, edited-out, edited-store, initial-same, table-here, table-there, drawn}
-use Rattle.edit_session.proofs.Reaching.{unlit-same, lit-joins}
+use Rattle.edit_session.specs.Edits.{Edit, add, remove, source, target, adds, hasStep, changesNothing, rowAfter, edited, opened, reachableAfter, noStates, editAnswer, editBuffer}
+use Rattle.edit_session.proofs.Tables.{Outside, edited-long, edited-out, edited-store, initial-same, table-here, table-there, step-added}
+use Rattle.edit_session.proofs.Reaching.{unreached-same, reached-joins}
 use Rattle.edit_session.proofs.Answering.{both-states, no-states, refuse-states, accepted, grounds, given, buffer-refused, buffer-answered}
 
 -- ---- the step of an edit
 
-nothing-has : (store : List ℕ) (e : Edit) → changesNothing store e ≡ true → hasStep store (source e) (target e) ≡ adds e
+pub nothing-has : (store : List ℕ) (e : Edit) → changesNothing store e ≡ true → hasStep store (source e) (target e) ≡ adds e
 unfolding changesNothing
 nothing-has store (add a b) q = q
 nothing-has store (remove a b) q = not-true _ q
+
+pub changes-has : (store : List ℕ) (e : Edit) → changesNothing store e ≡ false → hasStep store (source e) (target e) ≡ not (adds e)
+unfolding changesNothing
+changes-has store (add a b) q = q
+changes-has store (remove a b) q = not-false _ q
 
 rowAfter-target : (X : Set) (e : Edit) → target e < maxStates → member (rowAfter X e) (target e) ≡ adds e
 unfolding rowAfter
@@ -54,7 +58,7 @@ rowAfter-other X (remove a b) y ne =
 pub of-edit : (store : List ℕ) (n g : ℕ) (X : Set) (e : Edit) (P : Answered Set → List ℕ → Type 0)
     → ((refuse (grounds store n g e) ≡ 0 → ⊥) → P (refused (refuse (grounds store n g e))) store)
     → (refuse (grounds store n g e) ≡ 0 → changesNothing store e ≡ true → P (answered X) store)
-    → (refuse (grounds store n g e) ≡ 0 → changesNothing store e ≡ false → P (answered (lit (tableOf (edited store e) n g) X e)) (edited store e))
+    → (refuse (grounds store n g e) ≡ 0 → changesNothing store e ≡ false → P (answered (reachableAfter (tableOf (edited store e) n g) X e)) (edited store e))
     → P (editAnswer store n g X e) (editBuffer store n g e)
 unfolding editAnswer
 of-edit store n g X e P left nothing changed =
@@ -79,7 +83,7 @@ named e a b = eqb a (source e) && eqb b (target e)
 
 pub record Kept (n g : ℕ) (store : List ℕ) (e : Edit) (X : Set) (after : List ℕ) : Type 0 where
   pub held : Store after n g
-  pub fresh : X ≡ opened (tableOf after n g)
+  pub reachable-is : X ≡ opened (tableOf after n g)
   pub long : length after ≡ length store
   pub rows : (i : ℕ) → Outside (source e) i → getD after i 0 ≡ getD store i 0
   pub steps : (a b : ℕ) → a < n → b < n
@@ -91,7 +95,7 @@ module _ (store : List ℕ) (n g : ℕ) (e : Edit) (held : Store store n g) wher
   same X x f =
       record {
         held = held;
-        fresh = x;
+        reachable-is = x;
         long = refl;
         rows = λ i o. refl;
         steps = λ a b ha hb.
@@ -136,27 +140,27 @@ module _ (store : List ℕ) (n g : ℕ) (e : Edit) (held : Store store n g) wher
     changed X x =
         record {
           held = edited-store store n g e held ha hb;
-          fresh = x;
+          reachable-is = x;
           long = edited-long store e low (held .long);
           rows = edited-out store e low (held .long);
           steps = steps-after;
         }
 
 -- the set after an edit is the one worked out afresh
-lit-fresh : (store : List ℕ) (n g : ℕ) (e : Edit) → Store store n g → source e < n → target e < n
-    → lit (tableOf (edited store e) n g) (opened (tableOf store n g)) e ≡ opened (tableOf (edited store e) n g)
-unfolding lit opened
-lit-fresh store n g (remove a b) held ha hb = refl
-lit-fresh store n g (add a b) held ha hb =
+after-is-opened : (store : List ℕ) (n g : ℕ) (e : Edit) → Store store n g → source e < n → target e < n
+    → reachableAfter (tableOf (edited store e) n g) (opened (tableOf store n g)) e ≡ opened (tableOf (edited store e) n g)
+unfolding reachableAfter opened
+after-is-opened store n g (remove a b) held ha hb = refl
+after-is-opened store n g (add a b) held ha hb =
     let t = tableOf store n g in
     let t′ = tableOf (edited store (add a b)) n g in
-    let d = drawn store n g a b held ha hb in
+    let d = step-added store n g a b held ha hb in
     let ok = well-formed store n g held in
     let ok′ = well-formed (edited store (add a b)) n g (edited-store store n g (add a b) held ha hb) in
     let start : reachable t′ (t .initial) ≡ reachable t′ (t′ .initial) = ap (reachable t′) (sym (initial-same store n g (add a b) held ha hb)) in
     by-cond (λ (X : Set). X ≡ reachable t′ (t′ .initial)) (member (reachable t (t .initial)) a) _ _
-    (λ q. sym (lit-joins d ok ok′ (t .initial) (ok .initial) (record { is = q })) ∙ start)
-    (λ q. sym (unlit-same d ok ok′ (t .initial) (ok .initial) (λ h. clash (h .is) q)) ∙ start)
+    (λ q. sym (reached-joins d ok ok′ (t .initial) (ok .initial) (record { is = q })) ∙ start)
+    (λ q. sym (unreached-same d ok ok′ (t .initial) (ok .initial) (λ h. clash (h .is) q)) ∙ start)
 
 pub edit-keeps : (store : List ℕ) (n g : ℕ) (X : Set) (e : Edit) → Store store n g → X ≡ opened (tableOf store n g)
     → noStates n (source e) (target e) ≡ false → Kept n g store e (unlessRefused X (λ Y. Y) (editAnswer store n g X e)) (editBuffer store n g e)
@@ -170,10 +174,10 @@ edit-keeps store n g X e held x q =
     (ap (λ (Y : Set). member Y (target e)) (row-is store n g (source e) (between .0)) ∙ nothing-has store e m))
     (λ z m.
     changed store n g e held (between .0) (between .1) _
-    (ap (λ (Y : Set). lit (tableOf (edited store e) n g) Y e) x ∙ lit-fresh store n g e held (between .0) (between .1)))
+    (ap (λ (Y : Set). reachableAfter (tableOf (edited store e) n g) Y e) x ∙ after-is-opened store n g e held (between .0) (between .1)))
   where
     none : refuse (sharedGrounds store n g) ≡ 0
-    none = store-accepted store n g [] held ∙ refuse-end
+    none = store-accepted store n g [] held ∙ clear-refuse [] tt
 
 pub edit-leaves : (store : List ℕ) (n g : ℕ) (X : Set) (e : Edit) → noStates n (source e) (target e) ≡ true
     → (unlessRefused X (λ Y. Y) (editAnswer store n g X e) ≡ X) × (editBuffer store n g e ≡ store)

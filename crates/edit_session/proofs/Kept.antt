@@ -1,4 +1,4 @@
--- The promises of an edit session (specs/Promises), by the contracts of its calls.
+-- The promises of an edit session (specs/SessionPromises), by the contracts of its calls.
 --
 --   outside-row                  a word that no edit names
 --   call-keeps, call-leaves      an edit of a table whose reachable states are known, and one that is refused
@@ -6,7 +6,7 @@
 --   opened-is                    an opening that is answered
 --   edit-no, edit-where          an edit that is refused, and where one is
 --   word-same                    one word at most changes
---   promises                     Promises
+--   promises                     specs/SessionPromises
 use Prim.Native.Nat.{ℕ, _+_, _/_, _^_, _<_}
 use native.Mathlib.Omega.{arith}
 use mathlib.Core.Path.{_≡_, refl, sym, ap, _∙_, subst, subst₂}
@@ -23,17 +23,17 @@ use Rattle.model.specs.Stores.{rowAt, tableOf, sharedGrounds, AcceptedStore}
 use Rattle.model.specs.RoundTrip.{Bounded}
 use Rattle.basics.proofs.BoundLaws.{or-false, clash, decided, by-cond}
 use Rattle.model.proofs.SetLaws.{in-subset, in-union}
-use Rattle.basics.proofs.RefusalLaws.{refuse-none as refuse-end, clear-refuse, answer-refused, answered-not-refused, answered-clear, answered-is, answered-value, refused-is}
+use Rattle.basics.proofs.RefusalLaws.{clear-refuse, answer-refused, answered-not-refused, answered-clear, answered-is, answered-value, refused-is}
 use Rattle.model.proofs.Acceptance.{Store, accepted-store, store-accepted, well-formed}
 use Rattle.edit_session.specs.declared.Session.{Session}
-use Rattle.edit_session.specs.Edits.{Edit, add, remove, source, target, changesNothing, edited, opened, lit, openAnswer, noStates, editAnswer}
-use Rattle.edit_session.specs.Answers.{answerOf, CalledOpen, CalledEdit}
-use Rattle.edit_session.specs.Promises.{inRow, names, stepAfter, counted, Ran, SessionIs, Promises}
-use Rattle.edit_session.proofs.Rows.{Outside}
-use Rattle.edit_session.proofs.Tables.{draw-word, rub-out-word, edited-store, drawn}
+use Rattle.edit_session.specs.Edits.{Edit, add, remove, source, target, changesNothing, edited, opened, reachableAfter, openAnswer, noStates, editAnswer}
+use Rattle.edit_session.specs.SessionAnswers.{sessionOf, CalledOpen, CalledEdit}
+use Rattle.edit_session.specs.SessionPromises.{inRow, names, stepAfter, counted, Ran, SessionIs, SessionPromises}
+use Rattle.edit_session.proofs.Tables.{Outside, set-step-word, clear-step-word, edited-store, step-added}
 use Rattle.edit_session.proofs.Reaching.{reachable-within, target-same}
 use Rattle.edit_session.proofs.Answering.{refuse-states, accepted, grounds, given}
 use Rattle.edit_session.proofs.Editing.{of-edit, Kept, edit-keeps, edit-leaves}
+use Rattle.edit_session.proofs.AnySet.{nothing, unreached, reached, removed}
 use Rattle.edit_session.proofs.FrontWords.{first-words}
 
 -- ---- runs
@@ -61,11 +61,11 @@ module _ (n g : ℕ) where
   run-keeps [] store X after Y c held x =
       subst (λ (xs : List ℕ). SessionIs n g store [] xs Y) (sym (c .0))
       (record {
-        fresh = c .1 ∙ x;
+        reachable-is = c .1 ∙ x;
         steps = λ a b ha hb. refl;
         rows = λ i q. refl;
         long = refl;
-        accepted = store-accepted store n g [] held ∙ refuse-end;
+        accepted = store-accepted store n g [] held ∙ clear-refuse [] tt;
       })
   run-keeps (e ∷ es) store X after Y c held x =
       let r = c .0 in
@@ -79,9 +79,9 @@ module _ (n g : ℕ) where
       (left .0 ∙ x ∙ ap (λ (xs : List ℕ). opened (tableOf xs n g)) (sym (left .1)))))
       (λ q.
       let kept = call-keeps store X e r next (c .2) held x q in
-      let rest = run-keeps es next (r .reachable .words) after Y (c .3) (kept .held) (kept .fresh) in
+      let rest = run-keeps es next (r .reachable .words) after Y (c .3) (kept .held) (kept .reachable-is) in
       record {
-        fresh = rest .fresh;
+        reachable-is = rest .reachable-is;
         steps = λ a b ha hb. rest .steps a b ha hb ∙ ap (stepAfter (counted n es) a b) (kept .steps a b ha hb);
         rows = λ i free.
             let apart = or-false (inRow (source e) i) (names (counted n es) i) free in
@@ -93,14 +93,14 @@ module _ (n g : ℕ) where
 -- ---- a call
 
 module _ (store : List ℕ) (n g : ℕ) (r : Session) where
-  opened-is : (X : Set) → CalledOpen store n g r → answerOf r ≡ answered X → Store store n g × (X ≡ opened (tableOf store n g))
+  opened-is : (X : Set) → CalledOpen store n g r → sessionOf r ≡ answered X → Store store n g × (X ≡ opened (tableOf store n g))
   unfolding openAnswer
   opened-is X c e =
       let gives = sym (c .0) ∙ e in
       let all = sharedGrounds store n g in
       (accepted-store store n g [] (clear-refuse all (answered-clear all _ gives)) .0, answered-value all _ gives)
 
-  open-no : (k : ℕ) → CalledOpen store n g r → answerOf r ≡ refused k → (k ≡ refuse (sharedGrounds store n g)) × (r .reachable .words ≡ empty)
+  open-no : (k : ℕ) → CalledOpen store n g r → sessionOf r ≡ refused k → (k ≡ refuse (sharedGrounds store n g)) × (r .reachable .words ≡ empty)
   unfolding openAnswer
   open-no k c e = let gives = sym (c .0) ∙ e in (refused-is (sharedGrounds store n g) _ gives, c .1 ∙ ap (unlessRefused empty (λ X. X)) gives)
 
@@ -108,14 +108,14 @@ module _ (store : List ℕ) (n g : ℕ) (r : Session) where
 word-same : (store : List ℕ) (n g : ℕ) (e : Edit) → Bounded (2 ^ 64) store → Store store n g → source e < n → target e < n
     → (i : ℕ) → (i ≡ rowAt (source e) + target e / 64 → ⊥) → getD (edited store e) i 0 ≡ getD store i 0
 word-same store n g (add a b) fits held ha hb i ne =
-    ap (λ (xs : List ℕ). getD xs i 0) (sym (draw-word store a b (omega (arith, held .small)) (omega (arith, held .small)) (held .long) fits))
+    ap (λ (xs : List ℕ). getD xs i 0) (sym (set-step-word store a b (omega (arith, held .small)) (omega (arith, held .small)) (held .long) fits))
     ∙ getD-set-other store (rowAt a + b / 64) i _ 0 ne
 word-same store n g (remove a b) fits held ha hb i ne =
-    ap (λ (xs : List ℕ). getD xs i 0) (sym (rub-out-word store a b (omega (arith, held .small)) (omega (arith, held .small)) (held .long) fits))
+    ap (λ (xs : List ℕ). getD xs i 0) (sym (clear-step-word store a b (omega (arith, held .small)) (omega (arith, held .small)) (held .long) fits))
     ∙ getD-set-other store (rowAt a + b / 64) i _ 0 ne
 
 module _ (store : List ℕ) (n g : ℕ) (X : Set) (e : Edit) (r : Session) (after : List ℕ) where
-  edit-no : (k : ℕ) → CalledEdit store n g X e r after → answerOf r ≡ refused k
+  edit-no : (k : ℕ) → CalledEdit store n g X e r after → sessionOf r ≡ refused k
       → (k ≡ refuse (grounds store n g e)) × (r .reachable .words ≡ X) × (after ≡ store)
   unfolding editAnswer
   edit-no k c q =
@@ -127,7 +127,7 @@ module _ (store : List ℕ) (n g : ℕ) (X : Set) (e : Edit) (r : Session) (afte
       )
 
   edit-where : CalledEdit store n g X e r after → AcceptedStore store n g
-      → answerOf r ≡ cond (noStates n (source e) (target e)) (refused 27) (answered (r .reachable .words))
+      → sessionOf r ≡ cond (noStates n (source e) (target e)) (refused 27) (answered (r .reachable .words))
   unfolding editAnswer
   edit-where c a =
       let number = refuse-states store n g (source e) (target e) a in
@@ -150,7 +150,7 @@ module _ (store : List ℕ) (n g : ℕ) (X : Set) (e : Edit) (r : Session) (afte
 
 set-kept : (store : List ℕ) (n g : ℕ) (X : Set) (a b : ℕ) (r : Session) (after : List ℕ) → CalledEdit store n g X (add a b) r after
     → subset X (r .reachable .words) ≡ true
-unfolding lit
+unfolding reachableAfter
 set-kept store n g X a b r after c =
     let all : subset X X ≡ true = in-subset (λ s h. h) in
     ap (subset X) (c .1)
@@ -158,8 +158,8 @@ set-kept store n g X a b r after c =
     (λ z m. by-cond (λ (Y : Set). subset X Y ≡ true) (member X a) _ _ (λ q. in-subset (λ s h. in-union (inl h))) (λ q. all))
 
 set-within : (store : List ℕ) (n g : ℕ) (X : Set) (a b : ℕ) (r : Session) (after : List ℕ) (Y : Set) → CalledEdit store n g X (remove a b) r after
-    → answerOf r ≡ answered Y → changesNothing store (remove a b) ≡ false → subset Y (firstStates n) ≡ true
-unfolding lit opened tableOf
+    → sessionOf r ≡ answered Y → changesNothing store (remove a b) ≡ false → subset Y (firstStates n) ≡ true
+unfolding reachableAfter opened tableOf
 set-within store n g X a b r after Y c e new =
     of-edit store n g X (remove a b) (λ v xs. v ≡ answered Y → subset Y (firstStates n) ≡ true)
     (λ f q. absurd (answered-not-refused (sym q))) (λ z m q. absurd (clash m new))
@@ -170,7 +170,7 @@ set-within store n g X a b r after Y c e new =
     (in-subset (reachable-within (tableOf (edited store (remove a b)) n g) _ ok (ok .initial))))
     (sym (c .0) ∙ e)
 
-pub promises : Promises
+pub promises : SessionPromises
 promises =
     record {
       session = λ store n g r X c e es after Y ran. let is = opened-is store n g r X c e in run-keeps n g es store X after Y ran (is .0) (is .1);
@@ -178,11 +178,15 @@ promises =
       edit-refusal = edit-no;
       refused-where = edit-where;
       one-word = word-kept;
+      nothing = nothing;
+      unreached = unreached;
+      reached = reached;
+      removed = removed;
       keeps = set-kept;
       drops = set-within;
       target-reaches = λ store n g a b z.
           let states = accepted store n g a b refl z in
-          target-same (drawn store n g a b (states .0) (states .1) (states .2)) (well-formed store n g (states .0))
+          target-same (step-added store n g a b (states .0) (states .1) (states .2)) (well-formed store n g (states .0))
           (well-formed (edited store (add a b)) n g (edited-store store n g (add a b) (states .0) (states .1) (states .2)));
       first-words = first-words;
     }

@@ -1,11 +1,11 @@
--- What is reached, when a step is drawn.
+-- What is reached when a step is added.
 --
 --   reachable-proper                 what is reached is a proper set; reachable-within: of states of the table
 --   reachable-has, reachable-step    it holds what it starts from, and each step out of it
 --   reachable-into                   and lies in every set that does
---   Drawn t t′ a b                   t′ is t with the step a → b
---   unlit-same                       drawn from a state that was not reached, nothing more is reached
---   lit-joins                        drawn from one that was, all that the target reaches is reached too, and no more
+--   StepAdded t t′ a b               t′ is t with the step a → b
+--   unreached-same                   added from a state that was not reached, nothing more is reached
+--   reached-joins                    added from one that was, all that the target reaches is reached too, and no more
 --   target-same                      what the target reaches is the same in either table
 use Prim.Native.Nat.{ℕ, _<_}
 use mathlib.Core.Path.{_≡_, sym, subst}
@@ -13,7 +13,7 @@ use mathlib.Core.Logic.{_⊎_, inl, inr, ⊎-elim}
 use Rattle.model.specs.Sets.{Set, empty, single, union, firstStates}
 use Rattle.model.specs.Tables.{Table}
 use Rattle.model.proofs.SetLaws.{Proper, setOf-proper, In, in-bound, empty-in, in-single, single-in, in-union, union-in, firstStates-in, _⊆_, ⊆-of-eq, same-set}
-use Rattle.model.proofs.WellFormed.{WellFormed}
+use Rattle.model.specs.WellFormed.{WellFormed}
 use Rattle.model.proofs.Fixpoints.{iterate-has}
 use Rattle.model.proofs.CoverLaws.{in-post, post-in}
 use Rattle.reach.specs.Reached.{reachStep, reachable}
@@ -48,7 +48,7 @@ module _ (t : Table) (X : Set) where
     unfolding reachStep
     reachable-step s u h r = again u (in-union (inr (in-post (t .n) (t .row) (firstStates-in (reachable-within s h)) h r)))
 
-pub record Drawn (t t′ : Table) (a b : ℕ) : Type 0 where
+pub record StepAdded (t t′ : Table) (a b : ℕ) : Type 0 where
   pub states : t′ .n ≡ t .n
   pub source : a < t .n
   pub target : In (firstStates (t .n)) b
@@ -56,7 +56,7 @@ pub record Drawn (t t′ : Table) (a b : ℕ) : Type 0 where
   pub kept : (s : ℕ) → s < t .n → t .row s ⊆ t′ .row s
   pub only : (s u : ℕ) → s < t .n → In (t′ .row s) u → In (t .row s) u ⊎ ((s ≡ a) × (u ≡ b))
 
-module _ {t t′ : Table} {a b : ℕ} (d : Drawn t t′ a b) (ok : WellFormed t) (ok′ : WellFormed t′) where
+module _ {t t′ : Table} {a b : ℕ} (d : StepAdded t t′ a b) (ok : WellFormed t) (ok′ : WellFormed t′) where
   in-both : (X : Set) → X ⊆ firstStates (t .n) → X ⊆ firstStates (t′ .n)
   in-both X i = subst (λ (m : ℕ). X ⊆ firstStates m) (sym (d .states)) i
 
@@ -65,7 +65,7 @@ module _ {t t′ : Table} {a b : ℕ} (d : Drawn t t′ a b) (ok : WellFormed t)
   grows X Y i j from =
       reachable-into t X (reachable t′ Y) from (λ s u l h r. reachable-step t′ Y ok′ (in-both Y j) s u h (d .kept s l u r))
 
-  -- a set that has the steps of the table has the one drawn too, if it has the target wherever it has the source
+  -- a set that has the steps of the table has the one added too, if it has the target wherever it has the source
   closes : (X Y : Set) → X ⊆ Y → ((s u : ℕ) → s < t .n → In Y s → In (t .row s) u → In Y u) → (In Y a → In Y b) → reachable t′ X ⊆ Y
   closes X Y from steps new =
       reachable-into t′ X Y from
@@ -85,15 +85,15 @@ module _ {t t′ : Table} {a b : ℕ} (d : Drawn t t′ a b) (ok : WellFormed t)
     steps-of : (s u : ℕ) → s < t .n → In (reachable t X) s → In (t .row s) u → In (reachable t X) u
     steps-of s u l = reachable-step t X ok within s u
 
-    pub unlit-same : (In (reachable t X) a → ⊥) → reachable t′ X ≡ reachable t X
-    unlit-same out =
+    pub unreached-same : (In (reachable t X) a → ⊥) → reachable t′ X ≡ reachable t X
+    unreached-same out =
         same-set _ _ (reachable-proper t′ X) (reachable-proper t X)
         (closes X (reachable t X) (reachable-has t X ok within) steps-of (λ h. absurd (out h)))
         (grows X X within within (reachable-has t′ X ok′ (in-both X within)))
 
-    pub lit-joins : In (reachable t X) a → reachable t′ X ≡ union (reachable t X) (reachable t′ (single b))
+    pub reached-joins : In (reachable t X) a → reachable t′ X ≡ union (reachable t X) (reachable t′ (single b))
     unfolding union
-    lit-joins h =
+    reached-joins h =
         let more = grows X X within within (reachable-has t′ X ok′ (in-both X within)) in
         let ends = reachable-has t′ (single b) ok′ (in-both (single b) one) in
         same-set _ _ (reachable-proper t′ X) (setOf-proper _)

@@ -1,10 +1,11 @@
 -- A table as edited: its rows, its step, and that the store still holds a table.
 --
---   draw-word, rub-out-word           the word of a step, with its bit set or cleared
+--   set-step-word, clear-step-word    the word of a step, with its bit set or cleared
+--   Outside s i                       word i is not of row s
 --   rowAfter-long, edited-long        an edit keeps lengths
 --   initial-same, row-here, row-there      the initial set and the rows of the store after an edit
---   edited-store                      it holds a table as the one before does
---   drawn                             a step that is added is drawn
+--   edited-store                      it holds a table as the one before does; edited-longer, edited-rows: it, and its rows, are long enough
+--   step-added                        the table with a step added is the table of the edited store
 use Prim.Native.Nat.{ℕ, _+_, _-_, _*_, _/_, _%_, _^_, _≤_, _<_}
 use native.Mathlib.Omega.{arith}
 use mathlib.Core.Path.{_≡_, refl, sym, ap, _∙_, subst}
@@ -20,12 +21,14 @@ use Rattle.model.specs.Stores.{storeWords, rowAt, setAt, tableOf, beyond}
 use Rattle.model.specs.RoundTrip.{Bounded}
 use Rattle.basics.proofs.BoundLaws.{decided, lt-or-ge}
 use Rattle.model.proofs.SetLaws.{Proper, setOf-proper, In, in-firstStates, in-single, single-in, in-union, union-in, difference-in, ⊆-of-eq}
-use Rattle.model.proofs.StoreLaws.{getD-setAt, setAt-proper, beyond-below, below-beyond, malformed-clean, clean-malformed, row-is}
+use Rattle.model.proofs.StoreLaws.{setAt-proper, beyond-below, below-beyond, malformed-clean, clean-malformed, row-is}
 use Rattle.model.proofs.Acceptance.{Store}
+use Rattle.table.specs.Rows.{rowsWords, rowsOf}
+use Rattle.table.proofs.Parts.{rows-long}
+use Rattle.table.proofs.Putting.{put-long, put-own, put-other, put-apart, put-word}
 use Rattle.state_set.proofs.Words.{with-bit, without-bit}
-use Rattle.edit_session.specs.Edits.{Edit, add, remove, source, target, rowAfter, withRow, edited}
-use Rattle.edit_session.proofs.Rows.{Outside, length-withRow, row-out, setAt-row, setAt-out, set-row}
-use Rattle.edit_session.proofs.Reaching.{Drawn}
+use Rattle.edit_session.specs.Edits.{Edit, add, remove, source, target, rowAfter, edited}
+use Rattle.edit_session.proofs.Reaching.{StepAdded}
 
 -- ---- the word of a step
 
@@ -33,28 +36,24 @@ module _ (store : List ℕ) (a b : ℕ) (ha : a < maxStates) (hb : b < maxStates
   abbrev row : Set
   row = setAt store (rowAt a)
 
-  -- a word of the row put through f
-  word-set : (f : ℕ → ℕ) {X : Set} → set row (b / 64) (f (getD row (b / 64) 0)) ≡ X
-      → set store (rowAt a + b / 64) (f (getD store (rowAt a + b / 64) 0)) ≡ withRow store a X
-  word-set f e =
-      set-row store a (omega arith) (b / 64) _ (omega arith)
-      ∙ ap (λ (x : ℕ). withRow store a (set row (b / 64) (f x))) (sym (getD-setAt store (rowAt a) (b / 64) (omega arith)))
-      ∙ ap (withRow store a) e
-
   module _ (fits : Bounded (2 ^ 64) store) where
     row-proper : Proper row
     row-proper = setAt-proper store (rowAt a) (omega arith) fits
 
-    pub draw-word : set store (rowAt a + b / 64) (bitOr (getD store (rowAt a + b / 64) 0) (1 * 2 ^ (b % 64) % 2 ^ 64)) ≡ edited store (add a b)
+    pub set-step-word : set store (rowAt a + b / 64) (bitOr (getD store (rowAt a + b / 64) 0) (1 * 2 ^ (b % 64) % 2 ^ 64)) ≡ edited store (add a b)
     unfolding edited rowAfter
-    draw-word = word-set (λ x. bitOr x (1 * 2 ^ (b % 64) % 2 ^ 64)) (with-bit row b row-proper (omega arith))
+    set-step-word = put-word store (rowAt a) (b / 64) (λ x. bitOr x (1 * 2 ^ (b % 64) % 2 ^ 64)) (omega arith) (omega arith) (with-bit row b row-proper (omega arith))
 
-    pub rub-out-word : set store (rowAt a + b / 64) (bitAnd (getD store (rowAt a + b / 64) 0) ((2 ^ 64 - 1) - 1 * 2 ^ (b % 64) % 2 ^ 64))
+    pub clear-step-word : set store (rowAt a + b / 64) (bitAnd (getD store (rowAt a + b / 64) 0) ((2 ^ 64 - 1) - 1 * 2 ^ (b % 64) % 2 ^ 64))
         ≡ edited store (remove a b)
     unfolding edited rowAfter
-    rub-out-word = word-set (λ x. bitAnd x ((2 ^ 64 - 1) - 1 * 2 ^ (b % 64) % 2 ^ 64)) (without-bit row b row-proper (omega arith))
+    clear-step-word =
+        put-word store (rowAt a) (b / 64) (λ x. bitAnd x ((2 ^ 64 - 1) - 1 * 2 ^ (b % 64) % 2 ^ 64)) (omega arith) (omega arith) (without-bit row b row-proper (omega arith))
 
 -- ---- the store after an edit
+
+abbrev pub Outside : ℕ → ℕ → Type 0
+Outside s i = (i < rowAt s) ⊎ (rowAt s + WORDS ≤ i)
 
 pub rowAfter-long : (X : Set) (e : Edit) → length (rowAfter X e) ≡ WORDS
 unfolding rowAfter union difference
@@ -71,33 +70,35 @@ module _ (store : List ℕ) (e : Edit) (ha : source e < maxStates) (h : storeWor
   abbrev before : Set
   before = setAt store (rowAt (source e))
 
-  fit : rowAt (source e) + WORDS ≤ length store
-  fit = omega arith
+  abbrev now : Set
+  now = rowAfter before e
+
+  fit : rowAt (source e) + length now ≤ length store
+  fit = omega (arith, rowAfter-long before e)
 
   pub edited-long : length (edited store e) ≡ length store
   unfolding edited
-  edited-long = length-withRow store (source e) _ fit (rowAfter-long before e)
+  edited-long = put-long (rowAt (source e)) now store fit
 
   pub edited-out : (i : ℕ) → Outside (source e) i → getD (edited store e) i 0 ≡ getD store i 0
   unfolding edited
-  edited-out = row-out store (source e) _ fit (rowAfter-long before e)
+  edited-out i out = put-other (rowAt (source e)) now store fit i (⊎-elim inl (λ l. inr (omega (arith, rowAfter-long before e))) out)
 
-  set-out : (at : ℕ) → at + WORDS ≤ length store → ((w : ℕ) → w < WORDS → Outside (source e) (at + w)) → setAt (edited store e) at ≡ setAt store at
+  set-out : (at : ℕ) → at + WORDS ≤ length store → (at + WORDS ≤ rowAt (source e)) ⊎ (rowAt (source e) + WORDS ≤ at) → setAt (edited store e) at ≡ setAt store at
   unfolding edited
-  set-out = setAt-out store (source e) _ fit (rowAfter-long before e)
+  set-out at l out = put-apart (rowAt (source e)) now store fit at l (⊎-elim inl (λ k. inr (omega (arith, rowAfter-long before e))) out)
 
   -- a set that stands before the rows
   pub head-same : (at : ℕ) → at + WORDS ≤ rowAt 0 → setAt (edited store e) at ≡ setAt store at
-  head-same at l = set-out at (omega arith) (λ w k. inl (omega arith))
+  head-same at l = set-out at (omega arith) (inl (omega arith))
 
   pub row-here : setAt (edited store e) (rowAt (source e)) ≡ rowAfter before e
-  unfolding edited
-  row-here = setAt-row store (source e) _ fit (rowAfter-long before e)
+  unfolding edited setAt
+  row-here = put-own (rowAt (source e)) now store fit WORDS (rowAfter-long before e)
 
   pub row-there : (s : ℕ) → s < maxStates → (s ≡ source e → ⊥) → setAt (edited store e) (rowAt s) ≡ setAt store (rowAt s)
   row-there s l ne =
-      set-out (rowAt s) (omega arith)
-      (λ w k. ⊎-elim (λ m. inl (omega arith)) (λ m. inr (omega (arith, ne))) (lt-or-ge s (source e)))
+      set-out (rowAt s) (omega arith) (⊎-elim (λ m. inl (omega arith)) (λ m. inr (omega (arith, ne))) (lt-or-ge s (source e)))
 
 module _ (store : List ℕ) (n g : ℕ) (e : Edit) (held : Store store n g) (ha : source e < n) (hb : target e < n) where
   low : source e < maxStates
@@ -140,6 +141,9 @@ module _ (store : List ℕ) (n g : ℕ) (e : Edit) (held : Store store n g) (ha 
   pub edited-longer : {after : List ℕ} → after ≡ edited store e → storeWords ≤ length after
   edited-longer q = omega (arith, edited-store .long, ap length q)
 
+  pub edited-rows : {after : List ℕ} → after ≡ edited store e → rowsWords ≤ length (rowsOf after)
+  edited-rows {after} q = rows-long after (edited-longer q)
+
   pub initial-same : (tableOf (edited store e) n g) .initial ≡ (tableOf store n g) .initial
   unfolding tableOf
   initial-same = head-same store e low (held .long) _ (omega arith)
@@ -154,9 +158,9 @@ module _ (store : List ℕ) (n g : ℕ) (e : Edit) (held : Store store n g) (ha 
   table-there s l ne =
       row-is (edited store e) n g s l ∙ row-there store e low (held .long) s (omega (arith, held .small)) ne ∙ sym (row-is store n g s l)
 
-pub drawn : (store : List ℕ) (n g a b : ℕ) → Store store n g → a < n → b < n → Drawn (tableOf store n g) (tableOf (edited store (add a b)) n g) a b
+pub step-added : (store : List ℕ) (n g a b : ℕ) → Store store n g → a < n → b < n → StepAdded (tableOf store n g) (tableOf (edited store (add a b)) n g) a b
 unfolding tableOf rowAfter
-drawn store n g a b held ha hb =
+step-added store n g a b held ha hb =
     let t = tableOf store n g in
     let t′ = tableOf (edited store (add a b)) n g in
     let here : t′ .row a ≡ union (t .row a) (single b) = table-here store n g (add a b) held ha hb in

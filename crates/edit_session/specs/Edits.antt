@@ -1,12 +1,11 @@
--- Steps drawn and rubbed out (the specification, "Edit sessions").
+-- Steps added and removed (02: drawn and rubbed out; the specification, "Edit sessions").
 --
 --   Edit, source e, target e            a step to add or to remove; the states that it leads from and to; adds e: it is one to add
 --   hasStep store a b                   the step a → b exists
 --   changesNothing store e              a step to add that exists, or one to remove that does not
---   withRow store s X                   the store with X for the successors of state s, and no other word
 --   edited store e                      the store after an edit: rowAfter is the row of its source
 --   opened t                            the states that can be reached from the initial ones, these included
---   lit t X e                           the set after an edit that makes t of the table
+--   reachableAfter t X e                the set after an edit that makes t of the table
 --   openAnswer store n g                opening: the answer is the set
 --   noStates n a b                      a or b is no state of a table of n states
 --   editGrounds store n g a b           the grounds of an edit, in order: those of opening come first
@@ -15,12 +14,11 @@ use Prim.Native.Nat.{ℕ}
 use mathlib.Core.Bool.{Bool, true, false, cond, not, _||_}
 use mathlib.Core.List.{List, [], _∷_, _++_}
 use lib.Dec.{leb}
-use lib.ListN.{take, drop}
 use Rattle.basics.specs.Refusals.{Ground, Answered, answer, unlessRefused}
 use Rattle.model.specs.Sets.{Set, member, single, union, difference}
 use Rattle.model.specs.Tables.{Table}
 use Rattle.model.specs.Stores.{rowAt, setAt, tableOf, sharedGrounds}
-use Rattle.model.specs.Calls.{overwrite}
+use Rattle.table.specs.Writing.{overwriteFrom}
 use Rattle.reach.specs.Reached.{reachable}
 
 pub data Edit : Type 0 where
@@ -53,22 +51,19 @@ unfoldable pub rowAfter : Set → Edit → Set
 rowAfter X (add a b) = union X (single b)
 rowAfter X (remove a b) = difference X (single b)
 
-unfoldable pub withRow : List ℕ → ℕ → Set → List ℕ
-withRow store s X = take (rowAt s) store ++ overwrite X (drop (rowAt s) store)
-
 unfoldable pub edited : List ℕ → Edit → List ℕ
-edited store e = withRow store (source e) (rowAfter (setAt store (rowAt (source e))) e)
+edited store e = let at = rowAt (source e) in overwriteFrom at (rowAfter (setAt store at) e) store
 
 -- ---- the set
 
 unfoldable pub opened : Table → Set
 opened t = reachable t (t .initial)
 
--- From an unlit state the set is left alone; from a lit one all that the target reaches is joined to it; a step less, and it is worked out from
--- the initial states.
-unfoldable pub lit : Table → Set → Edit → Set
-lit t X (add a b) = cond (member X a) (union X (reachable t (single b))) X
-lit t X (remove a b) = opened t
+-- From a state outside the set (02: unlit) it is left alone; from a state in it (lit) all that the target reaches is joined to it; a step less, and
+-- it is worked out from the initial states.
+unfoldable pub reachableAfter : Table → Set → Edit → Set
+reachableAfter t X (add a b) = cond (member X a) (union X (reachable t (single b))) X
+reachableAfter t X (remove a b) = opened t
 
 -- ---- the calls
 
@@ -87,7 +82,7 @@ editGrounds store n g a b = sharedGrounds store n g ++ (stateGround n a b ∷ []
 
 unfoldable pub editAnswer : List ℕ → ℕ → ℕ → Set → Edit → Answered Set
 editAnswer store n g X e =
-    answer (editGrounds store n g (source e) (target e)) (cond (changesNothing store e) X (lit (tableOf (edited store e) n g) X e))
+    answer (editGrounds store n g (source e) (target e)) (cond (changesNothing store e) X (reachableAfter (tableOf (edited store e) n g) X e))
 
 unfoldable pub editBuffer : List ℕ → ℕ → ℕ → Edit → List ℕ
 editBuffer store n g e =

@@ -1,3 +1,3 @@
 pub mod Edits
-pub mod Answers
-pub mod Promises
+pub mod SessionAnswers
+pub mod SessionPromises

@@ -1,10 +1,12 @@
-// Edit sessions (docs/SPECIFICATION.md, "Edit sessions"): the states that can be reached, kept while steps are drawn and rubbed out. The
+// Edit sessions (docs/SPECIFICATION.md, "Edit sessions"): the states that can be reached, kept while steps are added and removed. The
 // table is in the lent store; the set goes in by value and comes back by value.
 //
-//   has_step, draw, rub_out      a step of the store: whether it exists, drawn, rubbed out
+//   has_step                     whether a step exists
+//   set_step, clear_step         its bit set, or cleared, in the store
 //   from_initial                 what the initial states reach
 //   edit_refusal                 the first of the grounds 10, 14, 15, 17 and 27 that holds, or 0
 //   Status, Session              what a call answers
+//   edit                         a step added or removed
 //   open, add_step, remove_step  the calls
 ghost use mathlib.Core.Path.{_≡_};
 ghost use Prim.Native.Nat.{_≤_, _<_};
@@ -13,11 +15,13 @@ ghost use Rattle.model.specs.Sets.{maxStates};
 ghost use Rattle.basics.specs.Refusals.{refuse};
 ghost use Rattle.model.specs.Stores.{storeWords, setAt};
 ghost use Rattle.model.specs.Promises.{IsLeast};
+ghost use Rattle.table.specs.Rows.{rowsOf};
 ghost use Rattle.reach.specs.Reached.{reachBy};
 ghost use Rattle.edit_session.specs.Edits.{add, remove, hasStep, edited, editGrounds};
-ghost use Rattle.edit_session.specs.Answers.{CalledOpen, CalledEdit};
+ghost use Rattle.edit_session.specs.SessionAnswers.{CalledOpen, editOf, CalledEdit};
 use reach::reached;
 use state_set::StateSet;
+use state_set::WORD_BITS;
 use state_set::WORDS;
 use table::ROWS_AT;
 use table::refusal;
@@ -28,30 +32,30 @@ fn has_step(store: &[u64], from: usize, to: usize) -> bool
     requires { ⌜ (from < maxStates) × (storeWords ≤ length (now store)) ⌝ }
     ensures { λ r. ⌜ r ≡ hasStep (now (store .entry)) from to ⌝ }
 {
-    row_at(store, from).contains(to)
+    row_at(&store[ROWS_AT..], from).contains(to)
 }
 
 // The bit of the step, in its one word.
-fn draw(store: &mut [u64], from: usize, to: usize)
+fn set_step(store: &mut [u64], from: usize, to: usize)
     requires { ⌜ (from < maxStates) × (to < maxStates) × (storeWords ≤ length (now store)) ⌝ }
     ensures { λ r. ⌜ now (store .exit) ≡ edited (now (store .entry)) (add from to) ⌝ }
 {
-    store[ROWS_AT + WORDS * from + to / 64] |= 1 << (to % 64);
+    store[ROWS_AT + WORDS * from + to / WORD_BITS] |= 1 << (to % WORD_BITS);
 }
 
-fn rub_out(store: &mut [u64], from: usize, to: usize)
+fn clear_step(store: &mut [u64], from: usize, to: usize)
     requires { ⌜ (from < maxStates) × (to < maxStates) × (storeWords ≤ length (now store)) ⌝ }
     ensures { λ r. ⌜ now (store .exit) ≡ edited (now (store .entry)) (remove from to) ⌝ }
 {
-    store[ROWS_AT + WORDS * from + to / 64] &= !(1 << (to % 64));
+    store[ROWS_AT + WORDS * from + to / WORD_BITS] &= !(1 << (to % WORD_BITS));
 }
 
 // What the initial states reach.
 fn from_initial(store: &[u64]) -> StateSet
     requires { ⌜ storeWords ≤ length (now store) ⌝ }
-    ensures { λ r. ⌜ IsLeast (reachBy (now (store .entry)) (setAt (now (store .entry)) 0)) (r .words) ⌝ }
+    ensures { λ r. ⌜ IsLeast (reachBy (rowsOf (now (store .entry))) (setAt (now (store .entry)) 0)) (r .words) ⌝ }
 {
-    reached(store, set_at(store, 0))
+    reached(&store[ROWS_AT..], set_at(store, 0))
 }
 
 // Why an edit is refused, or 0.
@@ -99,7 +103,70 @@ pub fn open(store: &[u64], n: usize, g: usize) -> Session
     }
 }
 
-// Nothing is pruned at states of the set that was handed in: it need not have the steps out of them.
+// What is done to a step.
+enum Change {
+    Add,
+    Remove,
+}
+
+// A step added or removed. Nothing is pruned at states of the set that was handed in: it need not have the steps out of them.
+fn edit(
+    store: &mut [u64],
+    n: usize,
+    g: usize,
+    reachable: StateSet,
+    change: Change,
+    from: usize,
+    to: usize,
+) -> Session
+    ensures { λ r. ⌜ CalledEdit (now (store .entry)) n g (reachable .words) (editOf change from to) r (now (store .exit)) ⌝ }
+{
+    let refused = edit_refusal(store, n, g, from, to);
+    if refused != 0 {
+        return Session {
+            reachable,
+            status: Status::Refused(refused),
+        };
+    }
+    let exists = has_step(store, from, to);
+    match change {
+        Change::Add => {
+            if exists {
+                return Session {
+                    reachable,
+                    status: Status::Accepted,
+                };
+            }
+            set_step(store, from, to);
+            if !reachable.contains(from) {
+                return Session {
+                    reachable,
+                    status: Status::Accepted,
+                };
+            }
+            let found = reached(&store[ROWS_AT..], StateSet::single(to));
+            Session {
+                reachable: reachable.union(found),
+                status: Status::Accepted,
+            }
+        }
+        Change::Remove => {
+            if !exists {
+                return Session {
+                    reachable,
+                    status: Status::Accepted,
+                };
+            }
+            clear_step(store, from, to);
+            let found = from_initial(store);
+            Session {
+                reachable: found,
+                status: Status::Accepted,
+            }
+        }
+    }
+}
+
 pub fn add_step(
     store: &mut [u64],
     n: usize,
@@ -110,31 +177,7 @@ pub fn add_step(
 ) -> Session
     ensures { λ r. ⌜ CalledEdit (now (store .entry)) n g (reachable .words) (add from to) r (now (store .exit)) ⌝ }
 {
-    let refused = edit_refusal(store, n, g, from, to);
-    if refused != 0 {
-        return Session {
-            reachable,
-            status: Status::Refused(refused),
-        };
-    }
-    if has_step(store, from, to) {
-        return Session {
-            reachable,
-            status: Status::Accepted,
-        };
-    }
-    draw(store, from, to);
-    if !reachable.contains(from) {
-        return Session {
-            reachable,
-            status: Status::Accepted,
-        };
-    }
-    let found = reached(store, StateSet::single(to));
-    Session {
-        reachable: reachable.union(found),
-        status: Status::Accepted,
-    }
+    edit(store, n, g, reachable, Change::Add, from, to)
 }
 
 pub fn remove_step(
@@ -147,23 +190,5 @@ pub fn remove_step(
 ) -> Session
     ensures { λ r. ⌜ CalledEdit (now (store .entry)) n g (reachable .words) (remove from to) r (now (store .exit)) ⌝ }
 {
-    let refused = edit_refusal(store, n, g, from, to);
-    if refused != 0 {
-        return Session {
-            reachable,
-            status: Status::Refused(refused),
-        };
-    }
-    if !has_step(store, from, to) {
-        return Session {
-            reachable,
-            status: Status::Accepted,
-        };
-    }
-    rub_out(store, from, to);
-    let lit = from_initial(store);
-    Session {
-        reachable: lit,
-        status: Status::Accepted,
-    }
+    edit(store, n, g, reachable, Change::Remove, from, to)
 }

@@ -15,7 +15,7 @@ use Rattle.model.specs.Blocks.{contentBytes, blocksFor}
 use Rattle.model.specs.Contents.{newForm, headerBytes, contentLength}
 use Rattle.basics.proofs.BoundLaws.{length-tabulate}
 use Rattle.file_blocks.specs.Places.{contentFrom}
-use Rattle.file_blocks.proofs.Overwriting.{Over, over-none, over-next}
+use Rattle.table.proofs.Overwriting.{Over, over-none, over-next}
 
 -- ---- content copied
 

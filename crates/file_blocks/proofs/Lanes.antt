@@ -17,7 +17,7 @@ use Rattle.model.proofs.ListLaws.{getD-behind}
 use Rattle.file_blocks.specs.Lanes.{lanes, byteMost, plus, Most}
 use Rattle.file_blocks.specs.Places.{contentFrom}
 use Rattle.file_blocks.proofs.BlockLaws.{length-contentFrom}
-use Rattle.file_blocks.proofs.Overwriting.{Over, over-none, over-next, over-all}
+use Rattle.table.proofs.Overwriting.{Over, over-none, over-next, over-all}
 
 -- ---- a row added to another
 

@@ -4,18 +4,15 @@
 --   placeOf form g k      where set k of a file with g groups begins: before the groups, among them, or among the rows
 --   contentFrom bytes from count
 --                         so many bytes from a place on, with 0 past the last
---   overwriteFrom at xs old
---                         xs written from `at` on over a buffer that held old, the rest of it untouched
 use Prim.Native.Nat.{ℕ, _+_, _*_, _-_}
 use mathlib.Core.Bool.{cond}
-use mathlib.Core.List.{List, _++_}
+use mathlib.Core.List.{List}
 use lib.Dec.{ltb}
-use lib.ListN.{getD, take, drop}
+use lib.ListN.{getD}
 use Rattle.basics.specs.Bounds.{tabulate}
 use Rattle.model.specs.Sets.{WORDS}
 use Rattle.model.specs.Stores.{groupAt, rowAt}
 use Rattle.model.specs.Contents.{Form as FileForm, oldForm, newForm, heads}
-use Rattle.model.specs.Calls.{overwrite}
 use Rattle.file_blocks.specs.declared.Form.{Form}
 use Rattle.file_blocks.specs.declared.Form.the-variants.{Old, New}
 
@@ -29,6 +26,3 @@ placeOf form g k =
 
 unfoldable pub contentFrom : List ℕ → ℕ → ℕ → List ℕ
 contentFrom bytes from count = tabulate count (λ i. getD bytes (from + i) 0)
-
-unfoldable pub overwriteFrom : ℕ → List ℕ → List ℕ → List ℕ
-overwriteFrom at xs old = take at old ++ overwrite xs (drop at old)

@@ -1,13 +1,14 @@
 // What reading and writing a file share (the specification, "Files").
 //
-//   BLOCK, CONTENT, CONTENT_AT, CHECK_AT     a block's bytes, those of its content, and where its content and its check begin
+//   BLOCK, CONTENT_BYTES                     a block's bytes, and those of its content
+//   CONTENT_AT, CHECK_AT                     where its content begins, and its check
 //   HEADER                                   the content bytes of n and of the second number, before the sets
-//   MAX_FILE, CONTENTS                       the length of the largest file, and its content bytes
+//   MAX_FILE, JOINED_ROOM                    the length of the largest file, and the bytes that its contents take, joined
 //   Form, head_sets, added                   the form of a file; its sets before the groups, how many; what its second number has more than g
 //   wide                                     a byte as a 64-bit number
 //   le16_at                                  the number whose two bytes stand at a place, low byte first
 //   copy_content                             the content of a block, copied
-//   MODULUS, MAX_SITE, check_of              the prime of the check; the greatest site number; the check of a block for a site
+//   MODULUS, MAX_SITE, checksum_of           the prime of the checksum; the greatest site number; the checksum of a block for a site (01: its check)
 //   whole_chunks                             the part of its sum that is taken a chunk at a time, LANES bytes side by side
 //   add_lanes, add_bytes                     a row of lanes, or a chunk of bytes, added to a row of lanes
 //   total, weighted, wide_lane               the sum of a row, and its weighted sum; a lane as a 32-bit number
@@ -24,16 +25,16 @@ ghost use Rattle.model.specs.Contents.{newForm, heads, added, setWidth, content
 ghost use Rattle.model.specs.Calls.{overwrite};
 ghost use Rattle.file_blocks.specs.Lanes.{lanes, chunks, byteMost, laneMost, total, plus, Most};
 ghost use Rattle.file_blocks.specs.Places.{formOf, placeOf, contentFrom};
+use state_set::MAX_STATES;
 use state_set::WORDS;
 use table::GROUPS_AT;
 use table::HEAD_SETS;
 use table::MAX_GROUPS;
-use table::MAX_STATES;
 use table::ROWS_AT;
 
 pub const BLOCK: usize = 512;
 
-pub const CONTENT: usize = 508;
+pub const CONTENT_BYTES: usize = 508;
 
 pub const CONTENT_AT: usize = 2;
 
@@ -43,17 +44,17 @@ pub const HEADER: usize = 4;
 
 // The length of the largest file, of either form.
 pub const MAX_FILE: usize = BLOCK
-    * ((HEADER + (MAX_STATES + 7) / 8 * (HEAD_SETS + MAX_GROUPS + MAX_STATES) + CONTENT - 1)
-        / CONTENT);
+    * ((HEADER + (MAX_STATES + 7) / 8 * (HEAD_SETS + MAX_GROUPS + MAX_STATES) + CONTENT_BYTES - 1)
+        / CONTENT_BYTES);
 
 // The content bytes of the largest file.
-pub const CONTENTS: usize = CONTENT * (MAX_FILE / BLOCK);
+pub const JOINED_ROOM: usize = CONTENT_BYTES * (MAX_FILE / BLOCK);
 
 // The sets before the groups of a file of the old form: initial and marked.
 const OLD_HEAD_SETS: usize = 2;
 
 // What is added to g in the second number of a file of the new form.
-const ADDED: usize = 32768;
+const ADDED_TO_G: usize = 32768;
 
 // The prime of the check.
 const MODULUS: u32 = 65521;
@@ -80,7 +81,7 @@ pub fn added(form: Form) -> usize
 {
     match form {
         Form::Old => 0,
-        Form::New => ADDED,
+        Form::New => ADDED_TO_G,
     }
 }
 
@@ -102,7 +103,7 @@ pub fn copy_content(bytes: &[u8], from: usize, out: &mut [u8])
     requires { ⌜ (from + contentBytes ≤ length (now bytes)) × (contentBytes ≤ length (now out)) ⌝ }
     ensures { λ r. ⌜ now (out .exit) ≡ overwrite (contentFrom (now (bytes .entry)) from contentBytes) (now (out .entry)) ⌝ }
 {
-    for i in 0..CONTENT {
+    for i in 0..CONTENT_BYTES {
         out[i] = bytes[from + i];
     }
 }
@@ -173,7 +174,7 @@ fn whole_chunks(block: &[u8]) -> u32
 }
 
 // The sum starts from the site and the whole chunks. It stays below 2^32, so it is reduced once, at the end.
-pub fn check_of(block: &[u8], site: usize) -> u64
+pub fn checksum_of(block: &[u8], site: usize) -> u64
     requires { ⌜ (checkAt ≤ length (now block)) × (site ≤ maxSite) ⌝ }
     ensures { λ r. ⌜ r ≡ checkOf site (now (block .entry)) ⌝ }
 {
@@ -209,7 +210,7 @@ pub fn blocks_for(l: usize) -> usize
     requires { ⌜ l ≤ contentLength newForm maxStates maxGroups ⌝ }
     ensures { λ r. ⌜ r ≡ blocksFor l ⌝ }
 {
-    (l + CONTENT - 1) / CONTENT
+    (l + CONTENT_BYTES - 1) / CONTENT_BYTES
 }
 
 // Where set k of the file begins in the store.

@@ -1,3 +1,4 @@
 pub mod Reports
 pub mod Lines
 pub mod ReportedKept
+pub mod WorkedFilesKept

@@ -3,8 +3,9 @@
 --   noFeed, feed-append, feed-decimal    a list without a line feed: two of them joined; the digits of a number
 --   after-line                           what stands behind the first line feed
 --   states-line                          behind line 1 of a report
---   unsafe-line, refused-end             so line 2 of an unsafe report, and of a refusal, does not begin with the word safe
-use Prim.Native.Nat.{ℕ, zero, suc, _+_, _/_, _%_}
+--   safe-behind, unsafe-behind, refused-behind     so lines 2 and 3 of each report, and of a refusal, which has none
+--   first-letter                         of what a text begins with
+use Prim.Native.Nat.{ℕ, zero, suc, _+_, _/_, _%_, _<_}
 use native.Mathlib.Omega.{arith}
 use mathlib.Core.Path.{_≡_, refl, sym, ap, _∙_}
 use mathlib.Core.Bool.{Bool, true, not, _&&_}
@@ -12,8 +13,10 @@ use mathlib.Core.List.{List, [], _∷_, _++_, append-assoc, append-nil}
 use borrow.Author.Tests.{ne-eqb}
 use lib.Dec.{eqb, ltb}
 use lib.ListN.{take, getD}
+use lib.Seq.{getD-take}
 use Rattle.basics.proofs.BoundLaws.{and-true, and-intro, not-true, by-cond}
-use Rattle.report.specs.Text.{ascii, digits, decimal, statesLine, verdictLine, pathLine, unsafeText, refusedText}
+use Rattle.model.specs.Sets.{Set}
+use Rattle.report.specs.Text.{ascii, digits, decimal, statesLine, verdictLine, invariantLine, pathLine, safeText, unsafeText, refusedText}
 use Rattle.file_check.specs.Reported.{afterLine}
 
 abbrev noFeed : List ℕ → Bool
@@ -57,19 +60,19 @@ states-line n g ys =
 
 -- ---- line 2
 
-pub unsafe-line : (n g i : ℕ) (xs : List ℕ) → take 5 (afterLine (unsafeText n g i xs)) ≡ ascii "safe " → ⊥
-unfolding ascii verdictLine unsafeText
-unsafe-line n g i xs e =
-    let behind : afterLine (unsafeText n g i xs) ≡ verdictLine (ascii "unsafe") i ++ pathLine xs =
-    ap afterLine (append-assoc (statesLine n g) (verdictLine (ascii "unsafe") i) (pathLine xs)) ∙ states-line n g _ in
-    let differ : _≡_ {A = ℕ} 117 115 = ap (λ (ys : List ℕ). getD ys 0 0) (sym (ap (take 5) behind) ∙ e) in
-    omega arith
+pub safe-behind : (n g i : ℕ) (X : Set) → afterLine (safeText n g i X) ≡ verdictLine (ascii "safe") i ++ invariantLine X
+unfolding safeText
+safe-behind n g i X = ap afterLine (append-assoc (statesLine n g) (verdictLine (ascii "safe") i) (invariantLine X)) ∙ states-line n g _
 
-pub refused-end : (k : ℕ) → take 5 (afterLine (refusedText k)) ≡ ascii "safe " → ⊥
+pub unsafe-behind : (n g i : ℕ) (xs : List ℕ) → afterLine (unsafeText n g i xs) ≡ verdictLine (ascii "unsafe") i ++ pathLine xs
+unfolding unsafeText
+unsafe-behind n g i xs = ap afterLine (append-assoc (statesLine n g) (verdictLine (ascii "unsafe") i) (pathLine xs)) ∙ states-line n g _
+
+pub refused-behind : (k : ℕ) → afterLine (refusedText k) ≡ []
 unfolding ascii refusedText
-refused-end k e =
-    let label = ascii "refused " ++ decimal k in
-    let behind : afterLine (refusedText k) ≡ [] =
-    ap afterLine (sym (append-nil (refusedText k))) ∙ after-line label [] (feed-append (ascii "refused ") (decimal k) refl (feed-decimal k)) in
-    let differ : _≡_ {A = ℕ} 0 115 = ap (λ (ys : List ℕ). getD ys 0 0) (sym (ap (take 5) behind) ∙ e) in
-    omega arith
+refused-behind k =
+    ap afterLine (sym (append-nil (refusedText k)))
+    ∙ after-line (ascii "refused " ++ decimal k) [] (feed-append (ascii "refused ") (decimal k) refl (feed-decimal k))
+
+pub first-letter : (m : ℕ) (xs : List ℕ) {ys : List ℕ} → 0 < m → take m xs ≡ ys → getD xs 0 0 ≡ getD ys 0 0
+first-letter m xs h e = sym (getD-take m xs 0 0 h) ∙ ap (λ (zs : List ℕ). getD zs 0 0) e

@@ -13,7 +13,7 @@ use mathlib.Core.List.{List}
 use borrow.Author.Tests.{ltb-true, lt-ltb, le-ltb}
 use lib.ListN.{length, take}
 use Rattle.basics.specs.Refusals.{refuse, Answered, refused, answered, unlessRefused}
-use Rattle.basics.proofs.RefusalLaws.{refuse-skip, refuse-take, answer-refused, answer-clear}
+use Rattle.basics.proofs.RefusalLaws.{refuse-first, answer-refused, answer-clear}
 use Rattle.model.specs.Sets.{maxStates, Set}
 use Rattle.model.specs.Tables.{Table}
 use Rattle.model.specs.Rounds.{Outcome, safe, unsafe, undecided, run}
@@ -21,7 +21,7 @@ use Rattle.model.specs.Paths.{shortest, hasPath}
 use Rattle.model.specs.Stores.{maxGroups, storeWords, tableOf}
 use Rattle.model.specs.Blocks.{maxSite}
 use Rattle.model.specs.Calls.{overwrite, release, Decision, decisionOf, decideAnswer, decideBuffer, readAnswer, readBuffer}
-use Rattle.model.proofs.WellFormed.{WellFormed}
+use Rattle.model.specs.WellFormed.{WellFormed}
 use Rattle.model.proofs.RoundLaws.{unsafe-path}
 use Rattle.model.proofs.PathLaws.{has-path}
 use Rattle.model.proofs.Acceptance.{well-formed, check-of}
@@ -29,7 +29,7 @@ use Rattle.model.proofs.Ranges.{decide-range}
 use Rattle.rounds.specs.declared.Verdict.{Verdict}
 use Rattle.rounds.specs.declared.Verdict.the-variants as verdict
 use Rattle.rounds.specs.declared.Decision.{Decision as Decision·code}
-use Rattle.rounds.specs.Answers.{answersWith, answerOf}
+use Rattle.rounds.specs.DecideAnswers.{decidedWith, decidedOf}
 use Rattle.report.specs.Text.{safeText, unsafeText, undecidedText, reportText, refusedText}
 use Rattle.report.specs.Put.{textRoom, Front}
 use Rattle.file_check.specs.declared.Checked.the-variants.{Safe, Unsafe, RefusedFile, Refused}
@@ -48,12 +48,12 @@ steps-few t w h (unsafe i) q =
     omega (arith, ltb-true (shortest t) (t .n) (has-path w (path .0) (path .1)))
 steps-few t w h (undecided i) q = omega arith
 
-lengthIs : (v : FileVerdict) {l m : ℕ} → l ≡ m → _≡_ {A = Answered CheckedFile} (answered (record { length = l; verdict = v })) (answered (record { length = m; verdict = v }))
-lengthIs v e = ap (λ (k : ℕ). answered (record { length = k; verdict = v })) e
+lengthIs : (v : FileVerdict) {l m : ℕ} → l ≡ m → _≡_ {A = Answered CheckedFile} (answered (record { textLength = l; verdict = v })) (answered (record { textLength = m; verdict = v }))
+lengthIs v e = ap (λ (k : ℕ). answered (record { textLength = k; verdict = v })) e
 
 -- decide's answer, by the case that it gave
-pub told : (r : Decision·code) {v : Verdict} {x : Answered Decision} → r .verdict ≡ v → answerOf r ≡ x → answersWith v (r .invariant .words) ≡ x
-told r e f = sym (ap (λ (v : Verdict). answersWith v (r .invariant .words)) e) ∙ f
+pub told : (r : Decision·code) {v : Verdict} {x : Answered Decision} → r .verdict ≡ v → decidedOf r ≡ x → decidedWith v (r .invariant .words) ≡ x
+told r e f = sym (ap (λ (v : Verdict). decidedWith v (r .invariant .words)) e) ∙ f
 
 module _ (store : List ℕ) (n g : ℕ) where
   pub report-range : {a : Decision} → answered a ≡ decideAnswer store n g release maxStates
@@ -69,18 +69,18 @@ module _ (store : List ℕ) (n g : ℕ) where
       (held .small, held .few, decide-range store n g release maxStates (sym e) .count, steps)
 
   module _ {before after : List ℕ} {end : ℕ} where
-    pub safe-reported : {i k : ℕ} {X : Set} → answersWith (verdict.Safe i k) X ≡ decideAnswer store n g release maxStates
+    pub safe-reported : {i k : ℕ} {X : Set} → decidedWith (verdict.Safe i k) X ≡ decideAnswer store n g release maxStates
         → Front (safeText n g i X) before end after → Reports (checkTable store n g) before (checkedOf (Safe end n)) after
     unfolding checkTable reportText
     safe-reported e f = rw (← e) (lengthIs (check.safe n) (f .ends), f .bytes)
 
-    pub unsafe-reported : {i d : ℕ} {X : Set} {path : List ℕ} → answersWith (verdict.Unsafe i d) X ≡ decideAnswer store n g release maxStates
+    pub unsafe-reported : {i d : ℕ} {X : Set} {path : List ℕ} → decidedWith (verdict.Unsafe i d) X ≡ decideAnswer store n g release maxStates
         → path ≡ decideBuffer store n g release zeroPath
         → Front (unsafeText n g i (take (d + 1) path)) before end after → Reports (checkTable store n g) before (checkedOf (Unsafe end n)) after
     unfolding checkTable reportText
     unsafe-reported e p f = rw (← e, ← p) (lengthIs (check.unsafe n) (f .ends), f .bytes)
 
-    pub undecided-reported : {i : ℕ} {X : Set} → answersWith (verdict.Undecided i) X ≡ decideAnswer store n g release maxStates
+    pub undecided-reported : {i : ℕ} {X : Set} → decidedWith (verdict.Undecided i) X ≡ decideAnswer store n g release maxStates
         → Front (undecidedText n g i) before end after → Reports (checkTable store n g) before (checkedOf (Unsafe end n)) after
     unfolding checkTable reportText
     undecided-reported e f = rw (← e) (lengthIs (check.unsafe n) (f .ends), f .bytes)
@@ -120,8 +120,8 @@ module _ (input : List ℕ) (site : ℕ) (before : List ℕ) where
       (sym no, sym (ap (unlessRefused before (λ (a : CheckedFile). overwrite (checkText input site) before)) no))
 
   pub site-refused : maxSite < site → CalledCheck input site before (Refused 24) before
-  site-refused h = call-refused (sym (refuse-take _ 24 _ (lt-ltb maxSite site h))) (λ e. omega arith)
+  site-refused h = call-refused (refuse-first 0 _ (lt-ltb maxSite site h)) (λ e. omega arith)
 
   pub room-refused : site ≤ maxSite → length before < textRoom → CalledCheck input site before (Refused 19) before
   room-refused known h =
-      call-refused (sym (refuse-skip _ 24 _ (le-ltb maxSite site known) ∙ refuse-take _ 19 _ (lt-ltb (length before) textRoom h))) (λ e. omega arith)
+      call-refused (refuse-first 1 _ (le-ltb maxSite site known, lt-ltb (length before) textRoom h)) (λ e. omega arith)

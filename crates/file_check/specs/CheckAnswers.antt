@@ -21,11 +21,11 @@ use Rattle.file_check.specs.declared.Checked.the-variants.{Safe, Unsafe,
 use Rattle.file_check.specs.CheckText.{ReleaseCheck, releaseCheck, textFor, FileVerdict, safe, unsafe, refusedFile, verdictFor, checkText}
 
 pub record CheckedFile : Type 0 where
-  pub length : ℕ
+  pub textLength : ℕ
   pub verdict : FileVerdict
 
 abbrev pub checkedFile : Answered ReleaseCheck → CheckedFile
-checkedFile x = record { length = length (textFor x); verdict = verdictFor x }
+checkedFile x = record { textLength = length (textFor x); verdict = verdictFor x }
 
 -- For an output of `room` bytes.
 abbrev pub checkGrounds : ℕ → ℕ → List Ground
@@ -39,9 +39,9 @@ checkBuffer input site output =
     unlessRefused output (λ a. overwrite (checkText input site) output) (checkAnswer input site (length output))
 
 abbrev pub checkedOf : Checked → Answered CheckedFile
-checkedOf (Safe l n) = answered (record { length = l; verdict = safe n })
-checkedOf (Unsafe l n) = answered (record { length = l; verdict = unsafe n })
-checkedOf (RefusedFile l k) = answered (record { length = l; verdict = refusedFile k })
+checkedOf (Safe l n) = answered (record { textLength = l; verdict = safe n })
+checkedOf (Unsafe l n) = answered (record { textLength = l; verdict = unsafe n })
+checkedOf (RefusedFile l k) = answered (record { textLength = l; verdict = refusedFile k })
 checkedOf (Refused k) = refused k
 
 abbrev pub Reports : Answered ReleaseCheck → List ℕ → Answered CheckedFile → List ℕ → Type 0

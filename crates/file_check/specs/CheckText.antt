@@ -52,7 +52,7 @@ pub data FileVerdict : Type 0 where
   unsafe : ℕ → FileVerdict
   refusedFile : ℕ → FileVerdict
 
--- Whatever is not safe is unsafe: undecided, which a release check never is, among it.
+-- Whatever is not safe is unsafe, so undecided too, which a release check never is.
 abbrev pub verdictFor : Answered ReleaseCheck → FileVerdict
 verdictFor (refused k) = refusedFile k
 verdictFor (answered c) = cond (eqb (c .decision .verdict) 0) (safe (c .n)) (unsafe (c .n))

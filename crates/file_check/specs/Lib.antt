@@ -1,3 +1,4 @@
 pub mod CheckText
 pub mod CheckAnswers
 pub mod Reported
+pub mod WorkedFiles

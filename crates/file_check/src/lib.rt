@@ -18,7 +18,7 @@ use report::write_unsafe;
 use rounds::MAX_ALLOWANCE;
 use rounds::Verdict;
 use rounds::decide;
-use table::MAX_STATES;
+use state_set::MAX_STATES;
 use table::STORE_WORDS;
 
 // Bytes of output that hold the text of any file.

@@ -3,24 +3,24 @@
 --   blockContent input k     the content of block k, as code copies it
 --   joining-all              a loop that copies them one behind the other has joined the contents
 --   joined-room, joined-fits they have room in the buffer of `read_as`
---   joined                   and are then its front
+--   joined                   and are then its front; said: a number of two bytes in the first block of it
 use Prim.Native.Nat.{ℕ, _+_, _*_, _/_, _≤_, _<_}
 use native.Mathlib.Nat.{add-assoc}
 use native.Mathlib.Omega.{arith}
-use mathlib.Core.Path.{_≡_, sym, ap, _∙_, subst}
+use mathlib.Core.Path.{_≡_, sym, ap, ap₂, _∙_, subst}
 use mathlib.Core.List.{List}
 use lib.ListN.{length, getD, take, drop, replicate, length-append, length-drop, length-replicate}
 use lib.Seq.{ext-getD, length-take-le, getD-take, getD-drop}
 use Rattle.basics.specs.Bounds.{concat}
-use Rattle.model.specs.Blocks.{blockBytes, contentBytes, contentAt, part, contentsOf}
+use Rattle.model.specs.Blocks.{blockBytes, contentBytes, contentAt, le16At, part, contentsOf}
 use Rattle.model.specs.Files.{maxFile}
 use Rattle.model.specs.Calls.{overwrite}
 use Rattle.basics.proofs.BoundLaws.{getD-tabulate}
-use Rattle.model.proofs.ListLaws.{concat-cong, take-overwrite}
+use Rattle.model.proofs.ListLaws.{concat-cong, take-overwrite, overwrite-front}
 use Rattle.model.proofs.BlockLaws.{length-part, getD-part, length-contentsOf}
 use Rattle.file_blocks.specs.Places.{contentFrom}
 use Rattle.file_blocks.proofs.BlockLaws.{length-contentFrom, contentsRoom}
-use Rattle.file_blocks.proofs.Overwriting.{Over, over-all}
+use Rattle.table.proofs.Overwriting.{Over, over-all}
 
 abbrev pub blockContent : List ℕ → ℕ → List ℕ
 blockContent input k = contentFrom input (blockBytes * k + contentAt) contentBytes
@@ -58,3 +58,10 @@ module _ (input : List ℕ) (m : ℕ) where
     joined =
         ap (take (contentBytes * (length input / blockBytes))) e
         ∙ take-overwrite (contentsOf input) (replicate m 0) (contentBytes * (length input / blockBytes)) (length-contentsOf input)
+
+    -- what stands among the first bytes
+    pub said : blockBytes ≤ length input → (i : ℕ) → i + 1 < contentBytes → le16At out i ≡ le16At (contentsOf input) i
+    said h i l =
+        let byte : (j : ℕ) → j < contentBytes → getD out j 0 ≡ getD (contentsOf input) j 0 =
+        λ j b. ap (λ (xs : List ℕ). getD xs j 0) e ∙ overwrite-front (contentsOf input) (replicate m 0) j 0 (omega (arith, length-contentsOf input)) in
+        ap₂ (λ (a b : ℕ). a + 256 * b) (byte i (omega arith)) (byte (i + 1) l)

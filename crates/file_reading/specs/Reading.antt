@@ -4,22 +4,21 @@
 --   TableInside form bytes n g  n and g are in bounds, and their table stands in the contents
 --   outerGrounds input site room
 --                               the grounds that are looked at before the contents
---   cleared store               a store whose words of a table are 0
 --   fillSets form bytes n g k store
 --                               the first k sets of the contents, each put into its own words of a store
-use Prim.Native.Nat.{ℕ, zero, suc, _+_, _*_, _≤_}
+use Prim.Native.Nat.{ℕ, _+_, _*_, _≤_}
 use mathlib.Core.Bool.{cond}
 use mathlib.Core.List.{List, [], _∷_}
 use lib.Dec.{eqb}
 use lib.ListN.{length}
-use Rattle.basics.specs.Bounds.{tabulate}
 use Rattle.model.specs.Sets.{maxStates}
 use Rattle.basics.specs.Refusals.{Ground}
-use Rattle.model.specs.Stores.{maxGroups, storeWords, storeGround}
+use Rattle.model.specs.Stores.{maxGroups, storeGround}
 use Rattle.model.specs.Blocks.{siteGround}
 use Rattle.model.specs.Contents.{Form, contentLength, setNumber}
-use Rattle.model.specs.Calls.{overwrite, badLength, blocksGrounds}
-use Rattle.file_blocks.specs.Places.{placeOf, overwriteFrom}
+use Rattle.model.specs.Calls.{badLength, blocksGrounds}
+use Rattle.table.specs.Writing.{putSets}
+use Rattle.file_blocks.specs.Places.{placeOf}
 
 pub record SetInside (bytes : List ℕ) (w at : ℕ) : Type 0 where
   pub narrow : 8 * w ≤ maxStates
@@ -34,9 +33,5 @@ pub record TableInside (form : Form) (bytes : List ℕ) (n g : ℕ) : Type 0 whe
 unfoldable pub outerGrounds : List ℕ → ℕ → ℕ → List Ground
 outerGrounds input site room = storeGround room ∷ siteGround site ∷ cond (eqb (length input) 0) [] ((badLength input, 11) ∷ blocksGrounds input site)
 
-unfoldable pub cleared : List ℕ → List ℕ
-cleared store = overwrite (tabulate storeWords (λ i. 0)) store
-
-unfoldable pub fillSets : Form → List ℕ → ℕ → ℕ → ℕ → List ℕ → List ℕ
-fillSets form bytes n g zero store = store
-fillSets form bytes n g (suc k) store = overwriteFrom (placeOf form g k) (setNumber bytes n k) (fillSets form bytes n g k store)
+abbrev pub fillSets : Form → List ℕ → ℕ → ℕ → ℕ → List ℕ → List ℕ
+fillSets form bytes n g = putSets (placeOf form g) (setNumber bytes n)

@@ -8,7 +8,7 @@
 //   content_refusal                  the grounds behind them, those of the contents
 //   any_beyond, is_set_beyond        ground 17, which concerns the sets, of all and of one
 //   non_zero                         ground 18, which concerns the filler
-//   fill, clear, fill_sets, fill_set the table put into the store: all its words 0, then each set into its own
+//   fill, fill_sets, fill_set        the table put into the store: all its words 0, then each set into its own
 //   word_in, low_bytes               a word of a set in the contents, and its lowest bytes
 ghost use mathlib.Core.Path.{_≡_};
 ghost use Prim.Native.Nat.{_+_, _*_, _/_, _≤_, _<_};
@@ -21,20 +21,20 @@ ghost use Rattle.model.specs.Blocks.{blockBytes, contentBytes, maxSite, content
 ghost use Rattle.model.specs.Contents.{heads, setWidth, headerBytes, setIn, setNumber, dialogueIn};
 ghost use Rattle.model.specs.Calls.{overwrite, blocksGrounds, contentGrounds};
 ghost use Rattle.file_blocks.specs.Places.{formOf};
-ghost use Rattle.file_reading.specs.Reading.{SetInside, TableInside, outerGrounds, cleared, fillSets};
+ghost use Rattle.file_reading.specs.Reading.{SetInside, TableInside, outerGrounds, fillSets};
 ghost use Rattle.file_reading.specs.ReadAnswers.{CalledReadAs, CalledRead, CalledReadOld};
 use file_blocks::BLOCK;
 use file_blocks::CHECK_AT;
-use file_blocks::CONTENT;
 use file_blocks::CONTENT_AT;
-use file_blocks::CONTENTS;
+use file_blocks::CONTENT_BYTES;
 use file_blocks::Form;
 use file_blocks::HEADER;
+use file_blocks::JOINED_ROOM;
 use file_blocks::MAX_FILE;
 use file_blocks::MAX_SITE;
 use file_blocks::added;
 use file_blocks::blocks_for;
-use file_blocks::check_of;
+use file_blocks::checksum_of;
 use file_blocks::content_length;
 use file_blocks::copy_content;
 use file_blocks::le16_at;
@@ -42,10 +42,11 @@ use file_blocks::place_of;
 use file_blocks::set_count;
 use file_blocks::set_width;
 use file_blocks::wide;
+use state_set::MAX_STATES;
 use state_set::WORDS;
 use table::MAX_GROUPS;
-use table::MAX_STATES;
 use table::STORE_WORDS;
+use table::clear;
 
 pub enum TableRead {
     // n and g of the table.
@@ -77,11 +78,11 @@ fn read_as(form: Form, input: &[u8], site: usize, store: &mut [u64]) -> TableRea
         clear(store);
         return TableRead::Table { n: 0, g: 0 };
     }
-    let mut joined = [0u8; CONTENTS];
+    let mut joined = [0u8; JOINED_ROOM];
     join(input, &mut joined);
-    let l = CONTENT * (input.len() / BLOCK);
-    let n = le16_at(input, CONTENT_AT);
-    let second = le16_at(input, CONTENT_AT + 2);
+    let l = CONTENT_BYTES * (input.len() / BLOCK);
+    let n = le16_at(&joined, 0);
+    let second = le16_at(&joined, 2);
     let fault = content_refusal(form, input, &joined[..l], n, second);
     if fault != 0 {
         return TableRead::Refused(fault);
@@ -138,11 +139,11 @@ fn block_fault(block: &[u8], site: usize, k: usize) -> u8
     ensures { λ r. ⌜ r ≡ refuse (blockGrounds site (now (block .entry)) k) ⌝ }
 {
     let number = le16_at(block, 0);
-    let check = le16_at(block, CHECK_AT) as u64;
-    let sum = check_of(block, site);
     if number != k {
         return 12;
     }
+    let check = le16_at(block, CHECK_AT) as u64;
+    let sum = checksum_of(block, site);
     if check != sum {
         return 13;
     }
@@ -157,7 +158,7 @@ fn join(input: &[u8], out: &mut [u8])
     ensures { λ r. ⌜ now (out .exit) ≡ overwrite (contentsOf (now (input .entry))) (now (out .entry)) ⌝ }
 {
     for k in 0..input.len() / BLOCK {
-        let at = CONTENT * k;
+        let at = CONTENT_BYTES * k;
         copy_content(input, BLOCK * k + CONTENT_AT, &mut out[at..]);
     }
 }
@@ -191,7 +192,7 @@ fn content_refusal(form: Form, input: &[u8], bytes: &[u8], n: usize, second: usi
     if any_beyond(form, bytes, n, g) {
         return 17;
     }
-    if non_zero(bytes, size, CONTENT * blocks) {
+    if non_zero(bytes, size, CONTENT_BYTES * blocks) {
         return 18;
     }
     0
@@ -202,22 +203,22 @@ fn any_beyond(form: Form, bytes: &[u8], n: usize, g: usize) -> bool
     requires { ⌜ TableInside (formOf form) (now bytes) n g × (0 < n) ⌝ }
     ensures { λ r. ⌜ r ≡ any (heads (formOf form) + g + n) (λ k. beyond n (setNumber (now (bytes .entry)) n k)) ⌝ }
 {
-    let w = set_width(n);
+    let width = set_width(n);
     for k in 0..set_count(form, n, g) {
-        if is_set_beyond(bytes, n, w, k) {
+        if is_set_beyond(bytes, n, width, k) {
             return true;
         }
     }
     false
 }
 
-// Set k of the contents has a state from n up: those are in the last of its w bytes.
-fn is_set_beyond(bytes: &[u8], n: usize, w: usize, k: usize) -> bool
-    requires { ⌜ SetInside (now bytes) w (headerBytes + w * k) × (0 < n) × (w ≡ setWidth n) ⌝ }
+// Set k of the contents has a state from n up: those are in the last of its bytes.
+fn is_set_beyond(bytes: &[u8], n: usize, width: usize, k: usize) -> bool
+    requires { ⌜ SetInside (now bytes) width (headerBytes + width * k) × (0 < n) × (width ≡ setWidth n) ⌝ }
     ensures { λ r. ⌜ r ≡ beyond n (setNumber (now (bytes .entry)) n k) ⌝ }
 {
-    let last = wide(bytes[HEADER + w * k + (w - 1)]);
-    last >> (n - 8 * (w - 1)) != 0
+    let last = wide(bytes[HEADER + width * k + (width - 1)]);
+    last >> (n - 8 * (width - 1)) != 0
 }
 
 // Some byte from `from` on and before `to` is not 0. They are joined and tested once, as the words of a store are.
@@ -242,58 +243,48 @@ fn fill(form: Form, bytes: &[u8], n: usize, g: usize, store: &mut [u64])
     fill_sets(form, bytes, n, g, store);
 }
 
-// Words of unused groups and rows stay 0.
-fn clear(store: &mut [u64])
-    requires { ⌜ storeWords ≤ length (now store) ⌝ }
-    ensures { λ r. ⌜ now (store .exit) ≡ cleared (now (store .entry)) ⌝ }
-{
-    for i in 0..STORE_WORDS {
-        store[i] = 0;
-    }
-}
-
 // Each set into its own words: the part of the store from there on is lent, from ROWS_AT + WORDS * s on for the row of state s, to be
 // filled from the set's bytes.
 fn fill_sets(form: Form, bytes: &[u8], n: usize, g: usize, store: &mut [u64])
     requires { ⌜ TableInside (formOf form) (now bytes) n g × (storeWords ≤ length (now store)) ⌝ }
     ensures { λ r. ⌜ now (store .exit) ≡ fillSets (formOf form) (now (bytes .entry)) n g (heads (formOf form) + g + n) (now (store .entry)) ⌝ }
 {
-    let w = set_width(n);
+    let width = set_width(n);
     for k in 0..set_count(form, n, g) {
         let at = place_of(form, g, k);
-        fill_set(&mut store[at..], bytes, w, k);
+        fill_set(&mut store[at..], bytes, width, k);
     }
 }
 
-// Set k of the contents, where each set has w bytes, put into the first words of a part of the store.
-fn fill_set(words: &mut [u64], bytes: &[u8], w: usize, k: usize)
-    requires { ⌜ SetInside (now bytes) w (headerBytes + w * k) × (WORDS ≤ length (now words)) ⌝ }
-    ensures { λ r. ⌜ now (words .exit) ≡ overwrite (setIn (now (bytes .entry)) w (headerBytes + w * k)) (now (words .entry)) ⌝ }
+// Set k of the contents, where each set has `width` bytes, put into the first words of a part of the store.
+fn fill_set(words: &mut [u64], bytes: &[u8], width: usize, k: usize)
+    requires { ⌜ SetInside (now bytes) width (headerBytes + width * k) × (WORDS ≤ length (now words)) ⌝ }
+    ensures { λ r. ⌜ now (words .exit) ≡ overwrite (setIn (now (bytes .entry)) width (headerBytes + width * k)) (now (words .entry)) ⌝ }
 {
-    let at = HEADER + w * k;
+    let at = HEADER + width * k;
     for v in 0..WORDS {
-        words[v] = word_in(bytes, w, at, v);
+        words[v] = word_in(bytes, width, at, v);
     }
 }
 
-// Word v of the set whose w bytes begin at `at`: 0 past its bytes.
-fn word_in(bytes: &[u8], w: usize, at: usize, v: usize) -> u64
-    requires { ⌜ SetInside (now bytes) w at × (v < WORDS) ⌝ }
-    ensures { λ r. ⌜ r ≡ getD (setIn (now (bytes .entry)) w at) v 0 ⌝ }
+// Word v of the set whose `width` bytes begin at `at`: 0 past its bytes.
+fn word_in(bytes: &[u8], width: usize, at: usize, v: usize) -> u64
+    requires { ⌜ SetInside (now bytes) width at × (v < WORDS) ⌝ }
+    ensures { λ r. ⌜ r ≡ getD (setIn (now (bytes .entry)) width at) v 0 ⌝ }
 {
-    if 8 * v + 8 <= w {
-        return low_bytes(bytes, w, at, v, 8);
+    if 8 * v + 8 <= width {
+        return low_bytes(bytes, width, at, v, 8);
     }
-    if w <= 8 * v {
+    if width <= 8 * v {
         return 0;
     }
-    low_bytes(bytes, w, at, v, w - 8 * v)
+    low_bytes(bytes, width, at, v, width - 8 * v)
 }
 
 // The lowest `count` bytes of that word. The compiler makes one load of eight.
-fn low_bytes(bytes: &[u8], w: usize, at: usize, v: usize, count: usize) -> u64
-    requires { ⌜ SetInside (now bytes) w at × (count ≤ 8) × (8 * v + count ≤ w) ⌝ }
-    ensures { λ r. ⌜ r ≡ number (member (setIn (now (bytes .entry)) w at)) (64 * v) (8 * count) ⌝ }
+fn low_bytes(bytes: &[u8], width: usize, at: usize, v: usize, count: usize) -> u64
+    requires { ⌜ SetInside (now bytes) width at × (count ≤ 8) × (8 * v + count ≤ width) ⌝ }
+    ensures { λ r. ⌜ r ≡ number (member (setIn (now (bytes .entry)) width at)) (64 * v) (8 * count) ⌝ }
 {
     let mut word: u64 = 0;
     for b in 0..count {

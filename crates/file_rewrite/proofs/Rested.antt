@@ -5,14 +5,13 @@
 --   rested-holds    so the store holds the rewritten dialogue
 --   rested-held     which write accepts
 --   new-file        and the file of which is the new file
-use Prim.Native.Nat.{ℕ, _+_, _-_, _≤_, _<_}
+use Prim.Native.Nat.{ℕ, _+_, _≤_, _<_}
 use native.Mathlib.Omega.{arith}
 use mathlib.Core.Path.{_≡_, sym, ap, ap₂, _∙_}
 use mathlib.Core.Logic.{_⊎_, inl, inr, ⊎-elim}
 use mathlib.Core.List.{List}
 use borrow.Author.Tests.{lt-ltb}
-use borrow.Rule.Slice.PartMut.{putMid}
-use lib.ListN.{length, take, drop}
+use lib.ListN.{length}
 use Rattle.model.specs.Sets.{WORDS, Set, member, states, firstStates, empty, subset}
 use Rattle.model.specs.Tables.{Dialogue}
 use Rattle.model.specs.Stores.{storeWords, markedAt, restingAt, groupAt, rowAt, setAt, dialogueOf, layout}
@@ -25,19 +24,18 @@ use Rattle.model.proofs.ListLaws.{length-overwrite}
 use Rattle.model.proofs.StoreLaws.{Holds, Laid, length-layout, overwrite-holds}
 use Rattle.model.proofs.Acceptance.{Store}
 use Rattle.model.proofs.RoundTrips.{Taken, taken, laid}
-use Rattle.table.specs.Rows.{meetHold}
-use Rattle.table.proofs.Hangs.{dead-is}
-use Rattle.file_blocks.specs.Places.{overwriteFrom}
-use Rattle.file_blocks.proofs.Overwriting.{lent-back, put-long, put-own, put-apart}
+use Rattle.table.specs.Rows.{rowsOf, rowIn, meetHold}
+use Rattle.table.specs.Writing.{overwriteFrom}
+use Rattle.table.proofs.Parts.{row-of, dead-is}
+use Rattle.table.proofs.Putting.{put-long, put-own, put-apart}
 use Rattle.rewriting.specs.Rewriting.{deadEnds, rewritten, OldFile, oldDialogue, newFile}
 use Rattle.rewriting.proofs.Rewritten.{rewritten-held, dialogue-is}
 use Rattle.file_rewrite.specs.RewriteAnswers.{restedStore}
 
-pub rested-by : (store rest : List ℕ) (n : ℕ) {X Y Z : Set} → X ≡ firstStates n → Y ≡ empty → Z ≡ meetHold store X Y
-    → rest ≡ overwrite Z (take (length store - restingAt) (drop restingAt store)) → putMid restingAt (length store - restingAt) store rest ≡ restedStore store n
+pub rested-by : (store after : List ℕ) (n : ℕ) {X Y Z : Set} → X ≡ firstStates n → Y ≡ empty → Z ≡ meetHold (rowsOf store) X Y
+    → after ≡ overwriteFrom restingAt Z store → after ≡ restedStore store n
 unfolding restedStore
-rested-by store rest n x y z back =
-    lent-back restingAt store rest _ back ∙ ap (λ (W : Set). overwriteFrom restingAt W store) (z ∙ ap₂ (λ (X Y : Set). meetHold store X Y) x y)
+rested-by store after n x y z put = put ∙ ap (λ (W : Set). overwriteFrom restingAt W store) (z ∙ ap₂ (meetHold (rowsOf store)) x y)
 
 -- ---- an old file
 
@@ -68,12 +66,12 @@ module _ (input : List ℕ) (old : OldFile input) (lent : List ℕ) (fits : stor
   holds : Holds store d
   holds = overwrite-holds d laid-old lent
 
-  row : (s : ℕ) → s < n → setAt store (rowAt s) ≡ d .row s
+  row : (s : ℕ) → s < n → rowIn (rowsOf store) s ≡ d .row s
   unfolding oldDialogue
-  row s l = holds .row s (omega (arith, facts .small)) ∙ rw (lt-ltb s n l)
+  row s l = row-of store s ∙ holds .row s (omega (arith, facts .small)) ∙ rw (lt-ltb s n l)
 
   abbrev resting : Set
-  resting = meetHold store (firstStates n) empty
+  resting = meetHold (rowsOf store) (firstStates n) empty
 
   dead-proper : Proper (deadEnds d)
   unfolding deadEnds states
@@ -84,13 +82,13 @@ module _ (input : List ℕ) (old : OldFile input) (lent : List ℕ) (fits : stor
   dead-same =
       same-set resting (deadEnds d) (setOf-proper _) dead-proper
       (λ s h.
-      let both = and-true (member (firstStates n) s) (subset (setAt store (rowAt s)) empty) (setOf-in _ h) in
+      let both = and-true (member (firstStates n) s) (subset (rowIn (rowsOf store) s) empty) (setOf-in _ h) in
       let l = firstStates-in (record { is = both .0 }) in
       in-states n _ (in-bound h) l (sym (dead-is (d .row) s) ∙ ap (λ (X : Set). subset X empty) (sym (row s l)) ∙ both .1))
       (λ s h.
       let parts = states-in n _ h in
       in-setOf _ (in-bound h)
-      (and-intro (member (firstStates n) s) (subset (setAt store (rowAt s)) empty) ((in-firstStates (in-bound h) (parts .0)) .is)
+      (and-intro (member (firstStates n) s) (subset (rowIn (rowsOf store) s) empty) ((in-firstStates (in-bound h) (parts .0)) .is)
       (ap (λ (X : Set). subset X empty) (row s (parts .0)) ∙ dead-is (d .row) s ∙ parts .1)))
 
   resting-long : length resting ≡ WORDS

@@ -13,15 +13,15 @@ use Rattle.model.specs.Sets.{firstStates, empty}
 use Rattle.model.specs.Stores.{storeWords, restingAt}
 use Rattle.model.specs.Contents.{oldForm}
 use Rattle.model.specs.Calls.{overwrite, readGroundsAs}
-use Rattle.table.specs.Rows.{meetHold}
-use Rattle.file_blocks.specs.Places.{overwriteFrom}
+use Rattle.table.specs.Rows.{rowsOf, meetHold}
+use Rattle.table.specs.Writing.{overwriteFrom}
 use Rattle.file_writing.specs.declared.Written.{Written}
 use Rattle.file_writing.specs.WriteAnswers.{writtenOf}
 use Rattle.rewriting.specs.Rewriting.{newFile}
 
 -- The states whose every successor is in the empty set have none.
 unfoldable pub restedStore : List ℕ → ℕ → List ℕ
-restedStore store n = overwriteFrom restingAt (meetHold store (firstStates n) empty) store
+restedStore store n = overwriteFrom restingAt (meetHold (rowsOf store) (firstStates n) empty) store
 
 -- Those on which the old form refuses a file, of site 0; then the output, of `room` bytes, is shorter than the new file.
 unfoldable pub rewriteGrounds : List ℕ → ℕ → List Ground

@@ -3,23 +3,21 @@
 //
 //   rewrite          the new file at the front of the output and its length, or why the call is refused
 //   rest_dead_ends   the states without a successor put to rest, and no other
-//   put_set          a set into the first words of a part of the store
 ghost use mathlib.Core.Path.{_≡_};
 ghost use Prim.Native.Nat.{_≤_};
 ghost use lib.ListN.{length};
-ghost use Rattle.model.specs.Sets.{WORDS};
 ghost use Rattle.model.specs.Stores.{storeWords};
-ghost use Rattle.model.specs.Calls.{overwrite};
 ghost use Rattle.file_rewrite.specs.RewriteAnswers.{restedStore, CalledRewrite};
 use file_reading::TableRead;
 use file_reading::read_old;
 use file_writing::Written;
 use file_writing::write;
 use state_set::StateSet;
-use state_set::WORDS;
 use table::RESTING_AT;
+use table::ROWS_AT;
 use table::STORE_WORDS;
 use table::meet_hold;
+use table::put_set;
 
 // The site of both files.
 const SITE: usize = 0;
@@ -41,15 +39,10 @@ fn rest_dead_ends(store: &mut [u64], n: usize)
     requires { ⌜ storeWords ≤ length (now store) ⌝ }
     ensures { λ r. ⌜ now (store .exit) ≡ restedStore (now (store .entry)) n ⌝ }
 {
-    let dead = meet_hold(store, StateSet::first_states(n), StateSet::empty());
-    put_set(&mut store[RESTING_AT..], dead);
-}
-
-fn put_set(words: &mut [u64], x: StateSet)
-    requires { ⌜ WORDS ≤ length (now words) ⌝ }
-    ensures { λ r. ⌜ now (words .exit) ≡ overwrite (x .words) (now (words .entry)) ⌝ }
-{
-    for w in 0..WORDS {
-        words[w] = x.words[w];
-    }
+    let dead = meet_hold(
+        &store[ROWS_AT..],
+        StateSet::first_states(n),
+        StateSet::empty(),
+    );
+    put_set(store, RESTING_AT, dead);
 }

@@ -1,1 +1,2 @@
 pub mod RoundTripKept
+pub mod BuffersKept

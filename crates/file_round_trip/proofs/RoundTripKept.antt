@@ -4,9 +4,10 @@ use native.Mathlib.Omega.{arith}
 use mathlib.Core.Path.{_≡_, sym, ap, _∙_, subst}
 use mathlib.Core.List.{List}
 use lib.ListN.{length, take, drop, length-take, length-drop}
-use Rattle.basics.specs.Refusals.{refuse}
+use Rattle.basics.specs.Refusals.{refuse, unlessRefused}
+use Rattle.basics.proofs.RefusalLaws.{refused-is}
 use Rattle.model.specs.Blocks.{blockBytes, part, blockGrounds}
-use Rattle.model.specs.Calls.{readAnswer, readBuffer, writeAnswer, writeBuffer}
+use Rattle.model.specs.Calls.{readGroundsAs, readAnswerAs, readBufferAs, readAnswer, readBuffer, writeAnswer, writeBuffer}
 use Rattle.model.proofs.BlockLaws.{length-part}
 use Rattle.model.proofs.CallLaws.{written}
 use Rattle.model.proofs.RoundTrips.{round-trips}
@@ -49,8 +50,11 @@ calls-foreign =
     }
 
 pub calls-refused : CallsRefused
+unfolding readAnswerAs readBufferAs
 calls-refused =
     record {
-      read = λ input site store r store′ k c f. let so = untouched .read input site store k (sym (c .0) ∙ f) in (so .0, c .1 ∙ so .1);
+      read = λ form input site store r store′ k c f.
+          let so = sym (c .0) ∙ f in
+          (refused-is (readGroundsAs form input site (length store)) _ so, c .1 ∙ ap (unlessRefused store _) so);
       write = λ store n g site out w out′ k c f. let so = untouched .write store n g site out k (sym (c .0) ∙ f) in (so .0, c .1 ∙ so .1);
     }

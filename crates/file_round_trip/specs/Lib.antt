@@ -1,1 +1,2 @@
 pub mod RoundTripCalls
+pub mod Buffers

@@ -13,12 +13,13 @@ use Rattle.basics.specs.Bounds.{concat}
 use Rattle.basics.specs.Refusals.{refuse, refused, answered}
 use Rattle.model.specs.Stores.{storeWords}
 use Rattle.model.specs.Blocks.{blockBytes, maxSite, part, blockGrounds}
-use Rattle.model.specs.Calls.{overwrite, badLength, TableRead as ReadAnswer, readGrounds, writeGrounds}
+use Rattle.model.specs.Contents.{Form}
+use Rattle.model.specs.Calls.{overwrite, badLength, TableRead as ReadAnswer, readGroundsAs, writeGrounds}
 use Rattle.model.specs.RoundTrip.{Bounded}
 use Rattle.file_writing.specs.declared.Written.{Written}
 use Rattle.file_reading.specs.declared.TableRead.{TableRead}
 use Rattle.file_writing.specs.WriteAnswers.{writtenOf, CalledWrite}
-use Rattle.file_reading.specs.ReadAnswers.{readOf, CalledRead}
+use Rattle.file_reading.specs.ReadAnswers.{readOf, CalledReadAs, CalledRead}
 
 pub record CallsRoundTrip : Type 0 where
   -- the file that write left at the front of the output, read into any store that is long enough
@@ -42,9 +43,10 @@ pub record CallsForeign : Type 0 where
       → (readOf r ≡ refused 13) × (other′ ≡ other)
 
 pub record CallsRefused : Type 0 where
-  pub read : (input : List ℕ) (site : ℕ) (store : List ℕ) (r : TableRead) (store′ : List ℕ) (k : ℕ)
-      → CalledRead input site store r store′ → readOf r ≡ refused k
-      → (k ≡ refuse (readGrounds input site (length store))) × (store′ ≡ store)
+  -- in either form
+  pub read : (form : Form) (input : List ℕ) (site : ℕ) (store : List ℕ) (r : TableRead) (store′ : List ℕ) (k : ℕ)
+      → CalledReadAs form input site store r store′ → readOf r ≡ refused k
+      → (k ≡ refuse (readGroundsAs form input site (length store))) × (store′ ≡ store)
   pub write : (store : List ℕ) (n g site : ℕ) (out : List ℕ) (w : Written) (out′ : List ℕ) (k : ℕ)
       → CalledWrite store n g site out w out′ → writtenOf w ≡ refused k
       → (k ≡ refuse (writeGrounds store n g site (length out))) × (out′ ≡ out)

@@ -28,7 +28,7 @@ use Rattle.file_blocks.specs.Places.{placeOf}
 use Rattle.file_writing.specs.Writing.{LongEnough, placedSet}
 use Rattle.file_blocks.proofs.BlockLaws.{contents-le}
 use Rattle.file_blocks.proofs.Places.{head-place, group-place, row-place}
-use Rattle.file_blocks.proofs.Overwriting.{Over, lent, back, parts-more, parts-all}
+use Rattle.table.proofs.Overwriting.{Over, lent, back, parts-more, parts-all}
 
 -- ---- set k of the file, in the store
 

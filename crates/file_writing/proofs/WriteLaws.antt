@@ -19,7 +19,7 @@ use Rattle.model.specs.Files.{blockFile, fileOf, fileLength}
 use Rattle.model.specs.Calls.{overwrite, outputGround, writeGrounds, writeBuffer}
 use Rattle.basics.proofs.BoundLaws.{length-tabulate, getD-tabulate}
 use Rattle.model.proofs.ListLaws.{overwrite-front, overwrite-set}
-use Rattle.basics.proofs.RefusalLaws.{refuse-take, refuse-append}
+use Rattle.basics.proofs.RefusalLaws.{refuse-first, refuse-append}
 use Rattle.model.proofs.BlockLaws.{checkOf-cong, block-unique, framed-is, blockOf-is}
 use Rattle.model.proofs.ContentLaws.{length-contents}
 use Rattle.model.proofs.FileLaws.{file-draft, file-blocks, length-draft, length-blocks}
@@ -82,7 +82,7 @@ module _ (store : List ℕ) (n g site : ℕ) (out : List ℕ) where
 
   pub refused-short : length store < storeWords → CalledWrite store n g site out (Refused 10) out
   unfolding writeGrounds
-  refused-short h = refuses 10 (refuse-take _ 10 _ (lt-ltb (length store) storeWords h)) (λ x. omega arith)
+  refused-short h = refuses 10 (sym (refuse-first 0 _ (lt-ltb (length store) storeWords h))) (λ x. omega arith)
 
   pub refused-site : storeWords ≤ length store → maxSite < site → CalledWrite store n g site out (Refused 24) out
   refused-site long h = refuses 24 (write-over store n g site (length out) long h) (λ x. omega arith)
@@ -113,7 +113,7 @@ module _ (store : List ℕ) (n g site : ℕ) (out : List ℕ) where
         pub refused-room : length out < blockBytes * blocks → CalledWrite store n g site out (Refused 19) out
         refused-room h =
             refuses 19
-            (behind ∙ store-accepted store n g _ table-held ∙ refuse-take _ 19 _ (lt-ltb (length out) (fileLength newForm n g) (omega (arith, size))))
+            (behind ∙ store-accepted store n g _ table-held ∙ sym (refuse-first 0 _ (lt-ltb (length out) (fileLength newForm n g) (omega (arith, size)))))
             (λ x. omega arith)
 
         pub written : (after : List ℕ) → blockBytes * blocks ≤ length out → after ≡ overwrite (concat blocks (blockOf site (contents newForm (dialogueOf store n g)))) out

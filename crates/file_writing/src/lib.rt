@@ -21,15 +21,15 @@ ghost use Rattle.file_writing.specs.WriteAnswers.{CalledWrite};
 ghost use Rattle.file_writing.specs.Writing.{LongEnough, wordBytes, wordsBytes, placedSet};
 use file_blocks::BLOCK;
 use file_blocks::CHECK_AT;
-use file_blocks::CONTENT;
 use file_blocks::CONTENT_AT;
-use file_blocks::CONTENTS;
+use file_blocks::CONTENT_BYTES;
 use file_blocks::Form;
 use file_blocks::HEADER;
+use file_blocks::JOINED_ROOM;
 use file_blocks::MAX_SITE;
 use file_blocks::added;
 use file_blocks::blocks_for;
-use file_blocks::check_of;
+use file_blocks::checksum_of;
 use file_blocks::content_length;
 use file_blocks::copy_content;
 use file_blocks::place_of;
@@ -77,7 +77,7 @@ fn write_file(store: &[u64], n: usize, g: usize, site: usize, blocks: usize, out
     requires { ⌜ LongEnough (now store) n g × (site ≤ maxSite) × (blocks ≤ blocksFor (contentLength newForm maxStates maxGroups)) × (blockBytes * blocks ≤ length (now out)) ⌝ }
     ensures { λ r. ⌜ now (out .exit) ≡ overwrite (concat blocks (blockOf site (contents newForm (dialogueOf (now (store .entry)) n g)))) (now (out .entry)) ⌝ }
 {
-    let mut bytes = [0u8; CONTENTS];
+    let mut bytes = [0u8; JOINED_ROOM];
     join(store, n, g, &mut bytes);
     write_blocks(&bytes, site, blocks, out);
 }
@@ -97,27 +97,27 @@ fn join_sets(store: &[u64], n: usize, g: usize, out: &mut [u8])
     requires { ⌜ LongEnough (now store) n g × (setWidth n * (headSets + g + n) ≤ length (now out)) ⌝ }
     ensures { λ r. ⌜ now (out .exit) ≡ overwrite (concat (headSets + g + n) (placedSet (now (store .entry)) (setWidth n) g)) (now (out .entry)) ⌝ }
 {
-    let w = set_width(n);
+    let width = set_width(n);
     for k in 0..set_count(Form::New, n, g) {
         let a = place_of(Form::New, g, k);
         let e = a + WORDS;
-        let at = w * k;
-        put_set(&store[a..e], w, &mut out[at..]);
+        let at = width * k;
+        put_set(&store[a..e], width, &mut out[at..]);
     }
 }
 
-// The first w bytes of a set: its whole words, and what is left of one.
-fn put_set(set: &[u64], w: usize, out: &mut [u8])
-    requires { ⌜ (WORDS ≤ length (now set)) × (w ≤ 8 * WORDS) × (w ≤ length (now out)) ⌝ }
-    ensures { λ r. ⌜ now (out .exit) ≡ overwrite (setBytes w (now (set .entry))) (now (out .entry)) ⌝ }
+// The first `width` bytes of a set: its whole words, and what is left of one.
+fn put_set(set: &[u64], width: usize, out: &mut [u8])
+    requires { ⌜ (WORDS ≤ length (now set)) × (width ≤ 8 * WORDS) × (width ≤ length (now out)) ⌝ }
+    ensures { λ r. ⌜ now (out .exit) ≡ overwrite (setBytes width (now (set .entry))) (now (out .entry)) ⌝ }
 {
-    let whole = w / 8;
+    let whole = width / 8;
     put_words(set, whole, out);
     let at = 8 * whole;
-    if at == w {
+    if at == width {
         return;
     }
-    put_bytes(set[whole], w - at, &mut out[at..]);
+    put_bytes(set[whole], width - at, &mut out[at..]);
 }
 
 fn put_words(set: &[u64], count: usize, out: &mut [u8])
@@ -158,8 +158,8 @@ fn write_block(bytes: &[u8], site: usize, k: usize, out: &mut [u8])
     ensures { λ r. ⌜ now (out .exit) ≡ overwrite (blockOf site (now (bytes .entry)) k) (now (out .entry)) ⌝ }
 {
     write_le16(k, out);
-    copy_content(bytes, CONTENT * k, &mut out[CONTENT_AT..]);
-    let check = check_of(out, site) as usize;
+    copy_content(bytes, CONTENT_BYTES * k, &mut out[CONTENT_AT..]);
+    let check = checksum_of(out, site) as usize;
     write_le16(check, &mut out[CHECK_AT..]);
 }
 

@@ -1,6 +1,6 @@
 // The calls read and write: the file of E byte for byte, what is accepted, each refusal alone and beside a later one, the
 // edges, and round trips. A buffer holds sevens before a call; after it, all that the answer does not account for is looked at.
-// tests/expected.py works out what this must print, from the specification's text.
+// tests/expected/programs.py works out what this must print, from the specification's text.
 //
 // Places in the file of E, of one block: number 0 1, n 2 3, the second number 4 5, initial set 6, marked set 7, resting set 8, rows 9 10 11,
 // filler 12 to 509, check 510 511. In that of a full block the resting set has 22 to 29 and the last row ends at 509, so that nothing is filler.
@@ -11,8 +11,8 @@ use file_reading::TableRead;
 use file_reading::read;
 use file_writing::Written;
 use file_writing::write;
+use state_set::MAX_STATES;
 use table::MAX_GROUPS;
-use table::MAX_STATES;
 use table::STORE_WORDS;
 use test_support::add;
 use test_support::byte_at;

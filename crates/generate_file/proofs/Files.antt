@@ -23,7 +23,7 @@ use Rattle.model.proofs.FileLaws.{fileLength-most}
 use Rattle.generator.specs.declared.Generated.{Generated}
 use Rattle.generator.specs.declared.Generated.the-variants.{Filled, Refused}
 use Rattle.generator.specs.Load.{loadFrom, load, generateGrounds, generateAnswer}
-use Rattle.generator.specs.Answers.{generatedOf, CalledGenerate}
+use Rattle.generator.specs.GenerateAnswers.{generatedOf, CalledGenerate}
 use Rattle.generator.proofs.Generating.{accepted-load}
 use Rattle.generator.proofs.LoadsKept.{loads}
 use Rattle.generate_file.specs.LoadFile.{fileMade, fileBuffer}

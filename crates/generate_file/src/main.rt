@@ -1,4 +1,4 @@
-// The program behind `./generate SEED STATES FANOUT`: writes the file of the table that a seed gives to standard output.
+// The program `generate_file SEED STATES FANOUT`: writes the file of the table that a seed gives to standard output.
 //
 //   main             reads the words, calls and writes
 //   usage            what is said where the words are not three numbers, the first of them a seed
@@ -8,7 +8,7 @@
 //   put_file         the file of a load at the front of a lent buffer; write_out: to standard output
 //   say_refused      what is said where the load is refused
 //
-// A program has no status of its own: where anything goes wrong, it says so on standard error, and the script sees that.
+// A program has no status of its own: where anything goes wrong it says so on standard error.
 ghost use mathlib.Core.Path.{_≡_};
 ghost use Prim.Native.Nat.{_≤_, min};
 ghost use lib.ListN.{length};

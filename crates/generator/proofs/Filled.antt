@@ -1,35 +1,32 @@
 -- A store that `fill` has filled.
 --
---   successors-wide, laid   the sets of a table made of numbers have WORDS words each
---   zero-word       a word of those that are all 0
---   filled          a store cleared, then written over with initial set, marked set and rows, holds the table
-use Prim.Native.Nat.{ℕ, _+_, _*_, _-_, _≤_, _<_}
-use native.Mathlib.Nat.{le-of-eq}
+--   laid       the sets of a table made of numbers have WORDS words each
+--   filled     a store cleared, then written over with initial set, marked set and rows, holds the table
+use Prim.Native.Nat.{ℕ, zero, suc, _+_, _-_, _≤_, _<_}
 use native.Mathlib.Omega.{arith}
-use mathlib.Core.Path.{_≡_, refl, sym, ap, _∙_}
+use mathlib.Core.Path.{_≡_, refl, ap, _∙_}
 use mathlib.Core.List.{List}
 use borrow.Author.Tests.{lt-ltb, le-ltb}
-use mathlib.Core.Logic.{⊎-elim}
-use lib.ListN.{length, getD, drop}
-use lib.Seq.{paste, length-paste, take-all}
-use Rattle.basics.specs.Bounds.{tabulate, concat}
+use mathlib.Core.Logic.{_⊎_, inl, inr, ⊎-elim}
+use lib.ListN.{length, drop}
 use Rattle.model.specs.Sets.{WORDS, maxStates, Set, empty, single}
 use Rattle.model.specs.Stores.{markedAt, restingAt, groupAt, rowAt, storeWords, setAt, layout}
 use Rattle.model.specs.Calls.{overwrite}
-use Rattle.basics.proofs.BoundLaws.{lt-or-ge, length-tabulate, getD-tabulate}
+use Rattle.basics.proofs.BoundLaws.{lt-or-ge}
 use Rattle.model.proofs.SetLaws.{setOf-proper}
-use Rattle.model.proofs.ListLaws.{Wide, length-concat, part-concat}
-use Rattle.model.proofs.StoreLaws.{empty-proper, setAt-empty, Holds, Laid}
+use Rattle.model.proofs.StoreLaws.{empty-proper, Holds, Laid}
+use Rattle.table.specs.Writing.{overwriteFrom, cleared, putSets}
+use Rattle.table.proofs.Filling.{cleared-long, cleared-set, cleared-drop, sets-long, sets-own, sets-apart, sets-drop, holds-overwrite}
 use Rattle.generator.specs.Load.{successors, loadFrom}
-use Rattle.generator.proofs.Pasting.{drop-behind, setAt-before, setAt-inside, setAt-behind, holds-overwrite}
+use Rattle.generator.proofs.Successors.{remainders-wide}
 
 single-wide : (s : ℕ) → length (single s) ≡ WORDS
 unfolding single
 single-wide s = setOf-proper _ .long
 
-pub successors-wide : (xs : List ℕ) (n f s : ℕ) → length (successors xs n f s) ≡ WORDS
+successors-wide : (xs : List ℕ) (n f s : ℕ) → length (successors xs n f s) ≡ WORDS
 unfolding successors
-successors-wide xs n f s = setOf-proper _ .long
+successors-wide xs n f s = remainders-wide _ n
 
 pub laid : (xs : List ℕ) (n f : ℕ) → Laid (loadFrom xs n f)
 unfolding loadFrom
@@ -42,133 +39,87 @@ laid xs n f =
       row = λ s. successors-wide xs n f s;
     }
 
--- the words of a table, all 0
-abbrev zeros : List ℕ
-zeros = tabulate storeWords (λ i. 0)
+-- ---- the sets in their order: initial set, marked set, rows
 
-pub zero-word : (i : ℕ) → i < storeWords → 0 ≡ getD zeros i 0
-zero-word i h = sym (getD-tabulate (λ k. 0) storeWords i 0 h)
+abbrev place : ℕ → ℕ
+place zero = 0
+place (suc zero) = markedAt
+place (suc (suc s)) = rowAt s
 
-zeros-empty : (b : ℕ) → b + WORDS ≤ storeWords → setAt zeros b ≡ empty
-zeros-empty b h = setAt-empty zeros b (omega (arith, length-tabulate {A = ℕ} (λ i. 0) storeWords)) (λ w l. sym (zero-word (b + w) (omega arith)))
+rise : (j k : ℕ) → j < k → place j + WORDS ≤ place k
+rise j zero h = omega arith
+rise zero (suc zero) h = omega arith
+rise (suc j) (suc zero) h = omega arith
+rise zero (suc (suc k)) h = omega arith
+rise (suc zero) (suc (suc k)) h = omega arith
+rise (suc (suc j)) (suc (suc k)) h = omega arith
 
--- a set of WORDS words stands where it was put
-whole : (X : Set) → length X ≡ WORDS → setAt X 0 ≡ X
-unfolding setAt
-whole X e = take-all WORDS X (le-of-eq e)
+module _ (n : ℕ) (small : n ≤ maxStates) where
+  inside : (k : ℕ) → k < suc (suc n) → place k + WORDS ≤ storeWords
+  inside zero h = omega arith
+  inside (suc zero) h = omega arith
+  inside (suc (suc s)) h = omega arith
 
-module _ (xs : List ℕ) (n f : ℕ) (old s₁ s₂ s₃ s₄ X Y : List ℕ) (room : storeWords ≤ length old) (small : n ≤ maxStates)
-    (e₁ : s₁ ≡ paste old 0 zeros storeWords)
-    (e₂ : s₂ ≡ paste s₁ 0 X WORDS)
-    (x : X ≡ single 0)
-    (e₃ : s₃ ≡ paste s₂ markedAt Y WORDS)
-    (y : Y ≡ single (n - 1))
-    (e₄ : s₄ ≡ paste s₃ (rowAt 0) (concat n (successors xs n f)) (WORDS * n)) where
-  row : ℕ → Set
-  row = successors xs n f
+  -- what stands between the marked set and the rows, or behind those, is apart from each
+  apart : (b : ℕ) → restingAt ≤ b → (b + WORDS ≤ rowAt 0) ⊎ (rowAt n ≤ b) → (k : ℕ) → k < suc (suc n) → (b + WORDS ≤ place k) ⊎ (place k + WORDS ≤ b)
+  apart b low side zero h = inr (omega arith)
+  apart b low side (suc zero) h = inr (omega arith)
+  apart b low side (suc (suc s)) h = ⊎-elim (λ l. inl (omega arith)) (λ l. inr (omega arith)) side
 
-  zeros-long : length zeros ≡ storeWords
-  zeros-long = length-tabulate (λ i. 0) storeWords
+module _ (xs : List ℕ) (n f : ℕ) where
+  abbrev put : ℕ → Set
+  put zero = single 0
+  put (suc zero) = single (n - 1)
+  put (suc (suc s)) = successors xs n f s
 
-  x-long : length X ≡ WORDS
-  x-long = ap length x ∙ single-wide 0
+  put-wide : (k : ℕ) → length (put k) ≡ WORDS
+  put-wide zero = single-wide 0
+  put-wide (suc zero) = single-wide (n - 1)
+  put-wide (suc (suc s)) = successors-wide xs n f s
 
-  y-long : length Y ≡ WORDS
-  y-long = ap length y ∙ single-wide (n - 1)
+  in-order : (store : List ℕ) (k : ℕ) → putSets rowAt (successors xs n f) k (putSets place put 2 store) ≡ putSets place put (suc (suc k)) store
+  unfolding putSets
+  in-order store zero = refl
+  in-order store (suc k) = ap (overwriteFrom (rowAt k) (successors xs n f k)) (in-order store k)
 
-  rows-wide : Wide n WORDS row
-  unfolding row
-  rows-wide s h = successors-wide xs n f s
+  module _ (small : n ≤ maxStates) (old : List ℕ) (room : storeWords ≤ length old) where
+    abbrev whole : List ℕ
+    whole = putSets place put (suc (suc n)) (cleared old)
 
-  rows-long : length (concat n row) ≡ WORDS * n
-  rows-long = length-concat row WORDS n rows-wide
+    fits : (k : ℕ) → k < suc (suc n) → place k + WORDS ≤ length (cleared old)
+    fits k h = omega (arith, inside n small k h, cleared-long old room)
 
-  long₁ : length s₁ ≡ length old
-  long₁ = ap length e₁ ∙ length-paste old 0 zeros storeWords (omega arith) (le-of-eq (sym zeros-long))
+    whole-long : length whole ≡ length old
+    whole-long = sets-long place put put-wide (suc (suc n)) (cleared old) fits (suc (suc n)) (omega arith) ∙ cleared-long old room
 
-  long₂ : length s₂ ≡ length old
-  long₂ = ap length e₂ ∙ length-paste s₁ 0 X WORDS (omega (arith, long₁)) (le-of-eq (sym x-long)) ∙ long₁
+    own : (k : ℕ) → k < suc (suc n) → setAt whole (place k) ≡ put k
+    own = sets-own place put put-wide (suc (suc n)) (cleared old) fits rise (suc (suc n)) (omega arith)
 
-  long₃ : length s₃ ≡ length old
-  long₃ = ap length e₃ ∙ length-paste s₂ markedAt Y WORDS (omega (arith, long₂)) (le-of-eq (sym y-long)) ∙ long₂
+    unused : (b : ℕ) → restingAt ≤ b → b + WORDS ≤ storeWords → (b + WORDS ≤ rowAt 0) ⊎ (rowAt n ≤ b) → setAt whole b ≡ empty
+    unused b low high side =
+        sets-apart place put put-wide (suc (suc n)) (cleared old) fits (suc (suc n)) (omega arith) b (omega (arith, cleared-long old room)) (apart n small b low side)
+        ∙ cleared-set old room b high
 
-  room₁ : 0 + storeWords ≤ length old
-  room₁ = omega arith
+    holds : Holds whole (loadFrom xs n f)
+    unfolding loadFrom
+    holds =
+        record {
+          initial = own 0 (omega arith);
+          marked = own 1 (omega arith);
+          resting = unused restingAt (omega arith) (omega arith) (inl (omega arith));
+          group = λ j h. unused (groupAt j) (omega arith) (omega arith) (inl (omega arith));
+          row = λ s h. ⊎-elim (λ l. own (suc (suc s)) (omega arith) ∙ rw (lt-ltb s n l))
+              (λ l. unused (rowAt s) (omega arith) (omega arith) (inr (omega arith)) ∙ rw (le-ltb s n l)) (lt-or-ge s n);
+        }
 
-  room₂ : 0 + WORDS ≤ length s₁
-  room₂ = omega (arith, long₁)
+    past : drop storeWords whole ≡ drop storeWords old
+    past =
+        sets-drop place put put-wide (suc (suc n)) (cleared old) fits (suc (suc n)) (omega arith) storeWords (omega (arith, cleared-long old room)) (inside n small)
+        ∙ cleared-drop old room
 
-  room₃ : markedAt + WORDS ≤ length s₂
-  room₃ = omega (arith, long₂)
-
-  room₄ : rowAt 0 + WORDS * n ≤ length s₃
-  room₄ = omega (arith, long₃)
-
-  -- what stands behind the two sets in front is still empty
-  empty₃ : (b : ℕ) → restingAt ≤ b → b + WORDS ≤ storeWords → setAt s₃ b ≡ empty
-  empty₃ b h l =
-      ap (λ zs. setAt zs b) e₃
-      ∙ setAt-behind s₂ markedAt Y WORDS room₃ y-long b (omega arith)
-      ∙ ap (λ zs. setAt zs b) e₂
-      ∙ setAt-behind s₁ 0 X WORDS room₂ x-long b (omega arith)
-      ∙ ap (λ zs. setAt zs b) e₁
-      ∙ setAt-inside old 0 zeros storeWords room₁ zeros-long b b (omega arith) (omega arith)
-      ∙ zeros-empty b l
-
-  -- the rows leave alone what stands before them
-  before₄ : (b : ℕ) → b + WORDS ≤ rowAt 0 → setAt s₄ b ≡ setAt s₃ b
-  unfolding row
-  before₄ b h = ap (λ zs. setAt zs b) e₄ ∙ setAt-before s₃ (rowAt 0) (concat n row) (WORDS * n) room₄ rows-long b h
-
-  among : (s : ℕ) → s < n → setAt (concat n row) (WORDS * s) ≡ row s
-  unfolding setAt
-  among s l = part-concat row WORDS n s rows-wide l
-
-  holds : Holds s₄ (loadFrom xs n f)
-  unfolding loadFrom row
-  holds =
-      record {
-        initial =
-            before₄ 0 (omega arith)
-            ∙ ap (λ zs. setAt zs 0) e₃
-            ∙ setAt-before s₂ markedAt Y WORDS room₃ y-long 0 (omega arith)
-            ∙ ap (λ zs. setAt zs 0) e₂
-            ∙ setAt-inside s₁ 0 X WORDS room₂ x-long 0 0 (omega arith) refl
-            ∙ whole X x-long
-            ∙ x;
-        marked =
-            before₄ markedAt (omega arith)
-            ∙ ap (λ zs. setAt zs markedAt) e₃
-            ∙ setAt-inside s₂ markedAt Y WORDS room₃ y-long 0 markedAt (omega arith) refl
-            ∙ whole Y y-long
-            ∙ y;
-        resting = before₄ restingAt (omega arith) ∙ empty₃ restingAt (omega arith) (omega arith);
-        group = λ j h. before₄ (groupAt j) (omega arith) ∙ empty₃ (groupAt j) (omega arith) (omega arith);
-        row = λ s h.
-            ap (λ zs. setAt zs (rowAt s)) e₄
-            ∙ ⊎-elim
-            (λ l.
-            setAt-inside s₃ (rowAt 0) (concat n row) (WORDS * n) room₄ rows-long (WORDS * s) (rowAt s) (omega arith) (omega arith)
-            ∙ among s l
-            ∙ rw (lt-ltb s n l))
-            (λ l.
-            setAt-behind s₃ (rowAt 0) (concat n row) (WORDS * n) room₄ rows-long (rowAt s) (omega arith)
-            ∙ empty₃ (rowAt s) (omega arith) (omega arith)
-            ∙ rw (le-ltb s n l))
-            (lt-or-ge s n);
-      }
-
-  past : drop storeWords s₄ ≡ drop storeWords old
-  unfolding row
-  past =
-      ap (drop storeWords) e₄
-      ∙ drop-behind s₃ (rowAt 0) (concat n row) (WORDS * n) room₄ rows-long storeWords (omega arith)
-      ∙ ap (drop storeWords) e₃
-      ∙ drop-behind s₂ markedAt Y WORDS room₃ y-long storeWords (omega arith)
-      ∙ ap (drop storeWords) e₂
-      ∙ drop-behind s₁ 0 X WORDS room₂ x-long storeWords (omega arith)
-      ∙ ap (drop storeWords) e₁
-      ∙ drop-behind old 0 zeros storeWords room₁ zeros-long storeWords (omega arith)
-
-  pub filled : s₄ ≡ overwrite (layout (loadFrom xs n f)) old
-  filled = holds-overwrite (loadFrom xs n f) old s₄ (laid xs n f) holds past
+    -- the store as the calls left it
+    pub filled : {s₁ s₂ s₃ s₄ X Y : List ℕ} → s₁ ≡ cleared old → s₂ ≡ overwriteFrom 0 X s₁ → X ≡ single 0 → s₃ ≡ overwriteFrom markedAt Y s₂ → Y ≡ single (n - 1)
+        → s₄ ≡ putSets rowAt (successors xs n f) n s₃ → s₄ ≡ overwrite (layout (loadFrom xs n f)) old
+    unfolding putSets
+    filled {s₁} {s₂} {s₃} {s₄} {X} {Y} e₁ e₂ x e₃ y e₄ =
+        e₄ ∙ rw (e₃, y, e₂, x, e₁) (in-order (cleared old) n) ∙ holds-overwrite (loadFrom xs n f) old whole (omega (arith, whole-long)) holds past

@@ -1,6 +1,5 @@
 -- The call generate, refused and answered.
 --
---   ground-10, ground-14, ground-14-over, ground-22, no-ground     the first ground that holds, or none
 --   Accepted, accepted-load     what it says of n, f and the store that no ground holds
 --   refused-load, filled-load   what was returned and left in the store, where a ground holds and where none does
 use Prim.Native.Nat.{ℕ, _+_, _*_, _≤_, _<_}
@@ -8,7 +7,7 @@ use native.Mathlib.Nat.{mul-le-mul}
 use native.Mathlib.Omega.{arith}
 use mathlib.Core.Path.{_≡_, refl, sym, ap, _∙_}
 use mathlib.Core.List.{List, []}
-use borrow.Author.Tests.{ltb-false, lt-ltb, le-ltb, eqb-false, eq-eqb, ne-eqb}
+use borrow.Author.Tests.{ltb-false, eqb-false}
 use lib.Dec.{eqb, ltb}
 use lib.ListN.{length}
 use Rattle.model.specs.Sets.{maxStates}
@@ -17,45 +16,16 @@ use Rattle.model.specs.Stores.{storeWords, layout}
 use Rattle.model.specs.Calls.{overwrite}
 use Rattle.basics.proofs.BoundLaws.{or-false}
 use Rattle.basics.proofs.RefusalLaws.{refuse-clear, answer-refused, answer-none}
-use Rattle.generator.specs.Load.{maxFanOut, numbers, loadFrom, load, generateGrounds, generateAnswer, generateBuffer}
+use Rattle.generator.specs.Load.{maxFanOut, longLag, numbers, loadFrom, load, generateGrounds, generateAnswer, generateBuffer}
 use Rattle.generator.specs.declared.Generated.the-variants.{Filled, Refused}
-use Rattle.generator.specs.Answers.{CalledGenerate}
-
--- ---- the grounds
-
-module _ (n f room : ℕ) where
-  pub ground-10 : room < storeWords → 10 ≡ refuse (generateGrounds n f room)
-  unfolding refuse generateGrounds
-  ground-10 h = rw (lt-ltb room storeWords h)
-
-  pub ground-14 : storeWords ≤ room → n ≡ 0 → 14 ≡ refuse (generateGrounds n f room)
-  unfolding refuse generateGrounds
-  ground-14 h e = rw (le-ltb room storeWords h, eq-eqb n 0 e)
-
-  pub ground-14-over : storeWords ≤ room → (n ≡ 0 → ⊥) → maxStates < n → 14 ≡ refuse (generateGrounds n f room)
-  unfolding refuse generateGrounds
-  ground-14-over h some e = rw (le-ltb room storeWords h, ne-eqb n 0 some, lt-ltb maxStates n e)
-
-  pub ground-22 : storeWords ≤ room → (n ≡ 0 → ⊥) → n ≤ maxStates → maxFanOut < f → 22 ≡ refuse (generateGrounds n f room)
-  unfolding refuse generateGrounds
-  ground-22 h some small e = rw (le-ltb room storeWords h, ne-eqb n 0 some, le-ltb maxStates n small, lt-ltb maxFanOut f e)
-
-  pub no-ground : storeWords ≤ room → (n ≡ 0 → ⊥) → n ≤ maxStates → f ≤ maxFanOut → 0 ≡ refuse (generateGrounds n f room)
-  unfolding refuse generateGrounds
-  no-ground h some small e = rw (le-ltb room storeWords h, ne-eqb n 0 some, le-ltb maxStates n small, le-ltb maxFanOut f e)
-
--- ---- the call
+use Rattle.generator.specs.GenerateAnswers.{CalledGenerate}
 
 pub record Accepted (n f room : ℕ) : Type 0 where
   pub long : storeWords ≤ room
   pub some : 0 < n
   pub small : n ≤ maxStates
-  pub few : f ≤ maxFanOut
   -- so many numbers does the largest load take
   pub most : n * f ≤ maxStates * maxFanOut
-
-positive : (n : ℕ) → (n ≡ 0 → ⊥) → 0 < n
-positive n h = omega arith
 
 pub accepted-load : (n f room : ℕ) {k : ℕ} → k ≡ refuse (generateGrounds n f room) → k ≡ 0 → Accepted n f room
 unfolding generateGrounds
@@ -63,13 +33,11 @@ accepted-load n f room e z =
     let clear = refuse-clear (generateGrounds n f room) [] refl (sym e ∙ z) .0 in
     let states = or-false (eqb n 0) (ltb maxStates n) (clear .1 .0) in
     let small = ltb-false maxStates n (states .1) in
-    let few = ltb-false maxFanOut f (clear .1 .1 .0) in
     record {
       long = ltb-false room storeWords (clear .0);
-      some = positive n (eqb-false n 0 (states .0));
+      some = omega (arith, eqb-false n 0 (states .0));
       small = small;
-      few = few;
-      most = mul-le-mul small few;
+      most = mul-le-mul small (ltb-false maxFanOut f (clear .1 .1 .0));
     }
 
 module _ (seed n f : ℕ) (before : List ℕ) {k : ℕ} (e : k ≡ refuse (generateGrounds n f (length before))) where
@@ -77,9 +45,9 @@ module _ (seed n f : ℕ) (before : List ℕ) {k : ℕ} (e : k ≡ refuse (gener
   unfolding generateAnswer generateBuffer
   refused-load some = let no = answer-refused (generateGrounds n f (length before)) tt e some in (sym no, rw no)
 
-  pub filled-load : k ≡ 0 → (after xs : List ℕ) → xs ≡ numbers seed (55 + n * f) → after ≡ overwrite (layout (loadFrom xs n f)) before
+  pub filled-load : k ≡ 0 → (after xs : List ℕ) → xs ≡ numbers seed (longLag + n * f) → after ≡ overwrite (layout (loadFrom xs n f)) before
       → CalledGenerate seed n f before Filled after
   unfolding generateGrounds generateAnswer generateBuffer load
-  filled-load z after xs drawn made =
+  filled-load z after xs is made =
       let given = answer-none (generateGrounds n f (length before)) tt refl (sym e ∙ z) in
-      (sym given, made ∙ ap (λ ys. overwrite (layout (loadFrom ys n f)) before) drawn ∙ sym (rw given))
+      (sym given, made ∙ ap (λ ys. overwrite (layout (loadFrom ys n f)) before) is ∙ sym (rw given))

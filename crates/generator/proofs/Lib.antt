@@ -1,7 +1,7 @@
 pub mod Numbers
-pub mod Drawing
+pub mod Successors
 pub mod Remainders
-pub mod Pasting
 pub mod Filled
 pub mod Generating
 pub mod LoadsKept
+pub mod WorkedLoadKept

@@ -1,106 +1,61 @@
--- Laws of the numbers.
+-- Laws of the numbers that a buffer begins with.
 --
---   first-number, start-number, lagged-number     the number that follows the first k of a buffer, where k is 0, below 55, and from there on
---   Numbering seed count old k buffer             the first k numbers stand at the front of what was old: a loop that writes count of them
---   numbering-none, -more, -all                   before its first turn; a turn; when it is done
---   front-numbers, -long, -inside                 the front that is lent on is the numbers
---   seed-12345                                    the first two sums of one seed, computed
+--   front-long                             so many are there
+--   first-number, start-more, sum-more     the first of them put there; one more where there are fewer than longLag, and where there are as many
+--   fewer                                  if it begins with some, it begins with fewer
 use Prim.Native.Nat.{ℕ, zero, suc, _+_, _-_, _%_, _^_, _≤_, _<_}
-use native.Mathlib.Nat.{le-antisymm}
+use native.Mathlib.Nat.{le-of-eq, add-zero, add-suc}
 use native.Mathlib.Numerals.{add-one}
 use native.Mathlib.Omega.{arith}
-use mathlib.Core.Path.{_≡_, refl, sym, ap, ap₂, _∙_}
-use mathlib.Core.Bool.{cond}
-use mathlib.Core.List.{List, [], _∷_, _++_}
-use borrow.Author.Tests.{lt-ltb, le-ltb, eq-eqb, ne-eqb}
-use lib.Dec.{eqb, ltb}
-use lib.ListN.{length, getD, set, take, drop, length-set, length-append}
-use lib.Seq.{getD-take, length-take-le}
-use Rattle.model.specs.Calls.{overwrite}
-use Rattle.model.proofs.ListLaws.{take-overwrite, overwrite-set}
-use Rattle.generator.specs.Load.{nextNumber, numbers}
-
--- ---- the number that follows the first k
-
--- what nextNumber says of a list of k numbers
-follows : ℕ → ℕ → List ℕ → ℕ
-follows seed k xs =
-    cond (eqb k 0) seed
-    (cond (ltb k 55) ((getD xs (k - 1) 0 + 2654435769) % 2 ^ 32) ((getD xs (k - 24) 0 + getD xs (k - 55) 0) % 2 ^ 32))
-
-module _ (seed : ℕ) (xs : List ℕ) (k : ℕ) (h : k ≤ length xs) where
-  next-of : nextNumber seed (take k xs) ≡ follows seed k (take k xs)
-  unfolding nextNumber follows
-  next-of = ap (λ (m : ℕ). follows seed m (take k xs)) (length-take-le k xs h)
-
-  pub first-number : k ≡ 0 → seed ≡ nextNumber seed (take k xs)
-  unfolding follows
-  first-number e = sym (next-of ∙ rw (eq-eqb k 0 e))
-
-  pub start-number : (x : ℕ) → (k ≡ 0 → ⊥) → k < 55 → x ≡ (getD xs (k - 1) 0 + 2654435769) % 2 ^ 32 → x ≡ nextNumber seed (take k xs)
-  unfolding follows
-  start-number x some few e = e ∙ sym (next-of ∙ rw (ne-eqb k 0 some, lt-ltb k 55 few, getD-take k xs (k - 1) 0 (omega arith)))
-
-  pub lagged-number : (x : ℕ) → 55 ≤ k → x ≡ (getD xs (k - 24) 0 + getD xs (k - 55) 0) % 2 ^ 32 → x ≡ nextNumber seed (take k xs)
-  unfolding follows
-  lagged-number x many e =
-      e ∙ sym (next-of ∙ rw (ne-eqb k 0 (λ z. omega arith), le-ltb k 55 many, getD-take k xs (k - 24) 0 (omega arith), getD-take k xs (k - 55) 0 (omega arith)))
-
--- ---- the numbers, one after the other
+use mathlib.Core.Path.{_≡_, refl, sym, ap, _∙_}
+use mathlib.Core.List.{List, [], _∷_}
+use borrow.Author.Tests.{lt-ltb, le-ltb, ne-eqb}
+use lib.ListN.{length, getD, set, take, length-append}
+use lib.Seq.{getD-take, take-all, take-take, take-append-le, take-suc-set}
+use Rattle.generator.specs.Load.{longLag, shortLag, increment, nextNumber, numbers}
 
 length-numbers : (seed k : ℕ) → length (numbers seed k) ≡ k
 unfolding numbers
 length-numbers seed zero = refl
 length-numbers seed (suc k) = length-append (numbers seed k) (nextNumber seed (numbers seed k) ∷ []) ∙ omega (arith, length-numbers seed k)
 
-numbers-next : (seed k : ℕ) → numbers seed (k + 1) ≡ numbers seed k ++ (nextNumber seed (numbers seed k) ∷ [])
+pub front-long : (seed k : ℕ) (buffer : List ℕ) → take k buffer ≡ numbers seed k → length (take k buffer) ≡ k
+front-long seed k buffer so = ap length so ∙ length-numbers seed k
+
+-- ---- one number more
+
+module _ (seed k : ℕ) (buffer : List ℕ) (x : ℕ) (so : take k buffer ≡ numbers seed k) (h : k < length buffer) where
+  more : x ≡ nextNumber seed (numbers seed k) → take (k + 1) (set buffer k x) ≡ numbers seed (k + 1)
+  unfolding numbers
+  more e = rw (add-one k, take-suc-set buffer k x h, so, e)
+
+  -- a number that is there
+  at : (j : ℕ) → j < k → getD (numbers seed k) j 0 ≡ getD buffer j 0
+  at j l = ap (λ ys. getD ys j 0) (sym so) ∙ getD-take k buffer j 0 l
+
+  pub start-more : 0 < k → k < longLag → x ≡ (getD buffer (k - 1) 0 + increment) % 2 ^ 32 → take (k + 1) (set buffer k x) ≡ numbers seed (k + 1)
+  unfolding nextNumber
+  start-more some few e =
+      more (rw (length-numbers seed k, ne-eqb k 0 (λ z. omega arith), lt-ltb k longLag few, at (k - 1) (omega arith)) e)
+
+  pub sum-more : longLag ≤ k → x ≡ (getD buffer (k - shortLag) 0 + getD buffer (k - longLag) 0) % 2 ^ 32 → take (k + 1) (set buffer k x) ≡ numbers seed (k + 1)
+  unfolding nextNumber
+  sum-more many e =
+      more
+      (rw (length-numbers seed k, ne-eqb k 0 (λ z. omega arith), le-ltb k longLag many, at (k - shortLag) (omega arith), at (k - longLag) (omega arith)) e)
+
+pub first-number : (seed : ℕ) (buffer : List ℕ) → 0 < length buffer → take 1 (set buffer 0 seed) ≡ numbers seed 1
+unfolding numbers nextNumber
+first-number seed buffer h = take-suc-set buffer 0 seed h
+
+-- ---- fewer
+
+front : (seed k j : ℕ) → take k (numbers seed (k + j)) ≡ numbers seed k
 unfolding numbers
-numbers-next seed k = ap (numbers seed) (add-one k)
+front seed k zero = rw (add-zero k) (take-all k (numbers seed k) (le-of-eq (length-numbers seed k)))
+front seed k (suc j) = rw (add-suc k j) (take-append-le k (numbers seed (k + j)) _ (omega (arith, length-numbers seed (k + j))) ∙ front seed k j)
 
-pub record Numbering (seed count : ℕ) (old : List ℕ) (k : ℕ) (buffer : List ℕ) : Type 0 where
-  pub within : k ≤ count
-  pub room : count ≤ length old
-  pub long : length buffer ≡ length old
-  pub is : buffer ≡ overwrite (numbers seed k) old
-
-module _ (seed count : ℕ) (old : List ℕ) where
-  pub numbering-none : count ≤ length old → Numbering seed count old 0 old
-  unfolding overwrite numbers
-  numbering-none h = record { within = omega arith; room = h; long = refl; is = refl }
-
-  pub numbering-more : (k : ℕ) (buffer : List ℕ) (x : ℕ) → Numbering seed count old k buffer → k < count → x ≡ nextNumber seed (take k buffer)
-      → Numbering seed count old (k + 1) (set buffer k x)
-  numbering-more k buffer x so h e =
-      let made = length-numbers seed k in
-      let front : take k buffer ≡ numbers seed k = ap (take k) (so .is) ∙ take-overwrite (numbers seed k) old k made in
-      record {
-        within = omega arith;
-        room = so .room;
-        long = length-set buffer k x ∙ so .long;
-        is =
-            ap₂ (λ ys (y : ℕ). set ys k y) (so .is) (e ∙ ap (nextNumber seed) front)
-            ∙ overwrite-set (numbers seed k) old (nextNumber seed (numbers seed k)) k made (omega (arith, so .room))
-            ∙ ap (λ ys. overwrite ys old) (sym (numbers-next seed k));
-      }
-
-  pub numbering-all : (k : ℕ) (buffer : List ℕ) → Numbering seed count old k buffer → count ≤ k → buffer ≡ overwrite (numbers seed count) old
-  numbering-all k buffer so h = so .is ∙ ap (λ (m : ℕ). overwrite (numbers seed m) old) (le-antisymm (so .within) h)
-
-  module _ (buffer : List ℕ) (e : buffer ≡ overwrite (numbers seed count) old) where
-    pub front-numbers : take count buffer ≡ numbers seed count
-    front-numbers = ap (take count) e ∙ take-overwrite (numbers seed count) old count (length-numbers seed count)
-
-    pub front-long : length (take count buffer) ≡ count
-    front-long = ap length front-numbers ∙ length-numbers seed count
-
-    pub front-inside : count ≤ length buffer
-    unfolding overwrite
-    front-inside =
-        omega (arith, ap length e, length-append (numbers seed count) (drop (length (numbers seed count)) old), length-numbers seed count)
-
--- ---- one seed
-
--- the 56th number and the 57th
-pub seed-12345 : (nextNumber 12345 (numbers 12345 55) ≡ 683154905) × (nextNumber 12345 (numbers 12345 56) ≡ 1697059147)
-unfolding nextNumber numbers
-seed-12345 = (refl, refl)
+pub fewer : (seed k m : ℕ) (buffer : List ℕ) → take m buffer ≡ numbers seed m → k ≤ m → take k buffer ≡ numbers seed k
+fewer seed k m buffer so h =
+    let rest : m ≡ k + (m - k) = omega arith in
+    sym (take-take k m buffer h) ∙ ap (take k) (so ∙ ap (numbers seed) rest) ∙ front seed k (m - k)

@@ -1,7 +1,7 @@
 -- The remainder by a multiplication: the quotient that an inverse gives is at most one too small.
 --
 --   product-fits              what is multiplied fits a word
---   taken, taken-fits         the multiple of n that is taken off x, which fits a word
+--   taken                     the multiple of n that is taken off x
 --   left-is, left-over        what is left is the remainder, or n more
 use Prim.Native.Nat.{ℕ, _+_, _*_, _-_, _/_, _%_, _^_, _≤_, _<_}
 use native.Mathlib.Nat.{mod-lt, mod-eq-of-lt, mod-eq-sub-mod, mul-comm, mul-assoc, mul-right-comm, add-mul, mul-add, mul-le-mul, mul-le-mul-left, mul-le-mul-right, div-le-self, div-add-mod, mul-add-mod-self-right}
@@ -27,9 +27,6 @@ module _ {x n inverse : ℕ} (l : x < 2 ^ 32) (h : 0 < n) (i : inverse ≡ 2 ^ 3
       let product : quotient * 2 ^ 32 ≤ x * inverse = omega arith in
       let inside : inverse * n ≤ 2 ^ 32 = omega (arith, whole) in
       omega (arith, mul-le-mul-right n product, mul-le-mul-left x inside, mul-right-comm quotient (2 ^ 32) n, mul-assoc x inverse n)
-
-  pub taken-fits : quotient * n < 2 ^ 64
-  taken-fits = omega (arith, taken)
 
   left-low : x < quotient * n + 2 * n
   left-low =

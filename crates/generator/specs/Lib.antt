@@ -1,3 +1,4 @@
 pub mod Load
-pub mod Answers
+pub mod GenerateAnswers
 pub mod Loads
+pub mod WorkedLoad

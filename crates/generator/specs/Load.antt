@@ -1,16 +1,18 @@
 -- The load that a seed gives, and what the call generate returns and leaves in the store (the specification, "A load that can be repeated").
 --
 --   maxFanOut            the greatest fan-out
+--   shortLag, longLag, increment     what the numbers are made with
 --   nextNumber seed xs   the number that follows the numbers xs
 --   numbers seed k       the first k numbers (the additive generator with lags 24 and 55 in Knuth, volume 2)
---   successors xs n f s  the f numbers that state s takes of xs, each modulo n
+--   remainders xs n      the numbers xs, each modulo n, as a set of states
+--   successors xs n f s  the remainders of the f numbers that state s takes of xs
 --   load seed n f        the table, which has no resting states
 --   generateGrounds, generateAnswer, generateBuffer     the grounds in order, the answer, the store at exit
 use Prim.Native.Nat.{ℕ, zero, suc, _+_, _*_, _-_, _%_, _^_}
 use mathlib.Core.Bool.{cond, _||_}
 use mathlib.Core.List.{List, [], _∷_, _++_}
 use lib.Dec.{eqb, ltb}
-use lib.ListN.{length, getD}
+use lib.ListN.{length, getD, take, drop}
 use Rattle.basics.specs.Bounds.{any}
 use Rattle.model.specs.Sets.{maxStates, Set, setOf, empty, single}
 use Rattle.model.specs.Tables.{Dialogue}
@@ -23,13 +25,23 @@ maxFanOut = 16
 
 -- ---- the numbers
 
--- The first is the seed; each of the next 54 is the one before plus 2,654,435,769; from the 56th on each is the sum of the numbers 24 and
--- 55 places back; all modulo 2^32.
+abbrev pub shortLag : ℕ
+shortLag = 24
+
+-- Also how many numbers there are before the first sum.
+abbrev pub longLag : ℕ
+longLag = 55
+
+abbrev pub increment : ℕ
+increment = 2654435769
+
+-- The first is the seed; each of the next 54 is the one before plus the increment; from the 56th on each is the sum of the numbers shortLag and
+-- longLag places back; all modulo 2^32.
 unfoldable pub nextNumber : ℕ → List ℕ → ℕ
 nextNumber seed xs =
     let k = length xs in
     cond (eqb k 0) seed
-    (cond (ltb k 55) ((getD xs (k - 1) 0 + 2654435769) % 2 ^ 32) ((getD xs (k - 24) 0 + getD xs (k - 55) 0) % 2 ^ 32))
+    (cond (ltb k longLag) ((getD xs (k - 1) 0 + increment) % 2 ^ 32) ((getD xs (k - shortLag) 0 + getD xs (k - longLag) 0) % 2 ^ 32))
 
 unfoldable pub numbers : ℕ → ℕ → List ℕ
 numbers seed zero = []
@@ -37,9 +49,12 @@ numbers seed (suc k) = let xs = numbers seed k in xs ++ (nextNumber seed xs ∷ 
 
 -- ---- the table
 
+unfoldable pub remainders : List ℕ → ℕ → Set
+remainders xs n = setOf (λ t. any (length xs) (λ i. eqb t (getD xs i 0 % n)))
+
 -- Each state in turn takes f numbers, from the 56th on; each modulo n is a successor.
 unfoldable pub successors : List ℕ → ℕ → ℕ → ℕ → Set
-successors xs n f s = setOf (λ t. any f (λ i. eqb t (getD xs (55 + s * f + i) 0 % n)))
+successors xs n f s = remainders (take f (drop (longLag + s * f) xs)) n
 
 unfoldable pub loadFrom : List ℕ → ℕ → ℕ → Dialogue
 loadFrom xs n f =
@@ -47,7 +62,7 @@ loadFrom xs n f =
 
 -- The states take n · f numbers in all.
 unfoldable pub load : ℕ → ℕ → ℕ → Dialogue
-load seed n f = loadFrom (numbers seed (55 + n * f)) n f
+load seed n f = loadFrom (numbers seed (longLag + n * f)) n f
 
 -- ---- the call
 

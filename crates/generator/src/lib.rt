@@ -2,29 +2,31 @@
 //
 //   Generated, generate          the store is filled, or why the call is refused
 //   refusal                      the first of the grounds 10, 14 and 22 that holds, or 0
-//   put_numbers, next_number     the first numbers; the one that follows those that are there
+//   put_numbers                  the first numbers; put_start, put_sums: those before the first sum, and some sums
 //   fill                         the table of some numbers put into the store
-//   clear, put_set, put_rows     0 in every word of a table; one set; the row of each state
-//   put_successors, remainder    the numbers that a state takes, each modulo n; the remainder by a multiplication
+//   put_rows                     the row of each state
+//   put_remainders, remainder    the numbers that a state takes, each modulo n; the remainder by a multiplication
 //
 // n is the number of states and f the fan-out. The call, `generate`, asks for nothing.
 ghost use mathlib.Core.Path.{_≡_};
-ghost use Prim.Native.Nat.{_+_, _*_, _/_, _%_, _^_, _≤_, _<_};
+ghost use Prim.Native.Nat.{ℕ, _+_, _*_, _/_, _%_, _^_, _≤_, _<_};
 ghost use lib.ListN.{length, take};
-ghost use lib.Seq.{paste};
-ghost use Rattle.basics.specs.Bounds.{tabulate, concat};
 ghost use Rattle.model.specs.Sets.{WORDS, maxStates};
 ghost use Rattle.basics.specs.Refusals.{refuse};
 ghost use Rattle.model.specs.Stores.{storeWords, rowAt, layout};
 ghost use Rattle.model.specs.Calls.{overwrite};
-ghost use Rattle.generator.specs.Load.{nextNumber, numbers, successors, loadFrom, generateGrounds};
-ghost use Rattle.generator.specs.Answers.{CalledGenerate};
+ghost use Rattle.table.specs.Writing.{putSets};
+ghost use Rattle.generator.specs.Load.{longLag, shortLag, numbers, remainders, successors, loadFrom, generateGrounds};
+ghost use Rattle.generator.specs.GenerateAnswers.{CalledGenerate};
+use state_set::MAX_STATES;
 use state_set::StateSet;
+use state_set::WORD_BITS;
 use state_set::WORDS;
 use table::MARKED_AT;
-use table::MAX_STATES;
 use table::ROWS_AT;
 use table::STORE_WORDS;
+use table::clear;
+use table::put_set;
 
 pub const MAX_FAN_OUT: usize = 16;
 
@@ -35,8 +37,8 @@ const LONG_LAG: usize = 55;
 
 const INCREMENT: u32 = 2654435769;
 
-// As many as the largest load takes, behind the first.
-const NUMBERS: usize = LONG_LAG + MAX_STATES * MAX_FAN_OUT;
+// The numbers of the largest load, LONG_LAG to start with and one for each of its successors, and what the last turn puts behind them.
+const NUMBERS: usize = LONG_LAG + MAX_STATES * MAX_FAN_OUT + SHORT_LAG;
 
 pub enum Generated {
     Filled,
@@ -78,35 +80,44 @@ fn refusal(n: usize, f: usize, room: usize) -> u8
 
 // ---- the numbers
 
-// The number that follows the first k of `numbers`.
-fn next_number(seed: u32, numbers: &[u32], k: usize) -> u32
-    requires { ⌜ k ≤ length (now numbers) ⌝ }
-    ensures { λ r. ⌜ r ≡ nextNumber seed (take k (now (numbers .entry))) ⌝ }
+// The first LONG_LAG numbers.
+fn put_start(seed: u32, buffer: &mut [u32])
+    requires { ⌜ longLag ≤ length (now buffer) ⌝ }
+    ensures { λ r. ⌜ take longLag (now (buffer .exit)) ≡ numbers seed longLag ⌝ }
 {
-    if k == 0 {
-        return seed;
+    buffer[0] = seed;
+    for k in 1..LONG_LAG {
+        buffer[k] = std::num::wrapping_add_u32(buffer[k - 1], INCREMENT);
     }
-    if k < LONG_LAG {
-        return std::num::wrapping_add_u32(numbers[k - 1], INCREMENT);
-    }
-    std::num::wrapping_add_u32(numbers[k - SHORT_LAG], numbers[k - LONG_LAG])
 }
 
-// The first `count` numbers, one after the other.
-fn put_numbers(seed: u32, count: usize, buffer: &mut [u32])
-    requires { ⌜ count ≤ length (now buffer) ⌝ }
-    ensures { λ r. ⌜ now (buffer .exit) ≡ overwrite (numbers seed count) (now (buffer .entry)) ⌝ }
+// The SHORT_LAG sums that follow the first `made` numbers. None of them is a term of another, so that the compiler adds four at a time.
+fn put_sums(made: usize, buffer: &mut [u32])
+    requires { ⌜ (longLag ≤ made) × (made + shortLag ≤ length (now buffer)) ⌝ }
+    ensures { λ r. ⌜ ((seed : ℕ) → take made (now (buffer .entry)) ≡ numbers seed made → take (made + shortLag) (now (buffer .exit)) ≡ numbers seed (made + shortLag)) ⌝ }
 {
-    for k in 0..count {
-        let next = next_number(seed, buffer, k);
-        buffer[k] = next;
+    for k in made..made + SHORT_LAG {
+        buffer[k] = std::num::wrapping_add_u32(buffer[k - SHORT_LAG], buffer[k - LONG_LAG]);
+    }
+}
+
+// The first `count` numbers. The last turn may put some more behind them.
+fn put_numbers(seed: u32, count: usize, buffer: &mut [u32])
+    requires { ⌜ (longLag ≤ count) × (count + shortLag ≤ length (now buffer)) ⌝ }
+    ensures { λ r. ⌜ take count (now (buffer .exit)) ≡ numbers seed count ⌝ }
+{
+    put_start(seed, buffer);
+    let mut made = LONG_LAG;
+    while made < count {
+        put_sums(made, buffer);
+        made += SHORT_LAG;
     }
 }
 
 // ---- the table
 
 fn fill(numbers: &[u32], n: usize, f: usize, store: &mut [u64])
-    requires { ⌜ (0 < n) × (n ≤ maxStates) × (55 + n * f ≤ length (now numbers)) × (storeWords ≤ length (now store)) ⌝ }
+    requires { ⌜ (0 < n) × (n ≤ maxStates) × (longLag + n * f ≤ length (now numbers)) × (storeWords ≤ length (now store)) ⌝ }
     ensures { λ r. ⌜ now (store .exit) ≡ overwrite (layout (loadFrom (now (numbers .entry)) n f)) (now (store .entry)) ⌝ }
 {
     clear(store);
@@ -115,33 +126,16 @@ fn fill(numbers: &[u32], n: usize, f: usize, store: &mut [u64])
     put_rows(numbers, n, f, store);
 }
 
-// The words of a table, those of unused groups and rows among them.
-fn clear(store: &mut [u64])
-    requires { ⌜ storeWords ≤ length (now store) ⌝ }
-    ensures { λ r. ⌜ now (store .exit) ≡ paste (now (store .entry)) 0 (tabulate storeWords (λ i. 0)) storeWords ⌝ }
-{
-    for i in 0..STORE_WORDS {
-        store[i] = 0;
-    }
-}
-
-// A set into the words from `at` on.
-fn put_set(store: &mut [u64], at: usize, x: StateSet)
-    requires { ⌜ at + WORDS ≤ length (now store) ⌝ }
-    ensures { λ r. ⌜ now (store .exit) ≡ paste (now (store .entry)) at (x .words) WORDS ⌝ }
-{
-    for w in 0..WORDS {
-        store[at + w] = x.words[w];
-    }
-}
-
 fn put_rows(numbers: &[u32], n: usize, f: usize, store: &mut [u64])
-    requires { ⌜ (0 < n) × (n ≤ maxStates) × (55 + n * f ≤ length (now numbers)) × (storeWords ≤ length (now store)) ⌝ }
-    ensures { λ r. ⌜ now (store .exit) ≡ paste (now (store .entry)) (rowAt 0) (concat n (successors (now (numbers .entry)) n f)) (WORDS * n) ⌝ }
+    requires { ⌜ (0 < n) × (n ≤ maxStates) × (longLag + n * f ≤ length (now numbers)) × (storeWords ≤ length (now store)) ⌝ }
+    ensures { λ r. ⌜ now (store .exit) ≡ putSets rowAt (successors (now (numbers .entry)) n f) n (now (store .entry)) ⌝ }
 {
     let inverse = (1 << 32) / n;
     for s in 0..n {
-        put_successors(numbers, n, inverse, f, s, store);
+        let from = LONG_LAG + s * f;
+        let end = from + f;
+        let at = ROWS_AT + WORDS * s;
+        put_remainders(&numbers[from..end], n, inverse, &mut store[at..]);
     }
 }
 
@@ -156,18 +150,16 @@ fn remainder(x: usize, n: usize, inverse: usize) -> usize
     if rest < n { rest } else { rest - n }
 }
 
-// The successors of state s: its numbers, each modulo n. The bits are set in the store itself, in words that are cleared for it: a set put
-// together elsewhere would be read by wider words than it was written by, which is slow.
-fn put_successors(numbers: &[u32], n: usize, inverse: usize, f: usize, s: usize, store: &mut [u64])
-    requires { ⌜ (0 < n) × (n ≤ maxStates) × (inverse ≡ 2 ^ 32 / n) × (55 + s * f + f ≤ length (now numbers)) × (rowAt s + WORDS ≤ length (now store)) ⌝ }
-    ensures { λ r. ⌜ now (store .exit) ≡ paste (now (store .entry)) (rowAt s) (successors (now (numbers .entry)) n f s) WORDS ⌝ }
+// Some numbers, each modulo n, as a set in a row. The bits are set in the store itself, in words that are cleared for it: a set put together
+// elsewhere would be read by wider words than it was written by, which is slow.
+fn put_remainders(numbers: &[u32], n: usize, inverse: usize, row: &mut [u64])
+    requires { ⌜ (0 < n) × (n ≤ maxStates) × (inverse ≡ 2 ^ 32 / n) × (WORDS ≤ length (now row)) ⌝ }
+    ensures { λ r. ⌜ now (row .exit) ≡ overwrite (remainders (now (numbers .entry)) n) (now (row .entry)) ⌝ }
 {
-    let from = LONG_LAG + s * f;
-    let at = ROWS_AT + WORDS * s;
-    put_set(store, at, StateSet::empty());
-    for i in 0..f {
-        let t = remainder(wide(numbers[from + i]), n, inverse);
-        store[at + t / 64] |= 1 << (t % 64);
+    put_set(row, 0, StateSet::empty());
+    for i in 0..numbers.len() {
+        let t = remainder(wide(numbers[i]), n, inverse);
+        row[t / WORD_BITS] |= 1 << (t % WORD_BITS);
     }
 }
 

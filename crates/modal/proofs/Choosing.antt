@@ -6,77 +6,71 @@
 --   invariant-less                      an invariant is one with fewer steps, too
 --   SaysSafe, SaysUnsafe, released      what a release check says of a well-formed table, with what comes with it
 --   says-safe, says-unsafe              by the test of its verdict
-use Prim.Native.Nat.{ℕ, _+_, _*_, _≤_}
-use native.Mathlib.Nat.{zero-add}
+use Prim.Native.Nat.{ℕ, _*_, _≤_}
 use native.Mathlib.Omega.{arith}
-use mathlib.Core.Path.{_≡_, refl, ap, _∙_}
+use mathlib.Core.Path.{_≡_, refl}
 use mathlib.Core.Logic.{_⊎_, inl, inr, ⊎-elim}
 use mathlib.Core.Bool.{true, false, not}
 use mathlib.Core.List.{List, [], _∷_}
 use borrow.Author.Tests.{ltb-true, eqb-true, eqb-false, not-false}
 use lib.Dec.{eqb, ltb}
 use Rattle.basics.specs.Bounds.{any}
-use Rattle.model.specs.Sets.{WORDS, maxStates, Set, member, empty, union, subset, size, firstStates}
+use Rattle.model.specs.Sets.{WORDS, maxStates, Set, member, empty, subset, size, firstStates}
 use Rattle.model.specs.Tables.{Table}
 use Rattle.model.specs.Rounds.{Outcome, safe, unsafe, undecided, run}
 use Rattle.model.specs.Paths.{leads, isPath, shortest, hasPath}
-use Rattle.model.specs.Stores.{markedAt, rowAt, setAt, tableOf, beyond, nonZero}
+use Rattle.model.specs.Stores.{markedAt, rowAt, setAt, dialogueOf, tableOf, beyond, nonZero}
 use Rattle.model.specs.Calls.{release, Decision, decisionOf}
 use Rattle.model.specs.Promises.{IsInvariant}
 use Rattle.basics.proofs.BoundLaws.{and-true, and-intro, or-false, any-none, by-cond, decided}
-use Rattle.model.proofs.SetLaws.{Proper, setOf-proper, in-bound, in-firstStates, union-in, empty-in, _⊆_, subset-in}
+use Rattle.model.proofs.SetLaws.{in-bound, in-firstStates, union-in, empty-in, _⊆_, subset-in}
 use Rattle.model.proofs.HangLaws.{hangs-within}
-use Rattle.model.proofs.WellFormed.{WellFormed}
+use Rattle.model.specs.WellFormed.{WellFormed}
 use Rattle.model.proofs.StoreLaws.{beyond-below, malformed-clean}
 use Rattle.model.proofs.Acceptance.{well-formed}
 use Rattle.model.proofs.Fixpoints.{backward-is}
 use Rattle.model.proofs.RoundLaws.{undecided-short, unsafe-path, safe-invariant, safe-no-path}
 use Rattle.model.proofs.PathLaws.{has-path}
-use Rattle.modal.specs.Modal.{possibleWords, rowsFrom, certainRow, possibleRow, tableWith, modalForbidden, modalTable, malformedRows, uncertain, releaseCheck}
+use Rattle.table.specs.Rows.{rowIn, rowsIn}
+use Rattle.modal.specs.Modal.{possibleWords, certainRow, possibleRow, tableWith, modalForbidden, modalTable, malformedRows, certainImpossible, releaseCheck}
 use Rattle.modal.proofs.Grounds.{ModalHeld}
 
 -- ---- the rows
 
 pub possible-inside : (possible : List ℕ) (n : ℕ) → malformedRows possible n ≡ false → (s : ℕ) → possibleRow possible n s ⊆ firstStates n
-unfolding malformedRows rowsFrom
+unfolding malformedRows rowsIn
 possible-inside possible n e s =
-    let rows = or-false (any n (λ r. beyond n (setAt possible (WORDS * r)))) (nonZero possible (WORDS * n) possibleWords) e .0 in
-    by-cond (λ (X : Set). X ⊆ firstStates n) (ltb s n) (setAt possible (0 + WORDS * s)) empty
+    let rows = or-false (any n (λ r. beyond n (rowIn possible r))) (nonZero possible (WORDS * n) possibleWords) e .0 in
+    by-cond (λ (X : Set). X ⊆ firstStates n) (ltb s n) (rowIn possible s) empty
     (λ q x h.
-    let inside = any-none (λ r. beyond n (setAt possible (WORDS * r))) n rows s (ltb-true s n q) in
-    in-firstStates (in-bound h)
-    (beyond-below n (setAt possible (0 + WORDS * s)) (ap (λ (i : ℕ). beyond n (setAt possible i)) (zero-add (WORDS * s)) ∙ inside) x h))
+    let inside = any-none (λ r. beyond n (rowIn possible r)) n rows s (ltb-true s n q) in
+    in-firstStates (in-bound h) (beyond-below n (rowIn possible s) inside x h))
     (λ q x h. absurd (empty-in h))
 
-pub certain-inside : (store : List ℕ) (n : ℕ) (possible : List ℕ) → uncertain store n possible ≡ false
+pub certain-inside : (store : List ℕ) (n : ℕ) (possible : List ℕ) → certainImpossible store n possible ≡ false
     → (s : ℕ) → certainRow store n s ⊆ possibleRow possible n s
-unfolding uncertain rowsFrom
+unfolding certainImpossible rowsIn dialogueOf
 certain-inside store n possible e s =
     ⊎-elim
     (λ (q : ltb s n ≡ true).
-    rw (q, zero-add (WORDS * s))
+    rw q
     (subset-in
     (not-false _ (any-none (λ r. not (subset (setAt store (rowAt r)) (setAt possible (WORDS * r)))) n e s (ltb-true s n q)))))
     (λ (q : ltb s n ≡ false). rw q (λ x h. h))
     (decided (ltb s n))
 
-module _ (store : List ℕ) (n g : ℕ) (possible : List ℕ) (ok : ModalHeld store n g possible) where
-  pub forbidden-proper : Proper (modalForbidden store n possible)
-  unfolding modalForbidden union
-  forbidden-proper = setOf-proper _
-
-  -- with any number of groups
-  pub modal-formed : (row : ℕ → Set) → ((s : ℕ) → row s ⊆ possibleRow possible n s) → (h : ℕ) → WellFormed (modalTable store n h possible row)
-  unfolding tableWith modalForbidden tableOf
-  modal-formed row inside h =
-      let c = malformed-clean store n g (ok .held .clean) in
-      record {
-        initial = well-formed store n g (ok .held) .initial;
-        forbidden =
-            λ x k.
-            ⊎-elim (λ m. in-firstStates (in-bound m) (beyond-below n (setAt store markedAt) (c .marked) x m)) (hangs-within n _ _ x) (union-in k);
-        rows = λ x l s k. possible-inside possible n (ok .clean) x s (inside x s k);
-      }
+pub modal-formed : (store : List ℕ) (n g : ℕ) (possible : List ℕ) → ModalHeld store n g possible → (row : ℕ → Set)
+    → ((s : ℕ) → row s ⊆ possibleRow possible n s) → WellFormed (modalTable store n g possible row)
+unfolding tableWith modalForbidden tableOf
+modal-formed store n g possible ok row inside =
+    let c = malformed-clean store n g (ok .held .clean) in
+    record {
+      initial = well-formed store n g (ok .held) .initial;
+      forbidden =
+          λ x k.
+          ⊎-elim (λ m. in-firstStates (in-bound m) (beyond-below n (setAt store markedAt) (c .marked) x m)) (hangs-within n _ _ x) (union-in k);
+      rows = λ x l s k. possible-inside possible n (ok .clean) x s (inside x s k);
+    }
 
 -- ---- more steps, and fewer
 

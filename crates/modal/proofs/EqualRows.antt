@@ -3,26 +3,29 @@
 --   one-table                  two release checks of one table
 --   same-row, same-certain, same-possible     the rows, and both tables, are the store's
 --   as-decide                  the answer, and the path buffer
+--   equal-clean                neither ground 17 of the possible rows holds then, if unused rows are 0, nor 28
 use Prim.Native.Nat.{ℕ, _*_, _≤_, _<_}
-use native.Mathlib.Nat.{zero-add}
 use native.Mathlib.Omega.{arith}
 use mathlib.Core.Path.{_≡_, refl, sym, ap, _∙_, subst, fun-ext}
 use mathlib.Core.Logic.{_⊎_, inl, inr, ⊎-elim}
-use mathlib.Core.Bool.{true, false, cond}
+use mathlib.Core.Bool.{true, false, not, cond}
 use mathlib.Core.List.{List}
 use borrow.Author.Tests.{eq-eqb, ne-eqb, ltb-true, le-ltb}
 use lib.Dec.{eqb, ltb}
-use lib.ListN.{length}
-use Rattle.model.specs.Sets.{WORDS, maxStates, Set, union}
+use lib.ListN.{length, getD}
+use Rattle.model.specs.Sets.{WORDS, maxStates, Set, union, subset}
 use Rattle.model.specs.Tables.{Table, hangs}
 use Rattle.model.specs.Paths.{smallestPath}
 use Rattle.basics.specs.Refusals.{refuse, answered, unlessRefused}
-use Rattle.model.specs.Stores.{markedAt, restingAt, rowAt, setAt, dialogueOf, tableOf}
+use Rattle.model.specs.Stores.{markedAt, restingAt, rowAt, setAt, dialogueOf, tableOf, beyond}
 use Rattle.model.specs.Calls.{overwrite, release, Decision, decideGrounds, decideAnswer, decideBuffer, decideLimits}
-use Rattle.basics.proofs.BoundLaws.{decided}
-use Rattle.basics.proofs.RefusalLaws.{refuse-skip, refuse-none, answer-none}
-use Rattle.model.proofs.Acceptance.{store-accepted}
-use Rattle.modal.specs.Modal.{rowsFrom, certainRow, possibleRow, tableWith, modalForbidden, modalTable, certainTable, possibleTable, releaseCheck, ModalAnswer, modalOf, modalWritten}
+use Rattle.basics.proofs.BoundLaws.{decided, or-none, no-any}
+use Rattle.basics.proofs.RefusalLaws.{clear-refuse, answer-none}
+use Rattle.model.proofs.SetLaws.{in-subset}
+use Rattle.model.proofs.StoreLaws.{malformed-clean, zero-nonZero}
+use Rattle.model.proofs.Acceptance.{Store, store-accepted}
+use Rattle.table.specs.Rows.{rowsIn}
+use Rattle.modal.specs.Modal.{certainRow, possibleRow, tableWith, modalForbidden, modalTable, certainTable, possibleTable, possibleWords, malformedRows, certainImpossible, releaseCheck, ModalAnswer, modalOf, modalWritten}
 use Rattle.modal.specs.ModalPromises.{AsDecide}
 use Rattle.modal.proofs.Grounds.{ModalHeld}
 use Rattle.modal.proofs.Choosing.{SaysSafe, SaysUnsafe}
@@ -84,17 +87,17 @@ module _ (store : List ℕ) (n g : ℕ) (possible : List ℕ) (ok : ModalHeld st
 
   module _ (equal : (s : ℕ) → s < n → setAt possible (WORDS * s) ≡ setAt store (rowAt s)) where
     same-row : possibleRow possible n ≡ certainRow store n
-    unfolding rowsFrom
+    unfolding rowsIn dialogueOf
     same-row =
         fun-ext
         (λ s.
         ⊎-elim
-        (λ (q : ltb s n ≡ true). rw (q, zero-add (WORDS * s)) (equal s (ltb-true s n q)))
+        (λ (q : ltb s n ≡ true). rw q (equal s (ltb-true s n q)))
         (λ (q : ltb s n ≡ false). rw q)
         (decided (ltb s n)))
 
     same-certain : C ≡ tableOf store n g
-    unfolding tableWith modalForbidden tableOf rowsFrom
+    unfolding tableWith modalForbidden tableOf
     same-certain = λ i.
         record {
           n = n;
@@ -112,9 +115,7 @@ module _ (store : List ℕ) (n g : ℕ) (possible : List ℕ) (ok : ModalHeld st
       unfolding decideGrounds
       decide-accepts =
           store-accepted store n g (decideLimits release (length before)) (ok .held)
-          ∙ refuse-skip _ 20 _ (le-ltb release release (omega arith))
-          ∙ refuse-skip _ 21 _ (le-ltb (length before) maxStates roomy)
-          ∙ refuse-none
+          ∙ clear-refuse _ (le-ltb release release (omega arith), (le-ltb (length before) maxStates roomy, tt))
 
       decide-answers : decideAnswer store n g release (length before) ≡ answered (releaseCheck (tableOf store n g))
       unfolding decideAnswer decideGrounds releaseCheck
@@ -142,3 +143,13 @@ module _ (store : List ℕ) (n g : ℕ) (possible : List ℕ) (ok : ModalHeld st
                 (modalOf (releaseCheck u) (releaseCheck T)) (modalWritten u T ((modalOf (releaseCheck u) (releaseCheck T)) .verdict) before))
                 (sym same-certain) (one-table T before says-T))),
           )
+
+-- ---- a call that is made
+
+module _ (store : List ℕ) (n g : ℕ) (possible : List ℕ) (held : Store store n g) (equal : (s : ℕ) → s < n → setAt possible (WORDS * s) ≡ setAt store (rowAt s)) where
+  pub equal-clean : ((i : ℕ) → WORDS * n ≤ i → i < possibleWords → getD possible i 0 ≡ 0) → (malformedRows possible n ≡ false) × (certainImpossible store n possible ≡ false)
+  unfolding malformedRows certainImpossible
+  equal-clean zero = (
+    or-none _ _ (no-any _ n (λ s h. ap (beyond n) (equal s h) ∙ malformed-clean store n g (held .clean) .row s h)) (zero-nonZero possible (WORDS * n) possibleWords zero),
+    no-any _ n (λ s h. ap (λ (X : Set). not (subset (setAt store (rowAt s)) X)) (equal s h) ∙ ap not (in-subset (λ u i. i))),
+  )

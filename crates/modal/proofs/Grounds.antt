@@ -1,26 +1,31 @@
 -- Laws of the call's grounds.
 --
 --   rows-beyond, rows-used                        `is_malformed`: ground 17 of the second buffer
---   uncertain-start, -hit, -pass, -end            `is_uncertain`: a loop that looks for a certain step that is not possible
---   ModalHeld, Passed17                           no ground before 21, up to 17, holds
---   short-possible, refuse-shared, .., accepted   `refusal_of`: the grounds in their order, and what a call that is answered knows
+--   impossible-start, -hit, -pass, -end            `any_impossible`: a loop that looks for a certain step that is not possible; impossible-is: by its step
+--   ModalHeld                                     no ground before 21 holds
+--   short-possible, refuse-shared, behind-shared  `refusal_of`: the grounds in their order
+--   accepted                                      what a call that is answered knows; accepting: and back
 use Prim.Native.Nat.{ℕ, _+_, _*_, _≤_, _<_}
 use native.Mathlib.Nat.{zero-add}
-use mathlib.Core.Path.{_≡_, refl, sym, ap, _∙_}
-use mathlib.Core.Logic.{⊎-elim, inr}
-use mathlib.Core.Bool.{Bool, true, false, not, _||_}
-use mathlib.Core.List.{List, [], _∷_}
-use borrow.Author.Tests.{lt-ltb, le-ltb, ltb-false}
+use mathlib.Core.Path.{_≡_, refl, sym, ap, ap₂, _∙_}
+use mathlib.Core.Logic.{_↔_}
+use mathlib.Core.Bool.{Bool, true, false, cond, not, _||_}
+use mathlib.Core.List.{List, [], _∷_, _++_}
+use borrow.Author.Tests.{lt-ltb, le-ltb, ltb-false, not-false}
 use lib.Dec.{ltb}
 use lib.ListN.{length}
 use Rattle.basics.specs.Bounds.{any}
-use Rattle.model.specs.Sets.{WORDS, maxStates, Set, subset}
-use Rattle.basics.specs.Refusals.{refuse}
+use Rattle.model.specs.Sets.{WORDS, maxStates, Set, member, subset}
+use Rattle.basics.specs.Refusals.{Ground, refuse}
 use Rattle.model.specs.Stores.{maxGroups, storeWords, rowAt, setAt, beyond, nonZero, malformed, badStates, sharedGrounds}
-use Rattle.basics.proofs.BoundLaws.{or-false, or-intro, any-intro, any-start, any-turn, any-end, any-cong, decided}
-use Rattle.basics.proofs.RefusalLaws.{refuse-clear, clear-refuse, refuse-none, refuse-skip, refuse-take}
-use Rattle.model.proofs.Acceptance.{Store, accepted-store, states-pass}
-use Rattle.modal.specs.Modal.{possibleWords, malformedRows, uncertain, modalGrounds}
+use Rattle.model.specs.Calls.{pathGround}
+use Rattle.basics.proofs.BoundLaws.{or-false, or-none, or-right, not-true, is-false, clash, any-intro, any-find, any-start, any-turn, any-end, any-cong, all-not}
+use Rattle.basics.proofs.RefusalLaws.{Clear, refuse-first, refuse-or, refuse-append, refuse-past, clear-refuse, refuse-clear}
+use Rattle.model.proofs.SetLaws.{subset-in}
+use Rattle.model.proofs.Acceptance.{Store, accepted-store}
+use Rattle.table.specs.Rows.{rowsOf, rowIn}
+use Rattle.table.proofs.Parts.{row-of}
+use Rattle.modal.specs.Modal.{possibleWords, malformedRows, certainImpossible, modalGrounds}
 
 -- ---- ground 17 of the second buffer
 
@@ -42,25 +47,40 @@ module _ (possible : List ℕ) (n : ℕ) where
 -- ---- ground 28
 
 module _ (store possible : List ℕ) where
-  pub uncertain-start : uncertain store 0 possible ≡ false
-  unfolding uncertain
-  uncertain-start = any-start _
+  pub impossible-start : certainImpossible store 0 possible ≡ false
+  unfolding certainImpossible
+  impossible-start = any-start _
 
-  module _ (s : ℕ) {X Y : Set} {b : Bool} (x : X ≡ setAt store (rowAt s)) (y : Y ≡ setAt possible (WORDS * s)) (e : b ≡ subset X Y) where
+  module _ (s : ℕ) {X Y : Set} {b : Bool} (x : X ≡ rowIn (rowsOf store) s) (y : Y ≡ rowIn possible s) (e : b ≡ subset X Y) where
     told : b ≡ subset (setAt store (rowAt s)) (setAt possible (WORDS * s))
-    told = e ∙ ap (λ (Z : Set). subset Z Y) x ∙ ap (subset (setAt store (rowAt s))) y
+    told = e ∙ ap₂ subset (x ∙ row-of store s) y
 
-    pub uncertain-hit : (n : ℕ) → s < n → b ≡ false → uncertain store n possible ≡ true
-    unfolding uncertain
-    uncertain-hit n h f = any-intro _ n s h (ap not (sym told ∙ f))
+    pub impossible-hit : (n : ℕ) → s < n → b ≡ false → certainImpossible store n possible ≡ true
+    unfolding certainImpossible
+    impossible-hit n h f = any-intro _ n s h (ap not (sym told ∙ f))
 
-    pub uncertain-pass : b ≡ true → uncertain store s possible ≡ false → uncertain store (s + 1) possible ≡ false
-    unfolding uncertain
-    uncertain-pass t so = any-turn _ s so (ap not (sym told ∙ t))
+    pub impossible-pass : b ≡ true → certainImpossible store s possible ≡ false → certainImpossible store (s + 1) possible ≡ false
+    unfolding certainImpossible
+    impossible-pass t so = any-turn _ s so (ap not (sym told ∙ t))
 
-  pub uncertain-end : (s n : ℕ) → s ≤ n → n ≤ s → uncertain store s possible ≡ false → uncertain store n possible ≡ false
-  unfolding uncertain
-  uncertain-end s n l h so = any-end _ s n l h so
+  pub impossible-end : (s n : ℕ) → s ≤ n → n ≤ s → certainImpossible store s possible ≡ false → certainImpossible store n possible ≡ false
+  unfolding certainImpossible
+  impossible-end s n l h so = any-end _ s n l h so
+
+  pub impossible-is : (n : ℕ)
+      → (certainImpossible store n possible ≡ true)
+      ↔ ((s : ℕ) × (u : ℕ) × (s < n) × (member (setAt store (rowAt s)) u ≡ true) × (member (setAt possible (WORDS * s)) u ≡ false))
+  unfolding certainImpossible subset
+  impossible-is n = (
+    λ e.
+        let w = any-find _ n e in
+        let u = all-not _ maxStates (not-true _ (w .2)) in
+        let both = or-false (not (member (setAt store (rowAt (w .0))) (u .0))) _ (u .2) in
+        (w .0, u .0, w .1, not-false _ (both .0), both .1),
+    λ w.
+        any-intro _ n (w .0) (w .2)
+        (ap not (is-false (subset (setAt store (rowAt (w .0))) (setAt possible (WORDS * w .0))) (λ e. clash (subset-in e (w .1) (record { is = w .3 }) .is) (w .4)))),
+  )
 
 -- ---- the grounds in their order
 
@@ -68,77 +88,43 @@ pub record ModalHeld (store : List ℕ) (n g : ℕ) (possible : List ℕ) : Type
   pub held : Store store n g
   pub long : possibleWords ≤ length possible
   pub clean : malformedRows possible n ≡ false
-  pub certain : uncertain store n possible ≡ false
-
--- no ground up to 17 holds
-abbrev pub Passed17 : List ℕ → ℕ → ℕ → List ℕ → Type 0
-Passed17 store n g possible =
-    (possibleWords ≤ length possible) × (refuse (sharedGrounds store n g) ≡ 0) × (malformedRows possible n ≡ false)
-
-or-right : (a b : Bool) → b ≡ true → (a || b) ≡ true
-or-right a b e = or-intro a b (inr e)
+  pub certain : certainImpossible store n possible ≡ false
 
 module _ (store : List ℕ) (n g : ℕ) (possible : List ℕ) (room : ℕ) where
+  -- the grounds behind those of the store
+  abbrev pub late : List Ground
+  late = (malformedRows possible n, 17) ∷ (certainImpossible store n possible, 28) ∷ pathGround room ∷ []
+
+  -- where the second buffer is long enough, those of the store come first
+  apart : possibleWords ≤ length possible → refuse (modalGrounds store n g possible room) ≡ refuse (sharedGrounds store n g ++ late)
+  unfolding modalGrounds refuse
+  apart l =
+      let short = ltb (length store) storeWords in
+      let rest : List Ground = (badStates n g, 14) ∷ (ltb maxGroups g, 15) ∷ (malformed store n g || malformedRows possible n, 17) ∷ (certainImpossible store n possible, 28) ∷ pathGround room ∷ [] in
+      refuse-or short (ltb (length possible) possibleWords) 10 rest
+      ∙ ap (λ (b : Bool). refuse ((short, 10) ∷ (b, 10) ∷ rest)) (le-ltb (length possible) possibleWords l)
+      ∙ ap (λ (k : ℕ). cond short 10 (cond (badStates n g) 14 (cond (ltb maxGroups g) 15 k)))
+      (refuse-or (malformed store n g) (malformedRows possible n) 17 ((certainImpossible store n possible, 28) ∷ pathGround room ∷ []))
+
   pub short-possible : length possible < possibleWords → 10 ≡ refuse (modalGrounds store n g possible room)
   unfolding modalGrounds
-  short-possible h =
-      sym (refuse-take _ 10 _ (or-right (ltb (length store) storeWords) (ltb (length possible) possibleWords) (lt-ltb (length possible) possibleWords h)))
+  short-possible h = refuse-first 0 _ (or-right (ltb (length store) storeWords) _ (lt-ltb (length possible) possibleWords h))
 
-  -- a ground of the store decides
-  pub refuse-shared : {k : ℕ} → possibleWords ≤ length possible → k ≡ refuse (sharedGrounds store n g) → (k ≡ 0 → ⊥)
+  pub refuse-shared : possibleWords ≤ length possible → {k : ℕ} → k ≡ refuse (sharedGrounds store n g) → (k ≡ 0 → ⊥)
       → k ≡ refuse (modalGrounds store n g possible room)
-  unfolding modalGrounds refuse
-  refuse-shared l e f =
-      let rows = le-ltb (length possible) possibleWords l in
-      ⊎-elim
-      (λ (a : ltb (length store) storeWords ≡ true). e ∙ rw a)
-      (λ (a : ltb (length store) storeWords ≡ false).
-      ⊎-elim
-      (λ (b : badStates n g ≡ true). e ∙ rw (a, rows, b))
-      (λ (b : badStates n g ≡ false).
-      ⊎-elim
-      (λ (c : ltb maxGroups g ≡ true). e ∙ rw (a, rows, b, c))
-      (λ (c : ltb maxGroups g ≡ false).
-      ⊎-elim
-      (λ (d : malformed store n g ≡ true). e ∙ rw (a, rows, b, c, d))
-      (λ (d : malformed store n g ≡ false). absurd (f (e ∙ rw (a, b, c, d))))
-      (decided (malformed store n g)))
-      (decided (ltb maxGroups g)))
-      (decided (badStates n g)))
-      (decided (ltb (length store) storeWords))
+  refuse-shared l e f = refuse-append (sharedGrounds store n g) late e f ∙ sym (apart l)
 
-  -- where no ground of the store holds, those behind it
-  module _ (l : possibleWords ≤ length possible) (e : refuse (sharedGrounds store n g) ≡ 0) where
-    late : refuse (modalGrounds store n g possible room)
-        ≡ refuse ((malformedRows possible n, 17) ∷ (uncertain store n possible, 28) ∷ (ltb room maxStates, 21) ∷ [])
-    unfolding modalGrounds refuse
-    late =
-        let s = accepted-store store n g [] e .0 in
-        rw (
-          le-ltb (length store) storeWords (s .long),
-          le-ltb (length possible) possibleWords l,
-          states-pass n g (s .draft) (s .small),
-          le-ltb maxGroups g (s .few),
-          s .clean,
-        )
+  pub behind-shared : possibleWords ≤ length possible → {j k : ℕ} → j ≡ refuse (sharedGrounds store n g) → j ≡ 0 → k ≡ refuse late
+      → k ≡ refuse (modalGrounds store n g possible room)
+  behind-shared l p z e = refuse-past (sharedGrounds store n g) late refl p z e ∙ sym (apart l)
 
-    pub refuse-17 : malformedRows possible n ≡ true → 17 ≡ refuse (modalGrounds store n g possible room)
-    refuse-17 h = sym (late ∙ refuse-take _ 17 _ h)
-
-  -- where none up to 17 holds
-  module _ (ok : Passed17 store n g possible) where
-    later : refuse (modalGrounds store n g possible room) ≡ refuse ((uncertain store n possible, 28) ∷ (ltb room maxStates, 21) ∷ [])
-    later = late (ok .0) (ok .1) ∙ refuse-skip _ 17 _ (ok .2)
-
-    pub refuse-28 : uncertain store n possible ≡ true → 28 ≡ refuse (modalGrounds store n g possible room)
-    refuse-28 h = sym (later ∙ refuse-take _ 28 _ h)
-
-    module _ (certain : uncertain store n possible ≡ false) where
-      pub refuse-21 : room < maxStates → 21 ≡ refuse (modalGrounds store n g possible room)
-      refuse-21 h = sym (later ∙ refuse-skip _ 28 _ certain ∙ refuse-take _ 21 _ (lt-ltb room maxStates h))
-
-      pub refuse-nothing : maxStates ≤ room → 0 ≡ refuse (modalGrounds store n g possible room)
-      refuse-nothing h = sym (later ∙ refuse-skip _ 28 _ certain ∙ refuse-skip _ 21 _ (le-ltb room maxStates h) ∙ refuse-none)
+  pub accepting : Clear (sharedGrounds store n g) → possibleWords ≤ length possible → malformedRows possible n ≡ false → certainImpossible store n possible ≡ false
+      → maxStates ≤ room → Clear (modalGrounds store n g possible room)
+  unfolding modalGrounds
+  accepting shared long clean certain roomy = (
+    or-none (ltb (length store) storeWords) _ (shared .0) (le-ltb (length possible) possibleWords long),
+    (shared .1 .0, (shared .1 .1 .0, (or-none (malformed store n g) _ (shared .1 .1 .1 .0) clean, (certain, (le-ltb room maxStates roomy, tt))))),
+  )
 
   pub accepted : refuse (modalGrounds store n g possible room) ≡ 0 → ModalHeld store n g possible × (maxStates ≤ room)
   unfolding modalGrounds badStates

@@ -1,4 +1,4 @@
-pub mod Laying
+pub mod HangsKept
 pub mod Grounds
 pub mod Checking
 pub mod Choosing

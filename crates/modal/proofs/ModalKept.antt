@@ -1,6 +1,7 @@
 -- The promises of decide_modal are kept.
 --
 --   of-call, call-held          what holds of the two checks holds of a call that is answered; what it knows of its arguments
+--   call-clear                  a call is answered where the store is accepted and no ground of the possible rows, nor 21, holds
 --   draft-safe, draft-17        a table without states
 --   modal-promises              specs/ModalPromises
 use Prim.Native.Nat.{ℕ, _*_, _≤_, _<_}
@@ -8,26 +9,27 @@ use native.Mathlib.Nat.{not-suc-le-zero}
 use native.Mathlib.Omega.{arith}
 use mathlib.Core.Path.{_≡_, refl, sym, ap, _∙_, subst}
 use mathlib.Core.Bool.{true, false}
-use mathlib.Core.List.{List}
+use mathlib.Core.List.{List, []}
 use lib.ListN.{length, getD}
 use Rattle.basics.specs.Bounds.{any}
 use Rattle.model.specs.Sets.{WORDS, maxStates, empty}
 use Rattle.basics.specs.Refusals.{refuse, refused, answered, unlessRefused}
-use Rattle.model.specs.Stores.{sharedGrounds}
+use Rattle.model.specs.Stores.{sharedGrounds, AcceptedStore}
 use Rattle.model.specs.Calls.{release, Decision, decideBuffer}
 use Rattle.basics.proofs.BoundLaws.{any-start}
-use Rattle.basics.proofs.RefusalLaws.{clear-refuse, answer-refused, answer-none, answered-clear, answered-value, refused-is}
+use Rattle.basics.proofs.RefusalLaws.{Clear, refuse-first, clear-refuse, refuse-clear, answer-refused, answer-clear, answered-clear, answered-value, refused-is}
 use Rattle.model.proofs.StoreLaws.{zero-nonZero}
+use Rattle.model.proofs.Acceptance.{accepted-store}
 use Rattle.model.proofs.Drafts.{draft}
 use Rattle.table.proofs.Laws.{non-zero-hit}
-use Rattle.modal.specs.Modal.{possibleWords, certainTable, possibleTable, malformedRows, uncertain, releaseCheck, modalGrounds, ModalAnswer, modalOf, modalAnswer, modalWritten, modalBuffer}
+use Rattle.modal.specs.Modal.{possibleWords, certainTable, possibleTable, malformedRows, certainImpossible, releaseCheck, modalGrounds, ModalAnswer, modalOf, modalAnswer, modalWritten, modalBuffer}
 use Rattle.modal.specs.declared.ModalDecision.{ModalDecision}
-use Rattle.modal.specs.Answers.{answerOf, CalledModal}
+use Rattle.modal.specs.ModalAnswers.{modalDecidedOf, CalledModal}
 use Rattle.modal.specs.ModalPromises.{OfChoices, ComesWith, AsDecide, ModalPromises}
-use Rattle.modal.proofs.Grounds.{ModalHeld, refuse-17, refuse-nothing, accepted}
+use Rattle.modal.proofs.Grounds.{impossible-is, ModalHeld, behind-shared, accepting, accepted}
 use Rattle.modal.proofs.WordsRead.{first-words}
 use Rattle.modal.proofs.Verdicts.{of-choices, comes-with}
-use Rattle.modal.proofs.EqualRows.{as-decide}
+use Rattle.modal.proofs.EqualRows.{as-decide, equal-clean}
 
 -- ---- the calls
 
@@ -38,7 +40,7 @@ module _ (store : List ℕ) (n g : ℕ) (possible : List ℕ) where
   abbrev left : List ℕ → ModalAnswer → List ℕ
   left before a = modalWritten (certainTable store n g possible) (possibleTable store n g possible) (a .verdict) before
 
-  module _ (before : List ℕ) (r : ModalDecision) (after : List ℕ) (a : ModalAnswer) (call : CalledModal store n g possible before r after) (e : answerOf r ≡ answered a) where
+  module _ (before : List ℕ) (r : ModalDecision) (after : List ℕ) (a : ModalAnswer) (call : CalledModal store n g possible before r after) (e : modalDecidedOf r ≡ answered a) where
     -- what holds of the two checks holds of a call that is answered
     of-call : (Q : ModalAnswer → List ℕ → Type 0) → Q checks (left before checks) → Q a after
     unfolding modalAnswer modalBuffer
@@ -53,6 +55,11 @@ module _ (store : List ℕ) (n g : ℕ) (possible : List ℕ) where
         let grounds = modalGrounds store n g possible (length before) in
         accepted store n g possible (length before) (clear-refuse grounds (answered-clear grounds _ (sym (call .0) ∙ e)))
 
+call-clear : (store : List ℕ) (n g : ℕ) (possible : List ℕ) (room : ℕ) → AcceptedStore store n g → possibleWords ≤ length possible → maxStates ≤ room
+    → (malformedRows possible n ≡ false) × (certainImpossible store n possible ≡ false) → Clear (modalGrounds store n g possible room)
+call-clear store n g possible room e long roomy clean =
+    accepting store n g possible room (refuse-clear (sharedGrounds store n g) [] refl e .0) long (clean .0) (clean .1) roomy
+
 -- ---- a table without states
 
 module _ (store possible before : List ℕ) (e : refuse (sharedGrounds store 0 0) ≡ 0) (long : possibleWords ≤ length possible) where
@@ -60,19 +67,19 @@ module _ (store possible before : List ℕ) (e : refuse (sharedGrounds store 0 0
   unfolding malformedRows any
   draft-rows zero = zero-nonZero possible (WORDS * 0) possibleWords (λ i h l. zero i l)
 
-  draft-certain : uncertain store 0 possible ≡ false
-  unfolding uncertain
+  draft-certain : certainImpossible store 0 possible ≡ false
+  unfolding certainImpossible
   draft-certain = any-start _
 
   draft-safe : maxStates ≤ length before → ((i : ℕ) → i < possibleWords → getD possible i 0 ≡ 0)
       → modalAnswer store 0 0 possible (length before) ≡ answered (record { verdict = 0; invariant = empty; size = 0; steps = 0 })
   unfolding modalAnswer modalGrounds
   draft-safe roomy zero =
-      let ground = sym (refuse-nothing store 0 0 possible (length before) (long, e, draft-rows zero) draft-certain roomy) in
-      let ok = accepted store 0 0 possible (length before) ground .0 in
+      let clear = call-clear store 0 0 possible (length before) e long roomy (draft-rows zero, draft-certain) in
+      let ok = accepted store 0 0 possible (length before) (clear-refuse _ clear) .0 in
       let same = as-decide store 0 0 possible ok (λ s h. absurd (not-suc-le-zero h)) before roomy in
       let d = draft .decide store release before _ (same .0) .0 in
-      answer-none (modalGrounds store 0 0 possible (length before)) _ refl ground
+      answer-clear (modalGrounds store 0 0 possible (length before)) _ clear
       ∙ (λ i. answered (record {
         verdict = (same .1 .verdict ∙ ap (λ (x : Decision). x .verdict) d) i;
         invariant = (same .1 .invariant ∙ ap (λ (x : Decision). x .invariant) d) i;
@@ -87,7 +94,7 @@ module _ (store possible before : List ℕ) (e : refuse (sharedGrounds store 0 0
 
     draft-17 : modalAnswer store 0 0 possible (length before) ≡ refused 17
     unfolding modalAnswer
-    draft-17 = answer-refused (modalGrounds store 0 0 possible (length before)) _ (refuse-17 store 0 0 possible (length before) long e draft-malformed) (λ z. omega arith)
+    draft-17 = answer-refused (modalGrounds store 0 0 possible (length before)) _ (behind-shared store 0 0 possible (length before) long (sym e) refl (refuse-first 0 _ draft-malformed)) (λ z. omega arith)
 
 -- ---- all of it
 
@@ -105,6 +112,10 @@ modal-promises =
           let held = call-held store n g possible before r after a call e in
           let same = as-decide store n g possible (held .0) equal before (held .1) in
           (_, same .0, of-call store n g possible before r after a call e (AsDecide _ (decideBuffer store n g release before)) (same .1));
+      equal-rows-answered = λ store n g possible before r after call e long roomy equal zero.
+          let clean = equal-clean store n g possible (accepted-store store n g [] e .0) equal zero in
+          (_, call .0 ∙ answer-clear (modalGrounds store n g possible (length before)) _ (call-clear store n g possible (length before) e long roomy clean));
+      impossible = λ store n possible. impossible-is store possible n;
       refusal = λ store n g possible before r after k call e.
           let given = sym (call .0) ∙ e in (
             refused-is (modalGrounds store n g possible (length before)) _ given,

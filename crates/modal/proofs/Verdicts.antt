@@ -19,7 +19,7 @@ use Rattle.model.specs.Paths.{isPath, smallestPath}
 use Rattle.model.specs.Calls.{overwrite}
 use Rattle.model.specs.Promises.{IsInvariant}
 use Rattle.model.proofs.SetLaws.{_⊆_, subset-in, in-subset}
-use Rattle.model.proofs.WellFormed.{WellFormed}
+use Rattle.model.specs.WellFormed.{WellFormed}
 use Rattle.model.proofs.PathLaws.{path-of, smallest-is, length-smallest}
 use Rattle.modal.specs.Modal.{certainRow, possibleRow, modalForbidden, modalTable, certainTable, possibleTable, releaseCheck, ModalAnswer, modalOf, modalWritten}
 use Rattle.modal.specs.ModalPromises.{Choice, Safe, Unsafe, OfChoices, GivesInvariant, GivesPath, ComesWith}
@@ -56,7 +56,7 @@ module _ (store : List ℕ) (n g : ℕ) (possible : List ℕ) (ok : ModalHeld st
     below s = subset-in (choice .within-possible s)
 
     formed : WellFormed (t row)
-    formed = modal-formed store n g possible ok row below g
+    formed = modal-formed store n g possible ok row below
 
     says : SaysSafe (t row) (releaseCheck (t row)) ⊎ SaysUnsafe (t row) (releaseCheck (t row))
     says = released (t row) formed (small-for store n g possible ok row)

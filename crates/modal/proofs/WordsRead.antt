@@ -19,7 +19,8 @@ use Rattle.model.specs.Stores.{maxGroups, storeWords, rowAt, setAt, dialogueOf,
 use Rattle.basics.proofs.BoundLaws.{decided, any-cong}
 use Rattle.basics.proofs.RefusalLaws.{unless-value, answer-cong}
 use Rattle.model.proofs.FirstWords.{same-word, same-part, nonZero-cong, states-le, dialogue-words, malformed-same}
-use Rattle.modal.specs.Modal.{possibleWords, rowsFrom, certainRow, possibleRow, tableWith, modalForbidden, modalTable, certainTable, possibleTable, malformedRows, uncertain, releaseCheck, modalGrounds, ModalAnswer, modalOf, modalAnswer, modalWritten, modalBuffer}
+use Rattle.table.specs.Rows.{rowsIn}
+use Rattle.modal.specs.Modal.{possibleWords, certainRow, possibleRow, tableWith, modalForbidden, modalTable, certainTable, possibleTable, malformedRows, certainImpossible, releaseCheck, modalGrounds, ModalAnswer, modalOf, modalAnswer, modalWritten, modalBuffer}
 use Rattle.modal.proofs.Grounds.{accepted}
 
 module _ (store store′ possible possible′ : List ℕ) (n g : ℕ)
@@ -36,26 +37,26 @@ module _ (store store′ possible possible′ : List ℕ) (n g : ℕ)
         (any-cong _ _ n (λ r h. ap (beyond n) (part (WORDS * r) (omega arith))))
         (nonZero-cong possible possible′ (WORDS * n) possibleWords (λ i h. same-word possibleWords possible possible′ b b′ p i h))
 
-    uncertain-alike : uncertain store n possible ≡ uncertain store′ n possible′
-    unfolding uncertain
-    uncertain-alike =
+    impossible-alike : certainImpossible store n possible ≡ certainImpossible store′ n possible′
+    unfolding certainImpossible
+    impossible-alike =
         any-cong _ _ n
         (λ r h.
         ap₂ (λ (X Y : Set). not (subset X Y)) (same-part storeWords store store′ a a′ s (rowAt r) (omega arith)) (part (WORDS * r) (omega arith)))
 
     rows-alike : possibleRow possible n ≡ possibleRow possible′ n
-    unfolding rowsFrom
+    unfolding rowsIn
     rows-alike =
         fun-ext
         (λ r.
         ⊎-elim
-        (λ (q : ltb r n ≡ true). rw q (part (0 + WORDS * r) (omega (arith, ltb-true r n q))))
+        (λ (q : ltb r n ≡ true). rw q (part (WORDS * r) (omega (arith, ltb-true r n q))))
         (λ (q : ltb r n ≡ false). rw q)
         (decided (ltb r n)))
 
     module _ (few : g ≤ maxGroups) where
       certain-alike : certainRow store n ≡ certainRow store′ n
-      unfolding rowsFrom dialogueOf
+      unfolding dialogueOf
       certain-alike = ap (λ (d : Dialogue). d .row) (dialogue-words store store′ a a′ s n g small few)
 
       table-alike : {row row′ : ℕ → Set} → row ≡ row′ → modalTable store n g possible row ≡ modalTable store′ n g possible′ row′
@@ -86,7 +87,7 @@ module _ (store store′ possible possible′ : List ℕ) (n g : ℕ)
       (λ (f : ltb maxGroups g ≡ true). rw (q, f))
       (λ (f : ltb maxGroups g ≡ false).
       let small = states-le n g q in
-      rw (q, f, malformed-same store store′ a a′ s n g small (ltb-false maxGroups g f), malformed-alike small, uncertain-alike small))
+      rw (q, f, malformed-same store store′ a a′ s n g small (ltb-false maxGroups g f), malformed-alike small, impossible-alike small))
       (decided (ltb maxGroups g)))
       (decided (badStates n g)))
 

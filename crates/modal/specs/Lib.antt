@@ -1,4 +1,4 @@
 pub mod Modal
-pub mod Laid
-pub mod Answers
+pub mod ModalAnswers
 pub mod ModalPromises
+pub mod Hangs

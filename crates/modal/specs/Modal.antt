@@ -2,16 +2,15 @@
 -- steps), and the call decide_modal (the specification, "Possible steps").
 --
 --   possibleWords                      the words that the rows of possible steps take: row s begins at WORDS * s
---   rowsFrom words at n                the rows of n states that begin at `at`, empty from n up
 --   certainRow, possibleRow            the certain steps, in the store; the possible ones, in the second buffer
 --   modalForbidden store n possible    the forbidden states, the same for every choice: marked, or a hang by the possible steps
 --   tableWith, modalTable              the store's table with other forbidden states and rows; with these forbidden states
 --   releaseCheck t                     what a release check says of a table
---   malformedRows, uncertain           ground 17 of the second buffer; ground 28: a certain step that is not possible
+--   malformedRows, certainImpossible           ground 17 of the second buffer; ground 28: a certain step that is not possible
 --   modalGrounds                       the grounds, in order
 --   ModalAnswer, modalOf               the answer; that of the two release checks
 --   modalAnswer, modalBuffer           what the call returns, and the path buffer at exit
-use Prim.Native.Nat.{ℕ, _+_, _*_}
+use Prim.Native.Nat.{ℕ, _*_}
 use mathlib.Core.Bool.{Bool, cond, not, _||_}
 use mathlib.Core.List.{List, [], _∷_}
 use lib.Dec.{eqb, ltb}
@@ -30,14 +29,11 @@ use Rattle.model.specs.Calls.{overwrite, release, Decision, decisionOf, pathGro
 abbrev pub possibleWords : ℕ
 possibleWords = WORDS * maxStates
 
-unfoldable pub rowsFrom : List ℕ → ℕ → ℕ → ℕ → Set
-rowsFrom words at n s = cond (ltb s n) (setAt words (at + WORDS * s)) empty
-
 abbrev pub certainRow : List ℕ → ℕ → ℕ → Set
-certainRow store n = rowsFrom store (rowAt 0) n
+certainRow store n = (dialogueOf store n 0) .row
 
 abbrev pub possibleRow : List ℕ → ℕ → ℕ → Set
-possibleRow possible n = rowsFrom possible 0 n
+possibleRow possible n = λ s. cond (ltb s n) (setAt possible (WORDS * s)) empty
 
 -- ---- the table of a choice of rows
 
@@ -69,8 +65,8 @@ unfoldable pub malformedRows : List ℕ → ℕ → Bool
 malformedRows possible n = any n (λ s. beyond n (setAt possible (WORDS * s))) || nonZero possible (WORDS * n) possibleWords
 
 -- A certain step is not possible.
-unfoldable pub uncertain : List ℕ → ℕ → List ℕ → Bool
-uncertain store n possible = any n (λ s. not (subset (setAt store (rowAt s)) (setAt possible (WORDS * s))))
+unfoldable pub certainImpossible : List ℕ → ℕ → List ℕ → Bool
+certainImpossible store n possible = any n (λ s. not (subset (setAt store (rowAt s)) (setAt possible (WORDS * s))))
 
 unfoldable pub modalGrounds : List ℕ → ℕ → ℕ → List ℕ → ℕ → List Ground
 modalGrounds store n g possible room =
@@ -78,7 +74,7 @@ modalGrounds store n g possible room =
     ∷ (badStates n g, 14)
     ∷ (ltb maxGroups g, 15)
     ∷ (malformed store n g || malformedRows possible n, 17)
-    ∷ (uncertain store n possible, 28)
+    ∷ (certainImpossible store n possible, 28)
     ∷ pathGround room
     ∷ []
 

@@ -1,6 +1,7 @@
 -- What is promised of the call decide_modal; `ModalKept.modal-promises` proves it.
 --
---   Choice store n possible row     rows that have each certain step and no step that is not possible, state by state
+--   Choice store n possible row     rows that have each certain step and no step that is not possible, state by state (an implementation of the modal
+--                                   transition system)
 --   Safe, Unsafe                    no path leads from an initial to a forbidden state; some path does
 --   OfChoices                       what the verdict says of every choice
 --   ComesWith                       what comes with the verdict: what a release check gives, on the certain or on the possible steps
@@ -11,19 +12,19 @@
 use Prim.Native.Nat.{ℕ, suc, _*_, _≤_, _<_}
 use mathlib.Core.Path.{_≡_}
 use mathlib.Core.Logic.{_⊎_, _↔_}
-use mathlib.Core.Bool.{true}
+use mathlib.Core.Bool.{true, false}
 use mathlib.Core.List.{List}
 use lib.ListN.{length, getD, take}
-use Rattle.model.specs.Sets.{WORDS, maxStates, Set, empty, subset}
+use Rattle.model.specs.Sets.{WORDS, maxStates, Set, member, empty, subset}
 use Rattle.model.specs.Tables.{Table}
 use Rattle.model.specs.Paths.{isPath, smallestPath}
 use Rattle.basics.specs.Refusals.{refuse, refused, answered}
-use Rattle.model.specs.Stores.{storeWords, rowAt, setAt, sharedGrounds}
+use Rattle.model.specs.Stores.{storeWords, rowAt, setAt, sharedGrounds, AcceptedStore}
 use Rattle.model.specs.Calls.{overwrite, release, Decision, decideAnswer, decideBuffer}
 use Rattle.model.specs.Promises.{IsInvariant, IsSmallest}
-use Rattle.modal.specs.Modal.{possibleWords, certainRow, possibleRow, modalTable, certainTable, possibleTable, releaseCheck, modalGrounds, ModalAnswer, modalAnswer, modalBuffer}
+use Rattle.modal.specs.Modal.{possibleWords, certainRow, possibleRow, modalTable, certainTable, possibleTable, certainImpossible, releaseCheck, modalGrounds, ModalAnswer, modalAnswer, modalBuffer}
 use Rattle.modal.specs.declared.ModalDecision.{ModalDecision}
-use Rattle.modal.specs.Answers.{answerOf, CalledModal}
+use Rattle.modal.specs.ModalAnswers.{modalDecidedOf, CalledModal}
 
 pub record Choice (store : List ℕ) (n : ℕ) (possible : List ℕ) (row : ℕ → Set) : Type 0 where
   pub has-certain : (s : ℕ) → subset (certainRow store n s) (row s) ≡ true
@@ -86,16 +87,25 @@ pub record AsDecide (d : Decision) (left : List ℕ) (a : ModalAnswer) (after : 
 pub record ModalPromises : Type 0 where
   -- of every call that is answered
   pub choices : (store : List ℕ) (n g : ℕ) (possible before : List ℕ) (r : ModalDecision) (after : List ℕ) (a : ModalAnswer)
-      → CalledModal store n g possible before r after → answerOf r ≡ answered a → OfChoices store n g possible a
+      → CalledModal store n g possible before r after → modalDecidedOf r ≡ answered a → OfChoices store n g possible a
   pub comes-with : (store : List ℕ) (n g : ℕ) (possible before : List ℕ) (r : ModalDecision) (after : List ℕ) (a : ModalAnswer)
-      → CalledModal store n g possible before r after → answerOf r ≡ answered a → ComesWith store n g possible a before after
+      → CalledModal store n g possible before r after → modalDecidedOf r ≡ answered a → ComesWith store n g possible a before after
   pub equal-rows : (store : List ℕ) (n g : ℕ) (possible before : List ℕ) (r : ModalDecision) (after : List ℕ) (a : ModalAnswer)
-      → CalledModal store n g possible before r after → answerOf r ≡ answered a
+      → CalledModal store n g possible before r after → modalDecidedOf r ≡ answered a
       → ((s : ℕ) → s < n → setAt possible (WORDS * s) ≡ setAt store (rowAt s))
       → (d : Decision) × (decideAnswer store n g release (length before) ≡ answered d) × AsDecide d (decideBuffer store n g release before) a after
+  -- such a call is answered, where the store is accepted, the words of unused rows are 0, and there is room
+  pub equal-rows-answered : (store : List ℕ) (n g : ℕ) (possible before : List ℕ) (r : ModalDecision) (after : List ℕ)
+      → CalledModal store n g possible before r after → AcceptedStore store n g → possibleWords ≤ length possible → maxStates ≤ length before
+      → ((s : ℕ) → s < n → setAt possible (WORDS * s) ≡ setAt store (rowAt s))
+      → ((i : ℕ) → WORDS * n ≤ i → i < possibleWords → getD possible i 0 ≡ 0) → (a : ModalAnswer) × (modalDecidedOf r ≡ answered a)
+  -- ground 28: some state of the table has a certain step that is not possible
+  pub impossible : (store : List ℕ) (n : ℕ) (possible : List ℕ)
+      → (certainImpossible store n possible ≡ true)
+      ↔ ((s : ℕ) × (u : ℕ) × (s < n) × (member (setAt store (rowAt s)) u ≡ true) × (member (setAt possible (WORDS * s)) u ≡ false))
   -- of every call that is refused: the number of the first ground that holds; the set beside it is empty, and the buffer is as it was
   pub refusal : (store : List ℕ) (n g : ℕ) (possible before : List ℕ) (r : ModalDecision) (after : List ℕ) (k : ℕ)
-      → CalledModal store n g possible before r after → answerOf r ≡ refused k
+      → CalledModal store n g possible before r after → modalDecidedOf r ≡ refused k
       → (k ≡ refuse (modalGrounds store n g possible (length before))) × (r .invariant .words ≡ empty) × (after ≡ before)
   -- a table without states is safe where the words of possible steps are all 0, and is refused with 17 where one is not
   pub draft : (store possible before : List ℕ) → refuse (sharedGrounds store 0 0) ≡ 0 → possibleWords ≤ length possible → maxStates ≤ length before

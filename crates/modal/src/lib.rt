@@ -1,41 +1,36 @@
 // Tables some of whose steps are only possible (the specification, "Possible steps"): the call `decide_modal`.
 //
-//   head_word, laid_heads          a table laid out by the call: the store's, with other marked and resting states
-//   laid_out                       and with other rows
-//   forbidden_by                   the forbidden states, the same for every choice
 //   check_on, path_on              a release check, and the path, on given rows
-//   is_malformed, is_uncertain     grounds 17 and 28 of the possible steps
+//   is_malformed, any_impossible     grounds 17 and 28 of the possible steps
 //   refusal_of                     the grounds in order
 //   decide_modal                   the call
 //
-// A table is laid out for each check and for the path. No two are needed at once, but the compiled call keeps four on its stack.
+// The certain rows are those of the store; the possible ones are read where they are lent.
 ghost use mathlib.Core.Path.{_≡_};
-ghost use Prim.Native.Nat.{_+_, _*_, _≤_, _<_};
+ghost use Prim.Native.Nat.{_≤_};
 ghost use lib.ListN.{length};
 ghost use Rattle.model.specs.Sets.{maxStates};
 ghost use Rattle.basics.specs.Refusals.{refuse};
-ghost use Rattle.model.specs.Stores.{storeWords, maxGroups, rowAt};
-ghost use Rattle.model.proofs.WellFormed.{WellFormed};
-ghost use Rattle.paths.specs.Answers.{foundIn, pathWritten};
-ghost use Rattle.rounds.specs.Answers.{stepsIn};
-ghost use Rattle.modal.specs.Modal.{rowsFrom, tableWith, modalForbidden, malformedRows, uncertain, modalGrounds};
-ghost use Rattle.modal.specs.Laid.{headWord, laidOut, LaidTo, RowsIn};
-ghost use Rattle.modal.specs.Answers.{endsSafe, ChecksOut, CalledModal};
+ghost use Rattle.model.specs.Stores.{storeWords, maxGroups, setAt};
+ghost use mathlib.Core.List.{[]};
+ghost use Rattle.table.specs.Rows.{rowsWords, rowsIn, tableOn};
+ghost use Rattle.paths.specs.Search.{HoldsTable};
+ghost use Rattle.paths.specs.PathAnswers.{foundIn, pathWritten};
+ghost use Rattle.rounds.specs.DecideAnswers.{stepsIn};
+ghost use Rattle.modal.specs.Modal.{possibleWords, tableWith, malformedRows, certainImpossible, modalGrounds};
+ghost use Rattle.modal.specs.ModalAnswers.{endsSafe, ChecksOut, CalledModal};
 use paths::find_path;
 use rounds::Ending;
 use rounds::MAX_ALLOWANCE;
 use rounds::run;
 use rounds::steps_of;
+use state_set::MAX_STATES;
 use state_set::StateSet;
 use state_set::WORDS;
 use table::GROUPS_AT;
-use table::MARKED_AT;
-use table::MAX_STATES;
-use table::RESTING_AT;
 use table::ROWS_AT;
-use table::STORE_WORDS;
 use table::any_beyond;
-use table::forbidden;
+use table::forbidden_by;
 use table::non_zero;
 use table::refusal;
 use table::row_at;
@@ -44,61 +39,7 @@ use table::set_at;
 // The words that the rows of possible steps take.
 pub const POSSIBLE_WORDS: usize = WORDS * MAX_STATES;
 
-// ---- a table laid out
-
-// Word i of the store's table with other marked and resting states, before its rows.
-fn head_word(store: &[u64], marked: StateSet, resting: StateSet, i: usize) -> u64
-    requires { ⌜ (i < rowAt 0) × (storeWords ≤ length (now store)) ⌝ }
-    ensures { λ r. ⌜ r ≡ headWord (now (store .entry)) (marked .words) (resting .words) i ⌝ }
-{
-    if i < MARKED_AT {
-        return store[i];
-    }
-    if i < RESTING_AT {
-        return marked.words[i - MARKED_AT];
-    }
-    if i < GROUPS_AT {
-        return resting.words[i - RESTING_AT];
-    }
-    store[i]
-}
-
-pub type Laid = [u64; STORE_WORDS];
-
-// Those words, with no rows yet.
-fn laid_heads(store: &[u64], marked: StateSet, resting: StateSet) -> Laid
-    requires { ⌜ storeWords ≤ length (now store) ⌝ }
-    ensures { λ r. ⌜ LaidTo (headWord (now (store .entry)) (marked .words) (resting .words)) r (rowAt 0) ⌝ }
-{
-    let mut laid = [0; STORE_WORDS];
-    for i in 0..ROWS_AT {
-        laid[i] = head_word(store, marked, resting, i);
-    }
-    laid
-}
-
-// And the rows of `rows` that begin at `at`.
-fn laid_out(store: &[u64], marked: StateSet, resting: StateSet, rows: &[u64], at: usize) -> Laid
-    requires { ⌜ (storeWords ≤ length (now store)) × RowsIn (now rows) at ⌝ }
-    ensures { λ r. ⌜ r ≡ laidOut (now (store .entry)) (marked .words) (resting .words) (now (rows .entry)) at ⌝ }
-{
-    let mut laid = laid_heads(store, marked, resting);
-    for i in 0..POSSIBLE_WORDS {
-        laid[ROWS_AT + i] = rows[at + i];
-    }
-    laid
-}
-
-// Marked, or without a possible step and not resting.
-fn forbidden_by(store: &[u64], n: usize, possible: &[u64]) -> StateSet
-    requires { ⌜ (n ≤ maxStates) × (storeWords ≤ length (now store)) × RowsIn (now possible) 0 ⌝ }
-    ensures { λ r. ⌜ r .words ≡ modalForbidden (now (store .entry)) n (now (possible .entry)) ⌝ }
-{
-    let marked = set_at(store, MARKED_AT);
-    let resting = set_at(store, RESTING_AT);
-    let laid = laid_out(store, marked, resting, possible, 0);
-    forbidden(&laid, n)
-}
+// ---- a check, and a path
 
 // Whether a release check says safe, with its invariant, or the empty set.
 pub struct Checked {
@@ -116,20 +57,20 @@ fn is_safe(ending: Ending) -> bool
     }
 }
 
-// A release check with these forbidden states, on the rows that begin at `at`. Every state rests, so that no other is forbidden.
-fn check_on(
-    store: &[u64],
-    n: usize,
-    g: usize,
-    forbidden: StateSet,
-    rows: &[u64],
-    at: usize,
-) -> Checked
-    requires { ⌜ (n ≤ maxStates) × (g ≤ maxGroups) × (storeWords ≤ length (now store)) × RowsIn (now rows) at ⌝ }
-    ensures { λ r. ⌜ ChecksOut (tableWith (now (store .entry)) n g (forbidden .words) (rowsFrom (now (rows .entry)) at n)) r ⌝ }
+// A release check of the store's table with these forbidden states and rows.
+fn check_on(store: &[u64], n: usize, g: usize, forbidden: StateSet, rows: &[u64]) -> Checked
+    requires { ⌜ (g ≤ maxGroups) × (storeWords ≤ length (now store)) × (rowsWords ≤ length (now rows)) ⌝ }
+    ensures { λ r. ⌜ ChecksOut (tableWith (now (store .entry)) n g (forbidden .words) (rowsIn (now (rows .entry)) n)) r ⌝ }
 {
-    let laid = laid_out(store, forbidden, StateSet::first_states(n), rows, at);
-    let ended = run(&laid, n, g, MAX_ALLOWANCE);
+    let ended = run(
+        rows,
+        &store[GROUPS_AT..],
+        g,
+        n,
+        set_at(store, 0),
+        forbidden,
+        MAX_ALLOWANCE,
+    );
     let ending = ended.ending;
     let invariant = ended.invariant;
     Checked {
@@ -139,28 +80,20 @@ fn check_on(
 }
 
 // The path on those rows at the front of the buffer, and its steps; groups play no part.
-fn path_on(
-    store: &[u64],
-    n: usize,
-    forbidden: StateSet,
-    rows: &[u64],
-    at: usize,
-    path: &mut [u16],
-) -> usize
-    requires { ⌜ (n ≤ maxStates) × (storeWords ≤ length (now store)) × RowsIn (now rows) at × (maxStates ≤ length (now path))
-        × WellFormed (tableWith (now store) n 0 (forbidden .words) (rowsFrom (now rows) at n)) ⌝ }
-    ensures { λ r. ⌜ (r ≡ stepsIn (foundIn (tableWith (now (store .entry)) n 0 (forbidden .words) (rowsFrom (now (rows .entry)) at n))))
-        × (now (path .exit) ≡ pathWritten (tableWith (now (store .entry)) n 0 (forbidden .words) (rowsFrom (now (rows .entry)) at n)) (now (path .entry))) ⌝ }
+fn path_on(store: &[u64], n: usize, forbidden: StateSet, rows: &[u64], path: &mut [u16]) -> usize
+    requires { ⌜ (storeWords ≤ length (now store)) × HoldsTable (now rows) n (setAt (now store) 0) (forbidden .words)
+        × (maxStates ≤ length (now path)) ⌝ }
+    ensures { λ r. ⌜ (r ≡ stepsIn (foundIn (tableOn n (setAt (now (store .entry)) 0) (forbidden .words) [] (now (rows .entry)))))
+        × (now (path .exit) ≡ pathWritten (tableOn n (setAt (now (store .entry)) 0) (forbidden .words) [] (now (rows .entry))) (now (path .entry))) ⌝ }
 {
-    let laid = laid_out(store, forbidden, StateSet::first_states(n), rows, at);
-    steps_of(find_path(&laid, n, path))
+    steps_of(find_path(rows, n, set_at(store, 0), forbidden, path))
 }
 
 // ---- refusals
 
 // A 1 bit for a state from n up, or a word of an unused row not 0.
 fn is_malformed(possible: &[u64], n: usize) -> bool
-    requires { ⌜ (n ≤ maxStates) × RowsIn (now possible) 0 ⌝ }
+    requires { ⌜ (n ≤ maxStates) × (possibleWords ≤ length (now possible)) ⌝ }
     ensures { λ r. ⌜ r ≡ malformedRows (now (possible .entry)) n ⌝ }
 {
     if any_beyond(possible, 0, n, n) {
@@ -170,12 +103,12 @@ fn is_malformed(possible: &[u64], n: usize) -> bool
 }
 
 // A certain step is not possible.
-fn is_uncertain(store: &[u64], n: usize, possible: &[u64]) -> bool
-    requires { ⌜ (n ≤ maxStates) × (storeWords ≤ length (now store)) × RowsIn (now possible) 0 ⌝ }
-    ensures { λ r. ⌜ r ≡ uncertain (now (store .entry)) n (now (possible .entry)) ⌝ }
+fn any_impossible(store: &[u64], n: usize, possible: &[u64]) -> bool
+    requires { ⌜ (n ≤ maxStates) × (storeWords ≤ length (now store)) × (possibleWords ≤ length (now possible)) ⌝ }
+    ensures { λ r. ⌜ r ≡ certainImpossible (now (store .entry)) n (now (possible .entry)) ⌝ }
 {
     for s in 0..n {
-        if !row_at(store, s).is_subset(set_at(possible, WORDS * s)) {
+        if !row_at(&store[ROWS_AT..], s).is_subset(row_at(possible, s)) {
             return true;
         }
     }
@@ -196,7 +129,7 @@ fn refusal_of(store: &[u64], n: usize, g: usize, possible: &[u64], room: usize) 
     if is_malformed(possible, n) {
         return 17;
     }
-    if is_uncertain(store, n, possible) {
+    if any_impossible(store, n, possible) {
         return 28;
     }
     if room < MAX_STATES {
@@ -239,8 +172,9 @@ pub fn decide_modal(
             invariant: StateSet::empty(),
         };
     }
+    // a hang has no possible step: the same for every choice
     let forbidden = forbidden_by(store, n, possible);
-    let on_possible = check_on(store, n, g, forbidden, possible, 0);
+    let on_possible = check_on(store, n, g, forbidden, possible);
     if on_possible.safe {
         let invariant = on_possible.invariant;
         return ModalDecision {
@@ -250,11 +184,11 @@ pub fn decide_modal(
             invariant,
         };
     }
-    let on_certain = check_on(store, n, g, forbidden, store, ROWS_AT);
+    let on_certain = check_on(store, n, g, forbidden, &store[ROWS_AT..]);
     if !on_certain.safe {
         return ModalDecision {
             verdict: ModalVerdict::Unsafe {
-                steps: path_on(store, n, forbidden, store, ROWS_AT, path),
+                steps: path_on(store, n, forbidden, &store[ROWS_AT..], path),
             },
             invariant: StateSet::empty(),
         };
@@ -263,7 +197,7 @@ pub fn decide_modal(
     ModalDecision {
         verdict: ModalVerdict::Depends {
             size: invariant.count(),
-            steps: path_on(store, n, forbidden, possible, 0, path),
+            steps: path_on(store, n, forbidden, possible, path),
         },
         invariant,
     }

@@ -1,13 +1,13 @@
 // Tables with certain and possible steps through the call decide_modal: some of the specification's with a step more that is only possible, hangs by
 // either kind of steps, a corridor; then refusals, their order and their edges. The possible steps are the rows of a second store.
-// tests/expected.py works out what this must print: it looks at every choice.
+// tests/expected/programs.py works out what this must print: it looks at every choice.
 use modal::ModalDecision;
 use modal::ModalVerdict;
 use modal::POSSIBLE_WORDS;
 use modal::decide_modal;
+use state_set::MAX_STATES;
 use state_set::WORDS;
 use table::MAX_GROUPS;
-use table::MAX_STATES;
 use table::ROWS_AT;
 use table::STORE_WORDS;
 use test_support::add;

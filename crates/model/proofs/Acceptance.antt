@@ -21,7 +21,7 @@ use Rattle.model.proofs.SetLaws.{in-bound, in-firstStates, union-in, _�
 use Rattle.model.proofs.HangLaws.{hangs-within}
 use Rattle.basics.proofs.RefusalLaws.{refuse-behind, clear-refuse, refuse-clear, answered-clear, answered-value}
 use Rattle.model.proofs.StoreLaws.{beyond-below, malformed-clean, row-is}
-use Rattle.model.proofs.WellFormed.{WellFormed}
+use Rattle.model.specs.WellFormed.{WellFormed}
 
 -- ---- a store
 

@@ -32,7 +32,7 @@ use Rattle.model.specs.Contents.{Form, newForm, heads, added, contentLen
 use Rattle.model.specs.Files.{fileOf, fileLength, maxFile}
 use Rattle.model.specs.Calls.{overwrite, TableRead, statesIn, secondIn, groupsIn, badLength, badSecond, blocksGrounds, contentGrounds, fileGrounds, readGroundsAs, readAnswerAs, readBufferAs, outputGround, writeGrounds, writeAnswer, writeBuffer}
 use Rattle.basics.proofs.BoundLaws.{by-cond, decided, any-none, or-false, no-any}
-use Rattle.basics.proofs.RefusalLaws.{Clear, refuse-none, refuse-skip, refuse-take, clear-refuse, numbered, refuse-clear, clear-append, clear-concat, concat-clear, numbered-append, numbered-concat, answer-refused, answer-none, answered-clear, answered-value}
+use Rattle.basics.proofs.RefusalLaws.{refuse-first, Clear, refuse-behind, clear-refuse, numbered, refuse-clear, clear-append, clear-concat, concat-clear, numbered-append, numbered-concat, answer-refused, answer-none, answered-clear, answered-value}
 use Rattle.model.proofs.StoreLaws.{nonZero-zero, zero-nonZero}
 use Rattle.model.proofs.Acceptance.{Store, accepted-store, store-accepted}
 
@@ -48,13 +48,14 @@ module _ (store : List ℕ) (n g site room : ℕ) where
   module _ (long : storeWords ≤ length store) where
     pub write-over : maxSite < site → refuse (writeGrounds store n g site room) ≡ 24
     unfolding writeGrounds
-    write-over h = refuse-skip _ 10 _ (le-ltb (length store) storeWords long) ∙ refuse-take _ 24 _ (lt-ltb maxSite site h)
+    write-over h = sym (refuse-first 1 _ (le-ltb (length store) storeWords long, lt-ltb maxSite site h))
 
     pub write-behind : site ≤ maxSite → refuse (writeGrounds store n g site room) ≡ refuse (sharedGrounds store n g ++ (outputGround n g room ∷ []))
     unfolding writeGrounds
     write-behind h =
         let fits = le-ltb (length store) storeWords long in
-        refuse-skip _ 10 _ fits ∙ refuse-skip _ 24 _ (le-ltb maxSite site h) ∙ sym (refuse-skip _ 10 _ fits)
+        refuse-behind (storeGround (length store) ∷ siteGround site ∷ []) _ (fits, (le-ltb maxSite site h, tt))
+        ∙ sym (refuse-behind (storeGround (length store) ∷ []) _ (fits, tt))
 
   pub write-refused : {k : ℕ} → refuse (writeGrounds store n g site room) ≡ k → (k ≡ 0 → ⊥) → writeAnswer store n g site room ≡ refused k
   unfolding writeAnswer
@@ -82,8 +83,7 @@ module _ (store : List ℕ) (n g site room : ℕ) where
       answer-none (writeGrounds store n g site room) _ refl
       (write-behind (w .held .long) (w .known)
       ∙ store-accepted store n g (outputGround n g room ∷ []) (w .held)
-      ∙ refuse-skip _ 19 _ (le-ltb room (fileLength newForm n g) (w .fits))
-      ∙ refuse-none)
+      ∙ clear-refuse _ (le-ltb room (fileLength newForm n g) (w .fits), tt))
 
 pub write-buffer : (store : List ℕ) (n g site : ℕ) (out : List ℕ) → Writable store n g site (length out) → writeBuffer store n g site out ≡ overwrite (fileOf newForm site (dialogueOf store n g)) out
 unfolding writeBuffer
@@ -153,18 +153,19 @@ module _ (form : Form) (input : List ℕ) (site room : ℕ) where
 
   pub read-over : storeWords ≤ room → maxSite < site → refuse (readGroundsAs form input site room) ≡ 24
   unfolding readGroundsAs
-  read-over fits h = refuse-skip _ 10 _ (le-ltb room storeWords fits) ∙ refuse-take _ 24 _ (lt-ltb maxSite site h)
+  read-over fits h = sym (refuse-first 1 _ (le-ltb room storeWords fits, lt-ltb maxSite site h))
 
   -- a file with any block: the grounds behind 24, and those behind 11
   module _ (fits : storeWords ≤ room) (known : site ≤ maxSite) (present : length input ≡ 0 → ⊥) where
     behind-site : refuse (readGroundsAs form input site room) ≡ refuse (fileGrounds form input site)
     unfolding readGroundsAs
-    behind-site = refuse-skip _ 10 _ (le-ltb room storeWords fits) ∙ refuse-skip _ 24 _ (le-ltb maxSite site known) ∙ rw (ne-eqb (length input) 0 present)
+    behind-site =
+        refuse-behind (storeGround room ∷ siteGround site ∷ []) _ (le-ltb room storeWords fits, (le-ltb maxSite site known, tt)) ∙ rw (ne-eqb (length input) 0 present)
 
     pub behind-length : badLength input ≡ false
         → refuse (readGroundsAs form input site room) ≡ refuse (blocksGrounds input site ++ contentGrounds form input (statesIn input) (secondIn input))
     unfolding fileGrounds
-    behind-length whole = behind-site ∙ refuse-skip _ 11 _ whole
+    behind-length whole = behind-site ∙ refuse-behind ((badLength input, 11) ∷ []) _ (whole, tt)
 
   file-readable : storeWords ≤ room → site ≤ maxSite → (length input ≡ 0 → ⊥) → refuse (fileGrounds form input site) ≡ 0 → Readable form input site room (statesIn input) (groupsIn form input)
   unfolding fileGrounds badLength blocksGrounds contentGrounds

@@ -28,7 +28,7 @@ use Rattle.basics.proofs.BoundLaws.{is-false, length-tabulate, getD-tabulate}
 use Rattle.model.proofs.SetLaws.{setOf-cong, empty-in, firstStates-in}
 use Rattle.model.proofs.Fixpoints.{backward-is}
 use Rattle.model.proofs.ListLaws.{getD-past}
-use Rattle.basics.proofs.RefusalLaws.{refuse-none, refuse-skip, refuse-take, refuse-behind, answered-value}
+use Rattle.basics.proofs.RefusalLaws.{refuse-first, refuse-behind, clear-refuse, answered-value}
 use Rattle.model.proofs.ContentLaws.{by-resting}
 use Rattle.model.proofs.StoreLaws.{setAt-empty, Holds, holds-layout}
 use Rattle.model.proofs.FileLaws.{file-draft, length-draft}
@@ -103,7 +103,7 @@ no-path store = le-ltb (shortest (tableOf store 0 0)) 0 zero-le
 
 groups-alone : (store : List ℕ) (g : ℕ) (later : List Ground) → storeWords ≤ length store → (g ≡ 0 → ⊥) → refuse (sharedGrounds store 0 g ++ later) ≡ 14
 unfolding badStates
-groups-alone store g later h f = refuse-skip _ 10 _ (le-ltb (length store) storeWords h) ∙ refuse-take _ 14 _ (rw (ne-eqb g 0 f))
+groups-alone store g later h f = sym (refuse-first 1 _ (le-ltb (length store) storeWords h, rw (ne-eqb g 0 f)))
 
 draft-answer : (site room : ℕ) → refuse (readGrounds [] site room) ≡ 0 → readAnswer [] site room ≡ answered (record { n = 0; g = 0 })
 draft-answer site room none =
@@ -125,7 +125,7 @@ draft =
       read-accepted = λ site store k h.
           let none = draft-refusal newForm [] site (length store) h k refl in
           let back = round-trips .read-write [] site store [] _ (λ i. omega arith) (omega arith) (draft-answer site (length store) none) in
-          store-accepted (readBuffer [] site store) 0 0 [] (written (readBuffer [] site store) 0 0 site 0 (back .answer) .0 .held) ∙ refuse-none;
+          store-accepted (readBuffer [] site store) 0 0 [] (written (readBuffer [] site store) 0 0 site 0 (back .answer) .0 .held) ∙ clear-refuse [] tt;
       decide = λ store allowance path a e.
           let t = tableOf store 0 0 in
           let check = check-of store 0 0 allowance (length path) e in
@@ -152,6 +152,6 @@ draft =
           read-refused newForm input site room
           (behind-length newForm input site room h k some whole
           ∙ refuse-behind (blocksGrounds input site) _ (blocks-clear input site [] (ap refuse (append-nil (blocksGrounds input site)) ∙ blocks) .0)
-          ∙ refuse-take _ 14 _ (rw (eq-eqb (statesIn input) 0 none)))
+          ∙ sym (refuse-first 0 _ (rw (eq-eqb (statesIn input) 0 none))))
           (λ z. omega arith);
     }

@@ -154,10 +154,13 @@ module _ (t : Table) where
   eliminated-done = sym (shrinking-done (eliminationStep t) _ (t .n) eliminated-proper eliminated-within eliminated-shrinks)
 
   pub backward-is : BackwardIs t (backwardNumber t)
-  unfolding backwardNumber
+  unfolding backwardNumber eliminated iterate eliminationStep
   backward-is =
       record {
-        still = same-eq (eliminated-proper _) (eliminated-proper _) (first-found (unchanged t) (t .n) (eq-same eliminated-done));
+        first = refl;
+        next = λ j. refl;
+        still = same-eq (eliminated-proper (backwardNumber t)) (eliminated-proper (suc (backwardNumber t))) (first-found (unchanged t) (t .n) (eq-same eliminated-done));
         least = λ j e. first-before (unchanged t) (t .n) j (eq-same e);
         bounded = first-le (unchanged t) (t .n);
+        no-groups = λ groups. refl;
       }

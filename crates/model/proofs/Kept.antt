@@ -17,12 +17,14 @@ use mathlib.Core.List.{List, List·Memᴰ}
 use lib.Dec.{eqb}
 use lib.ListN.{length, take}
 use lib.Seq.{take-at}
-use Rattle.model.specs.Sets.{Set, member, firstStates}
+use Rattle.basics.specs.Bounds.{tabulate}
+use Rattle.model.specs.Sets.{Set, bit, member, number, setOf, single, union, firstStates}
 use Rattle.model.specs.Tables.{Table, coverOf, cover}
 use Rattle.model.specs.Rounds.{Outcome, safe, unsafe, undecided, run, backwardNumber}
 use Rattle.model.specs.Paths.{isPath, shortest, hasPath, smallestPath}
 use Rattle.basics.specs.Refusals.{answered, unlessRefused}
 use Rattle.model.specs.Stores.{groupAt, setAt, tableOf, beyond}
+use Rattle.model.specs.Contents.{setBytes}
 use Rattle.model.specs.Calls.{overwrite, Decision, release, decideGrounds, decisionOf, decideAnswer, decideBuffer, Shortest, pathFound, shortestGrounds, shortestAnswer, shortestBuffer, readGrounds, readAnswerAs, readBufferAs, writeGrounds, writeAnswer, writeBuffer}
 use Rattle.model.specs.Promises.{Operations, StopsFirst, IsSmallest, Carries, Demand2, Demand3, SameAnswer, PathAnswer, Promises, Untouched}
 use Rattle.model.specs.Sizes.{Sizes}
@@ -30,9 +32,9 @@ use Rattle.basics.proofs.BoundLaws.{clash, in-tabulate}
 use Rattle.basics.proofs.RefusalLaws.{clear-refuse, answered-clear, answered-value, refused-is}
 use Rattle.model.proofs.SetLaws.{In, in-bound, in-image, image-in, in-firstStates, firstStates-in, _⊆_}
 use Rattle.model.proofs.Fixpoints.{backward-is}
-use Rattle.model.proofs.WellFormed.{WellFormed}
+use Rattle.model.specs.WellFormed.{WellFormed}
 use Rattle.model.proofs.CoverLaws.{in-post, post-in, in-hold, hold-in, hold-within, in-coverOf, coverOf-in, coverOf-within, cover-is, cover-add-in, cover-add-out}
-use Rattle.model.proofs.RoundLaws.{round-first, round-next, round-is, listed-within, first-stop, countOf, count-backward, undecided-count, undecided-short, larger-run, safe-invariant, safe-no-path, unsafe-long, unsafe-path}
+use Rattle.model.proofs.RoundLaws.{round-first, round-next, round-is, listed-within, first-stop, countOf, count-backward, undecided-count, undecided-short, larger-run, safe-invariant, safe-no-path, eliminated-members, unsafe-long, unsafe-path}
 use Rattle.model.proofs.PathLaws.{has-path, path-of, smallest-is, length-smallest}
 use Rattle.model.proofs.StoreLaws.{beyond-below, malformed-clean}
 use Rattle.model.proofs.FirstWords.{table-words, first-words}
@@ -244,6 +246,7 @@ promises =
       each-round = round-is;
       first-stop = first-stop;
       backward-number = backward-is;
+      eliminated-members = eliminated-members;
       demand3 = λ t allowance. outcome-3 t allowance _ refl;
       answer = λ store n g allowance path a e. check store n g allowance path a e .answer;
       stops = λ store n g allowance path a e.
@@ -287,9 +290,11 @@ untouched =
     }
 
 pub sizes : Sizes
+unfolding member bit number setOf single union tabulate setBytes
 sizes =
     record {
       words-of-a-set = refl;
+      words-of-states = refl;
       most-states = refl;
       most-groups = refl;
       words-of-a-store = refl;
@@ -300,9 +305,18 @@ sizes =
       greatest-allowance = refl;
       release-allowance = refl;
       block = refl;
+      content-at = refl;
+      content = refl;
+      check-at = refl;
+      prime = refl;
+      header = refl;
       heads-of-a-file = (refl, refl);
       added-to-g = (refl, refl);
+      bytes-of-states = refl;
+      just-enough = λ l blocks. (λ h. omega arith, λ h. omega arith);
+      one-byte-more = (refl, refl);
       most-blocks = refl;
       most-blocks-old = refl;
       largest-file = refl;
+      most-read = refl;
     }

@@ -4,7 +4,6 @@ pub mod Fixpoints
 pub mod CoverLaws
 pub mod HangLaws
 pub mod ImageLaws
-pub mod WellFormed
 pub mod RoundLaws
 pub mod PathLaws
 pub mod ListLaws

@@ -8,7 +8,7 @@
 --   getD-concat                               an element by its list and its place there
 --   tabulate-next, concat-next                one more, for a loop; concat-cong: the same lists joined
 --   concat-parts                              the parts of a list joined
---   length-overwrite, take-overwrite          a buffer written over: its length and its front
+--   length-overwrite, take-overwrite          a buffer written over: its length and its front; drop-overwrite: the rest
 --   overwrite-front                           its first elements
 --   overwrite-append, overwrite-more          written over in two parts, the second where the buffer is lent from there on
 --   overwrite-set                             one element more
@@ -122,6 +122,10 @@ module _ (xs old : List ℕ) where
   pub take-overwrite : (n : ℕ) → length xs ≡ n → take n (overwrite xs old) ≡ xs
   unfolding overwrite
   take-overwrite n e = take-at xs (drop (length xs) old) n e
+
+  pub drop-overwrite : (n : ℕ) → length xs ≡ n → drop n (overwrite xs old) ≡ drop n old
+  unfolding overwrite
+  drop-overwrite n e = drop-at xs (drop (length xs) old) n e ∙ ap (λ (m : ℕ). drop m old) e
 
   pub overwrite-front : (i d : ℕ) → i < length xs → getD (overwrite xs old) i d ≡ getD xs i d
   unfolding overwrite

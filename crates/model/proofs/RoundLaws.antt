@@ -14,7 +14,8 @@
 --   count-backward                     the count is at most b
 --   undecided-count, undecided-short   undecided comes after an allowance all used up, and that was below b
 --   larger-run                         a larger allowance never changes a verdict given
---   eliminated-unreachable, eliminated-leads   a state of Wj has no way of j steps or fewer to a forbidden state; a state not in Wj has a way
+--   eliminated-unreachable, eliminated-leads   a state of Wj has no way of j steps or fewer to a forbidden state; a state not in Wj has one
+--   eliminated-members                 so Wj is the states that have none
 --   count-path, unsafe-long            every path has at least as many steps as the count
 --   unsafe-path                        where the rounds say unsafe there is a path
 --   invariant-no-path                  an invariant rules out every path
@@ -23,20 +24,20 @@ use Prim.Native.Nat.{ℕ, zero, suc, _+_, _-_, _≤_, _<_, zero-le, suc-le-suc}
 use native.Mathlib.Nat.{not-suc-le-zero}
 use native.Mathlib.Omega.{arith}
 use mathlib.Core.Path.{_≡_, refl, sym, ap, _∙_, subst}
-use mathlib.Core.Logic.{inl, inr, ⊎-elim}
+use mathlib.Core.Logic.{inl, inr, ⊎-elim, _↔_}
 use mathlib.Core.Bool.{true, false, not, false≢true}
 use mathlib.Core.List.{List, [], _∷_, List·Memᴰ, List·Memᴰ·head, List·Memᴰ·cases-cons}
 use lib.ListN.{length}
-use Rattle.model.specs.Sets.{Set, member, union, meet, subset, firstStates}
+use Rattle.model.specs.Sets.{maxStates, Set, member, union, meet, subset, firstStates}
 use Rattle.model.specs.Tables.{Table, post, hold, notForbidden}
 use Rattle.model.specs.Rounds.{iterate, forwardStep, forward, backwardStep, backward, Round, roundOf, firstRound, nextRound, isSafe, isUnsafe, Outcome, safe, unsafe, undecided, settle, rounds, run, eliminationStep, eliminated, backwardNumber}
 use Rattle.model.specs.Paths.{leads, isPath}
 use Rattle.model.specs.Promises.{IsLeast, IsGreatest, roundAt, IsFirst, IsNext, IsRound, Continues, FirstStop, IsInvariant}
 use Rattle.basics.proofs.BoundLaws.{and-true, and-intro, not-true, is-false, clash, decided, by-cond, lt-or-ge, below-suc}
-use Rattle.model.proofs.SetLaws.{In, in-or-out, in-union, union-in, in-meet, meet-in, firstStates-in, _⊆_, ⊆-of-eq, subset-in, in-subset, subset-not}
+use Rattle.model.proofs.SetLaws.{In, in-or-out, in-union, union-in, in-meet, meet-in, in-firstStates, firstStates-in, _⊆_, ⊆-of-eq, subset-in, in-subset, subset-not}
 use Rattle.model.proofs.Fixpoints.{from-below, from-above, greatest-post, eliminated-mono, eliminated-within, backward-is}
 use Rattle.model.proofs.CoverLaws.{in-notForbidden, notForbidden-in, notForbidden-within, in-post, post-in, in-hold, hold-in, hold-within, Closed, listed-closed, cover-closed, cover-extensive, cover-minimal, forwardStep-mono, forwardStep-proper, forwardStep-within, backwardStep-mono, backwardStep-proper, backwardStep-within}
-use Rattle.model.proofs.WellFormed.{WellFormed}
+use Rattle.model.specs.WellFormed.{WellFormed}
 
 -- ---- one round
 
@@ -365,18 +366,30 @@ module _ (t : Table) where
       suc-le-suc (eliminated-unreachable j xs (eliminated-in t j h .1 x (record { is = step .0 })) (step .1))
 
   pub eliminated-leads : WellFormed t → (j : ℕ) {s : ℕ} → In (firstStates (t .n)) s → (In (eliminated t j) s → ⊥)
-      → (xs : List ℕ) × (leads t s xs ≡ true)
+      → (xs : List ℕ) × (leads t s xs ≡ true) × (length xs ≤ j)
   unfolding leads eliminated iterate
   eliminated-leads w zero {s} h out =
-      ([], ⊎-elim (λ e. e) (λ e. absurd (out (in-notForbidden _ _ h e))) (decided (member (t .forbidden) s)))
+      ([], ⊎-elim (λ e. e) (λ e. absurd (out (in-notForbidden _ _ h e))) (decided (member (t .forbidden) s)), zero-le)
   eliminated-leads w (suc j) {s} h out =
       ⊎-elim
       (λ k.
       let step = subset-not (t .row s) (eliminated t j) (is-false _ (λ e. out (in-eliminated t j k (subset-in e)))) in
       let rest = eliminated-leads w j (w .rows s (firstStates-in h) (step .0) (step .1)) (step .2) in
-      (step .0 ∷ rest .0, and-intro _ _ (step .1 .is) (rest .1)))
-      (λ o. eliminated-leads w j h o)
+      (step .0 ∷ rest .0, and-intro _ _ (step .1 .is) (rest .1), suc-le-suc (rest .2)))
+      (λ o. let way = eliminated-leads w j h o in (way .0, way .1, omega (arith, way .2)))
       (in-or-out (eliminated t j) s)
+
+  pub eliminated-members : WellFormed t → (j s : ℕ) → s < maxStates
+      → (member (eliminated t j) s ≡ true) ↔ ((s < t .n) × ((xs : List ℕ) → leads t s xs ≡ true → j < length xs))
+  eliminated-members w j s b = (
+    λ e.
+        let h : In (eliminated t j) s = record { is = e } in
+        (firstStates-in (eliminated-within t j s h), λ xs. eliminated-unreachable j xs h),
+    λ far.
+        ⊎-elim (λ h. h .is)
+        (λ out. let way = eliminated-leads w j (in-firstStates b (far .0)) out in absurd (omega (arith, way .2, far .1 (way .0) (way .1))))
+        (in-or-out (eliminated t j) s),
+  )
 
   -- a path is an initial state and a way from it
   path-parts : (xs : List ℕ) → isPath t xs ≡ true

@@ -411,5 +411,4 @@ file-sizes =
       contents-long = λ form t. length-contents form t refl;
       file-long = λ form site t. length-fileOf form site t refl;
       largest = fileLength-most;
-      largest-is = refl;
     }

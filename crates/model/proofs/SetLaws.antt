@@ -19,6 +19,7 @@ use lib.ListN.{length, getD}
 use lib.Seq.{ext-getD}
 use Rattle.basics.specs.Bounds.{tabulate}
 use Rattle.model.specs.Sets.{WORDS, maxStates, Set, bit, member, number, setOf, empty, single, union, meet, difference, subset, same, meets, states, firstStates, smallest, image}
+pub use Rattle.model.specs.WellFormed.{In, _⊆_}
 use Rattle.basics.proofs.BoundLaws.{and-true, and-intro, or-true, or-intro, not-true, is-false, clash, decided, same-test, by-cond, any-intro, any-find, all-at, all-intro, all-not, first-passes, first-before, below-suc, length-tabulate, getD-tabulate}
 
 -- ---- bits
@@ -127,9 +128,6 @@ setOf-cong p q e =
 
 -- ---- membership as a fact
 
-pub record In (X : Set) (s : ℕ) : Type 0 where
-  pub is : member X s ≡ true
-
 -- a set holds states below top only
 pub in-bound : {X : Set} {s : ℕ} → In X s → s < maxStates
 unfolding member
@@ -206,10 +204,6 @@ unfolding firstStates
 firstStates-in {n} h = states-in n _ h .0
 
 -- ---- inclusion
-
-infix 40 _⊆_
-abbrev pub _⊆_ : Set → Set → Type 0
-X ⊆ Y = (s : ℕ) → In X s → In Y s
 
 pub subset-in : {X Y : Set} → subset X Y ≡ true → X ⊆ Y
 unfolding subset

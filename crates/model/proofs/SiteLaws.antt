@@ -23,7 +23,7 @@ use Rattle.model.specs.Files.{fileLength}
 use Rattle.model.specs.Calls.{badLength, blocksGrounds, readGroundsAs, readAnswer, writeGrounds, writeAnswer, writeBuffer}
 use Rattle.model.specs.Sites.{Sites}
 use Rattle.basics.proofs.BoundLaws.{length-tabulate}
-use Rattle.basics.proofs.RefusalLaws.{refuse-skip, refuse-take, refuse-append, clear-refuse, refuse-clear, numbered-concat, refuse-stop}
+use Rattle.basics.proofs.RefusalLaws.{refuse-first, refuse-append, clear-refuse, refuse-clear, numbered-concat, refuse-stop}
 use Rattle.model.proofs.BlockLaws.{block-number, block-check, blockOf-is}
 use Rattle.model.proofs.FileLaws.{part-blockFile, file-blocks, length-draft, length-blocks, fileLength-most}
 use Rattle.model.proofs.CallLaws.{Writable, write-over, write-refused, written, clear-block, right-block, read-refused, read-over, behind-length}
@@ -43,9 +43,10 @@ module _ (a b : ℕ) (h : a ≤ maxSite) (l : b ≤ maxSite) (apart : a ≡ b �
   unfolding blockGrounds
   foreign-fault block k e =
       let right = clear-block a block k (refuse-clear (blockGrounds a block k) [] refl e .0) in
-      refuse-skip _ 12 _ (ap not (eq-eqb (le16At block 0) k (right .0)))
-      ∙ refuse-take _ 13 _
-      (ap not (ne-eqb (le16At block checkAt) (checkOf b block) (λ q. apart (checks-apart a b block h l (sym (right .1) ∙ q)))))
+      sym (refuse-first 1 _ (
+        ap not (eq-eqb (le16At block 0) k (right .0)),
+        ap not (ne-eqb (le16At block checkAt) (checkOf b block) (λ q. apart (checks-apart a b block h l (sym (right .1) ∙ q)))),
+      ))
 
   foreign-block : (input : List ℕ) (room k : ℕ) → storeWords ≤ room → badLength input ≡ false → k < length input / blockBytes
       → refuse (concat k (λ j. blockGrounds b (part input j) j)) ≡ 0 → refuse (blockGrounds a (part input k) k) ≡ 0
@@ -102,7 +103,6 @@ pub sites : Sites
 unfolding checkOf blockOf readGroundsAs writeGrounds refuse
 sites =
     record {
-      greatest = refl;
       check-zero = λ block. ap (λ (x : ℕ). x % modulus) (zero-add (weighted block checkAt));
       block-zero = λ bytes k. framed-zero (le16 k ++ take contentBytes (drop (contentBytes * k) bytes ++ replicate contentBytes 0));
       grounds-zero = grounds-zero;

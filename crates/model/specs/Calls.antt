@@ -119,7 +119,7 @@ blocksGrounds input site = concat (length input / blockBytes) (λ k. blockGround
 unfoldable pub badSecond : Form → ℕ → Bool
 badSecond form second = ltb second (added form) || ltb (added form + maxGroups) second
 
--- Those behind them, of contents that say n and a second number: here n is not 0.
+-- Those after them, of contents that say n and a second number: here n is not 0.
 unfoldable pub contentGrounds : Form → List ℕ → ℕ → ℕ → List Ground
 contentGrounds form input n second =
     let g = second - added form in
@@ -140,7 +140,7 @@ fileGrounds form input site =
     (badLength input, 11)
     ∷ (blocksGrounds input site ++ contentGrounds form input (statesIn input) (secondIn input))
 
--- An input of no bytes is the file of a draft, and earns none of them.
+-- An input of no bytes is the file of a draft: none of them is looked at.
 unfoldable pub readGroundsAs : Form → List ℕ → ℕ → ℕ → List Ground
 readGroundsAs form input site room = storeGround room ∷ siteGround site ∷ cond (eqb (length input) 0) [] (fileGrounds form input site)
 

@@ -34,7 +34,7 @@ pub record Draft : Type 0 where
   pub write : (store : List ℕ) (site : ℕ) (output : List ℕ) → site ≤ maxSite → refuse (sharedGrounds store 0 0) ≡ 0
       → (writeAnswer store 0 0 site (length output) ≡ answered 0)
       × (writeBuffer store 0 0 site output ≡ output)
-  -- groups without states get 14, whatever else is wrong; of write, behind 24
+  -- groups without states get 14, whatever else is wrong; of write, after 24
   pub groups-alone : (store : List ℕ) (g : ℕ) (later : List Ground) → storeWords ≤ length store → (g ≡ 0 → ⊥) → refuse (sharedGrounds store 0 g ++ later) ≡ 14
   pub groups-written : (store : List ℕ) (g site room : ℕ) → storeWords ≤ length store → site ≤ maxSite → (g ≡ 0 → ⊥)
       → writeAnswer store 0 g site room ≡ refused 14

@@ -3,6 +3,7 @@ pub mod Tables
 pub mod Rounds
 pub mod Paths
 pub mod Stores
+pub mod WellFormed
 pub mod Blocks
 pub mod Contents
 pub mod Files

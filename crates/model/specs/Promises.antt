@@ -7,14 +7,14 @@
 --   Continues, FirstStop       a round that says neither safe nor unsafe; the outcome is that of the first round that does
 --   StopsFirst                 the same of an answer: its verdict, count and invariant are those of the first round that stops
 --   CoverIs                    the cover of one state, as the meet of listed sets
---   BackwardIs                 the backward number is the least j for which W stays the same
+--   BackwardIs                 the rounds of backward elimination; the backward number is the least j for which W stays the same
 --   LexLe, IsSmallest          lexicographic order; a shortest path, and the smallest of those
 --   IsInvariant                an inductive invariant: it holds every initial state, no forbidden one and no step out
 --   Carries                    what an answer carries with its verdict, and what is left in the path buffer
 --   Demand2, Demand3           the demands, of one answer; SameAnswer: of two
 --   PathAnswer                 what the call shortest path returns and leaves in the path buffer
 --   Promises                   all of it, of every table and of every call that is answered
---   FirstWords                 two stores that no call tells apart
+--   FirstWords                 two stores that decide, shortest path and write do not tell apart
 --   Untouched                  a refused call leaves its buffer as it was, and its number is that of the first ground that holds
 use Prim.Native.Nat.{ℕ, zero, suc, _≤_, _<_}
 use mathlib.Core.Path.{_≡_}
@@ -25,9 +25,10 @@ use lib.ListN.{length, take}
 use Rattle.model.specs.Sets.{maxStates, Set, member, empty, meet, subset, size}
 use Rattle.model.specs.Tables.{Table, post, hold, coverOf, cover, notForbidden}
 use Rattle.model.specs.Rounds.{Round, forwardStep, backwardStep, firstRound, nextRound, isSafe, isUnsafe, safe, unsafe, undecided, run, eliminated, backwardNumber}
-use Rattle.model.specs.Paths.{isPath, smallestPath}
+use Rattle.model.specs.Paths.{leads, isPath, smallestPath}
 use Rattle.basics.specs.Refusals.{refuse, refused, answered}
 use Rattle.model.specs.Stores.{storeWords, tableOf}
+use Rattle.model.specs.WellFormed.{WellFormed}
 use Rattle.model.specs.Calls.{overwrite, Decision, release, decideGrounds, decisionOf, decideAnswer, decideBuffer, Shortest, shortestGrounds, shortestAnswer, shortestBuffer, readGrounds, readAnswer, readBuffer, writeGrounds, writeAnswer, writeBuffer}
 
 -- ---- the operations, for states that a set can hold
@@ -106,9 +107,14 @@ pub record StopsFirst (t : Table) (allowance : ℕ) (a : Decision) : Type 0 wher
 -- ---- backward elimination
 
 pub record BackwardIs (t : Table) (b : ℕ) : Type 0 where
+  pub first : eliminated t 0 ≡ notForbidden (t .n) (t .forbidden)
+  pub next : (j : ℕ) → eliminated t (suc j) ≡ meet (eliminated t j) (hold (t .n) (t .row) (eliminated t j))
   pub still : eliminated t b ≡ eliminated t (suc b)
   pub least : (j : ℕ) → eliminated t j ≡ eliminated t (suc j) → b ≤ j
   pub bounded : b ≤ t .n
+  -- it reads no groups
+  pub no-groups : (groups : List Set)
+      → backwardNumber (record { n = t .n; initial = t .initial; forbidden = t .forbidden; groups = groups; row = t .row }) ≡ b
 
 -- ---- paths and invariants
 
@@ -177,7 +183,7 @@ pub record PathAnswer (t : Table) (a : Shortest) (before after : List ℕ) : Typ
 
 -- ---- the promises
 
--- What every call reads of a store: its first words. (Read is lent a store to fill; `readAnswer` is given its length alone.)
+-- What decide, shortest path and write read of a store: its first words. (Read is lent a store to fill; `readAnswer` is given its length alone.)
 pub record FirstWords (store other : List ℕ) : Type 0 where
   pub decide : (n g allowance : ℕ) (path : List ℕ)
       → (decideAnswer store n g allowance (length path) ≡ decideAnswer other n g allowance (length path))
@@ -197,6 +203,9 @@ pub record Promises : Type 0 where
   pub each-round : (t : Table) (i : ℕ) → IsRound t (roundAt t i)
   pub first-stop : (t : Table) (allowance : ℕ) → FirstStop t allowance
   pub backward-number : (t : Table) → BackwardIs t (backwardNumber t)
+  -- what j rounds of elimination leave: the states from which no j steps or fewer lead to a forbidden state
+  pub eliminated-members : (t : Table) → WellFormed t → (j s : ℕ) → s < maxStates
+      → (member (eliminated t j) s ≡ true) ↔ ((s < t .n) × ((xs : List ℕ) → leads t s xs ≡ true → j < length xs))
   pub demand3 : (t : Table) (allowance : ℕ) → Demand3 t allowance (decisionOf t (run t allowance))
   -- of every check that is answered: the answer is that of the rounds
   pub answer : (store : List ℕ) (n g allowance : ℕ) (path : List ℕ) (a : Decision)

@@ -4,10 +4,10 @@
 --   WriteRead        the file of a store, read into another one, gives back n, g and the words of the table
 --   ReadWrite        the table of an input, written, gives back the length and every byte
 --   RoundTrips       both, of every call that is answered, for every site: the same one at both ends
---   FileSizes        how long the contents and the file of a table are, and the largest file
+--   FileSizes        how long the contents and the file of a table are, and that no file is longer than the largest
 --
 -- The table without states is among those of the round trips: its file has no bytes.
-use Prim.Native.Nat.{ℕ, _*_, _^_, _≤_, _<_}
+use Prim.Native.Nat.{ℕ, _^_, _≤_, _<_}
 use mathlib.Core.Path.{_≡_}
 use mathlib.Core.List.{List}
 use lib.ListN.{length, getD, take}
@@ -15,7 +15,6 @@ use Rattle.basics.specs.Refusals.{answered}
 use Rattle.model.specs.Sets.{maxStates}
 use Rattle.model.specs.Tables.{Dialogue}
 use Rattle.model.specs.Stores.{maxGroups, storeWords}
-use Rattle.model.specs.Blocks.{blockBytes}
 use Rattle.model.specs.Contents.{Form, contents, contentLength}
 use Rattle.model.specs.Files.{fileOf, fileLength, maxFile}
 use Rattle.model.specs.Calls.{overwrite, TableRead, readAnswer, readBuffer, writeAnswer, writeBuffer}
@@ -49,4 +48,3 @@ pub record FileSizes : Type 0 where
   pub contents-long : (form : Form) (d : Dialogue) → length (contents form d) ≡ contentLength form (d .n) (length (d .groups))
   pub file-long : (form : Form) (site : ℕ) (d : Dialogue) → length (fileOf form site d) ≡ fileLength form (d .n) (length (d .groups))
   pub largest : (form : Form) (n g : ℕ) → n ≤ maxStates → g ≤ maxGroups → fileLength form n g ≤ maxFile
-  pub largest-is : maxFile ≡ 73 * blockBytes

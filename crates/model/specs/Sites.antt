@@ -15,7 +15,6 @@ use Rattle.model.specs.Contents.{newForm}
 use Rattle.model.specs.Calls.{badLength, fileGrounds, readGrounds, readAnswer, outputGround, writeGrounds, writeAnswer, writeBuffer}
 
 pub record Sites : Type 0 where
-  pub greatest : maxSite ≡ 65520
   -- at site 0 the check is the plain weighted sum, in a block that is made and in a block that is looked at
   pub check-zero : (block : List ℕ) → checkOf 0 block ≡ weighted block checkAt % modulus
   pub block-zero : (bytes : List ℕ) (k : ℕ)

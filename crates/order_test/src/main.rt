@@ -1,5 +1,5 @@
 // The order in which the first round expands the states that it reaches: tables with circles, with groups, with nothing initial, without
-// states, with a hang, a corridor whose states the groups tell apart, and refusals. tests/expected.py works out what this must print, from the
+// states, with a hang, a corridor whose states the groups tell apart, and refusals. tests/expected/programs.py works out what this must print, from the
 // specification's text.
 ghost use Prim.Native.Nat.{_/_, _<_};
 ghost use Rattle.model.specs.Sets.{maxStates};
@@ -7,8 +7,8 @@ ghost use Rattle.model.specs.Stores.{maxGroups};
 use rounds::Expansion;
 use rounds::Order;
 use rounds::first_order;
+use state_set::MAX_STATES;
 use table::MAX_GROUPS;
-use table::MAX_STATES;
 use table::STORE_WORDS;
 use test_support::group;
 use test_support::initial;
@@ -72,7 +72,7 @@ fn circles() {
     try_one(b"A with groups", &t, 3, 2);
 }
 
-// Later looks bring lower states, two at a time, and states that are there already.
+// Later passes bring lower states, two at a time, and states that are there already.
 fn branches() {
     let mut t = [0u64; STORE_WORDS];
     put_table(&mut t, b"5", b"9", b"57 53 74 70 71 34 35 43 08 16 61 85");

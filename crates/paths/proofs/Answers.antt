@@ -1,72 +1,131 @@
--- Laws of the call shortest path: its answer and its buffer in each case.
+-- Laws of the calls shortest path, distances and within: the answer, and the buffer, in each case.
 --
---   accepted              none of the shared grounds holds, so the store holds a table
---   shortest-refused      one of the shared grounds holds
---   shortest-short        else ground 21 holds
---   shortest-found        else the answer is what find_path found
+--   accepted                                      none of the shared grounds holds, so the store holds a table
+--   Gives                                         what a call gives that has the shared grounds, one of its own, and a buffer
+--   call-refused, call-short, call-answered       one of the shared grounds holds; its own ground does; neither
+--   shortest-refused, shortest-short, shortest-found              so of shortest path
+--   distances-refused, distances-short, distances-written         and of distances
+--   within-refused, within-answered               within has no ground of its own, and no buffer
 use Prim.Native.Nat.{ℕ, _≤_, _<_}
 use native.Mathlib.Omega.{arith}
 use mathlib.Core.Path.{_≡_, refl, sym, ap, _∙_}
 use mathlib.Core.Bool.{Bool, true, false, cond}
-use mathlib.Core.List.{List, [], _∷_}
+use mathlib.Core.List.{List, [], _∷_, _++_}
 use borrow.Author.Tests.{lt-ltb, le-ltb}
 use lib.Dec.{eqb}
-use lib.ListN.{length}
-use Rattle.basics.specs.Refusals.{refuse, answered, unlessRefused}
-use Rattle.basics.proofs.RefusalLaws.{refuse-append, refuse-none, refuse-skip, refuse-take, answer-refused, answer-none}
-use Rattle.model.specs.Sets.{maxStates}
+use lib.ListN.{length, getD}
+use Rattle.basics.specs.Bounds.{tabulate}
+use Rattle.basics.specs.Refusals.{Ground, refuse, Answered, refused, answered, answer, unlessRefused}
+use Rattle.basics.proofs.BoundLaws.{getD-tabulate, tabulate-cong}
+use Rattle.basics.proofs.RefusalLaws.{refuse-first, refuse-append, clear-refuse, numbered, numbered-append, answer-refused, answer-none}
+use Rattle.model.specs.Sets.{maxStates, Set, empty}
 use Rattle.model.specs.Tables.{Table}
-use Rattle.model.specs.Paths.{shortest, hasPath, smallestPath}
+use Rattle.model.specs.Paths.{distance, shortest, hasPath, smallestPath}
 use Rattle.model.specs.Stores.{tableOf, sharedGrounds}
-use Rattle.model.specs.Calls.{overwrite, pathGround, pathFound, shortestGrounds, shortestAnswer, shortestBuffer}
+use Rattle.model.specs.Calls.{overwrite, pathFound, shortestGrounds, shortestAnswer, shortestBuffer}
 use Rattle.model.proofs.Acceptance.{Store, accepted-store, store-accepted}
-use Rattle.paths.specs.Answers.{foundIn, pathWritten, shortestOf, Called}
+use Rattle.table.specs.Rows.{rowsOf, tableOn}
+use Rattle.paths.specs.PathAnswers.{foundIn, pathWritten, shortestOf, CalledShortest}
+use Rattle.paths.specs.Distances.{distancesGrounds, distancesAnswer, distancesBuffer, CalledDistances}
+use Rattle.paths.specs.Within.{isWithin, withinAnswer, CalledWithin}
 use Rattle.paths.specs.declared.Found.{Found}
 use Rattle.paths.specs.declared.Found.the-variants.{Steps, Nothing}
 use Rattle.paths.specs.declared.Shortest.{Shortest}
-use Rattle.paths.specs.declared.Shortest.the-variants.{Path as PathOf, NoPath, Refused}
-use Rattle.paths.proofs.Groups.{foundIn-groups, pathWritten-groups}
+use Rattle.paths.specs.declared.Shortest.the-variants.{Path as PathOf, NoPath, Refused as RefusedPath}
+use Rattle.paths.specs.declared.DistancesAnswer.the-variants.{Written, Refused as RefusedDistances}
+use Rattle.paths.specs.declared.WithinAnswer.the-variants.{Refused as RefusedWithin}
+use Rattle.paths.proofs.Groups.{store-distance}
 
 pub accepted : {store : List ℕ} {n g k : ℕ} → k ≡ refuse (sharedGrounds store n g) → k ≡ 0 → Store store n g
 accepted {store} {n} {g} e z = accepted-store store n g [] (sym e ∙ z) .0
 
+-- ---- a call with a ground of its own and a buffer
+
+module _ {A : Type 0} (store : List ℕ) (n g : ℕ) (own : Ground) (value : A) (old : List ℕ) (new : A → List ℕ) where
+  abbrev grounds : List Ground
+  grounds = sharedGrounds store n g ++ (own ∷ [])
+
+  abbrev Gives : Answered A → List ℕ → Type 0
+  Gives r after = (r ≡ answer grounds value) × (after ≡ unlessRefused old new (answer grounds value))
+
+  refused-by : {k : ℕ} → k ≡ refuse grounds → (k ≡ 0 → ⊥) → Gives (refused k) old
+  refused-by e f = let r = sym (answer-refused grounds value e f) in (r, ap (unlessRefused old new) r)
+
+  call-refused : {k : ℕ} → k ≡ refuse (sharedGrounds store n g) → (k ≡ 0 → ⊥) → Gives (refused k) old
+  call-refused e f = refused-by (refuse-append (sharedGrounds store n g) _ e f) f
+
+  module _ (s : Store store n g) where
+    call-short : own .0 ≡ true → (own .1 ≡ 0 → ⊥) → Gives (refused (own .1)) old
+    call-short h f = refused-by (refuse-first 0 (own ∷ []) h ∙ sym (store-accepted store n g (own ∷ []) s)) f
+
+    call-answered : numbered (own ∷ []) ≡ true → own .0 ≡ false → Gives (answered value) (new value)
+    call-answered m h =
+        let clear = store-accepted store n g (own ∷ []) s ∙ clear-refuse (own ∷ []) (h, tt) in
+        let r = sym (answer-none grounds value (numbered-append (sharedGrounds store n g) (own ∷ []) refl m) clear) in
+        (r, ap (unlessRefused old new) r)
+
+-- ---- shortest path
+
 -- what the call answers for what find_path found
-abbrev pub answerOf : Found → Shortest
-answerOf (Steps d) = PathOf d
-answerOf Nothing = NoPath
+abbrev pub withinOf : Found → Shortest
+withinOf (Steps d) = PathOf d
+withinOf Nothing = NoPath
 
 -- with a path and without
 cases : (t : Table) (path : List ℕ) (b : Bool)
-    → (shortestOf (answerOf (cond b (Steps (shortest t)) Nothing)) ≡ answered (pathFound t b))
+    → (shortestOf (withinOf (cond b (Steps (shortest t)) Nothing)) ≡ answered (pathFound t b))
     × (cond b (overwrite (smallestPath t) path) path ≡ cond (eqb ((pathFound t b) .found) 1) (overwrite (smallestPath t) path) path)
 cases t path true = (refl, refl)
 cases t path false = (refl, refl)
 
 module _ (store : List ℕ) (n g : ℕ) (path : List ℕ) where
-  refused-by : (k : ℕ) → (k ≡ 0 → ⊥) → k ≡ refuse (shortestGrounds store n g (length path)) → Called store n g path (Refused k) path
-  unfolding shortestAnswer shortestBuffer
-  refused-by k f e = let r = sym (answer-refused (shortestGrounds store n g (length path)) _ e f) in (r, ap (unlessRefused path _) r)
-
-  pub shortest-refused : {k : ℕ} → k ≡ refuse (sharedGrounds store n g) → (k ≡ 0 → ⊥) → Called store n g path (Refused k) path
-  unfolding shortestGrounds
-  shortest-refused {k} e f = refused-by k f (refuse-append (sharedGrounds store n g) _ e f)
+  pub shortest-refused : {k : ℕ} → k ≡ refuse (sharedGrounds store n g) → (k ≡ 0 → ⊥) → CalledShortest store n g path (RefusedPath k) path
+  unfolding shortestGrounds shortestAnswer shortestBuffer
+  shortest-refused = call-refused store n g _ _ path _
 
   module _ (s : Store store n g) where
-    -- only ground 21 is left
-    grounds : refuse (shortestGrounds store n g (length path)) ≡ refuse (pathGround (length path) ∷ [])
-    unfolding shortestGrounds
-    grounds = store-accepted store n g _ s
+    pub shortest-short : length path < maxStates → CalledShortest store n g path (RefusedPath 21) path
+    unfolding shortestGrounds shortestAnswer shortestBuffer
+    shortest-short l = call-short store n g _ _ path _ s (lt-ltb (length path) maxStates l) (λ e. omega arith)
 
-    pub shortest-short : length path < maxStates → Called store n g path (Refused 21) path
-    shortest-short l = refused-by 21 (λ e. omega arith) (sym (grounds ∙ refuse-take _ 21 _ (lt-ltb (length path) maxStates l)))
+    pub shortest-found : {r found : Found} {path′ : List ℕ} → maxStates ≤ length path → r ≡ found
+        → (r ≡ foundIn (tableOf store n g)) × (path′ ≡ pathWritten (tableOf store n g) path) → CalledShortest store n g path (withinOf found) path′
+    unfolding shortestGrounds shortestAnswer shortestBuffer foundIn pathWritten
+    shortest-found l q p =
+        let told = cases (tableOf store n g) path (hasPath (tableOf store n g)) in
+        let gives = call-answered store n g _ _ path _ s refl (le-ltb (length path) maxStates l) in
+        (ap (λ (f : Found). shortestOf (withinOf f)) (sym q ∙ p .0) ∙ told .0 ∙ gives .0, p .1 ∙ told .1 ∙ gives .1)
 
-    pub shortest-found : {found : Found} {path′ : List ℕ} → maxStates ≤ length path
-        → found ≡ foundIn (tableOf store n 0) → path′ ≡ pathWritten (tableOf store n 0) path → Called store n g path (answerOf found) path′
-    unfolding shortestAnswer shortestBuffer shortestGrounds foundIn pathWritten
-    shortest-found l p q =
-        let t = tableOf store n g in
-        let told = cases t path (hasPath t) in
-        let gives = told .0 ∙ sym (answer-none (shortestGrounds store n g (length path)) _ refl (grounds ∙ refuse-skip _ 21 _ (le-ltb (length path) maxStates l) ∙ refuse-none)) in (
-          ap (λ (f : Found). shortestOf (answerOf f)) (p ∙ sym (foundIn-groups store n g)) ∙ gives,
-          q ∙ sym (pathWritten-groups store n g path) ∙ told .1 ∙ ap (unlessRefused path _) (sym (told .0) ∙ gives),
-        )
+-- ---- distances
+
+module _ (store : List ℕ) (n g : ℕ) (before : List ℕ) where
+  pub distances-refused : {k : ℕ} → k ≡ refuse (sharedGrounds store n g) → (k ≡ 0 → ⊥) → CalledDistances store n g before (RefusedDistances k) before
+  unfolding distancesGrounds distancesAnswer distancesBuffer
+  distances-refused = call-refused store n g _ tt before _
+
+  module _ (s : Store store n g) where
+    pub distances-short : length before < n → CalledDistances store n g before (RefusedDistances 23) before
+    unfolding distancesGrounds distancesAnswer distancesBuffer
+    distances-short l = call-short store n g _ tt before _ s (lt-ltb (length before) n l) (λ e. omega arith)
+
+    pub distances-written : {distances after : List ℕ} {F : Set} → n ≤ length before → F ≡ (tableOf store n 0) .forbidden
+        → distances ≡ tabulate maxStates (distance (tableOn n empty F [] (rowsOf store)))
+        → after ≡ overwrite (tabulate n (λ i. getD distances i 0)) before → CalledDistances store n g before Written after
+    unfolding distancesGrounds distancesAnswer distancesBuffer
+    distances-written {distances} l f d a =
+        let gives = call-answered store n g _ tt before _ s refl (le-ltb (length before) n l) in
+        let known =
+        tabulate-cong (λ i. getD distances i 0) (distance (tableOf store n g)) n
+        (λ i h. rw d (getD-tabulate _ maxStates i 0 (omega (arith, s .small)) ∙ store-distance store n g f i)) in
+        (gives .0, a ∙ ap (λ (xs : List ℕ). overwrite xs before) known ∙ gives .1)
+
+-- ---- within
+
+module _ (store : List ℕ) (n g k : ℕ) {j : ℕ} (e : j ≡ refuse (sharedGrounds store n g)) where
+  pub within-refused : (j ≡ 0 → ⊥) → CalledWithin store n g k (RefusedWithin j)
+  unfolding withinAnswer
+  within-refused f = sym (answer-refused (sharedGrounds store n g) _ e f)
+
+  pub within-answered : {b : Bool} → j ≡ 0 → b ≡ isWithin (tableOf store n g) k → answered b ≡ withinAnswer store n g k
+  unfolding withinAnswer
+  within-answered z b = ap answered b ∙ sym (answer-none (sharedGrounds store n g) _ refl (sym e ∙ z))

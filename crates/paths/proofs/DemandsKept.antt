@@ -3,9 +3,9 @@ use mathlib.Core.Path.{sym, _∙_, subst}
 use Rattle.model.specs.Stores.{tableOf}
 use Rattle.model.specs.Promises.{PathAnswer}
 use Rattle.model.proofs.Kept.{promises, untouched}
-use Rattle.paths.specs.Demands.{Demands}
+use Rattle.paths.specs.PathDemands.{PathDemands}
 
-pub demands : Demands
+pub demands : PathDemands
 demands =
     record {
       refusal = λ store n g before r after k c e.

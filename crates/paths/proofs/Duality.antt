@@ -1,172 +1,110 @@
 -- Outward from the initial states and outward from the forbidden ones, the same paths are met.
 --
---   outward t i               the states that at most i steps lead to from an initial one
---   step-out, step-back       those meet "at most j + 1 steps from a forbidden state" exactly if those at i + 1 meet "at most j"
---   outward-reaching          so those at k hold a forbidden state exactly if an initial one is within k steps of one
---   within-reaching           which is what isWithin says
---   first-found               the first layer with a forbidden state is that of a shortest path
---   withinBy, within-found    which tells whether one of at most k steps is there
+--   outward rows t i               the states that at most i steps lead to from an initial one; out-within, out-step
+--   crossing                       those meet "at most j steps from a forbidden state" exactly if an initial state is within i + j
+--   first-found                    so the first layer with a forbidden state is that of a shortest path
+--   found-within                   which tells whether there is a path of at most k steps
 use Prim.Native.Nat.{ℕ, zero, suc, _+_, _≤_, _<_}
 use native.Mathlib.Omega.{arith}
-use mathlib.Core.Path.{_≡_, sym, ap, _∙_, subst}
-use mathlib.Core.Logic.{inl, ⊎-elim}
-use mathlib.Core.Bool.{Bool, true, false, not, _&&_}
+use mathlib.Core.Path.{_≡_, sym, _∙_}
+use mathlib.Core.Logic.{inl, inr, ⊎-elim}
+use mathlib.Core.Bool.{true, false}
 use mathlib.Core.List.{List}
-use borrow.Author.Tests.{eqb-false, ne-eqb, ltb-true, lt-ltb, leb-true, le-leb}
-use lib.Dec.{eqb, leb}
-use Rattle.model.specs.Sets.{maxStates, Set, member, empty, meets}
+use borrow.Author.Tests.{ltb-true, lt-ltb, leb-true, le-leb}
+use Rattle.model.specs.Sets.{maxStates, Set, empty, meets, firstStates}
 use Rattle.model.specs.Tables.{Table}
 use Rattle.model.specs.Rounds.{iterate}
-use Rattle.model.specs.Paths.{reaching, unreachable, distance, shortest, hasPath}
-use Rattle.model.specs.Stores.{setAt, tableOf}
-use Rattle.basics.proofs.BoundLaws.{and-true, and-intro, not-true, is-false, clash, decided, same-test, by-cond, any-intro, any-find, first-is, first-none}
-use Rattle.model.proofs.SetLaws.{In, in-bound, empty-in, in-union, union-in, in-firstStates, firstStates-in, _⊆_, in-meets, meets-in}
-use Rattle.model.proofs.CoverLaws.{post-in}
-use Rattle.model.proofs.WellFormed.{WellFormed}
-use Rattle.model.proofs.PathLaws.{at-lt, in-reaching, reaching-in, reaching-at, reaching-mono, reaching-suc, shortest-le, shortest-nearest}
-use Rattle.table.specs.Rows.{forbiddenBy}
-use Rattle.table.proofs.Hangs.{forbidden-by, by-forbidden}
-use Rattle.reach.specs.Reached.{reachStep}
-use Rattle.reach.proofs.Layers.{iterate-grows, before}
-use Rattle.reach.proofs.Walks.{in-step, reachStep-mono, iterate-within, before-is}
-use Rattle.paths.specs.Search.{firstLayer}
-use Rattle.paths.specs.Answers.{foundIn}
-use Rattle.paths.specs.Within.{canReach, isWithin}
+use Rattle.model.specs.Paths.{reaching, shortest, hasPath}
+use Rattle.basics.proofs.BoundLaws.{is-false, clash, decided, by-cond, same-test, first-is, first-none}
+use Rattle.model.proofs.SetLaws.{In, in-bound, empty-in, in-union, union-in, firstStates-in, _⊆_, ⊆-of-eq, in-image, image-in, in-meets, meets-in}
+use Rattle.model.specs.WellFormed.{WellFormed}
+use Rattle.model.proofs.Fixpoints.{iterate-has}
+use Rattle.model.proofs.PathLaws.{in-reaching, reaching-in, reaching-suc, shortest-nearest}
+use Rattle.table.specs.Rows.{rowIn, successorsBy}
+use Rattle.table.proofs.Parts.{HasRows}
+use Rattle.reach.specs.Reached.{reachBy}
+use Rattle.reach.proofs.Layers.{before, before-grows}
+use Rattle.paths.specs.Search.{metWithin, firstLayer, stepsWithin}
+use Rattle.paths.specs.PathAnswers.{foundIn}
+use Rattle.paths.specs.Within.{isWithin}
 use Rattle.paths.specs.declared.Found.{Found}
-use Rattle.paths.specs.declared.Found.the-variants.{Steps, Nothing}
-use Rattle.paths.proofs.Nearness.{reach-near, near-reach, near-distance}
+use Rattle.paths.proofs.Nearness.{met-path, within-shortest}
 
-abbrev pub outward : Table → ℕ → Set
-outward t i = iterate (reachStep t (t .initial)) empty (suc i)
+abbrev pub outward : List ℕ → Table → ℕ → Set
+outward rows t i = before (rowIn rows) (t .initial) (suc i)
 
-module _ {t : Table} (ok : WellFormed t) where
-  pub initial-out : (i : ℕ) → t .initial ⊆ outward t i
-  unfolding iterate reachStep
-  initial-out i s h = in-union (inl h)
+module _ {t : Table} (ok : WellFormed t) (rows : List ℕ) (r : HasRows t rows) where
+  pub out-within : (i : ℕ) → outward rows t i ⊆ firstStates (t .n)
+  out-within i =
+      iterate-has (λ Y. Y ⊆ firstStates (t .n)) _ empty (λ s h. absurd (empty-in h))
+      (λ Y inside s h.
+      ⊎-elim (ok .initial s)
+      (λ m.
+      let w = image-in _ Y maxStates m in
+      let l = firstStates-in (inside (w .0) (w .2)) in
+      ok .rows (w .0) l s (⊆-of-eq (sym (r (w .0) l)) s (w .3)))
+      (union-in h))
+      (suc i)
 
-  out-initial : outward t 0 ⊆ t .initial
-  unfolding iterate reachStep
-  out-initial s h = ⊎-elim (λ i. i) (λ i. absurd (empty-in (post-in (t .n) (t .row) i .2))) (union-in h)
+  pub out-step : (i : ℕ) {s u : ℕ} → In (outward rows t i) s → In (t .row s) u → In (outward rows t (suc i)) u
+  unfolding iterate
+  out-step i {s} {u} a h =
+      in-union (inr (in-image _ _ maxStates (in-bound a) a (⊆-of-eq (r s (firstStates-in (out-within i s a))) u h)))
 
-  module _ (i j : ℕ) where
-    step-out : meets (outward t i) (reaching t (suc j)) ≡ true → meets (outward t (suc i)) (reaching t j) ≡ true
-    unfolding iterate
-    step-out m =
-        let w = meets-in m in
-        ⊎-elim
-        (λ c. in-meets (iterate-grows (reachStep t (t .initial)) (reachStep-mono t (t .initial)) (suc i) (w .0) (w .1)) c)
-        (λ c. in-meets (in-step t (t .initial) (iterate-within t (t .initial) ok (ok .initial) (suc i) (w .0) (w .1)) (w .1) (c .2)) (c .3))
-        (reaching-in t j (w .2))
-
-    step-back : meets (outward t (suc i)) (reaching t j) ≡ true → meets (outward t i) (reaching t (suc j)) ≡ true
-    unfolding iterate reachStep
-    step-back m =
-        let w = meets-in m in
-        ⊎-elim
-        (λ h. in-meets (initial-out i (w .0) h) (reaching-suc t j (w .0) (w .2)))
-        (λ h.
-        let p = post-in (t .n) (t .row) h in
-        in-meets (p .2) (in-reaching t j (in-firstStates (in-bound (p .2)) (p .1)) (p .3) (w .2)))
-        (union-in (w .1))
-
-  meets-out : (i j k : ℕ) → i + j ≡ k → meets (t .initial) (reaching t k) ≡ true → meets (outward t i) (reaching t j) ≡ true
-  meets-out zero j k e m =
+  step : (i j : ℕ) → meets (outward rows t (suc i)) (reaching t j) ≡ meets (outward rows t i) (reaching t (suc j))
+  unfolding iterate
+  step i j =
+      same-test _ _
+      (λ m.
       let w = meets-in m in
-      let q : k ≡ j = omega arith in
-      in-meets (initial-out 0 (w .0) (w .1)) (subst (λ (d : ℕ). In (reaching t d) (w .0)) q (w .2))
-  meets-out (suc i) j k e m = step-out i j (meets-out i (suc j) k (omega arith) m)
-
-  pub meets-back : (i j k : ℕ) → i + j ≡ k → meets (outward t i) (reaching t j) ≡ true → meets (t .initial) (reaching t k) ≡ true
-  meets-back zero j k e m =
+      ⊎-elim
+      (λ h. in-meets (in-union (inl h)) (reaching-suc t j (w .0) (w .2)))
+      (λ h.
+      let p = image-in _ _ maxStates h in
+      let inside = out-within i (p .0) (p .2) in
+      in-meets (p .2) (in-reaching t j inside (⊆-of-eq (sym (r (p .0) (firstStates-in inside))) (w .0) (p .3)) (w .2)))
+      (union-in (w .1)))
+      (λ m.
       let w = meets-in m in
+      ⊎-elim (λ c. in-meets (before-grows _ _ (suc i) (w .0) (w .1)) c) (λ c. in-meets (out-step i (w .1) (c .2)) (c .3)) (reaching-in t j (w .2)))
+
+  pub crossing : (i j k : ℕ) → i + j ≡ k → meets (outward rows t i) (reaching t j) ≡ meets (t .initial) (reaching t k)
+  unfolding iterate
+  crossing zero j k e =
       let q : j ≡ k = omega arith in
-      in-meets (out-initial (w .0) (w .1)) (subst (λ (d : ℕ). In (reaching t d) (w .0)) q (w .2))
-  meets-back (suc i) j k e m = meets-back i (suc j) k (omega arith) (step-back i j m)
+      rw q
+      (same-test _ _
+      (λ m. let w = meets-in m in in-meets (⊎-elim (λ i. i) (λ i. absurd (empty-in (image-in _ empty maxStates i .2))) (union-in (w .1))) (w .2))
+      (λ m. let w = meets-in m in in-meets (in-union (inl (w .1))) (w .2)))
+  crossing (suc i) j k e = step i j ∙ crossing i (suc j) k (omega arith)
 
-  pub outward-reaching : (k : ℕ) → meets (outward t k) (t .forbidden) ≡ meets (t .initial) (reaching t k)
-  unfolding reaching
-  outward-reaching k = same-test _ _ (meets-back k 0 k (omega arith)) (meets-out k 0 k (omega arith))
-
-  -- ---- at most k steps
+  met-is : (k : ℕ) → metWithin rows (t .initial) (t .forbidden) k ≡ meets (t .initial) (reaching t k)
+  unfolding metWithin reachBy successorsBy reaching
+  met-is k = crossing k 0 k (omega arith)
 
   module _ (small : t .n ≤ maxStates) where
-    pub within-reaching : (k : ℕ) → isWithin t k ≡ meets (t .initial) (reaching t k)
-    unfolding isWithin canReach
-    within-reaching k =
-        same-test _ _
-        (λ e.
-        let w = any-find test maxStates e in
-        let both = and-true (member (t .initial) (w .0)) _ (w .2) in
-        let near = and-true (not (eqb (distance t (w .0)) unreachable)) _ (both .1) in
-        let at = reach-near ok small (w .0) (eqb-false (distance t (w .0)) unreachable (not-true _ (near .0))) in
-        in-meets (record { is = both .0 }) (reaching-mono t (distance t (w .0)) k (leb-true _ k (near .1)) (w .0) at))
-        (λ e.
-        let w = meets-in e in
-        any-intro test maxStates (w .0) (in-bound (w .1))
-        (and-intro (member (t .initial) (w .0)) _ (w .1 .is)
-        (and-intro (not (eqb (distance t (w .0)) unreachable)) _
-        (ap not (ne-eqb (distance t (w .0)) unreachable (near-reach ok small (w .0) k (w .2))))
-        (le-leb (distance t (w .0)) k (near-distance ok small (w .0) k (w .2))))))
-      where
-        test : ℕ → Bool
-        test s = member (t .initial) s && (not (eqb (distance t s) unreachable) && leb (distance t s) k)
+    pub shortest-below : hasPath t ≡ true → shortest t < maxStates
+    unfolding hasPath
+    shortest-below e = omega (arith, ltb-true (shortest t) (t .n) e, small)
 
--- ---- what the first layer tells
+    pub first-found : firstLayer rows (t .initial) (t .forbidden) ≡ foundIn t
+    unfolding firstLayer foundIn
+    first-found =
+        let met = metWithin rows (t .initial) (t .forbidden) in
+        ⊎-elim
+        (λ (e : hasPath t ≡ true).
+        let near = shortest-nearest t e in
+        let d = first-is met maxStates (shortest t) (shortest-below e) (met-is (shortest t) ∙ near .within) (λ j l. met-is j ∙ near .no-closer j l) in
+        rw (d, e, lt-ltb (shortest t) maxStates (shortest-below e)))
+        (λ (e : hasPath t ≡ false).
+        let d = first-none met maxStates (λ j l. is-false (met j) (λ m. clash (met-path ok small j (sym (met-is j) ∙ m) .0) e)) in
+        rw (d, e))
+        (decided (hasPath t))
 
-abbrev pub withinBy : Found → ℕ → Bool
-withinBy (Steps d) k = leb d k
-withinBy Nothing k = false
-
-module _ (store : List ℕ) (n g : ℕ) (ok : WellFormed (tableOf store n g)) (small : n ≤ maxStates) where
-  abbrev t : Table
-  t = tableOf store n g
-
-  -- at most k steps lead from an initial to a forbidden state
-  abbrev met : ℕ → Bool
-  met k = meets (before store (setAt store 0) (suc k)) (forbiddenBy store)
-
-  met-is : (k : ℕ) → met k ≡ meets (t .initial) (reaching t k)
-  unfolding tableOf
-  met-is k =
-      ap (λ (X : Set). meets X (forbiddenBy store)) (before-is store n g (setAt store 0) ok (ok .initial) (suc k))
-      ∙ same-test (meets (outward t k) (forbiddenBy store)) (meets (outward t k) (t .forbidden))
-      (λ e. let w = meets-in e in in-meets (w .1) (by-forbidden store n (firstStates-in (iterate-within t (t .initial) ok (ok .initial) (suc k) (w .0) (w .1))) (w .2)))
-      (λ e. let w = meets-in e in in-meets (w .1) (forbidden-by store n (w .2)))
-      ∙ outward-reaching ok k
-
-  -- where any number of steps lead there, fewer than n do
-  met-path : (k : ℕ) → meets (t .initial) (reaching t k) ≡ true → hasPath t ≡ true
-  unfolding hasPath tableOf
-  met-path k e =
-      let w = meets-in e in
-      let a = reaching-at t k (w .2) in
-      lt-ltb (shortest t) n (omega (arith, shortest-le t (a .0) (w .1) (a .2 .within), at-lt ok (a .0) (a .2)))
-
-  pub shortest-below : hasPath t ≡ true → shortest t < maxStates
-  unfolding hasPath tableOf
-  shortest-below e = omega (arith, ltb-true (shortest t) n e, small)
-
-  pub first-found : firstLayer store (setAt store 0) ≡ foundIn t
-  unfolding firstLayer foundIn
-  first-found =
-      ⊎-elim
-      (λ (e : hasPath t ≡ true).
-      let near = shortest-nearest t e in
-      let d = first-is met maxStates (shortest t) (shortest-below e) (met-is (shortest t) ∙ near .within) (λ j l. met-is j ∙ near .no-closer j l) in
-      rw (d, e, lt-ltb (shortest t) maxStates (shortest-below e)))
-      (λ (e : hasPath t ≡ false).
-      let d = first-none met maxStates (λ j l. is-false (met j) (λ m. clash (met-path j (sym (met-is j) ∙ m)) e)) in
-      rw (d, e))
-      (decided (hasPath t))
-
-  pub within-found : {found : Found} (k : ℕ) → found ≡ foundIn t → withinBy found k ≡ isWithin t k
-  unfolding foundIn tableOf
-  within-found k e =
-      ap (λ (f : Found). withinBy f k) e
-      ∙ by-cond (λ (f : Found). withinBy f k ≡ meets (t .initial) (reaching t k)) (hasPath t) (Steps (shortest t)) Nothing
-      (λ q.
-      same-test (leb (shortest t) k) (meets (t .initial) (reaching t k))
-      (λ l. let w = meets-in (shortest-nearest t q .within) in in-meets (w .1) (reaching-mono t (shortest t) k (leb-true (shortest t) k l) (w .0) (w .2)))
-      (λ m. let w = meets-in m in le-leb (shortest t) k (shortest-le t k (w .1) (w .2))))
-      (λ q. sym (is-false (meets (t .initial) (reaching t k)) (λ m. clash (met-path k m) q)))
-      ∙ sym (within-reaching ok small k)
+    pub found-within : (k : ℕ) → stepsWithin (foundIn t) k ≡ isWithin t k
+    unfolding foundIn
+    found-within k =
+        let is = within-shortest ok small k in
+        by-cond (λ (f : Found). stepsWithin f k ≡ isWithin t k) (hasPath t) _ _
+        (λ e. same-test _ _ (λ l. is .1 (e, leb-true _ k l)) (λ y. le-leb _ k (is .0 y .1)))
+        (λ e. sym (is-false _ (λ y. clash (is .0 y .0) e)))

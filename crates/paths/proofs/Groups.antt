@@ -1,67 +1,106 @@
--- Paths do not read the groups: the table of a store has the same paths with g groups as with none.
+-- Paths do not read the groups, and distances not even the initial states: what the functions say of a table without them is so of the store's table.
 --
---   NAME-groups       for NAME among reaching, distance, shortest, hasPath, walk, smallestPath, and among foundIn and pathWritten, by which
---                     find_path is stated: NAME of the table with g groups is that of the table with none
---   holds-table       what a call that is answered gives to find_path
+--   reaching-alike, distance-alike      of tables that differ in groups and initial states alone
+--   shortest-groups, walk-groups        of tables that differ in their groups alone
+--   foundIn-groups, pathWritten-groups  so with what find_path is stated by
+--   store-table                         the table of a store, by what the functions are lent of it
+--   holds-states, holds-table           what a call that is answered gives to all_distances and to find_path
+--   store-distance, store-path          what it takes from them
 use Prim.Native.Nat.{ℕ, zero, suc}
-use mathlib.Core.Path.{_≡_, refl, ap, ap₂, _∙_, fun-ext}
-use mathlib.Core.Bool.{Bool, cond}
-use mathlib.Core.List.{List, [], _∷_}
+use mathlib.Core.Path.{_≡_, refl, sym, ap, ap₂, _∙_, subst, fun-ext}
+use mathlib.Core.Bool.{cond}
+use mathlib.Core.List.{List, []}
 use lib.Dec.{ltb}
 use Rattle.basics.specs.Bounds.{first}
-use Rattle.model.specs.Sets.{Set, member, union, meet, meets, states, smallest}
+use Rattle.model.specs.Sets.{Set, member, empty, union, meets, states, firstStates}
+use Rattle.model.specs.Tables.{Table}
 use Rattle.model.specs.Paths.{reaching, unreachable, distance, shortest, hasPath, walk, smallestPath}
-use Rattle.model.specs.Stores.{tableOf}
+use Rattle.model.specs.Stores.{setAt, tableOf}
 use Rattle.model.specs.Calls.{overwrite}
+use Rattle.model.specs.WellFormed.{WellFormed, _⊆_}
 use Rattle.model.proofs.Acceptance.{Store, well-formed}
+use Rattle.table.specs.Rows.{rowsOf, rowsIn, groupsOf, groupsIn, tableOn}
+use Rattle.table.proofs.Parts.{rows-long, table-on}
 use Rattle.paths.specs.Search.{HoldsTable}
-use Rattle.paths.specs.Answers.{foundIn, pathWritten}
+use Rattle.paths.specs.PathAnswers.{foundIn, pathWritten}
+use Rattle.paths.specs.declared.Found.{Found}
 use Rattle.paths.specs.declared.Found.the-variants.{Steps, Nothing}
 
+module _ (n : ℕ) (I J F : Set) (G H : List Set) (rows : List ℕ) where
+  reaching-alike : (k : ℕ) → reaching (tableOn n I F G rows) k ≡ reaching (tableOn n J F H rows) k
+  unfolding reaching tableOn
+  reaching-alike zero = refl
+  reaching-alike (suc k) = ap (λ (X : Set). union X (states n (λ s. meets (rowsIn rows n s) X))) (reaching-alike k)
+
+  distance-alike : (s : ℕ) → distance (tableOn n I F G rows) s ≡ distance (tableOn n J F H rows) s
+  unfolding distance tableOn
+  distance-alike s =
+      ap (λ (d : ℕ). cond (ltb d n) d unreachable) (ap (first n) (fun-ext (λ k. ap (λ (X : Set). member X s) (reaching-alike k))))
+
+module _ (n : ℕ) (I F : Set) (G : List Set) (rows : List ℕ) where
+  abbrev t : Table
+  t = tableOn n I F [] rows
+
+  abbrev grouped : Table
+  grouped = tableOn n I F G rows
+
+  abbrev near : (k : ℕ) → reaching t k ≡ reaching grouped k
+  near = reaching-alike n I I F [] G rows
+
+  shortest-groups : shortest t ≡ shortest grouped
+  unfolding shortest tableOn
+  shortest-groups = ap (first n) (fun-ext (λ k. ap (meets I) (near k)))
+
+  walk-groups : (d : ℕ) (X : Set) → walk t d X ≡ walk grouped d X
+  unfolding walk tableOn
+  walk-groups zero X = rw (near zero)
+  walk-groups (suc d) X = rw (near (suc d), walk-groups d)
+
+  pub foundIn-groups : foundIn t ≡ foundIn grouped
+  unfolding foundIn hasPath tableOn
+  foundIn-groups = ap (λ (d : ℕ). cond (ltb d n) (Steps d) Nothing) shortest-groups
+
+  pub pathWritten-groups : (path : List ℕ) → pathWritten t path ≡ pathWritten grouped path
+  unfolding pathWritten hasPath smallestPath tableOn
+  pathWritten-groups path =
+      ap₂ (λ (d : ℕ) (xs : List ℕ). cond (ltb d n) (overwrite xs path) path) shortest-groups
+      (walk-groups _ I ∙ ap (λ (d : ℕ). walk grouped d I) shortest-groups)
+
+-- ---- the table of a store
+
+-- (f and i: what the calls of `forbidden` and of `set_at` gave)
 module _ (store : List ℕ) (n g : ℕ) where
-  pub reaching-groups : (k : ℕ) → reaching (tableOf store n g) k ≡ reaching (tableOf store n 0) k
-  unfolding reaching tableOf
-  reaching-groups zero = refl
-  reaching-groups (suc k) = ap (λ (X : Set). union X (states n (λ s. meets ((tableOf store n 0) .row s) X))) (reaching-groups k)
+  abbrev groups : List Set
+  groups = groupsIn (groupsOf store) g
 
-  pub distance-groups : (s : ℕ) → distance (tableOf store n g) s ≡ distance (tableOf store n 0) s
-  unfolding distance tableOf
-  distance-groups s =
-      ap (λ (d : ℕ). cond (ltb d n) d unreachable) (ap (first n) (fun-ext (λ k. ap (λ (X : Set). member X s) (reaching-groups k))))
+  module _ {F : Set} (f : F ≡ (tableOf store n 0) .forbidden) where
+    pub holds-states : {I : Set} → Store store n g → I ⊆ firstStates n → HoldsTable (rowsOf store) n I F
+    unfolding tableOn tableOf
+    holds-states s inside =
+        let ok = subst WellFormed (sym (table-on store n g)) (well-formed store n g s) in
+        record {
+          long = rows-long store (s .long);
+          small = s .small;
+          formed = record { initial = inside; forbidden = subst (λ (X : Set). X ⊆ firstStates n) (sym f) (ok .forbidden); rows = ok .rows };
+        }
 
-  pub shortest-groups : shortest (tableOf store n g) ≡ shortest (tableOf store n 0)
-  unfolding shortest tableOf
-  shortest-groups = ap (first n) (fun-ext (λ k. ap (meets ((tableOf store n 0) .initial)) (reaching-groups k)))
+    module _ {I : Set} (i : I ≡ setAt store 0) where
+      pub store-table : tableOn n I F groups (rowsOf store) ≡ tableOf store n g
+      unfolding tableOf
+      store-table = ap₂ (λ (X Y : Set). tableOn n X Y groups (rowsOf store)) i f ∙ table-on store n g
 
-  pub hasPath-groups : hasPath (tableOf store n g) ≡ hasPath (tableOf store n 0)
-  unfolding hasPath tableOf
-  hasPath-groups = ap (λ (d : ℕ). ltb d n) shortest-groups
+      pub holds-table : Store store n g → HoldsTable (rowsOf store) n I F
+      unfolding tableOf
+      holds-table s = holds-states s (subst (λ (X : Set). X ⊆ firstStates n) (sym i) (well-formed store n g s .initial))
 
-  pub walk-groups : (d : ℕ) (X : Set) → walk (tableOf store n g) d X ≡ walk (tableOf store n 0) d X
-  unfolding walk tableOf
-  walk-groups zero X = ap (λ (Y : Set). smallest (meet X Y) ∷ []) (reaching-groups zero)
-  walk-groups (suc d) X =
-      ap (λ (Y : Set). let x = smallest (meet X Y) in x ∷ walk (tableOf store n g) d ((tableOf store n 0) .row x)) (reaching-groups (suc d))
-      ∙ ap (λ (xs : List ℕ). smallest (meet X (reaching (tableOf store n 0) (suc d))) ∷ xs) (walk-groups d _)
+      pub store-path : (path : List ℕ) {found : Found} {after : List ℕ}
+          → (found ≡ foundIn (tableOn n I F [] (rowsOf store))) × (after ≡ pathWritten (tableOn n I F [] (rowsOf store)) path)
+          → (found ≡ foundIn (tableOf store n g)) × (after ≡ pathWritten (tableOf store n g) path)
+      store-path path found = (
+        found .0 ∙ foundIn-groups n I F groups (rowsOf store) ∙ ap foundIn store-table,
+        found .1 ∙ pathWritten-groups n I F groups (rowsOf store) path ∙ ap (λ (t : Table). pathWritten t path) store-table,
+      )
 
-  pub smallestPath-groups : smallestPath (tableOf store n g) ≡ smallestPath (tableOf store n 0)
-  unfolding smallestPath tableOf
-  smallestPath-groups = walk-groups _ _ ∙ ap (λ (d : ℕ). walk (tableOf store n 0) d ((tableOf store n 0) .initial)) shortest-groups
-
-  pub foundIn-groups : foundIn (tableOf store n g) ≡ foundIn (tableOf store n 0)
-  unfolding foundIn
-  foundIn-groups = ap₂ (λ (b : Bool) (d : ℕ). cond b (Steps d) Nothing) hasPath-groups shortest-groups
-
-  pub pathWritten-groups : (path : List ℕ) → pathWritten (tableOf store n g) path ≡ pathWritten (tableOf store n 0) path
-  unfolding pathWritten
-  pathWritten-groups path = ap₂ (λ (b : Bool) (xs : List ℕ). cond b (overwrite xs path) path) hasPath-groups smallestPath-groups
-
-  pub holds-table : Store store n g → HoldsTable store n
-  unfolding tableOf
-  holds-table s =
-      let ok = well-formed store n g s in
-      record {
-        long = s .long;
-        small = s .small;
-        formed = record { initial = ok .initial; forbidden = ok .forbidden; rows = ok .rows };
-      }
+    pub store-distance : (s : ℕ) → distance (tableOn n empty F [] (rowsOf store)) s ≡ distance (tableOf store n g) s
+    store-distance s =
+        distance-alike n empty (setAt store 0) F [] groups (rowsOf store) s ∙ ap (λ (t : Table). distance t s) (store-table refl)

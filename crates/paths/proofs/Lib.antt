@@ -8,6 +8,5 @@ pub mod Outward
 pub mod Duality
 pub mod Narrowing
 pub mod Find
-pub mod DistanceAnswers
 pub mod DistancesKept
 pub mod DemandsKept

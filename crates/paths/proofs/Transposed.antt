@@ -1,23 +1,72 @@
--- Laws of the rows transposed, for a loop that joins each state to the predecessors of its successors.
+-- Laws of what steps into a set, by the rows that are lent and by the rows transposed.
 --
+--   in-stepping, stepping-in          the states that step into a set, by their members
+--   stepping-is                       as the code gathers them: those not in hold of all other states
+--   stepping-new                      those not found yet, as the rows transposed give them
 --   states-suc                        one place more adds that state, if it passes
---   transposed-start, -turn           no row joined, and one more
-use Prim.Native.Nat.{ℕ, suc, _+_}
+--   transposed-start, -turn           the loop that joins each state to the predecessors of its successors: no row joined, and one more
+--   transposed-image                  what the rows transposed hold of a set
+use Prim.Native.Nat.{ℕ, suc, _+_, _<_}
 use native.Mathlib.Numerals.{add-one}
 use native.Mathlib.Omega.{arith}
-use mathlib.Core.Path.{_≡_, refl, sym, ap, ap₂, _∙_, subst}
+use mathlib.Core.Path.{_≡_, refl, ap, _∙_, subst}
 use mathlib.Core.Logic.{_⊎_, inl, inr, ⊎-elim}
 use mathlib.Core.Bool.{Bool, true, cond}
 use mathlib.Core.List.{List, []}
-use lib.ListN.{replicate}
+use lib.ListN.{getD, replicate}
 use Rattle.basics.specs.Bounds.{tabulate}
-use Rattle.model.specs.Sets.{WORDS, maxStates, Set, number, setOf, member, single, union, states}
-use Rattle.model.specs.Stores.{rowAt, setAt}
-use Rattle.basics.proofs.BoundLaws.{clash, by-cond, below-suc, tabulate-cong}
-use Rattle.model.proofs.SetLaws.{setOf-proper, In, in-bound, in-single, single-in, in-union, union-in, in-states, states-in, same-set}
-use Rattle.table.specs.Rows.{mapAt}
+use Rattle.model.specs.Sets.{WORDS, maxStates, Set, number, setOf, member, single, union, difference, states, firstStates, image}
+use Rattle.basics.proofs.BoundLaws.{and-true, and-intro, is-false, clash, by-cond, below-suc, getD-tabulate, tabulate-cong}
+use Rattle.model.proofs.SetLaws.{setOf-proper, In, in-bound, in-or-out, in-setOf, setOf-in, in-single, single-in, in-union, union-in, in-difference, difference-in, in-states, states-in, in-firstStates, firstStates-in, subset-in, subset-not, same-set, in-image, image-in, in-meets, meets-in}
+use Rattle.model.proofs.ImageLaws.{image-cong}
+use Rattle.state_set.proofs.Words.{with-bit}
+use Rattle.table.specs.Rows.{rowIn, meetHold, mapAt}
 use Rattle.table.proofs.MapAt.{mapAt-tabulate}
-use Rattle.paths.specs.Search.{predecessorRows}
+use Rattle.paths.specs.Search.{withBit, predecessorsIn, predecessorRows, steppingInto}
+
+-- ---- the states that step into a set
+
+module _ (rows : List ℕ) {X Y : Set} {s : ℕ} where
+  pub in-stepping : {u : ℕ} → In X s → In (rowIn rows s) u → In Y u → In (steppingInto rows X Y) s
+  unfolding steppingInto
+  in-stepping h r y = in-setOf _ (in-bound h) (and-intro (member X s) _ (h .is) (in-meets r y))
+
+  pub stepping-in : In (steppingInto rows X Y) s → In X s × (u : ℕ) × In (rowIn rows s) u × In Y u
+  unfolding steppingInto
+  stepping-in h = let both = and-true (member X s) _ (setOf-in _ h) in let w = meets-in (both .1) in (record { is = both .0 }, w .0, w .1, w .2)
+
+-- those that do not are in hold of all other states
+pub stepping-is : (rows : List ℕ) (X Y : Set)
+    → difference X (meetHold rows X (difference (firstStates maxStates) Y)) ≡ steppingInto rows X Y
+unfolding difference meetHold steppingInto
+stepping-is rows X Y =
+    same-set _ _ (setOf-proper _) (setOf-proper _)
+    (λ s h.
+    let both = difference-in h in
+    let out = subset-not (rowIn rows s) _ (is-false _ (λ e. both .1 (in-setOf _ (in-bound h) (and-intro (member X s) _ (both .0 .is) e)))) in
+    let u = in-bound (out .1) in
+    in-stepping rows (both .0) (out .1) (⊎-elim (λ y. y) (λ o. absurd (out .2 (in-difference (in-firstStates u u) o))) (in-or-out Y (out .0))))
+    (λ s h.
+    let w = stepping-in rows h in
+    in-difference (w .0)
+    (λ i. difference-in {X = firstStates maxStates} {Y = Y} (subset-in (and-true (member X s) _ (setOf-in _ i) .1) (w .1) (w .2)) .1 (w .3)))
+
+pub stepping-new : (rows : List ℕ) (n : ℕ) (layer found : Set)
+    → steppingInto rows (difference (firstStates n) found) layer ≡ difference (image maxStates (predecessorsIn rows n) layer) found
+unfolding steppingInto predecessorsIn difference
+stepping-new rows n layer found =
+    same-set _ _ (setOf-proper _) (setOf-proper _)
+    (λ s h.
+    let w = stepping-in rows h in
+    let rest = difference-in (w .0) in
+    in-difference (in-image _ layer maxStates (in-bound (w .3)) (w .3) (in-states n _ (in-bound h) (firstStates-in (rest .0)) (w .2 .is))) (rest .1))
+    (λ s h.
+    let both = difference-in h in
+    let w = image-in _ layer maxStates (both .0) in
+    let step = states-in n _ (w .3) in
+    in-stepping rows (in-difference (in-firstStates (in-bound h) (step .0)) (both .1)) (record { is = step .1 }) (w .2))
+
+-- ---- the rows transposed
 
 module _ (p : ℕ → Bool) (k : ℕ) where
   widened : {s : ℕ} → In (states k p) s → In (states (suc k) p) s
@@ -27,31 +76,35 @@ module _ (p : ℕ → Bool) (k : ℕ) where
   narrowed : {s : ℕ} → In (states (suc k) p) s → ((s ≡ k) × (p k ≡ true)) ⊎ In (states k p) s
   narrowed {s} h =
       let both = states-in (suc k) p h in
-      ⊎-elim (λ e. inl (e, subst (λ (j : ℕ). p j ≡ true) e (both .1))) (λ l. inr (in-states k p (in-bound h) l (both .1))) (below-suc (both .0))
+      ⊎-elim (λ e. inl (e, rw e at (both .1))) (λ l. inr (in-states k p (in-bound h) l (both .1))) (below-suc (both .0))
 
-  pub states-suc : cond (p k) (union (states k p) (single k)) (states k p) ≡ states (suc k) p
+  states-suc : k < maxStates → cond (p k) (withBit k (states k p)) (states k p) ≡ states (suc k) p
   unfolding states union
-  states-suc =
+  states-suc l =
       by-cond (λ (Y : Set). Y ≡ states (suc k) p) (p k) _ _
       (λ e.
-      same-set _ _ (setOf-proper _) (setOf-proper _)
-      (λ s h. ⊎-elim widened (λ i. in-states (suc k) p (in-bound h) (omega (arith, single-in i)) (subst (λ (j : ℕ). p j ≡ true) (sym (single-in i)) e)) (union-in h))
+      with-bit (states k p) k (setOf-proper _) (omega arith)
+      ∙ same-set _ _ (setOf-proper _) (setOf-proper _)
+      (λ s h. ⊎-elim widened (λ i. in-states (suc k) p (in-bound h) (omega (arith, single-in i)) (ap p (single-in i) ∙ e)) (union-in h))
       (λ s h. ⊎-elim (λ q. in-union (inr (subst (λ (j : ℕ). In (single j) s) (q .0) (in-single (in-bound h))))) (λ i. in-union (inl i)) (narrowed h)))
       (λ e.
       same-set _ _ (setOf-proper _) (setOf-proper _) (λ s h. widened h)
       (λ s h. ⊎-elim (λ q. absurd (clash (q .1) e)) (λ i. i) (narrowed h)))
 
-module _ (store : List ℕ) where
-  pub transposed-start : replicate maxStates (replicate WORDS 0) ≡ predecessorRows store 0
-  unfolding predecessorRows tabulate states setOf number
+module _ (rows : List ℕ) where
+  pub transposed-start : replicate maxStates (replicate WORDS 0) ≡ predecessorRows rows 0
+  unfolding predecessorRows predecessorsIn tabulate states setOf number
   transposed-start = refl
 
-  pub transposed-turn : {rows rows′ : List Set} {X : Set} (s : ℕ) → X ≡ setAt store (rowAt s) → rows′ ≡ mapAt X (λ row. union row (single s)) [] rows
-      → rows ≡ predecessorRows store s → rows′ ≡ predecessorRows store (s + 1)
+  pub transposed-turn : {before before′ : List Set} {X : Set} (s : ℕ) → s < maxStates → X ≡ rowIn rows s → before′ ≡ mapAt X (withBit s) [] before
+      → before ≡ predecessorRows rows s → before′ ≡ predecessorRows rows (s + 1)
+  unfolding predecessorRows predecessorsIn
+  transposed-turn s l x j e =
+      rw (j, x, e, add-one)
+      (mapAt-tabulate _ [] _ maxStates _ ∙ tabulate-cong _ _ maxStates (λ u m. states-suc (λ k. member (rowIn rows k) u) s l))
+
+  pub transposed-image : (n : ℕ) {before : List Set} → before ≡ predecessorRows rows n → (X : Set)
+      → image maxStates (λ u. getD before u []) X ≡ image maxStates (predecessorsIn rows n) X
   unfolding predecessorRows
-  transposed-turn s x j e =
-      j
-      ∙ ap₂ (λ (X : Set) (rows : List Set). mapAt X (λ row. union row (single s)) [] rows) x e
-      ∙ mapAt-tabulate _ [] _ maxStates _
-      ∙ tabulate-cong _ _ maxStates (λ u l. states-suc (λ k. member (setAt store (rowAt k)) u) s)
-      ∙ ap (predecessorRows store) (sym (add-one s))
+  transposed-image n e X =
+      image-cong maxStates _ _ X (λ u l h. ap (λ (xs : List Set). getD xs u []) e ∙ getD-tabulate _ maxStates u [] l)

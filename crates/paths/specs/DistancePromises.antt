@@ -17,7 +17,7 @@ use Rattle.model.specs.Paths.{leads, isPath, unreachable}
 use Rattle.basics.specs.Refusals.{refuse, refused, answered}
 use Rattle.model.specs.Stores.{storeWords, tableOf, sharedGrounds}
 use Rattle.paths.specs.Distances.{distancesGrounds, distancesAnswer, distancesBuffer, distancesOf, CalledDistances}
-use Rattle.paths.specs.Within.{withinAnswer, answerOf as withinOf, CalledWithin}
+use Rattle.paths.specs.Within.{withinAnswer, withinOf, CalledWithin}
 use Rattle.paths.specs.declared.DistancesAnswer.{DistancesAnswer}
 use Rattle.paths.specs.declared.WithinAnswer.{WithinAnswer}
 

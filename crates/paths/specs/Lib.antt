@@ -1,6 +1,6 @@
 pub mod Search
-pub mod Answers
-pub mod Demands
+pub mod PathAnswers
+pub mod PathDemands
 pub mod Distances
 pub mod Within
 pub mod DistancePromises

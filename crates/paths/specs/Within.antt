@@ -3,7 +3,7 @@
 --   canReach t s      a forbidden state can be reached from s
 --   isWithin t k      some initial state can reach a forbidden one, and its distance is at most k
 --   withinAnswer      the call's answer; the grounds are those that every call shares, in their order
---   answerOf          each case of the answer
+--   withinOf          each case of the answer
 --   CalledWithin      a call and what it gave: the contract of `within`
 use Prim.Native.Nat.{ℕ}
 use mathlib.Core.Path.{_≡_}
@@ -29,10 +29,10 @@ isWithin t k = any maxStates (λ s. member (t .initial) s && (canReach t s && le
 unfoldable pub withinAnswer : List ℕ → ℕ → ℕ → ℕ → Answered Bool
 withinAnswer store n g k = answer (sharedGrounds store n g) (isWithin (tableOf store n g) k)
 
-abbrev pub answerOf : WithinAnswer → Answered Bool
-answerOf Yes = answered true
-answerOf No = answered false
-answerOf (Refused k) = refused k
+abbrev pub withinOf : WithinAnswer → Answered Bool
+withinOf Yes = answered true
+withinOf No = answered false
+withinOf (Refused k) = refused k
 
 abbrev pub CalledWithin : List ℕ → ℕ → ℕ → ℕ → WithinAnswer → Type 0
-CalledWithin store n g k r = answerOf r ≡ withinAnswer store n g k
+CalledWithin store n g k r = withinOf r ≡ withinAnswer store n g k

@@ -1,159 +1,139 @@
--- The search by layers: what is found after k turns, and the layer that is new.
+-- The search by layers from a set X, over the rows f that are lent or over those transposed: what is found after k turns, and the layer that is new.
 --
---   iterate-grows                    steps from below only grow
---   reachBy-mono, reachBy-proper     the step grows with the set, and gives a proper set
---   before store X k                 the states that fewer than k steps lead to from X; before-grows, before-mono: more with k
---   Layered store X k found layer    after k turns: what at most k steps lead to, and what no fewer do
+--   stepBy f X Y                     X and what the rows of the states in Y hold; stepBy-mono, -proper: it grows with Y, and is a proper set
+--   before f X k                     the states that fewer than k steps lead to from X; before-grows, before-mono: more with k
+--   Layered f X k found layer        after k turns: what at most k steps lead to, and what no fewer do
 --   layered-start, layered-turn      where it starts, and a turn
---   layer-in                         the layer is found, and was not before
---   layered-all                      what is found is what was found before and the layer
---   layered-less                     a layer with a state makes more found; layered-expanded: what was looked at already
---   layered-end                      with an empty layer, what is found is the least solution; layered-still: and no step finds more
-use Prim.Native.Nat.{ℕ, suc, _≤_, _<_}
+--   layered-less, layered-below      a layer with a state makes more found, so there are fewer layers than states
+--   layered-expanded                 what was looked at already
+--   layered-still, layered-end       with an empty layer no step finds more, and what is found is the least solution
+use Prim.Native.Nat.{ℕ, suc, _≤_, _<_, zero-le}
 use native.Mathlib.Decide.{le-ind}
-use mathlib.Core.Path.{_≡_, sym, ap, _∙_}
+use native.Mathlib.Omega.{arith}
+use mathlib.Core.Path.{_≡_, sym, ap, _∙_, subst}
 use mathlib.Core.Logic.{_⊎_, inl, inr, ⊎-elim}
 use mathlib.Core.Bool.{true, false}
-use mathlib.Core.List.{List}
-use Rattle.model.specs.Sets.{maxStates, Set, empty, union, difference, subset, size}
+use Rattle.model.specs.Sets.{maxStates, Set, empty, union, difference, subset, size, image}
 use Rattle.model.specs.Rounds.{iterate}
 use Rattle.model.specs.Promises.{IsLeast}
-use Rattle.model.proofs.SetLaws.{Proper, setOf-proper, In, in-or-out, empty-in, in-union, union-in, in-difference, difference-in, _⊆_, ⊆-of-eq, subset-in, in-subset, subset-not, same-set, in-image, image-in}
-use Rattle.model.proofs.Counting.{size-lt}
-use Rattle.model.proofs.Fixpoints.{iterate-suc, iterate-has, iterate-still}
+use Rattle.basics.proofs.BoundLaws.{lt-or-ge}
+use Rattle.model.proofs.SetLaws.{Proper, setOf-proper, In, in-bound, in-firstStates, in-or-out, empty-in, in-union, union-in, in-difference, difference-in, _⊆_, ⊆-of-eq, subset-in, in-subset, subset-not, same-set}
+use Rattle.model.proofs.Counting.{size-lt, size-most}
+use Rattle.model.proofs.Fixpoints.{iterate-suc, iterate-has, iterate-still, from-below}
 use Rattle.model.proofs.CoverLaws.{image-mono}
-use Rattle.model.proofs.ImageLaws.{image-none, union-empty}
-use Rattle.table.specs.Rows.{successorsBy}
-use Rattle.reach.specs.Reached.{reachBy}
+use Rattle.model.proofs.ImageLaws.{image-none, image-union, union-assoc, union-empty}
 
-successorsBy-mono : (store : List ℕ) {X Y : Set} → X ⊆ Y → successorsBy store X ⊆ successorsBy store Y
-unfolding successorsBy
-successorsBy-mono store i = image-mono maxStates _ _ _ i
+union-rest : (X Y : Set) → union X (difference Y X) ≡ union X Y
+unfolding union
+union-rest X Y =
+    same-set _ _ (setOf-proper _) (setOf-proper _) (λ s h. in-union (⊎-elim inl (λ i. inr (difference-in i .0)) (union-in h)))
+    (λ s h. in-union (⊎-elim inl (λ i. ⊎-elim inl (λ o. inr (in-difference i o)) (in-or-out X s)) (union-in h)))
 
--- a successor of a state of one of two sets that make up Y
-successorsBy-split : (store : List ℕ) {X Y Z : Set} → ((s : ℕ) → In Y s → In X s ⊎ In Z s) → (s : ℕ) → In (successorsBy store Y) s
-    → In (successorsBy store X) s ⊎ In (successorsBy store Z) s
-unfolding successorsBy
-successorsBy-split store {X} {Y} {Z} f s h =
-    let w = image-in _ Y maxStates h in
-    ⊎-elim (λ i. inl (in-image _ X maxStates (w .1) i (w .3))) (λ i. inr (in-image _ Z maxStates (w .1) i (w .3))) (f (w .0) (w .2))
+module _ (f : ℕ → Set) (X : Set) where
+  abbrev pub stepBy : Set → Set
+  stepBy Y = union X (image maxStates f Y)
 
--- steps from below only grow
-pub iterate-grows : (f : Set → Set) → ((Y Z : Set) → Y ⊆ Z → f Y ⊆ f Z) → (k : ℕ) → iterate f empty k ⊆ iterate f empty (suc k)
-unfolding iterate
-iterate-grows f mono = iterate-has (λ Y. Y ⊆ f Y) f empty (λ s h. absurd (empty-in h)) (λ Y i. mono Y (f Y) i)
+  stepBy-mono : (Y Z : Set) → Y ⊆ Z → stepBy Y ⊆ stepBy Z
+  stepBy-mono Y Z i s h = in-union (⊎-elim inl (λ b. inr (image-mono maxStates f Y Z i s b)) (union-in h))
 
-module _ (store : List ℕ) (X : Set) where
-  pub reachBy-mono : (Y Z : Set) → Y ⊆ Z → reachBy store X Y ⊆ reachBy store X Z
-  unfolding reachBy
-  reachBy-mono Y Z i s h = in-union (⊎-elim (λ a. inl a) (λ b. inr (successorsBy-mono store i s b)) (union-in h))
-
-  pub reachBy-proper : (Y : Set) → Proper (reachBy store X Y)
-  unfolding reachBy union
-  reachBy-proper Y = setOf-proper _
+  pub stepBy-proper : (Y : Set) → Proper (stepBy Y)
+  unfolding union
+  stepBy-proper Y = setOf-proper _
 
   abbrev pub before : ℕ → Set
-  before k = iterate (reachBy store X) empty k
+  before k = iterate stepBy empty k
 
-  pub before-proper : (k : ℕ) → Proper (before k)
+  before-proper : (k : ℕ) → Proper (before k)
   unfolding empty
-  before-proper = iterate-has Proper (reachBy store X) empty (setOf-proper _) (λ Y h. reachBy-proper Y)
+  before-proper = iterate-has Proper stepBy empty (setOf-proper _) (λ Y h. stepBy-proper Y)
 
   pub before-grows : (k : ℕ) → before k ⊆ before (suc k)
-  before-grows = iterate-grows (reachBy store X) reachBy-mono
+  unfolding iterate
+  before-grows = iterate-has (λ Y. Y ⊆ stepBy Y) stepBy empty (λ s h. absurd (empty-in h)) (λ Y i. stepBy-mono Y (stepBy Y) i)
 
   pub before-mono : (j k : ℕ) → j ≤ k → before j ⊆ before k
   before-mono j = le-ind (λ k. before j ⊆ before k) (λ s h. h) (λ k l i s h. before-grows k s (i s h))
 
-pub record Layered (store : List ℕ) (X : Set) (k : ℕ) (found layer : Set) : Type 0 where
-  pub found-is : found ≡ before store X (suc k)
-  pub layer-is : layer ≡ difference found (before store X k)
+pub record Layered (f : ℕ → Set) (X : Set) (k : ℕ) (found layer : Set) : Type 0 where
+  pub found-is : found ≡ before f X (suc k)
+  pub proper : Proper layer
+  pub new : (s : ℕ) → In layer s → In (before f X (suc k)) s × (In (before f X k) s → ⊥)
+  pub all : (s : ℕ) → In (before f X (suc k)) s → In (before f X k) s ⊎ In layer s
+  pub counted : k ≤ size (before f X k)
+  pub bounded : k ≤ maxStates
 
-module _ (store : List ℕ) (X : Set) where
-  pub layered-start : Proper X → Layered store X 0 X X
-  unfolding iterate reachBy successorsBy difference
+module _ (f : ℕ → Set) (X : Set) where
+  pub layered-start : Proper X → Layered f X 0 X X
+  unfolding iterate
   layered-start p =
+      let first = sym (union-empty X p) ∙ ap (union X) (sym (image-none maxStates f empty (in-subset (λ s h. h)))) in
       record {
-        found-is = sym (union-empty X p) ∙ ap (union X) (sym (image-none maxStates _ empty (in-subset (λ s h. h))));
-        layer-is = same-set _ _ p (setOf-proper _) (λ s h. in-difference h empty-in) (λ s h. difference-in h .0);
+        found-is = first;
+        proper = p;
+        new = λ s h. (⊆-of-eq first s h, empty-in);
+        all = λ s h. inr (⊆-of-eq (sym first) s h);
+        counted = zero-le;
+        bounded = zero-le;
       }
 
-  module _ {k : ℕ} {found layer : Set} (so : Layered store X k found layer) where
-    pub layer-in : (s : ℕ) → In layer s → In found s × (In (before store X k) s → ⊥)
-    layer-in s h = difference-in (⊆-of-eq (so .layer-is) s h)
+  module _ {k : ℕ} {found layer : Set} (so : Layered f X k found layer) where
+    whole : union (before f X k) layer ≡ before f X (suc k)
+    unfolding union
+    whole =
+        same-set _ _ (setOf-proper _) (before-proper f X (suc k))
+        (λ s h. ⊎-elim (before-grows f X k s) (λ i. so .new s i .0) (union-in h)) (λ s h. in-union (so .all s h))
 
-    older : before store X k ⊆ found
-    older s h = ⊆-of-eq (sym (so .found-is)) s (before-grows store X k s h)
-
-    pub layered-all : (s : ℕ) → In found s → In (before store X k) s ⊎ In layer s
-    layered-all s h =
-        ⊎-elim (λ i. inl i) (λ o. inr (⊆-of-eq (sym (so .layer-is)) s (in-difference h o))) (in-or-out (before store X k) s)
-
-    pub layered-turn : {found′ layer′ : Set} → layer′ ≡ difference (successorsBy store layer) found → found′ ≡ union found layer′
-        → Layered store X (suc k) found′ layer′
-    unfolding iterate reachBy union difference
-    layered-turn {found′} {layer′} p q =
-        record {
-          found-is = q ∙ same-set _ _ (setOf-proper _) (setOf-proper _) grown (λ s h. known s (union-in h));
-          layer-is =
-              p
-              ∙ same-set _ _ (setOf-proper _) (setOf-proper _)
-              (λ s h.
-              let both = difference-in h in
-              in-difference (⊆-of-eq (sym q) s (in-union (inr (⊆-of-eq (sym p) s h)))) (λ i. both .1 (⊆-of-eq (sym (so .found-is)) s i)))
-              (λ s h.
-              let both = difference-in h in
-              ⊎-elim (λ i. absurd (both .1 (⊆-of-eq (so .found-is) s i))) (λ i. ⊆-of-eq p s i) (union-in (⊆-of-eq q s (both .0))));
-        }
-      where
-        grown : union found layer′ ⊆ union X (successorsBy store (before store X (suc k)))
-        grown s h =
-            ⊎-elim
-            (λ i. before-grows store X (suc k) s (⊆-of-eq (so .found-is) s i))
-            (λ i.
-            in-union (inr (successorsBy-mono store (λ u j. ⊆-of-eq (so .found-is) u (layer-in u j .0)) s (difference-in (⊆-of-eq p s i) .0))))
-            (union-in h)
-
-        known : (s : ℕ) → In X s ⊎ In (successorsBy store (before store X (suc k))) s → In (union found layer′) s
-        known s (inl i) = in-union (inl (⊆-of-eq (sym (so .found-is)) s (in-union (inl i))))
-        known s (inr i) =
-            ⊎-elim
-            (λ j. in-union (inl (⊆-of-eq (sym (so .found-is)) s (in-union (inr j)))))
-            (λ j.
-            ⊎-elim (λ f. in-union (inl f)) (λ o. in-union (inr (⊆-of-eq (sym p) s (in-difference j o)))) (in-or-out found s))
-            (successorsBy-split store (λ u j. layered-all u (⊆-of-eq (sym (so .found-is)) u j)) s i)
-
-    pub layered-expanded : difference found layer ≡ before store X k
+    pub layered-expanded : difference found layer ≡ before f X k
     unfolding difference
     layered-expanded =
-        same-set _ _ (setOf-proper _) (before-proper store X k)
-        (λ s h. let both = difference-in h in ⊎-elim (λ i. i) (λ i. absurd (both .1 i)) (layered-all s (both .0)))
-        (λ s h. in-difference (older s h) (λ i. layer-in s i .1 h))
+        same-set _ _ (setOf-proper _) (before-proper f X k)
+        (λ s h. let both = difference-in h in ⊎-elim (λ i. i) (λ i. absurd (both .1 i)) (so .all s (⊆-of-eq (so .found-is) s (both .0))))
+        (λ s h. in-difference (⊆-of-eq (sym (so .found-is)) s (before-grows f X k s h)) (λ i. so .new s i .1 h))
 
-    pub layered-less : subset layer empty ≡ false → size (before store X k) < size (before store X (suc k))
-    layered-less e =
-        let w = subset-not layer empty e in
-        let new = layer-in (w .0) (w .1) in
-        size-lt (before-grows store X k) (⊆-of-eq (so .found-is) (w .0) (new .0)) (new .1)
+    module _ (some : subset layer empty ≡ false) where
+      pub layered-less : size (before f X k) < size (before f X (suc k))
+      layered-less =
+          let w = subset-not layer empty some in
+          let new = so .new (w .0) (w .1) in
+          size-lt (before-grows f X k) (new .0) (new .1)
 
-    module _ (e : subset layer empty ≡ true) where
-      still : before store X (suc k) ≡ before store X k
-      still =
-          same-set _ _ (before-proper store X (suc k)) (before-proper store X k)
-          (λ s h. ⊎-elim (λ i. i) (λ i. absurd (empty-in (subset-in e s i))) (layered-all s (⊆-of-eq (sym (so .found-is)) s h)))
-          (before-grows store X k)
+      pub layered-below : k < maxStates
+      layered-below = omega (arith, so .counted, layered-less, size-most (before f X (suc k)))
 
-      pub layered-still : (j : ℕ) → k ≤ j → before store X j ≡ before store X k
-      layered-still j l = iterate-still (reachBy store X) empty k j (sym (iterate-suc (reachBy store X) empty k) ∙ still) l
-
-      pub layered-end : IsLeast (reachBy store X) found
-      unfolding iterate
-      layered-end =
+      pub layered-turn : {found′ layer′ : Set} → layer′ ≡ difference (image maxStates f layer) found → found′ ≡ union found layer′
+          → Layered f X (suc k) found′ layer′
+      unfolding iterate difference
+      layered-turn {found′} {layer′} p q =
+          let grown =
+          ap (union found) p
+          ∙ union-rest found (image maxStates f layer)
+          ∙ ap (λ (Y : Set). union Y (image maxStates f layer)) (so .found-is)
+          ∙ sym (union-assoc X (image maxStates f (before f X k)) (image maxStates f layer))
+          ∙ ap (union X) (sym (image-union maxStates f (before f X k) layer) ∙ ap (image maxStates f) whole) in
           record {
-            solves = so .found-is ∙ ap (reachBy store X) (sym still ∙ sym (so .found-is));
-            least = λ Y y.
-                in-subset
-                (λ s h.
-                iterate-has (λ Z. Z ⊆ Y) (reachBy store X) empty (λ u i. absurd (empty-in i))
-                (λ Z i u j. ⊆-of-eq (sym y) u (reachBy-mono store X Z Y i u j)) (suc k) s (⊆-of-eq (so .found-is) s h));
+            found-is = q ∙ grown;
+            proper = subst Proper (sym p) (setOf-proper _);
+            new = λ s h. (⊆-of-eq grown s (in-union (inr h)), (λ i. difference-in (⊆-of-eq p s h) .1 (⊆-of-eq (sym (so .found-is)) s i)));
+            all = λ s h. ⊎-elim (λ i. inl (⊆-of-eq (so .found-is) s i)) inr (union-in (⊆-of-eq (sym grown) s h));
+            counted = omega (arith, so .counted, layered-less);
+            bounded = layered-below;
           }
+
+    module _ (none : subset layer empty ≡ true) where
+      still : before f X (suc k) ≡ before f X k
+      still =
+          same-set _ _ (before-proper f X (suc k)) (before-proper f X k)
+          (λ s h. ⊎-elim (λ i. i) (λ i. absurd (empty-in (subset-in none s i))) (so .all s h))
+          (before-grows f X k)
+
+      -- and so from here on
+      end : (j : ℕ) → k ≤ j → before f X j ≡ before f X k
+      end j = iterate-still (stepBy f X) empty k j (sym (iterate-suc (stepBy f X) empty k) ∙ still)
+
+      pub layered-still : (j : ℕ) → before f X j ⊆ before f X k
+      layered-still j = ⊎-elim (λ l. before-mono f X j k (omega arith)) (λ l. ⊆-of-eq (end j l)) (lt-or-ge j k)
+
+      pub layered-end : IsLeast (stepBy f X) found
+      layered-end =
+          subst (IsLeast (stepBy f X)) (end maxStates (so .bounded) ∙ sym still ∙ sym (so .found-is))
+          (from-below (stepBy f X) maxStates (stepBy-mono f X) (stepBy-proper f X) (λ Y s h. in-firstStates (in-bound h) (in-bound h)))

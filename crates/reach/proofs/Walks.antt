@@ -1,13 +1,12 @@
--- What a set reaches: the least solution, as the ends of walks, and as the code works it out over the words of a store.
+-- What a set reaches: the least solution, as the ends of walks, and as the code works it out over the rows that are lent.
 --
 --   reachStep-mono, -proper, -within     the step grows with the set, and gives a proper set of states of the table
 --   in-step, iterate-within              a step out of a state; k steps give states of the table only
 --   walks-more, end-more                 a walk with one step more
 --   reachable-is                         specs/Reached: n steps from below give the least solution, which has the ends of the walks from X
---   successorsBy-is, reachBy-is          for states of the table the store's words give post and the step
---   before-is, reached-is                so k steps of the one are k of the other, and the least solution is the same
+--   reachBy-is, reached-is               for states of the table the rows give the step, so the least solution is the same
 --   reaching                             specs/Reached
-use Prim.Native.Nat.{ℕ, zero, suc}
+use Prim.Native.Nat.{ℕ}
 use mathlib.Core.Path.{_≡_, refl, sym, ap, _∙_, subst}
 use mathlib.Core.Logic.{inl, inr, ⊎-elim}
 use mathlib.Core.Bool.{true}
@@ -19,15 +18,15 @@ use Rattle.model.specs.Stores.{tableOf}
 use Rattle.model.specs.Promises.{IsLeast}
 use Rattle.basics.proofs.BoundLaws.{and-true, and-intro}
 use Rattle.model.proofs.SetLaws.{Proper, setOf-proper, In, empty-in, in-union, union-in, firstStates-in, _⊆_, ⊆-of-eq, subset-in, in-subset, same-set}
-use Rattle.model.proofs.WellFormed.{WellFormed}
+use Rattle.model.specs.WellFormed.{WellFormed}
 use Rattle.model.proofs.Acceptance.{accepted-store, well-formed}
 use Rattle.model.proofs.Fixpoints.{iterate-has, from-below}
 use Rattle.model.proofs.CoverLaws.{in-post, post-in, post-mono}
 use Rattle.model.proofs.ImageLaws.{image-bound, image-cong}
-use Rattle.model.proofs.StoreLaws.{row-is}
-use Rattle.table.specs.Rows.{successorsBy}
+use Rattle.table.specs.Rows.{rowsOf, rowIn, successorsBy}
+use Rattle.table.proofs.Parts.{HasRows, store-rows}
 use Rattle.reach.specs.Reached.{reachStep, reachable, walks, end, ReachableIs, reachBy, Reaching}
-use Rattle.reach.proofs.Layers.{reachBy-proper, before}
+use Rattle.reach.proofs.Layers.{stepBy-proper}
 
 -- ---- walks
 
@@ -50,7 +49,7 @@ module _ (t : Table) (X : Set) where
   unfolding reachStep
   in-step h i r = in-union (inr (in-post (t .n) (t .row) (firstStates-in h) i r))
 
-  pub reachStep-mono : (Y Z : Set) → Y ⊆ Z → reachStep t X Y ⊆ reachStep t X Z
+  reachStep-mono : (Y Z : Set) → Y ⊆ Z → reachStep t X Y ⊆ reachStep t X Z
   unfolding reachStep
   reachStep-mono Y Z i s h = in-union (⊎-elim (λ a. inl a) (λ b. inr (post-mono (t .n) (t .row) Y Z i s b)) (union-in h))
 
@@ -67,10 +66,6 @@ module _ (t : Table) (X : Set) where
     pub iterate-within : (k : ℕ) → iterate (reachStep t X) empty k ⊆ firstStates (t .n)
     iterate-within =
         iterate-has (λ Y. Y ⊆ firstStates (t .n)) (reachStep t X) empty (λ s h. absurd (empty-in h)) (λ Y h. reachStep-within Y)
-
-    reachable-within : reachable t X ⊆ firstStates (t .n)
-    unfolding reachable
-    reachable-within = iterate-within (t .n)
 
     least : IsLeast (reachStep t X) (reachable t X)
     unfolding reachable
@@ -90,17 +85,17 @@ module _ (t : Table) (X : Set) where
         (λ i.
         let p = post-in (t .n) (t .row) i in
         let w = f (p .0) (p .2) in
-        (w .0, w .1 ++ (s ∷ []), w .2, walks-more t (w .0) (w .1) (w .3) (subst (λ (x : ℕ). In (t .row x) s) (sym (w .4)) (p .3)), end-more (w .0) (w .1) s))
+        (w .0, w .1 ++ (s ∷ []), w .2, walks-more t (w .0) (w .1) (w .3) (rw (w .4) (p .3)), end-more (w .0) (w .1) s))
         (union-in h))
         (t .n)
 
     -- what is reached has each step out of it
     reached-end : (x : ℕ) (xs : List ℕ) → In (reachable t X) x → walks t x xs ≡ true → In (reachable t X) (end x xs)
-    unfolding walks end
+    unfolding walks end reachable
     reached-end x [] h e = h
     reached-end x (y ∷ ys) h e =
         let both = and-true (member (t .row x) y) (walks t y ys) e in
-        reached-end y ys (⊆-of-eq (sym (least .solves)) y (in-step (reachable-within x h) h (record { is = both .0 }))) (both .1)
+        reached-end y ys (⊆-of-eq (sym (least .solves)) y (in-step (iterate-within (t .n) x h) h (record { is = both .0 }))) (both .1)
 
     pub reachable-is : ReachableIs t X
     unfolding reachStep
@@ -109,36 +104,25 @@ module _ (t : Table) (X : Set) where
           least = least;
           members = λ s. (
             (λ e. walked s (record { is = e })),
-            (λ w. subst (λ (u : ℕ). member (reachable t X) u ≡ true) (w .4)
-                (reached-end (w .0) (w .1) (⊆-of-eq (sym (least .solves)) (w .0) (in-union (inl (record { is = w .2 })))) (w .3) .is)),
+            (λ w. rw (w .4) at (reached-end (w .0) (w .1) (⊆-of-eq (sym (least .solves)) (w .0) (in-union (inl (record { is = w .2 })))) (w .3) .is)),
           );
         }
 
--- ---- over the words of a store
+-- ---- over the rows that are lent
 
-module _ (store : List ℕ) (n g : ℕ) (X : Set) where
-  successorsBy-is : (Y : Set) → Y ⊆ firstStates n → successorsBy store Y ≡ post n ((tableOf store n g) .row) Y
-  unfolding successorsBy post
-  successorsBy-is Y i = image-bound n _ Y i ∙ image-cong n _ _ Y (λ s h m. sym (row-is store n g s h))
+module _ (t : Table) (rows : List ℕ) (r : HasRows t rows) (X : Set) where
+  reachBy-is : (Y : Set) → Y ⊆ firstStates (t .n) → reachBy rows X Y ≡ reachStep t X Y
+  unfolding reachBy successorsBy reachStep post
+  reachBy-is Y i = ap (union X) (image-bound (t .n) _ Y i ∙ image-cong (t .n) _ _ Y (λ s h m. sym (r s h)))
 
-  reachBy-is : (Y : Set) → Y ⊆ firstStates n → reachBy store X Y ≡ reachStep (tableOf store n g) X Y
-  unfolding reachBy reachStep tableOf
-  reachBy-is Y i = ap (union X) (successorsBy-is Y i)
-
-  module _ (ok : WellFormed (tableOf store n g)) (within : X ⊆ firstStates n) where
-    pub before-is : (k : ℕ) → before store X k ≡ iterate (reachStep (tableOf store n g) X) empty k
-    unfolding iterate tableOf
-    before-is zero = refl
-    before-is (suc k) = ap (reachBy store X) (before-is k) ∙ reachBy-is _ (iterate-within (tableOf store n g) X ok within k)
-
-    pub reached-is : {Y : Set} → IsLeast (reachBy store X) Y → Y ≡ reachable (tableOf store n g) X
-    unfolding tableOf
+  module _ (ok : WellFormed t) (within : X ⊆ firstStates (t .n)) where
+    pub reached-is : {Y : Set} → IsLeast (reachBy rows X) Y → Y ≡ reachable t X
+    unfolding reachBy successorsBy reachable
     reached-is {Y} y =
-        let t = tableOf store n g in
         let z = least t X ok within in
-        let inside : reachable t X ⊆ firstStates n = reachable-within t X ok within in
+        let inside = iterate-within t X ok within (t .n) in
         let small = subset-in (y .least (reachable t X) (z .solves ∙ sym (reachBy-is (reachable t X) inside))) in
-        same-set _ _ (subst Proper (sym (y .solves)) (reachBy-proper store X Y)) (subst Proper (sym (z .solves)) (reachStep-proper t X _)) small
+        same-set _ _ (subst Proper (sym (y .solves)) (stepBy-proper (rowIn rows) X Y)) (subst Proper (sym (z .solves)) (reachStep-proper t X _)) small
         (subset-in (z .least Y (y .solves ∙ reachBy-is Y (λ s h. inside s (small s h)))))
 
 pub reaching : Reaching
@@ -146,6 +130,6 @@ unfolding tableOf
 reaching =
     record {
       reachable-is = λ t X ok within. reachable-is t X ok (subset-in within);
-      reached-is = λ store n g X Y ok within y. reached-is store n g X ok (subset-in within) y;
+      reached-is = λ store n g X Y ok within y. reached-is (tableOf store n g) (rowsOf store) (store-rows store n g) X ok (subset-in within) y;
       accepted = λ store n g e. let ok = well-formed store n g (accepted-store store n g [] e .0) in (ok, in-subset (ok .initial));
     }

@@ -5,7 +5,7 @@
 --   walks t x xs        x and then the states xs are joined by steps
 --   end x xs            the last of them
 --   ReachableIs         what `reachable` is: that least Y, and the states in which the walks from X end
---   reachBy store X Y   reachStep as the code takes it, over the words of a store
+--   reachBy rows X Y    reachStep as the code takes it, over the rows that are lent
 --   Reaching            ReachableIs, of every set of states of a well-formed table; what the contract of `reached` gives is reachable; and the
 --                       table of an accepted store is well formed, its initial states a set of its states
 use Prim.Native.Nat.{ℕ}
@@ -18,8 +18,8 @@ use Rattle.model.specs.Tables.{Table, post}
 use Rattle.model.specs.Rounds.{iterate}
 use Rattle.model.specs.Stores.{tableOf, AcceptedStore}
 use Rattle.model.specs.Promises.{IsLeast}
-use Rattle.model.proofs.WellFormed.{WellFormed}
-use Rattle.table.specs.Rows.{successorsBy}
+use Rattle.model.specs.WellFormed.{WellFormed}
+use Rattle.table.specs.Rows.{rowsOf, successorsBy}
 
 unfoldable pub reachStep : Table → Set → Set → Set
 reachStep t X Y = union X (post (t .n) (t .row) Y)
@@ -43,11 +43,11 @@ pub record ReachableIs (t : Table) (X : Set) : Type 0 where
       ↔ ((x : ℕ) × (xs : List ℕ) × (member X x ≡ true) × (walks t x xs ≡ true) × (end x xs ≡ s))
 
 unfoldable pub reachBy : List ℕ → Set → Set → Set
-reachBy store X Y = union X (successorsBy store Y)
+reachBy rows X Y = union X (successorsBy rows Y)
 
 pub record Reaching : Type 0 where
   pub reachable-is : (t : Table) (X : Set) → WellFormed t → subset X (firstStates (t .n)) ≡ true → ReachableIs t X
   pub reached-is : (store : List ℕ) (n g : ℕ) (X Y : Set) → WellFormed (tableOf store n g) → subset X (firstStates n) ≡ true
-      → IsLeast (reachBy store X) Y → Y ≡ reachable (tableOf store n g) X
+      → IsLeast (reachBy (rowsOf store) X) Y → Y ≡ reachable (tableOf store n g) X
   pub accepted : (store : List ℕ) (n g : ℕ) → AcceptedStore store n g
       → WellFormed (tableOf store n g) × (subset ((tableOf store n g) .initial) (firstStates n) ≡ true)

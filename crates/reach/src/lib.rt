@@ -6,30 +6,29 @@ ghost use mathlib.Core.Path.{_≡_};
 ghost use Prim.Native.Nat.{_≤_};
 ghost use lib.ListN.{length};
 ghost use Rattle.model.specs.Sets.{difference};
-ghost use Rattle.model.specs.Stores.{storeWords};
 ghost use Rattle.model.specs.Promises.{IsLeast};
-ghost use Rattle.table.specs.Rows.{successorsBy};
+ghost use Rattle.table.specs.Rows.{rowsWords, successorsBy};
 ghost use Rattle.reach.specs.Reached.{reachBy};
 use state_set::StateSet;
 use table::successors;
 
 // The successors of the states of the layer that are not among those found.
-pub fn newly_reached(store: &[u64], layer: StateSet, found: StateSet) -> StateSet
-    requires { ⌜ storeWords ≤ length (now store) ⌝ }
-    ensures { λ r. ⌜ r .words ≡ difference (successorsBy (now (store .entry)) (layer .words)) (found .words) ⌝ }
+pub fn newly_reached(rows: &[u64], layer: StateSet, found: StateSet) -> StateSet
+    requires { ⌜ rowsWords ≤ length (now rows) ⌝ }
+    ensures { λ r. ⌜ r .words ≡ difference (successorsBy (now (rows .entry)) (layer .words)) (found .words) ⌝ }
 {
-    successors(store, layer).difference(found)
+    successors(rows, layer).difference(found)
 }
 
 // The least x with x = from union post(x).
-pub fn reached(store: &[u64], from: StateSet) -> StateSet
-    requires { ⌜ storeWords ≤ length (now store) ⌝ }
-    ensures { λ r. ⌜ IsLeast (reachBy (now (store .entry)) (from .words)) (r .words) ⌝ }
+pub fn reached(rows: &[u64], from: StateSet) -> StateSet
+    requires { ⌜ rowsWords ≤ length (now rows) ⌝ }
+    ensures { λ r. ⌜ IsLeast (reachBy (now (rows .entry)) (from .words)) (r .words) ⌝ }
 {
     let mut found = from;
     let mut layer = from;
     while !layer.is_empty() {
-        layer = newly_reached(store, layer, found);
+        layer = newly_reached(rows, layer, found);
         found = found.union(layer);
     }
     found

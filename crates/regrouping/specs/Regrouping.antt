@@ -5,7 +5,8 @@
 --   SameCovers n L M       each of n states has the same cover for the lists L and M
 --   firstList t            list 0 of a table: its groups and Z0
 --   SameResults            two calls of decide, by its contract, returned and left the same: answer, the set beside it, and path buffer
---   SameDecisions          so do any two, at every allowance and in every path buffer, grounds 20 and 21 included
+--   SameDecisions          so do any two, at every allowance and in every path buffer, grounds 20 and 21 included; and where each has a path
+--                          buffer of its own and is answered, the answers are the same
 --   Rewriting L M          the list L put another way: in another order, with sets repeated, with a union or an overlap of two of its sets
 --                          added anywhere, any of these undone, one after the other
 --   Regrouping             the promise
@@ -13,12 +14,14 @@ use Prim.Native.Nat.{ℕ, _<_}
 use mathlib.Core.Path.{_≡_}
 use mathlib.Core.Logic.{_↔_}
 use mathlib.Core.List.{List, _∷_, _++_, List·Memᴰ, List·Permᴰ}
+use Rattle.basics.specs.Refusals.{answered}
 use Rattle.model.specs.Sets.{Set, union, meet}
 use Rattle.model.specs.Tables.{Table, coverOf, notForbidden}
 use Rattle.model.specs.Stores.{tableOf, AcceptedStore}
-use Rattle.model.specs.Calls.{decideAnswer, decideBuffer}
+use Rattle.model.specs.Calls.{Decision as Answer, decideAnswer, decideBuffer}
+use Rattle.model.specs.Promises.{SameAnswer}
 use Rattle.rounds.specs.declared.Decision.{Decision}
-use Rattle.rounds.specs.Answers.{answerOf, Called}
+use Rattle.rounds.specs.DecideAnswers.{decidedOf, CalledDecide}
 
 pub record Alike (t u : Table) : Type 0 where
   pub n : t .n ≡ u .n
@@ -33,14 +36,18 @@ abbrev pub firstList : Table → List Set
 firstList t = notForbidden (t .n) (t .forbidden) ∷ t .groups
 
 pub record SameResults (r s : Decision) (after-r after-s : List ℕ) : Type 0 where
-  pub answer : answerOf r ≡ answerOf s
+  pub answer : decidedOf r ≡ decidedOf s
   pub set : r .invariant ≡ s .invariant
   pub buffer : after-r ≡ after-s
 
 pub record SameDecisions (store other : List ℕ) (n g h : ℕ) : Type 0 where
   -- a call on each store, with the same allowance and the same path buffer
   pub calls : (allowance : ℕ) (before : List ℕ) (r s : Decision) (after-r after-s : List ℕ)
-      → Called store n g allowance before r after-r → Called other n h allowance before s after-s → SameResults r s after-r after-s
+      → CalledDecide store n g allowance before r after-r → CalledDecide other n h allowance before s after-s → SameResults r s after-r after-s
+  -- a call on each store, with the same allowance and a path buffer of its own
+  pub own-buffers : (allowance : ℕ) (p q : List ℕ) (r s : Decision) (after-r after-s : List ℕ) (a b : Answer)
+      → CalledDecide store n g allowance p r after-r → CalledDecide other n h allowance q s after-s
+      → decidedOf r ≡ answered a → decidedOf s ≡ answered b → SameAnswer a b after-r after-s
   -- as the specification fixes them
   pub answers : (allowance room : ℕ) → decideAnswer store n g allowance room ≡ decideAnswer other n h allowance room
   pub buffers : (allowance : ℕ) (path : List ℕ) → decideBuffer store n g allowance path ≡ decideBuffer other n h allowance path

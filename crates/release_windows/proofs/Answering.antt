@@ -15,7 +15,7 @@ use Rattle.basics.specs.Refusals.{refuse, answered}
 use Rattle.basics.proofs.BoundLaws.{or-false}
 use Rattle.basics.proofs.RefusalLaws.{Clear, refuse-clear, answer-refused, answer-none, answered-clear, answered-value}
 use Rattle.release_windows.specs.Windows.{outside, some}
-use Rattle.release_windows.specs.Answers.{Opening, minute, never, maxTime, maxWindows, maxDays, span, grounds, waiting, nextOpenAnswer, Called}
+use Rattle.release_windows.specs.WindowAnswers.{Opening, minute, never, maxTime, maxWindows, maxDays, span, grounds, waiting, nextOpenAnswer, CalledNextOpen}
 use Rattle.release_windows.specs.declared.NextOpen.the-variants.{Minute, Never, Refused}
 
 pub record Sound (time : ℕ) (windows days : List ℕ) : Type 0 where
@@ -34,16 +34,16 @@ module _ (time : ℕ) (windows days : List ℕ) where
   unfolding grounds
   sound e = clear-sound (refuse-clear (grounds time windows days) [] refl e .0)
 
-  pub refuses : {k : ℕ} → k ≡ refuse (grounds time windows days) → (k ≡ 0 → ⊥) → Called time windows days (Refused k)
+  pub refuses : {k : ℕ} → k ≡ refuse (grounds time windows days) → (k ≡ 0 → ⊥) → CalledNextOpen time windows days (Refused k)
   unfolding nextOpenAnswer
   refuses e f = sym (answer-refused (grounds time windows days) _ e f)
 
   module _ {k wait : ℕ} (e : k ≡ refuse (grounds time windows days)) (z : k ≡ 0) (q : wait ≡ waiting time windows days) where
-    pub opened : wait < span → Called time windows days (Minute (time + wait))
+    pub opened : wait < span → CalledNextOpen time windows days (Minute (time + wait))
     unfolding nextOpenAnswer grounds
     opened l = rw (← q, lt-ltb wait span l, answer-none (grounds time windows days) _ refl (sym e ∙ z))
 
-    pub never-opens : span ≤ wait → Called time windows days Never
+    pub never-opens : span ≤ wait → CalledNextOpen time windows days Never
     unfolding nextOpenAnswer grounds
     never-opens l = rw (← q, le-ltb wait span l, answer-none (grounds time windows days) _ refl (sym e ∙ z))
 

@@ -1,18 +1,18 @@
 -- The promises of the call next open minute are kept.
 use Prim.Native.Nat.{ℕ, _+_, _-_, _/_, _^_, _<_}
 use native.Mathlib.Omega.{arith}
-use mathlib.Core.Path.{_≡_, refl, sym, subst}
+use mathlib.Core.Path.{_≡_, refl, sym, _∙_, subst}
 use mathlib.Core.Logic.{_↔_}
 use mathlib.Core.Bool.{Bool, true, false, not}
 use mathlib.Core.List.{List, [], _∷_, List·Memᴰ, List·Memᴰ·head}
 use borrow.Author.Tests.{eqb-true, eq-eqb, not-true}
 use lib.Dec.{eqb}
-use Rattle.basics.specs.Refusals.{refuse, refused, answered}
+use Rattle.basics.specs.Refusals.{answered}
 use Rattle.basics.proofs.BoundLaws.{and-true, is-false, clash, first-passes, first-least, first-none}
 use Rattle.basics.proofs.RefusalLaws.{refused-is}
 use Rattle.release_windows.specs.Windows.{day, outside, some, inWindow, inSome, isClosed, isOpen}
-use Rattle.release_windows.specs.Answers.{span, Opening, minute, never, grounds, waiting, nextOpenAnswer}
-use Rattle.release_windows.specs.Promises.{Held, FirstOpen, Promises}
+use Rattle.release_windows.specs.WindowAnswers.{span, Opening, minute, never, grounds, waiting, nextOpenAnswer}
+use Rattle.release_windows.specs.WindowPromises.{Held, FirstOpen, WindowPromises}
 use Rattle.release_windows.proofs.Searches.{some-mem, mem-some, some-none}
 use Rattle.release_windows.proofs.Waits.{in-range}
 use Rattle.release_windows.proofs.Jumps.{open-where, outside-shut}
@@ -80,9 +80,12 @@ without time days a e =
     let all : waiting time [] days ≡ span = first-none (λ k. isOpen [] days (time + k)) span (λ j h. no-window days (time + j)) in
     (shuts time [] days e (omega (arith, all)), no-window days)
 
-refusal : (time : ℕ) (windows days : List ℕ) (k : ℕ) → nextOpenAnswer time windows days ≡ refused k → k ≡ refuse (grounds time windows days)
+pub promises : WindowPromises
 unfolding nextOpenAnswer
-refusal time windows days k e = refused-is (grounds time windows days) _ e
-
-pub promises : Promises
-promises = record { open-minutes = open-minutes; with-window = with-window; without = without; refusal = refusal }
+promises =
+    record {
+      open-minutes = open-minutes;
+      with-window = λ time windows days r a c e. with-window time windows days a (sym c ∙ e);
+      without = λ time days r a c e. without time days a (sym c ∙ e);
+      refusal = λ time windows days r k c e. refused-is (grounds time windows days) _ (sym c ∙ e);
+    }

@@ -1,21 +1,21 @@
 -- Laws of the searches: `some` through a list, and `first` below a bound.
 --
---   some-turn, some-hit, some-end     a loop that looks for one that passes: none so far, one found, none at all; some-none: then each fails
---   some-mem, mem-some                some passes exactly when a member does; mem-at: an element is a member; drop-past: nothing is left
---   first-less, first-keep            `first` with a smaller bound
---   first-cong, first-or              tests that agree; the first that passes one test or the other
+--   some-mem, mem-some                 some passes exactly when a member does; some-none: else each fails; mem-at: an element is a member
+--   some-next                          the next element passes, or one after it
+--   Sought, sought-turn, sought-end    a loop that looks for one that passes, and looks at all of them
+--   first-cong, first-or               tests that agree; the first that passes one test or the other
 use Prim.Native.Nat.{ℕ, zero, suc, _+_, _≤_, _<_}
 use native.Mathlib.Nat.{le-of-suc-le-suc, not-suc-le-zero}
 use native.Mathlib.Numerals.{add-one}
 use native.Mathlib.Omega.{arith}
 use mathlib.Core.Path.{_≡_, refl, sym, ap, ap₂, _∙_}
-use mathlib.Core.Logic.{_⊎_, inl, inr, ⊎-elim}
-use mathlib.Core.Bool.{Bool, true, false, _||_, cond, false≢true}
+use mathlib.Core.Logic.{inl, inr, ⊎-elim}
+use mathlib.Core.Bool.{Bool, true, false, _||_, cond, or-assoc, or-false, false≢true}
 use mathlib.Core.List.{List, [], _∷_, List·Memᴰ, List·Memᴰ·head, List·Memᴰ·tail, List·Memᴰ·cases-cons, List·Memᴰ·not-nil}
-use lib.ListN.{length, getD, drop}
+use lib.ListN.{length, getD, drop, drop-of-length-le}
 use lib.Seq.{drop-cons}
 use Rattle.basics.specs.Bounds.{first}
-use Rattle.basics.proofs.BoundLaws.{or-true, or-intro, is-false, clash, first-passes, first-least, first-is, first-none}
+use Rattle.basics.proofs.BoundLaws.{or-true, or-intro, is-false, clash}
 use Rattle.release_windows.specs.Windows.{some}
 
 -- ---- through a list
@@ -25,22 +25,13 @@ mem-at [] i h = absurd (not-suc-le-zero h)
 mem-at (x ∷ xs) zero h = List·Memᴰ·head refl
 mem-at (x ∷ xs) (suc i) h = List·Memᴰ·tail (mem-at xs i (le-of-suc-le-suc h))
 
-pub drop-past : (xs : List ℕ) (i : ℕ) → length xs ≤ i → drop i xs ≡ []
-drop-past [] zero h = refl
-drop-past [] (suc i) h = refl
-drop-past (x ∷ xs) zero h = absurd (not-suc-le-zero h)
-drop-past (x ∷ xs) (suc i) h = drop-past xs i (le-of-suc-le-suc h)
-
 module _ (p : ℕ → Bool) where
   pub some-mem : (xs : List ℕ) → some p xs ≡ true → (x : ℕ) × List·Memᴰ x xs × (p x ≡ true)
   unfolding some
   some-mem [] e = absurd (false≢true e)
-  some-mem (y ∷ ys) e = go (or-true (p y) (some p ys) e) (some-mem ys)
-    where
-      go : (p y ≡ true) ⊎ (some p ys ≡ true) → (some p ys ≡ true → (x : ℕ) × List·Memᴰ x ys × (p x ≡ true))
-          → (x : ℕ) × List·Memᴰ x (y ∷ ys) × (p x ≡ true)
-      go (inl h) later = (y, List·Memᴰ·head refl, h)
-      go (inr h) later = (later h .0, List·Memᴰ·tail (later h .1), later h .2)
+  some-mem (y ∷ ys) e =
+      ⊎-elim (λ h. (y, List·Memᴰ·head refl, h)) (λ h. let it = some-mem ys h in (it .0, List·Memᴰ·tail (it .1), it .2))
+      (or-true (p y) (some p ys) e)
 
   pub mem-some : (xs : List ℕ) (x : ℕ) → List·Memᴰ x xs → p x ≡ true → some p xs ≡ true
   unfolding some
@@ -51,29 +42,24 @@ module _ (p : ℕ → Bool) where
   pub some-none : (xs : List ℕ) (x : ℕ) → some p xs ≡ false → List·Memᴰ x xs → p x ≡ false
   some-none xs x e m = is-false (p x) (λ h. clash (mem-some xs x m h) e)
 
-  module _ (xs : List ℕ) {i : ℕ} where
-    pub some-next : i < length xs → some p (drop i xs) ≡ (p (getD xs i 0) || some p (drop (i + 1) xs))
-    unfolding some
-    some-next h = rw (add-one, drop-cons xs i 0)
+  pub some-next : (xs : List ℕ) {i : ℕ} → i < length xs → some p (drop i xs) ≡ (p (getD xs i 0) || some p (drop (i + 1) xs))
+  unfolding some
+  some-next xs {i} h = rw (add-one, drop-cons xs i 0)
 
-    pub some-turn : i < length xs → some p (drop i xs) ≡ some p xs → p (getD xs i 0) ≡ false → some p (drop (i + 1) xs) ≡ some p xs
-    some-turn h e f = ap (λ (a : Bool). a || some p (drop (i + 1) xs)) (sym f) ∙ sym (some-next h) ∙ e
+-- One passes if it was found before place i, or is among those left.
+pub record Sought (p : ℕ → Bool) (xs : List ℕ) (found : Bool) (i : ℕ) : Type 0 where
+  pub within : i ≤ length xs
+  pub rest : (found || some p (drop i xs)) ≡ some p xs
 
-    pub some-hit : i < length xs → some p (drop i xs) ≡ some p xs → p (getD xs i 0) ≡ true → true ≡ some p xs
-    some-hit h e f = ap (λ (a : Bool). a || some p (drop (i + 1) xs)) (sym f) ∙ sym (some-next h) ∙ e
+module _ {p : ℕ → Bool} {xs : List ℕ} {found : Bool} {i : ℕ} (so : Sought p xs found i) where
+  pub sought-turn : {b : Bool} → i < length xs → b ≡ p (getD xs i 0) → Sought p xs (found || b) (i + 1)
+  sought-turn {b} h e = record { within = omega (arith, h); rest = or-assoc found b _ ∙ rw (e, ← some-next p xs h) (so .rest) }
 
-    pub some-end : length xs ≤ i → some p (drop i xs) ≡ some p xs → false ≡ some p xs
-    unfolding some
-    some-end h e = sym (ap (some p) (drop-past xs i h)) ∙ e
+  pub sought-end : length xs ≤ i → found ≡ some p xs
+  unfolding some
+  sought-end h = sym (or-false found) ∙ rw (drop-of-length-le xs h) at (so .rest)
 
 -- ---- below a bound
-
--- with a smaller bound
-pub first-less : (p : ℕ → Bool) (n b : ℕ) → first n p < b → b ≤ n → first b p ≡ first n p
-first-less p n b l h = first-is p b (first n p) l (first-passes p n (omega (arith, l, h))) (λ j. first-least p n j)
-
-pub first-keep : (p : ℕ → Bool) (n b : ℕ) → b ≤ first n p → first b p ≡ b
-first-keep p n b l = first-none p b (λ j h. first-least p n j (omega (arith, l, h)))
 
 pub first-cong : (p q : ℕ → Bool) (n : ℕ) → ((k : ℕ) → p k ≡ q k) → first n p ≡ first n q
 unfolding first

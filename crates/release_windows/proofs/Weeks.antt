@@ -10,18 +10,17 @@ use Prim.Native.Nat.{ℕ, zero, suc, _+_, _-_, _*_, _/_, _%_, _≤_, _<_}
 use native.Mathlib.Nat.{not-suc-le-zero}
 use native.Mathlib.Omega.{arith}
 use mathlib.Core.Path.{_≡_, refl, sym, ap, _∙_}
-use mathlib.Core.Logic.{_⊎_, inl, inr, ⊎-elim}
-use mathlib.Core.Bool.{Bool, true, false, cond, _||_, false≢true}
+use mathlib.Core.Logic.{inl, inr, ⊎-elim}
+use mathlib.Core.Bool.{true, false, cond, false≢true}
 use mathlib.Core.List.{List, [], _∷_}
 use borrow.Author.Tests.{lt-ltb, ltb-true, eqb-true}
 use lib.Dec.{eqb}
 use lib.ListN.{length}
-use Rattle.basics.specs.Bounds.{first}
-use Rattle.basics.proofs.BoundLaws.{or-true, or-intro, is-false, clash, decided, by-cond, lt-or-ge, first-passes, first-before}
+use Rattle.basics.proofs.BoundLaws.{or-true, or-intro, is-false, clash, decided, by-cond, first-before}
 use Rattle.release_windows.specs.Windows.{day, week, startOf, lengthOf, some, inWindow, inSome, isOpen}
-use Rattle.release_windows.specs.Answers.{span, maxDays, waiting}
-use Rattle.release_windows.specs.Promises.{Held}
-use Rattle.release_windows.proofs.Waits.{InRange, wait-none, wait-some}
+use Rattle.release_windows.specs.WindowAnswers.{span, maxDays, waiting}
+use Rattle.release_windows.specs.WindowPromises.{Held}
+use Rattle.release_windows.proofs.Waits.{InRange}
 use Rattle.release_windows.proofs.Jumps.{open-where}
 
 -- ---- one window
@@ -38,12 +37,10 @@ module _ {w : ℕ} (so : InRange w) (m : ℕ) where
   held-in k h = lt-ltb ((m + week - startOf w) % week) (lengthOf w) (omega (arith, so .start, so .a-week, h .begun, h .not-over))
 
   soon-in : (k : ℕ) × (k < week) × (inWindow (m + k) w ≡ true)
+  unfolding inWindow
   soon-in =
-      let wait = first week (λ k. inWindow (m + k) w) in
-      let within : wait < week =
-      ⊎-elim (λ l. omega (arith, wait-none w m l)) (λ l. omega (arith, wait-some w m so l, so .some-minutes, l))
-      (lt-or-ge ((m + week - startOf w) % week) (lengthOf w)) in
-      (wait, within, first-passes (λ k. inWindow (m + k) w) week within)
+      let k = (startOf w + week - m % week) % week in
+      (k, omega arith, lt-ltb ((m + k + week - startOf w) % week) (lengthOf w) (omega (arith, so .start, so .some-minutes)))
 
   weekly : (i : ℕ) → inWindow m w ≡ true → inWindow (m + week * i) w ≡ true
   unfolding inWindow
@@ -60,12 +57,9 @@ without x (y ∷ ys) = cond (eqb x y) ys (y ∷ without x ys)
 without-length : (x : ℕ) (ys : List ℕ) → some (eqb x) ys ≡ true → suc (length (without x ys)) ≡ length ys
 unfolding without some
 without-length x [] e = absurd (false≢true e)
-without-length x (y ∷ ys) e = go (eqb x y) e (without-length x ys)
-  where
-    go : (b : Bool) → (b || some (eqb x) ys) ≡ true → (some (eqb x) ys ≡ true → suc (length (without x ys)) ≡ length ys)
-        → suc (length (cond b ys (y ∷ without x ys))) ≡ suc (length ys)
-    go true e later = refl
-    go false e later = ap suc (later e)
+without-length x (y ∷ ys) e =
+    by-cond (λ (l : List ℕ). suc (length l) ≡ suc (length ys)) (eqb x y) ys (y ∷ without x ys) (λ t. refl)
+    (λ t. ap suc (without-length x ys (rw t at e)))
 
 -- every other number is still there
 without-other : (x u : ℕ) (ys : List ℕ) → (u ≡ x → ⊥) → some (eqb u) ys ≡ true → some (eqb u) (without x ys) ≡ true
@@ -80,16 +74,15 @@ without-other x u (y ∷ ys) f e =
 
 spare-day : (d n : ℕ) (days : List ℕ) → length days < n → (i : ℕ) × (i < n) × (some (eqb (d + 7 * i)) days ≡ false)
 spare-day d zero days h = absurd (not-suc-le-zero h)
-spare-day d (suc n) days h = go (decided (some (eqb (d + 7 * n)) days)) (spare-day d n (without (d + 7 * n) days))
-  where
-    go : (some (eqb (d + 7 * n)) days ≡ true) ⊎ (some (eqb (d + 7 * n)) days ≡ false)
-        → (length (without (d + 7 * n) days) < n → (i : ℕ) × (i < n) × (some (eqb (d + 7 * i)) (without (d + 7 * n) days) ≡ false))
-        → (i : ℕ) × (i < suc n) × (some (eqb (d + 7 * i)) days ≡ false)
-    go (inr f) fewer = (n, omega arith, f)
-    go (inl e) fewer =
-        let it = fewer (omega (arith, without-length (d + 7 * n) days e, h)) in
-        let i = it .0 in
-        (i, omega (arith, it .1), is-false _ (λ t. clash (without-other (d + 7 * n) (d + 7 * i) days (λ q. omega (arith, q, it .1)) t) (it .2)))
+spare-day d (suc n) days h =
+    let last = d + 7 * n in
+    ⊎-elim
+    (λ e.
+    let it = spare-day d n (without last days) (omega (arith, without-length last days e, h)) in
+    let i = it .0 in
+    (i, omega (arith, it .1), is-false _ (λ t. clash (without-other last (d + 7 * i) days (λ q. omega (arith, q, it .1)) t) (it .2))))
+    (λ f. (n, omega arith, f))
+    (decided (some (eqb last) days))
 
 -- ---- an open minute
 

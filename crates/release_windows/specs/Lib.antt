@@ -1,3 +1,3 @@
 pub mod Windows
-pub mod Answers
-pub mod Promises
+pub mod WindowAnswers
+pub mod WindowPromises

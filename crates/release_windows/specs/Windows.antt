@@ -5,7 +5,7 @@
 --   outside w             the window is outside its range: a start past the week's last minute, or a length of 0 or over a week
 --   some p xs             some number of the list passes p
 --   inWindow m w          minute m is in window w: its first minute is in, the minute after its last is out. It recurs in every week, the
---                         one before minute 0 included, and may run over a week's end (a theorem: Promises.Held)
+--                         one before minute 0 included, and may run over a week's end (a theorem: WindowPromises.Held)
 --   inSome windows m      it is in one of the windows
 --   isClosed days m       its day, counted from minute 0, is one of the closed days
 --   isOpen                it is in a window, and its day is not closed

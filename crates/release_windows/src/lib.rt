@@ -15,7 +15,7 @@ ghost use lib.Dec.{eqb};
 ghost use Rattle.basics.specs.Bounds.{first};
 ghost use Rattle.basics.specs.Refusals.{refuse};
 ghost use Rattle.release_windows.specs.Windows.{week, startOf, lengthOf, outside, some, inWindow, inSome};
-ghost use Rattle.release_windows.specs.Answers.{maxTime, grounds, waiting, Called};
+ghost use Rattle.release_windows.specs.WindowAnswers.{maxTime, grounds, waiting, CalledNextOpen};
 
 pub const MAX_TIME: usize = 2147483647;
 
@@ -54,25 +54,18 @@ fn length_of(window: u64) -> usize
 fn is_outside(window: u64) -> bool
     ensures { λ r. ⌜ r ≡ outside window ⌝ }
 {
-    if WEEK <= start_of(window) {
-        return true;
-    }
     let length = length_of(window);
-    if length == 0 {
-        return true;
-    }
-    WEEK < length
+    (WEEK - 1 < start_of(window)) | (length == 0) | (WEEK < length)
 }
 
 fn any_outside(windows: &[u64]) -> bool
     ensures { λ r. ⌜ r ≡ some outside (now (windows .entry)) ⌝ }
 {
+    let mut found = false;
     for i in 0..windows.len() {
-        if is_outside(windows[i]) {
-            return true;
-        }
+        found |= is_outside(windows[i]);
     }
-    false
+    found
 }
 
 fn refusal(time: usize, windows: &[u64], closed: &[u32]) -> u8
@@ -81,10 +74,7 @@ fn refusal(time: usize, windows: &[u64], closed: &[u32]) -> u8
     if MAX_TIME < time {
         return 31;
     }
-    if MAX_WINDOWS < windows.len() {
-        return 30;
-    }
-    if MAX_DAYS < closed.len() {
+    if (MAX_WINDOWS < windows.len()) | (MAX_DAYS < closed.len()) {
         return 30;
     }
     if any_outside(windows) {
@@ -95,17 +85,17 @@ fn refusal(time: usize, windows: &[u64], closed: &[u32]) -> u8
 
 // ---- the search
 
-// The minutes from `minute` until the window is open.
-fn wait_for(window: u64, minute: usize) -> usize
+// The minutes from `minute` until the window is open, or `most` if it is not open sooner.
+fn wait_for(window: u64, minute: usize, most: usize) -> usize
     requires { ⌜ (minute < 2 ^ 32) × (outside window ≡ false) ⌝ }
-    ensures { λ r. ⌜ r ≡ first week (λ k. inWindow (minute + k) window) ⌝ }
+    ensures { λ r. ⌜ r ≡ first most (λ k. inWindow (minute + k) window) ⌝ }
 {
     let since_start = (minute + WEEK - start_of(window)) % WEEK;
     if since_start < length_of(window) {
-        0
-    } else {
-        WEEK - since_start
+        return 0;
     }
+    let wait = WEEK - since_start;
+    if wait < most { wait } else { most }
 }
 
 // The minutes from `minute` until one of the windows is open, or a week if there is none.
@@ -115,23 +105,20 @@ fn least_wait(windows: &[u64], minute: usize) -> usize
 {
     let mut least = WEEK;
     for i in 0..windows.len() {
-        let wait = wait_for(windows[i], minute);
-        if wait < least {
-            least = wait;
-        }
+        least = wait_for(windows[i], minute, least);
     }
     least
 }
 
-fn is_closed(closed: &[u32], day: usize) -> bool
+// Each is compared, with no early end: several at a time, once compiled.
+fn is_closed(closed: &[u32], day: u32) -> bool
     ensures { λ r. ⌜ r ≡ some (eqb day) (now (closed .entry)) ⌝ }
 {
+    let mut found = false;
     for i in 0..closed.len() {
-        if day == closed[i] as usize {
-            return true;
-        }
+        found |= day == closed[i];
     }
-    false
+    found
 }
 
 // The minutes from `time` to the first open minute, or SPAN if none of that many is open.
@@ -142,7 +129,7 @@ fn minutes_to_open(time: usize, windows: &[u64], closed: &[u32]) -> usize
     let mut waited = 0;
     while waited < SPAN {
         let minute = time + waited;
-        if is_closed(closed, minute / DAY) {
+        if is_closed(closed, (minute / DAY) as u32) {
             waited += DAY - minute % DAY;
         } else {
             let wait = least_wait(windows, minute);
@@ -158,7 +145,7 @@ fn minutes_to_open(time: usize, windows: &[u64], closed: &[u32]) -> usize
 // ---- the call
 
 pub fn next_open(time: usize, windows: &[u64], closed: &[u32]) -> NextOpen
-    ensures { λ r. ⌜ Called time (now (windows .entry)) (now (closed .entry)) r ⌝ }
+    ensures { λ r. ⌜ CalledNextOpen time (now (windows .entry)) (now (closed .entry)) r ⌝ }
 {
     let refused = refusal(time, windows, closed);
     if refused != 0 {

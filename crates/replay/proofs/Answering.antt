@@ -1,55 +1,42 @@
 -- The call `replay`: its refusals, and its answer.
 --
---   refuse-shared                          a ground that holds and that the calls share decides
---   refuse-25, refuse-26, refuse-none      where no ground holds that the calls share, those that replay adds do
+--   refuse-shared, behind-shared           a ground that the calls share decides, or those that replay adds do
 --   accepted                               no ground holds, so the store holds a table, and the log is not too long
 --   Walks, walks                           what an answer tells: no ground holds, and the answer is the walk
 --   refused-answer, walk-answer            what the call answers where one holds, and where none does
-use Prim.Native.Nat.{ℕ, _%_, _≤_, _<_}
+use Prim.Native.Nat.{ℕ, _≤_, _<_}
 use native.Mathlib.Omega.{arith}
 use mathlib.Core.Path.{_≡_, refl, sym, ap, _∙_, subst}
 use mathlib.Core.List.{List, []}
-use borrow.Author.Tests.{ne-eqb, eq-eqb, ltb-false, lt-ltb, le-ltb}
+use borrow.Author.Tests.{ltb-false}
 use lib.ListN.{length}
 use Rattle.basics.specs.Refusals.{refuse, answered}
 use Rattle.model.specs.Sets.{maxStates, Set, size}
 use Rattle.model.specs.Stores.{setAt, tableOf, sharedGrounds}
 use Rattle.model.specs.Promises.{IsLeast}
 use Rattle.model.proofs.SetLaws.{in-subset}
-use Rattle.basics.proofs.RefusalLaws.{refuse-append, clear-refuse, refuse-clear, answer-refused, answer-none, answered-clear, answered-value}
-use Rattle.model.proofs.Acceptance.{Store, accepted-store, store-accepted, well-formed}
+use Rattle.basics.proofs.RefusalLaws.{refuse-append, refuse-past, clear-refuse, refuse-clear, answer-refused, answer-none, answered-clear, answered-value}
+use Rattle.model.proofs.Acceptance.{Store, accepted-store, well-formed}
 use Rattle.model.proofs.StoreLaws.{row-is}
+use Rattle.table.specs.Rows.{rowsOf}
 use Rattle.reach.specs.Reached.{reachBy}
 use Rattle.reach.proofs.Walks.{reaching}
-use Rattle.replay.specs.Logs.{entryBytes, maxLog, followed, seen, percentOf, remainderOf, logGrounds, reachableCount, replayGrounds, Replay, walkThrough, replayAnswer}
-use Rattle.replay.specs.Answers.{replayedOf, Called}
+use Rattle.replay.specs.Logs.{maxLog, followed, seen, percentOf, remainderOf, logGrounds, reachableCount, replayGrounds, Replay, walkThrough, replayAnswer}
+use Rattle.replay.specs.ReplayAnswers.{replayedOf, CalledReplay}
 use Rattle.replay.specs.declared.Replayed.the-variants.{Walk, Refused}
 use Rattle.replay.proofs.Walking.{followed-cong}
 use Rattle.replay.proofs.Following.{allRows}
 
 -- ---- refusals
 
-pub refuse-shared : (store : List ℕ) (n g bytes : ℕ) {k : ℕ} → k ≡ refuse (sharedGrounds store n g) → (k ≡ 0 → ⊥)
+pub refuse-shared : (store : List ℕ) (n g bytes : ℕ) {k : ℕ} → k ≡ refuse (sharedGrounds store n g) → (k ≡ 0 → ⊥) → k ≡ refuse (replayGrounds store n g bytes)
+unfolding replayGrounds
+refuse-shared store n g bytes = refuse-append (sharedGrounds store n g) (logGrounds bytes)
+
+pub behind-shared : (store : List ℕ) (n g bytes : ℕ) {j k : ℕ} → j ≡ refuse (sharedGrounds store n g) → j ≡ 0 → k ≡ refuse (logGrounds bytes)
     → k ≡ refuse (replayGrounds store n g bytes)
 unfolding replayGrounds
-refuse-shared store n g bytes e f = refuse-append (sharedGrounds store n g) _ e f
-
-module _ (store : List ℕ) (n g bytes : ℕ) (e : refuse (sharedGrounds store n g) ≡ 0) where
-  refuse-late : refuse (logGrounds bytes) ≡ refuse (replayGrounds store n g bytes)
-  unfolding replayGrounds
-  refuse-late = sym (store-accepted store n g (logGrounds bytes) (accepted-store store n g [] e .0))
-
-  pub refuse-25 : (bytes % entryBytes ≡ 0 → ⊥) → 25 ≡ refuse (replayGrounds store n g bytes)
-  unfolding refuse
-  refuse-25 h = rw (ne-eqb (bytes % entryBytes) 0 h) at refuse-late
-
-  pub refuse-26 : bytes % entryBytes ≡ 0 → maxLog < bytes → 26 ≡ refuse (replayGrounds store n g bytes)
-  unfolding refuse
-  refuse-26 h l = rw (eq-eqb (bytes % entryBytes) 0 h, lt-ltb maxLog bytes l) at refuse-late
-
-  pub refuse-none : bytes % entryBytes ≡ 0 → bytes ≤ maxLog → 0 ≡ refuse (replayGrounds store n g bytes)
-  unfolding refuse
-  refuse-none h l = rw (eq-eqb (bytes % entryBytes) 0 h, le-ltb maxLog bytes l) at refuse-late
+behind-shared store n g bytes = refuse-past (sharedGrounds store n g) (logGrounds bytes) refl
 
 pub accepted : (store : List ℕ) (n g bytes : ℕ) {k : ℕ} → k ≡ refuse (replayGrounds store n g bytes) → k ≡ 0
     → Store store n g × (bytes ≤ maxLog)
@@ -77,15 +64,15 @@ walks store n g log e =
     record { held = parts .0; short = parts .1; is = answered-value grounds _ e }
 
 module _ (store : List ℕ) (n g : ℕ) (log : List ℕ) {k : ℕ} (e : k ≡ refuse (replayGrounds store n g (length log))) where
-  pub refused-answer : (k ≡ 0 → ⊥) → Called store n g log (Refused k)
+  pub refused-answer : (k ≡ 0 → ⊥) → CalledReplay store n g log (Refused k)
   unfolding replayAnswer
   refused-answer f = sym (answer-refused (replayGrounds store n g (length log)) _ e f)
 
   -- m entries that hold the states of X, and Y for the states that can be reached
   pub walk-answer : k ≡ 0 → {m s r p q : ℕ} {X Y initial : Set}
       → m ≡ followed (allRows store) log → X ≡ seen log m → s ≡ size X
-      → initial ≡ setAt store 0 → IsLeast (reachBy store initial) Y → r ≡ size Y
-      → p ≡ percentOf s r → q ≡ remainderOf s r → Called store n g log (Walk m s p q)
+      → initial ≡ setAt store 0 → IsLeast (reachBy (rowsOf store) initial) Y → r ≡ size Y
+      → p ≡ percentOf s r → q ≡ remainderOf s r → CalledReplay store n g log (Walk m s p q)
   unfolding replayAnswer replayGrounds walkThrough tableOf
   walk-answer z {m} {s} {r} {p} {q} {X} {Y} {initial} em ex es ei ey er ep eq =
       let t = tableOf store n g in
@@ -95,7 +82,7 @@ module _ (store : List ℕ) (n g : ℕ) (log : List ℕ) {k : ℕ} (e : k ≡ re
       λ u h. row-is store n g u h ∙ sym (row-is store maxStates 0 u (omega (arith, held .small))) in
       let walked : m ≡ followed t log = em ∙ sym (followed-cong t log ok (allRows store) refl rows) in
       let states : s ≡ size (seen log (followed t log)) = es ∙ ap size (ex ∙ ap (seen log) walked) in
-      let least = subst (λ (Z : Set). IsLeast (reachBy store Z) Y) ei ey in
+      let least = subst (λ (Z : Set). IsLeast (reachBy (rowsOf store) Z) Y) ei ey in
       let reached : r ≡ reachableCount t = er ∙ ap size (reaching .reached-is store n g (setAt store 0) Y ok (in-subset (ok .initial)) least) in
       let counted : replayedOf (Walk m s p q) ≡ answered (counts m s r) = λ i. answered (record { followed = m; seen = s; percent = ep i; remainder = eq i }) in
       let answer : counts m s r ≡ walkThrough t log = λ i. counts (walked i) (states i) (reached i) in

@@ -16,7 +16,7 @@ use Rattle.model.specs.Tables.{Table}
 use Rattle.basics.proofs.BoundLaws.{and-true, and-intro, length-tabulate, getD-tabulate}
 use Rattle.reach.specs.Reached.{walks}
 use Rattle.replay.specs.Logs.{entryCount, entry, mayHold}
-use Rattle.replay.specs.Promises.{entries, obeys}
+use Rattle.replay.specs.ReplayPromises.{entries, obeys}
 
 -- ---- a list that obeys
 

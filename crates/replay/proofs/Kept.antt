@@ -1,21 +1,22 @@
--- The promises of replay (specs/Promises), by its contract.
+-- The promises of replay (specs/ReplayPromises), by its contract.
 --
 --   invariant-closed             an invariant holds the initial states and each step out of it
 --   walk                         WalkIs of an answer
 --   none-forbidden               where the table has an invariant, no followed entry is forbidden
 --   without-states               a draft
---   promises                     Promises
-use Prim.Native.Nat.{ℕ, _<_}
+--   promises                     specs/ReplayPromises
+use Prim.Native.Nat.{ℕ, _%_, _<_}
 use native.Mathlib.Nat.{not-suc-le-zero}
 use native.Mathlib.Omega.{arith}
-use mathlib.Core.Path.{_≡_, refl, sym, _∙_, subst}
+use mathlib.Core.Path.{_≡_, refl, sym, ap, _∙_, subst}
 use mathlib.Core.Logic.{⊎-elim}
-use mathlib.Core.Bool.{false}
+use mathlib.Core.Bool.{false, not}
+use borrow.Author.Tests.{eq-eqb, ne-eqb, lt-ltb}
 use mathlib.Core.List.{List}
 use lib.ListN.{length}
 use Rattle.basics.specs.Refusals.{answered}
 use Rattle.basics.proofs.BoundLaws.{lt-or-ge}
-use Rattle.basics.proofs.RefusalLaws.{answer-refused, refused-is}
+use Rattle.basics.proofs.RefusalLaws.{refuse-first, answer-refused, refused-is}
 use Rattle.model.specs.Sets.{member}
 use Rattle.model.specs.Tables.{Table}
 use Rattle.model.specs.Stores.{tableOf}
@@ -23,10 +24,10 @@ use Rattle.model.specs.Promises.{IsInvariant}
 use Rattle.model.proofs.Acceptance.{well-formed}
 use Rattle.model.proofs.FirstWords.{same-call}
 use Rattle.rounds.proofs.DemandsKept.{demands}
-use Rattle.replay.specs.Logs.{entry, reachableCount, logGrounds, replayGrounds, Replay, walkThrough, replayAnswer}
-use Rattle.replay.specs.Promises.{WalkIs, Promises}
+use Rattle.replay.specs.Logs.{entryBytes, maxLog, entry, reachableCount, logGrounds, replayGrounds, Replay, walkThrough, replayAnswer}
+use Rattle.replay.specs.ReplayPromises.{WalkIs, ReplayPromises}
 use Rattle.replay.proofs.Walking.{Closed, followed-closed}
-use Rattle.replay.proofs.Answering.{refuse-25, refuse-26, Walks, walks}
+use Rattle.replay.proofs.Answering.{behind-shared, Walks, walks}
 use Rattle.replay.proofs.Walks.{walk-is}
 
 invariant-closed : {t : Table} {X : List ℕ} → IsInvariant t X → Closed t X
@@ -61,7 +62,7 @@ without-states store log w e =
     let seen : w .seen ≡ 0 = omega (arith, is .coverage .within) in
     λ i. record { followed = followed i; seen = seen i; percent = is .coverage .none none .0 i; remainder = is .coverage .none none .1 i }
 
-pub promises : Promises
+pub promises : ReplayPromises
 unfolding replayAnswer replayGrounds
 promises =
     record {
@@ -71,9 +72,9 @@ promises =
       draft = λ store log r w c e. without-states store log w (sym c ∙ e);
       refusal = λ store n g log r k c e. refused-is (replayGrounds store n g (length log)) _ (sym c ∙ e);
       odd = λ store n g log r c e h.
-          c ∙ answer-refused (replayGrounds store n g (length log)) _ (refuse-25 store n g (length log) e h) (λ z. omega arith);
+          c ∙ answer-refused (replayGrounds store n g (length log)) _ (behind-shared store n g (length log) (sym e) refl (refuse-first 0 _ (ap not (ne-eqb (length log % entryBytes) 0 h)))) (λ z. omega arith);
       long = λ store n g log r c e h l.
-          c ∙ answer-refused (replayGrounds store n g (length log)) _ (refuse-26 store n g (length log) e h l) (λ z. omega arith);
+          c ∙ answer-refused (replayGrounds store n g (length log)) _ (behind-shared store n g (length log) (sym e) refl (refuse-first 1 _ (ap not (eq-eqb (length log % entryBytes) 0 h), lt-ltb maxLog (length log) l))) (λ z. omega arith);
       first-words = λ store other long long′ same n g log.
           same-call store other long long′ same (λ t. walkThrough t log) n g (logGrounds (length log)) refl;
     }

@@ -25,7 +25,7 @@ use Rattle.model.specs.Stores.{setAt}
 use Rattle.basics.proofs.BoundLaws.{any-intro, any-find, first-le, first-passes, first-least, first-is, first-none}
 use Rattle.model.proofs.SetLaws.{member-setOf, setOf-cong, In, in-setOf, setOf-in, firstStates-in}
 use Rattle.model.proofs.StoreLaws.{getD-setAt}
-use Rattle.model.proofs.WellFormed.{WellFormed}
+use Rattle.model.specs.WellFormed.{WellFormed}
 use Rattle.state_set.proofs.Words.{member-word, member-past}
 use Rattle.replay.specs.Logs.{entryBytes, entryCount, entry, mayHold, followed, seen}
 

@@ -20,11 +20,11 @@ use Rattle.model.specs.Tables.{Table}
 use Rattle.basics.proofs.BoundLaws.{not-true, clash, by-cond, lt-or-ge, first-le, first-passes}
 use Rattle.model.proofs.SetLaws.{In, in-bound, in-union, firstStates-in, _⊆_, ⊆-of-eq, in-subset}
 use Rattle.model.proofs.Counting.{filter-le, size-bound}
-use Rattle.model.proofs.WellFormed.{WellFormed}
+use Rattle.model.specs.WellFormed.{WellFormed}
 use Rattle.reach.specs.Reached.{reachStep, reachable, ReachableIs}
 use Rattle.reach.proofs.Walks.{reaching, in-step, iterate-within}
 use Rattle.replay.specs.Logs.{entryCount, entry, mayHold, followed, seen, percentOf, remainderOf, reachableCount, walkThrough}
-use Rattle.replay.specs.Promises.{entries, obeys, FollowedIs, SeenIs, CoverageIs, WalkIs}
+use Rattle.replay.specs.ReplayPromises.{entries, obeys, FollowedIs, SeenIs, CoverageIs, WalkIs}
 use Rattle.replay.proofs.Walking.{breaks, followed-in, followed-states, Closed, followed-closed, seen-in, in-seen}
 use Rattle.replay.proofs.Fronts.{entries-long, obeys-held, held-obeys, front-length, front-may}
 

@@ -1,3 +1,3 @@
 pub mod Logs
-pub mod Answers
-pub mod Promises
+pub mod ReplayAnswers
+pub mod ReplayPromises

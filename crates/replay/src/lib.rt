@@ -12,9 +12,10 @@ ghost use Rattle.model.specs.Sets.{WORDS, maxStates, member};
 ghost use Rattle.basics.specs.Refusals.{refuse};
 ghost use Rattle.model.specs.Stores.{storeWords, setAt, tableOf};
 ghost use Rattle.replay.specs.Logs.{entryBytes, entry, followed, seen, percentOf, remainderOf, replayGrounds};
-ghost use Rattle.replay.specs.Answers.{Called};
+ghost use Rattle.replay.specs.ReplayAnswers.{CalledReplay};
 use reach::reached;
 use state_set::StateSet;
+use state_set::WORD_BITS;
 use state_set::WORDS;
 use table::ROWS_AT;
 use table::refusal;
@@ -47,8 +48,8 @@ fn holds_at(store: &[u64], at: usize, s: usize) -> bool
     requires { ⌜ at + WORDS ≤ length (now store) ⌝ }
     ensures { λ r. ⌜ r ≡ member (setAt (now (store .entry)) at) s ⌝ }
 {
-    let w = s / 64;
-    w < WORDS && store[at + w] >> (s % 64) & 1 == 1
+    let w = s / WORD_BITS;
+    w < WORDS && store[at + w] >> (s % WORD_BITS) & 1 == 1
 }
 
 // What was followed of a log: how many entries, and the states that they hold.
@@ -76,7 +77,7 @@ fn follow(store: &[u64], log: &[u8]) -> Walked
                 seen: StateSet { words },
             };
         }
-        words[s / 64] |= 1 << (s % 64);
+        words[s / WORD_BITS] |= 1 << (s % WORD_BITS);
         at = ROWS_AT + WORDS * s;
     }
     Walked {
@@ -137,7 +138,7 @@ pub enum Replayed {
 }
 
 pub fn replay(store: &[u64], n: usize, g: usize, log: &[u8]) -> Replayed
-    ensures { λ r. ⌜ Called (now (store .entry)) n g (now (log .entry)) r ⌝ }
+    ensures { λ r. ⌜ CalledReplay (now (store .entry)) n g (now (log .entry)) r ⌝ }
 {
     let refused = replay_refusal(store, n, g, log.len());
     if refused != 0 {
@@ -145,7 +146,7 @@ pub fn replay(store: &[u64], n: usize, g: usize, log: &[u8]) -> Replayed
     }
     let walked = follow(store, log);
     let seen = walked.seen.count();
-    let reached = reached(store, set_at(store, 0)).count();
+    let reached = reached(&store[ROWS_AT..], set_at(store, 0)).count();
     let covered = coverage(seen, reached);
     Replayed::Walk {
         followed: walked.followed,

@@ -8,7 +8,7 @@ use Prim.Native.Nat.{ℕ, _+_, _*_, _≤_}
 use mathlib.Core.Path.{_≡_}
 use mathlib.Core.List.{List}
 use lib.ListN.{length}
-use lib.Seq.{sets}
+use lib.Seq.{sets as replacedFrom}
 use Rattle.io.specs.Counts.{Counts}
 use Rattle.model.specs.Sets.{maxStates}
 use Rattle.model.specs.Calls.{overwrite}
@@ -35,4 +35,4 @@ pub record Put (most : ℕ) (text : List ℕ) (at : ℕ) (before : List ℕ) (en
   pub short : length text ≤ most
   pub ends : end ≡ at + length text
   pub long : length after ≡ length before
-  pub bytes : after ≡ sets before at text
+  pub bytes : after ≡ replacedFrom before at text

@@ -62,7 +62,7 @@ safeText n g count X = statesLine n g ++ verdictLine (ascii "safe") count ++ inv
 unfoldable pub unsafeText : ℕ → ℕ → ℕ → List ℕ → List ℕ
 unsafeText n g count xs = statesLine n g ++ verdictLine (ascii "unsafe") count ++ pathLine xs
 
--- The specification says nothing of undecided, which a release check never is (demand 3). Here it has a line 2 of its own and no line 3.
+-- The specification says nothing of undecided, which a release check never is (demand 2). Here it has a line 2 of its own and no line 3.
 unfoldable pub undecidedText : ℕ → ℕ → ℕ → List ℕ
 undecidedText n g count = statesLine n g ++ verdictLine (ascii "undecided") count
 

@@ -16,14 +16,14 @@ ghost use Rattle.model.specs.Stores.{maxGroups};
 ghost use Rattle.model.specs.Calls.{release};
 ghost use Rattle.report.specs.Text.{ascii, decimal, spaced, statesLine, verdictLine, invariantLine, pathLine, safeText, unsafeText, undecidedText, refusedText};
 ghost use Rattle.report.specs.Put.{numberLimit, numberBytes, spacedBytes, textRoom, Front, Put};
+use state_set::MAX_STATES;
 use state_set::StateSet;
-use state_set::WORDS;
 
 // A number and the space before it.
 const SPACED: usize = 6;
 
 // The specs' textRoom is the same number.
-pub const ROOM: usize = 1024 + SPACED * 64 * WORDS;
+pub const ROOM: usize = 1024 + SPACED * MAX_STATES;
 
 pub fn write_safe(n: usize, g: usize, count: usize, invariant: StateSet, out: &mut [u8]) -> usize
     requires { ⌜ (n ≤ maxStates) × (g ≤ maxGroups) × (count ≤ release) × (textRoom ≤ length (now out)) ⌝ }
@@ -124,7 +124,7 @@ fn put_states(x: StateSet, at: usize, out: &mut [u8]) -> usize
     ensures { λ r. ⌜ Put (spacedBytes * maxStates) (spaced (members (x .words))) at (now (out .entry)) r (now (out .exit)) ⌝ }
 {
     let mut end = at;
-    for s in 0..64 * WORDS {
+    for s in 0..MAX_STATES {
         end = put_member(x, s, end, out);
     }
     end

@@ -5,7 +5,7 @@
 //   file_room    where the new file is put
 //   put_text     what is written for a file, put into a lent buffer; the answer is its length
 //
-// A program has no status of its own: where reading or writing fails it says so on standard error, and the script sees that.
+// A program has no status of its own: where reading or writing fails it says so on standard error.
 ghost use mathlib.Core.Path.{_≡_};
 ghost use Prim.Native.Nat.{_≤_};
 ghost use lib.ListN.{length};

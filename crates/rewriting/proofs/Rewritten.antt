@@ -31,12 +31,12 @@ use Rattle.basics.proofs.BoundLaws.{clash, same-test, getD-tabulate}
 use Rattle.model.proofs.SetLaws.{Proper, setOf-proper, In, in-bound, in-union, union-in, in-states, states-in, same-set}
 use Rattle.model.proofs.HangLaws.{dead-none, none-dead, hangs-in}
 use Rattle.model.proofs.ListLaws.{length-overwrite}
-use Rattle.basics.proofs.RefusalLaws.{refuse-none, refuse-skip, answer-none}
+use Rattle.basics.proofs.RefusalLaws.{clear-refuse, answer-none}
 use Rattle.model.proofs.ContentLaws.{setIn-proper, dialogueIn-row, heads-each, sets-each}
 use Rattle.model.proofs.StoreLaws.{Holds, Laid, length-layout, overwrite-holds, holds-layout, Within, beyond-below, below-beyond, clean-malformed, holds-clean, holds-dialogue}
 use Rattle.model.proofs.Acceptance.{Store, accepted-store, store-accepted}
 use Rattle.model.proofs.RoundTrips.{Storable, Taken, taken, many-groups, laid, file-read, new-read, storable as form-storable}
-use Rattle.rewriting.specs.Rewriting.{deadEnds, rewritten, oldTable, OldFile, oldDialogue, newFile, SameDecisions, Rewriting}
+use Rattle.rewriting.specs.Rewriting.{deadEnds, rewritten, oldTable, OldFile, oldDialogue, newFile, OldFileDecisions, OldFileRewriting}
 
 -- ---- the table
 
@@ -178,12 +178,10 @@ module _ (input : List ℕ) (old : OldFile input) where
     answers allowance room a h =
         let none : refuse (decideGrounds filled n g allowance room) ≡ 0 =
         store-accepted filled n g (decideLimits allowance room) held
-        ∙ refuse-skip _ 20 _ (le-ltb maxAllowance allowance a)
-        ∙ refuse-skip _ 21 _ (le-ltb room maxStates h)
-        ∙ refuse-none in
+        ∙ clear-refuse _ (le-ltb maxAllowance allowance a, (le-ltb room maxStates h, tt)) in
         answer-none (decideGrounds filled n g allowance room) _ refl none ∙ ap (λ (u : Table). answered (decisionOf u (run u allowance))) table-is
 
-    same-decisions : SameDecisions (oldTable (oldDialogue input)) filled n g
+    same-decisions : OldFileDecisions (oldTable (oldDialogue input)) filled n g
     unfolding decideBuffer
     same-decisions =
         record {
@@ -192,7 +190,7 @@ module _ (input : List ℕ) (old : OldFile input) where
               ap₂ (λ (x : Answered Decision) (xs : List ℕ). unlessRefused path (λ d. cond (eqb (d .verdict) 1) (overwrite xs path) path) x) (answers allowance (length path) a h) (ap smallestPath table-is);
         }
 
-pub rewriting : Rewriting
+pub rewriting : OldFileRewriting
 rewriting =
     record {
       old-files = λ store n g other words accepted bare fits.
@@ -204,6 +202,6 @@ rewriting =
       accepted = λ input store old fits. read-back input old store fits .answer;
       held = λ input store old fits. buffer-is input old store fits;
       decisions = λ input store old fits.
-          subst (λ (xs : List ℕ). SameDecisions (oldTable (oldDialogue input)) xs (statesIn input) (groupsIn oldForm input)) (sym (buffer-is input old store fits))
+          subst (λ (xs : List ℕ). OldFileDecisions (oldTable (oldDialogue input)) xs (statesIn input) (groupsIn oldForm input)) (sym (buffer-is input old store fits))
           (same-decisions input old store fits);
     }

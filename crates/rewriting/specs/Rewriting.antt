@@ -5,8 +5,8 @@
 --   oldTable d               the table that a dialogue means in the old form: the marked states, and no other, are forbidden
 --   OldFile input            an input that the old form accepts, at site 0; oldDialogue input: the dialogue that it holds
 --   newFile input            its file in the new form, at site 0
---   SameDecisions            decide answers as the rounds of the old table do, and leaves its path, at every allowance and in every buffer
---   Rewriting                the promise
+--   OldFileDecisions         decide answers as the rounds of the old table do, and leaves its path, at every allowance and in every buffer
+--   OldFileRewriting         the promise
 use Prim.Native.Nat.{ℕ, _^_, _≤_, _<_}
 use mathlib.Core.Path.{_≡_}
 use mathlib.Core.Logic.{_↔_}
@@ -48,13 +48,13 @@ oldDialogue input = dialogueIn oldForm (contentsOf input) (statesIn input) (grou
 unfoldable pub newFile : List ℕ → List ℕ
 newFile input = fileOf newForm 0 (rewritten (oldDialogue input))
 
-pub record SameDecisions (t : Table) (store : List ℕ) (n g : ℕ) : Type 0 where
+pub record OldFileDecisions (t : Table) (store : List ℕ) (n g : ℕ) : Type 0 where
   pub answers : (allowance room : ℕ) → allowance ≤ maxAllowance → maxStates ≤ room
       → decideAnswer store n g allowance room ≡ answered (decisionOf t (run t allowance))
   pub buffers : (allowance : ℕ) (path : List ℕ) → allowance ≤ maxAllowance → maxStates ≤ length path
       → decideBuffer store n g allowance path ≡ cond (eqb ((decisionOf t (run t allowance)) .verdict) 1) (overwrite (smallestPath t) path) path
 
-pub record Rewriting : Type 0 where
+pub record OldFileRewriting : Type 0 where
   -- each table without resting states has an old file, which the old form reads back
   pub old-files : (store : List ℕ) (n g : ℕ) (other : List ℕ) → Bounded (2 ^ 64) store → AcceptedStore store n g → setAt store restingAt ≡ empty
       → storeWords ≤ length other
@@ -70,4 +70,4 @@ pub record Rewriting : Type 0 where
   pub held : (input store : List ℕ) → OldFile input → storeWords ≤ length store
       → readBuffer (newFile input) 0 store ≡ overwrite (layout (rewritten (oldDialogue input))) store
   pub decisions : (input store : List ℕ) → OldFile input → storeWords ≤ length store
-      → SameDecisions (oldTable (oldDialogue input)) (readBuffer (newFile input) 0 store) (statesIn input) (groupsIn oldForm input)
+      → OldFileDecisions (oldTable (oldDialogue input)) (readBuffer (newFile input) 0 store) (statesIn input) (groupsIn oldForm input)

@@ -1,57 +1,44 @@
 -- The call `decide`: its refusals, and its answer from how the rounds ended.
 --
---   refuse-shared                              a ground that holds and that the calls share decides
---   refuse-20, refuse-21, refuse-none          where no ground holds that the calls share, those that decide adds do
-use Prim.Native.Nat.{ℕ, _≤_, _<_}
+--   refuse-shared, behind-shared               a ground that the calls share decides, or those that decide adds do
+use Prim.Native.Nat.{ℕ, _≤_}
 use mathlib.Core.Path.{_≡_, refl, sym, ap, ap₂, _∙_, subst}
 use mathlib.Core.Bool.{true, cond}
 use mathlib.Core.List.{List, []}
-use borrow.Author.Tests.{lt-ltb, le-ltb, ltb-false}
+use borrow.Author.Tests.{ltb-false}
 use lib.Dec.{eqb}
 use lib.ListN.{length}
 use Rattle.model.specs.Sets.{maxStates, Set, empty, size}
+use Rattle.model.specs.Tables.{Table}
 use Rattle.model.specs.Rounds.{Outcome, safe, unsafe, undecided, run}
 use Rattle.model.specs.Paths.{shortest, hasPath, smallestPath}
 use Rattle.basics.specs.Refusals.{refuse, Answered, answered, unlessRefused}
-use Rattle.model.specs.Stores.{tableOf, sharedGrounds}
-use Rattle.model.specs.Calls.{overwrite, maxAllowance, Decision as Answer, decideLimits, decideGrounds, decisionOf, decideAnswer, decideBuffer}
-use Rattle.basics.proofs.RefusalLaws.{refuse-append, refuse-clear, answer-refused, answer-none}
-use Rattle.model.proofs.Acceptance.{Store, accepted-store, store-accepted, well-formed}
+use Rattle.model.specs.Stores.{setAt, tableOf, sharedGrounds}
+use Rattle.model.specs.Calls.{overwrite, Decision as Answer, decideLimits, decideGrounds, decisionOf, decideAnswer, decideBuffer}
+use Rattle.basics.proofs.RefusalLaws.{refuse-append, refuse-past, refuse-clear, answer-refused, answer-none}
+use Rattle.model.proofs.Acceptance.{Store, accepted-store, well-formed}
 use Rattle.model.proofs.RoundLaws.{unsafe-path}
 use Rattle.model.proofs.PathLaws.{has-path}
+use Rattle.table.specs.Rows.{rowsOf, groupsOf, groupsIn, tableOn}
 use Rattle.paths.specs.declared.Found.{Found}
-use Rattle.paths.specs.Answers.{foundIn, pathWritten}
-use Rattle.paths.proofs.Groups.{shortest-groups, hasPath-groups, smallestPath-groups}
+use Rattle.paths.specs.PathAnswers.{foundIn, pathWritten}
+use Rattle.paths.proofs.Groups.{store-table}
 use Rattle.rounds.specs.declared.Ending.{Ending}
 use Rattle.rounds.specs.declared.Ended.{Ended}
 use Rattle.rounds.specs.declared.Verdict.{Verdict}
 use Rattle.rounds.specs.declared.Verdict.the-variants.{Safe, Unsafe, Undecided, Refused}
-use Rattle.rounds.specs.Answers.{endsWith, outcomeOf, invariantOf, stepsIn, answersWith, Called}
+use Rattle.rounds.specs.DecideAnswers.{endsWith, outcomeOf, invariantOf, stepsIn, decidedWith, CalledDecide}
 
 -- ---- refusals
 
-pub refuse-shared : (store : List ℕ) (n g allowance room : ℕ) {k : ℕ} → k ≡ refuse (sharedGrounds store n g) → (k ≡ 0 → ⊥)
+pub refuse-shared : (store : List ℕ) (n g allowance room : ℕ) {k : ℕ} → k ≡ refuse (sharedGrounds store n g) → (k ≡ 0 → ⊥) → k ≡ refuse (decideGrounds store n g allowance room)
+unfolding decideGrounds
+refuse-shared store n g allowance room = refuse-append (sharedGrounds store n g) (decideLimits allowance room)
+
+pub behind-shared : (store : List ℕ) (n g allowance room : ℕ) {j k : ℕ} → j ≡ refuse (sharedGrounds store n g) → j ≡ 0 → k ≡ refuse (decideLimits allowance room)
     → k ≡ refuse (decideGrounds store n g allowance room)
 unfolding decideGrounds
-refuse-shared store n g allowance room e f = refuse-append (sharedGrounds store n g) _ e f
-
--- where no shared ground holds, those that decide adds do
-module _ (store : List ℕ) (n g allowance room : ℕ) (e : refuse (sharedGrounds store n g) ≡ 0) where
-  refuse-late : refuse (decideLimits allowance room) ≡ refuse (decideGrounds store n g allowance room)
-  unfolding decideGrounds
-  refuse-late = sym (store-accepted store n g (decideLimits allowance room) (accepted-store store n g [] e .0))
-
-  pub refuse-20 : maxAllowance < allowance → 20 ≡ refuse (decideGrounds store n g allowance room)
-  unfolding refuse
-  refuse-20 h = rw (lt-ltb maxAllowance allowance h) at refuse-late
-
-  pub refuse-21 : allowance ≤ maxAllowance → room < maxStates → 21 ≡ refuse (decideGrounds store n g allowance room)
-  unfolding refuse
-  refuse-21 h l = rw (le-ltb maxAllowance allowance h, lt-ltb room maxStates l) at refuse-late
-
-  pub refuse-none : allowance ≤ maxAllowance → maxStates ≤ room → 0 ≡ refuse (decideGrounds store n g allowance room)
-  unfolding refuse
-  refuse-none h l = rw (le-ltb maxAllowance allowance h, le-ltb room maxStates l) at refuse-late
+behind-shared store n g allowance room = refuse-past (sharedGrounds store n g) (decideLimits allowance room) refl
 
 -- what a check that is answered knows of its arguments
 pub accepted : (store : List ℕ) (n g allowance room : ℕ) {k : ℕ} → k ≡ refuse (decideGrounds store n g allowance room) → k ≡ 0
@@ -63,23 +50,27 @@ accepted store n g allowance room e z =
 
 -- ---- answers
 
--- what `run` ensures, where its ending is known to be x
-pub ended-is : {r : Ended} {o : Outcome} (x : Ending) → r .ending ≡ x → (outcomeOf r ≡ o) × (r .invariant .words ≡ invariantOf (outcomeOf r))
-    → (endsWith x (r .invariant .words) ≡ o) × (r .invariant .words ≡ invariantOf (endsWith x (r .invariant .words)))
-ended-is {r} {o} x q both =
-    subst (λ (y : Ending). (endsWith y (r .invariant .words) ≡ o) × (r .invariant .words ≡ invariantOf (endsWith y (r .invariant .words)))) q both
+-- what `run` ensures of the parts of a store, where its ending is known to be x (f and i: what the calls of `forbidden` and of `set_at` gave)
+pub ended-is : (store : List ℕ) (n g allowance : ℕ) {F I : Set} {r : Ended} → F ≡ (tableOf store n 0) .forbidden → I ≡ setAt store 0 → (x : Ending)
+    → r .ending ≡ x
+    → (outcomeOf r ≡ run (tableOn n I F (groupsIn (groupsOf store) g) (rowsOf store)) allowance) × (r .invariant .words ≡ invariantOf (outcomeOf r))
+    → (endsWith x (r .invariant .words) ≡ run (tableOf store n g) allowance) × (r .invariant .words ≡ invariantOf (endsWith x (r .invariant .words)))
+ended-is store n g allowance {r = r} f i x q both =
+    let X = r .invariant .words in
+    subst (λ (y : Ending). (endsWith y X ≡ run (tableOf store n g) allowance) × (X ≡ invariantOf (endsWith y X))) q
+    (both .0 ∙ ap (λ (t : Table). run t allowance) (store-table store n g f i), both .1)
 
 module _ (store : List ℕ) (n g allowance : ℕ) (path : List ℕ) where
   -- the verdict v of a check, the invariant X beside it, and what is left in the buffer
   abbrev pub Gives : Verdict → Set → List ℕ → Type 0
-  Gives v X after = Called store n g allowance path (record { verdict = v; invariant = record { words = X } }) after
+  Gives v X after = CalledDecide store n g allowance path (record { verdict = v; invariant = record { words = X } }) after
 
   abbrev left : Answered Answer → List ℕ
   left = unlessRefused path (λ (a : Answer). cond (eqb (a .verdict) 1) (overwrite (smallestPath (tableOf store n g)) path) path)
 
   -- the invariant and the buffer follow from the numbers
-  gives : (v : Verdict) (X : Set) → answersWith v X ≡ decideAnswer store n g allowance (length path)
-      → X ≡ unlessRefused empty (λ (a : Answer). a .invariant) (answersWith v X) → Gives v X (left (answersWith v X))
+  gives : (v : Verdict) (X : Set) → decidedWith v X ≡ decideAnswer store n g allowance (length path)
+      → X ≡ unlessRefused empty (λ (a : Answer). a .invariant) (decidedWith v X) → Gives v X (left (decidedWith v X))
   unfolding decideBuffer
   gives v X q x = (q, x ∙ ap (unlessRefused empty (λ (a : Answer). a .invariant)) q, ap left q)
 
@@ -99,25 +90,24 @@ module _ (store : List ℕ) (n g allowance : ℕ) (path : List ℕ) where
 
       pub safe-answer : {i m : ℕ} {X : Set} → safe i X ≡ run (tableOf store n g) allowance → m ≡ size X → Gives (Safe i m) X path
       unfolding decisionOf
-      safe-answer {i} {X = X} q h = gives (Safe i _) X (ap (λ (m : ℕ). answersWith (Safe i m) X) h ∙ decided-answer q) refl
+      safe-answer {i} {X = X} q h = gives (Safe i _) X (ap (λ (m : ℕ). decidedWith (Safe i m) X) h ∙ decided-answer q) refl
 
       pub undecided-answer : {i : ℕ} {X : Set} → undecided i ≡ run (tableOf store n g) allowance → X ≡ empty → Gives (Undecided i) X path
       unfolding decisionOf
-      undecided-answer {i} q x = gives (Undecided i) _ (ap (answersWith (Undecided i)) x ∙ decided-answer q) refl
+      undecided-answer {i} q x = gives (Undecided i) _ (ap (decidedWith (Undecided i)) x ∙ decided-answer q) refl
 
       -- an unsafe check has a path, and finds it
-      path-found : {i : ℕ} → unsafe i ≡ run (tableOf store n g) allowance → hasPath (tableOf store n 0) ≡ true
+      path-found : {i : ℕ} → unsafe i ≡ run (tableOf store n g) allowance → hasPath (tableOf store n g) ≡ true
       path-found q =
           let ok = well-formed store n g (accepted store n g allowance (length path) e z .0) in
           let w = unsafe-path (tableOf store n g) ok allowance (sym q) in
-          sym (hasPath-groups store n g) ∙ has-path ok (w .0) (w .1)
+          has-path ok (w .0) (w .1)
 
       pub unsafe-answer : {i d : ℕ} {X : Set} {found : Found} {after : List ℕ} → unsafe i ≡ run (tableOf store n g) allowance → X ≡ empty
-          → found ≡ foundIn (tableOf store n 0) → after ≡ pathWritten (tableOf store n 0) path → d ≡ stepsIn found
-          → Gives (Unsafe i d) X after
+          → (found ≡ foundIn (tableOf store n g)) × (after ≡ pathWritten (tableOf store n g) path) → d ≡ stepsIn found → Gives (Unsafe i d) X after
       unfolding decisionOf foundIn pathWritten
-      unsafe-answer {i} {d} q x f w h =
+      unsafe-answer {i} {d} q x f h =
           let p = path-found q in
-          let steps : d ≡ shortest (tableOf store n g) = rw (h, f, foundIn, p, shortest-groups store n g) in
-          let all = gives (Unsafe i d) _ (ap₂ (λ (m : ℕ) (X : Set). answersWith (Unsafe i m) X) steps x ∙ decided-answer q) refl in
-          (all .0, all .1, rw (w, pathWritten, p, ← smallestPath-groups store n g) (all .2))
+          let steps : d ≡ shortest (tableOf store n g) = rw (h, f .0, foundIn, p) in
+          let all = gives (Unsafe i d) _ (ap₂ (λ (m : ℕ) (X : Set). decidedWith (Unsafe i m) X) steps x ∙ decided-answer q) refl in
+          (all .0, all .1, rw (f .1, pathWritten, p) (all .2))

@@ -6,9 +6,9 @@ use Rattle.model.specs.Calls.{Decision}
 use Rattle.model.specs.Stores.{tableOf}
 use Rattle.model.specs.Promises.{Carries, Demand2, Demand3, SameAnswer}
 use Rattle.model.proofs.Kept.{promises, untouched}
-use Rattle.rounds.specs.Demands.{Demands}
+use Rattle.rounds.specs.DecideDemands.{DecideDemands}
 
-pub demands : Demands
+pub demands : DecideDemands
 demands =
     record {
       refusal = λ store n g allowance before r after k c e.

@@ -3,7 +3,7 @@
 --   Recording, record-*       the bits of a word: with the states left written behind it, the array holds them all
 --   WordsRecording, words-*   the words of a set: the array holds the states of those passed
 --   skip-known                the states of a closed set bring nothing that is not in it
---   Looking, looking-*        the looks of `forward`
+--   Passing, passing-*        the passes of `forward`
 use Prim.Native.Nat.{ℕ, suc, _+_, _-_, _*_, _^_, _≤_, _<_, zero-le}
 use native.Mathlib.Nat.{zero-add, add-zero}
 use native.Mathlib.Numerals.{add-one}
@@ -28,10 +28,10 @@ use Rattle.state_set.specs.WordSets.{wordSet, wordsBelow}
 use Rattle.state_set.proofs.WordSets.{word-lowest, word-least, word-rest, word-none, words-none, words-in, words-all}
 use Rattle.table.specs.Rows.{successorsBy}
 use Rattle.rounds.specs.Steps.{coverBy, forwardBy, IsCover}
-use Rattle.rounds.specs.Order.{lookAt, orderOf, firstBy, joinsBy, orderBy, padded}
+use Rattle.rounds.specs.Order.{passAt, orderOf, firstPassBy, laterPassBy, orderBy, padded}
 use Rattle.rounds.proofs.Bridge.{coverBy-within, coverBy-closed, forwardBy-proper, forward-least}
 use Rattle.rounds.proofs.Lists.{members-none, members-words, members-peel, size-apart, sets-append}
-use Rattle.rounds.proofs.Looks.{step-empty, step-union, fresh-new, order-next, order-long, look-steps, look-before, look-still, iterate-done, order-still}
+use Rattle.rounds.proofs.Passes.{step-empty, step-union, frontier-new, order-next, order-long, pass-steps, pass-before, pass-still, iterate-done, order-still}
 
 -- ---- the bits of a word
 
@@ -117,7 +117,7 @@ module _ (X : Set) (order₀ : List ℕ) (count₀ : ℕ) where
         let all = words-all w X p h in
         (so .is ∙ ap (λ (Y : Set). sets order₀ count₀ (members Y)) all, so .number ∙ ap (λ (Y : Set). count₀ + size Y) all)
 
--- ---- the looks
+-- ---- the passes
 
 sets-padded : (xs : List ℕ) → length xs ≤ maxStates → sets (replicate maxStates 0) 0 xs ≡ padded xs
 unfolding padded overwrite
@@ -125,159 +125,159 @@ sets-padded xs h =
     let room : 0 + length xs ≤ length {A = ℕ} (replicate maxStates 0) = omega (arith, length-replicate {A = ℕ} maxStates 0) in
     sets-eq xs (replicate maxStates 0) 0 room ∙ ap (λ (m : ℕ). xs ++ drop m (replicate maxStates 0)) (zero-add (length xs))
 
-module _ (rows : List Set) (cover : IsCover rows) where
+module _ (cover : List Set) (is-cover : IsCover cover) where
   -- the states of a closed set bring nothing that is not in it
-  skip-known : (X W : Set) {r : Set} → r ≡ coverBy rows W → difference (coverBy rows (difference X r)) r ≡ difference (coverBy rows X) r
+  skip-known : (X W : Set) {r : Set} → r ≡ coverBy cover W → difference (coverBy cover (difference X r)) r ≡ difference (coverBy cover X) r
   unfolding difference coverBy
   skip-known X W {r} e =
       same-set _ _ (setOf-proper _) (setOf-proper _)
       (λ s h.
       let d = difference-in h in
-      in-difference (image-mono maxStates (λ s. getD rows s []) (difference X r) X (λ x i. difference-in i .0) s (d .0)) (d .1))
+      in-difference (image-mono maxStates (λ s. getD cover s []) (difference X r) X (λ x i. difference-in i .0) s (d .0)) (d .1))
       (λ s h.
       let d = difference-in h in
-      let w = image-in (λ s. getD rows s []) X maxStates (d .0) in
+      let w = image-in (λ s. getD cover s []) X maxStates (d .0) in
       in-difference
-      (in-image (λ s. getD rows s []) (difference X r) maxStates (w .1)
-      (in-difference (w .2) (λ i. d .1 (⊆-of-eq (sym e) s (coverBy-closed rows cover W (⊆-of-eq e (w .0) i) s (w .3)))))
+      (in-image (λ s. getD cover s []) (difference X r) maxStates (w .1)
+      (in-difference (w .2) (λ i. d .1 (⊆-of-eq (sym e) s (coverBy-closed cover is-cover W (⊆-of-eq e (w .0) i) s (w .3)))))
       (w .3))
       (d .1))
 
--- what is expanded before look k is recorded, with its successors joined to the initial states; r has what look k expands too
-pub record Looking (store : List ℕ) (rows : List Set) (initial Z : Set) (order : List ℕ) (fresh r entered : Set) (count : ℕ) : Type 0 where
+-- what is expanded before pass k is recorded, with its successors joined to the initial states; r has what pass k expands too
+pub record Passing (rows : List ℕ) (cover : List Set) (initial Z : Set) (order : List ℕ) (frontier r entered : Set) (count : ℕ) : Type 0 where
   pub k : ℕ
-  pub fresh-is : fresh ≡ (lookAt (firstBy rows initial Z) (joinsBy store rows Z) k) .fresh
-  pub r-is : r ≡ (lookAt (firstBy rows initial Z) (joinsBy store rows Z) (suc k)) .before
-  pub entered-is : entered ≡ union initial (successorsBy store ((lookAt (firstBy rows initial Z) (joinsBy store rows Z) k) .before))
-  pub order-is : order ≡ sets (replicate maxStates 0) 0 (orderOf (firstBy rows initial Z) (joinsBy store rows Z) k)
-  pub count-is : count ≡ size ((lookAt (firstBy rows initial Z) (joinsBy store rows Z) k) .before)
-  pub looks : k ≤ count
+  pub frontier-is : frontier ≡ (passAt (firstPassBy cover initial Z) (laterPassBy rows cover Z) k) .frontier
+  pub r-is : r ≡ (passAt (firstPassBy cover initial Z) (laterPassBy rows cover Z) (suc k)) .before
+  pub entered-is : entered ≡ union initial (successorsBy rows ((passAt (firstPassBy cover initial Z) (laterPassBy rows cover Z) k) .before))
+  pub order-is : order ≡ sets (replicate maxStates 0) 0 (orderOf (firstPassBy cover initial Z) (laterPassBy rows cover Z) k)
+  pub count-is : count ≡ size ((passAt (firstPassBy cover initial Z) (laterPassBy rows cover Z) k) .before)
+  pub passes : k ≤ count
 
 -- R's step of no states, and of a union
-module _ (store : List ℕ) (rows : List Set) (initial Z : Set) where
-  pub forward-none : forwardBy store rows initial Z empty ≡ firstBy rows initial Z
+module _ (rows : List ℕ) (cover : List Set) (initial Z : Set) where
+  pub forward-none : forwardBy rows cover initial Z empty ≡ firstPassBy cover initial Z
   unfolding forwardBy coverBy successorsBy
   forward-none = step-empty maxStates maxStates _ _ initial Z
 
-  pub forward-more : (B F : Set) → forwardBy store rows initial Z (union B F) ≡ union (forwardBy store rows initial Z B) (joinsBy store rows Z F)
+  pub forward-more : (B F : Set) → forwardBy rows cover initial Z (union B F) ≡ union (forwardBy rows cover initial Z B) (laterPassBy rows cover Z F)
   unfolding forwardBy coverBy successorsBy
   forward-more = step-union maxStates maxStates _ _ initial Z
 
-module _ (store : List ℕ) (rows : List Set) (cover : IsCover rows) (initial Z : Set) where
+module _ (rows : List ℕ) (cover : List Set) (is-cover : IsCover cover) (initial Z : Set) where
   abbrev first : Set
-  first = firstBy rows initial Z
+  first = firstPassBy cover initial Z
 
   abbrev joined : Set → Set
-  joined = joinsBy store rows Z
+  joined = laterPassBy rows cover Z
 
   abbrev step : Set → Set
-  step = forwardBy store rows initial Z
+  step = forwardBy rows cover initial Z
 
   none : step empty ≡ first
-  none = forward-none store rows initial Z
+  none = forward-none rows cover initial Z
 
   more : (B F : Set) → step (union B F) ≡ union (step B) (joined F)
-  more = forward-more store rows initial Z
+  more = forward-more rows cover initial Z
 
-  steps : (k : ℕ) → step ((lookAt first joined k) .before) ≡ (lookAt first joined (suc k)) .before
-  unfolding lookAt
-  steps k = look-steps first joined step (forwardBy-proper store rows initial Z) none more k
+  steps : (k : ℕ) → step ((passAt first joined k) .before) ≡ (passAt first joined (suc k)) .before
+  unfolding passAt
+  steps k = pass-steps first joined step (forwardBy-proper rows cover initial Z) none more k
 
-  pub looking-start : {fresh : Set} → Proper initial → fresh ≡ first → Looking store rows initial Z (replicate maxStates 0) fresh fresh initial 0
-  unfolding lookAt orderOf concat successorsBy size
-  looking-start p e =
+  pub passing-start : {frontier : Set} → Proper initial → frontier ≡ first → Passing rows cover initial Z (replicate maxStates 0) frontier frontier initial 0
+  unfolding passAt orderOf concat successorsBy size
+  passing-start p e =
       record {
         k = 0;
-        fresh-is = e;
+        frontier-is = e;
         r-is = e ∙ sym none ∙ steps 0;
         entered-is = sym (ap (union initial) (image-none maxStates _ empty (in-subset (λ s h. h))) ∙ union-empty initial p);
         order-is = refl;
         count-is = ap length (sym (members-none {X = empty} (λ s h. empty-in h)));
-        looks = zero-le;
+        passes = zero-le;
       }
 
-  module _ {order : List ℕ} {fresh r entered : Set} {count : ℕ} (so : Looking store rows initial Z order fresh r entered count) where
-    before-size : size ((lookAt first joined (suc (so .k))) .before) ≡ count + size fresh
-    unfolding lookAt
+  module _ {order : List ℕ} {frontier r entered : Set} {count : ℕ} (so : Passing rows cover initial Z order frontier r entered count) where
+    before-size : size ((passAt first joined (suc (so .k))) .before) ≡ count + size frontier
+    unfolding passAt
     before-size =
-        size-apart _ _ (λ s h i. fresh-new first joined (so .k) h i)
-        ∙ ap₂ (λ (a : ℕ) (X : Set). a + size X) (sym (so .count-is)) (sym (so .fresh-is))
+        size-apart _ _ (λ s h i. frontier-new first joined (so .k) h i)
+        ∙ ap₂ (λ (a : ℕ) (X : Set). a + size X) (sym (so .count-is)) (sym (so .frontier-is))
 
-    r-closed : r ≡ coverBy rows (meet Z (union initial (successorsBy store ((lookAt first joined (so .k)) .before))))
+    r-closed : r ≡ coverBy cover (meet Z (union initial (successorsBy rows ((passAt first joined (so .k)) .before))))
     unfolding forwardBy
     r-closed = so .r-is ∙ sym (steps (so .k))
 
-    pub looking-room : count + size fresh ≤ maxStates
-    looking-room = subst (λ (m : ℕ). m ≤ maxStates) before-size (size-most _)
+    pub passing-room : count + size frontier ≤ maxStates
+    passing-room = subst (λ (m : ℕ). m ≤ maxStates) before-size (size-most _)
 
-    some-fresh : subset fresh empty ≡ false → 0 < size fresh
-    some-fresh e = size-pos (subset-not fresh empty e .1)
+    some-frontier : subset frontier empty ≡ false → 0 < size frontier
+    some-frontier e = size-pos (subset-not frontier empty e .1)
 
-    pub looking-less : {count′ : ℕ} → subset fresh empty ≡ false → count′ ≡ count + size fresh → maxStates - count′ < maxStates - count
-    looking-less e c = omega (arith, some-fresh e, looking-room, c)
+    pub passing-less : {count′ : ℕ} → subset frontier empty ≡ false → count′ ≡ count + size frontier → maxStates - count′ < maxStates - count
+    passing-less e c = omega (arith, some-frontier e, passing-room, c)
 
-    pub looking-turn : {order′ : List ℕ} {found fresh′ r′ entered′ : Set} {count′ : ℕ} → subset fresh empty ≡ false
-        → found ≡ successorsBy store fresh → count′ ≡ count + size fresh → order′ ≡ sets order count (members fresh)
-        → entered′ ≡ union entered found → fresh′ ≡ difference (coverBy rows (difference (meet Z found) r)) r → r′ ≡ union r fresh′
-        → Looking store rows initial Z order′ fresh′ r′ entered′ count′
-    unfolding lookAt successorsBy
-    looking-turn {found = found} some f c o t j u =
-        let look = lookAt first joined (so .k) in
-        let stepped : found ≡ successorsBy store (look .fresh) = f ∙ ap (successorsBy store) (so .fresh-is) in
-        let fresh-next = j ∙ skip-known rows cover (meet Z found) _ r-closed
-        ∙ ap₂ (λ (X Y : Set). difference (coverBy rows (meet Z X)) Y) stepped (so .r-is) in
+    pub passing-turn : {order′ : List ℕ} {found frontier′ r′ entered′ : Set} {count′ : ℕ} → subset frontier empty ≡ false
+        → found ≡ successorsBy rows frontier → count′ ≡ count + size frontier → order′ ≡ sets order count (members frontier)
+        → entered′ ≡ union entered found → frontier′ ≡ difference (coverBy cover (difference (meet Z found) r)) r → r′ ≡ union r frontier′
+        → Passing rows cover initial Z order′ frontier′ r′ entered′ count′
+    unfolding passAt successorsBy
+    passing-turn {found = found} some f c o t j u =
+        let pass = passAt first joined (so .k) in
+        let stepped : found ≡ successorsBy rows (pass .frontier) = f ∙ ap (successorsBy rows) (so .frontier-is) in
+        let frontier-next = j ∙ skip-known cover is-cover (meet Z found) _ r-closed
+        ∙ ap₂ (λ (X Y : Set). difference (coverBy cover (meet Z X)) Y) stepped (so .r-is) in
         record {
           k = suc (so .k);
-          fresh-is = fresh-next;
-          r-is = u ∙ ap₂ union (so .r-is) fresh-next;
+          frontier-is = frontier-next;
+          r-is = u ∙ ap₂ union (so .r-is) frontier-next;
           entered-is =
               t
               ∙ ap₂ union (so .entered-is) stepped
-              ∙ sym (union-assoc initial (successorsBy store (look .before)) (successorsBy store (look .fresh)))
-              ∙ ap (union initial) (sym (image-union maxStates _ (look .before) (look .fresh)));
+              ∙ sym (union-assoc initial (successorsBy rows (pass .before)) (successorsBy rows (pass .frontier)))
+              ∙ ap (union initial) (sym (image-union maxStates _ (pass .before) (pass .frontier)));
           order-is =
               o
-              ∙ ap₂ (λ (xs : List ℕ) (m : ℕ). sets xs m (members fresh)) (so .order-is) (so .count-is ∙ sym (order-long first joined (so .k)) ∙ sym (zero-add _))
-              ∙ ap (λ (X : Set). sets (sets (replicate maxStates 0) 0 (orderOf first joined (so .k))) (0 + length (orderOf first joined (so .k))) (members X)) (so .fresh-is)
-              ∙ sym (sets-append (replicate maxStates 0) 0 (orderOf first joined (so .k)) (members (look .fresh)))
+              ∙ ap₂ (λ (xs : List ℕ) (m : ℕ). sets xs m (members frontier)) (so .order-is) (so .count-is ∙ sym (order-long first joined (so .k)) ∙ sym (zero-add _))
+              ∙ ap (λ (X : Set). sets (sets (replicate maxStates 0) 0 (orderOf first joined (so .k))) (0 + length (orderOf first joined (so .k))) (members X)) (so .frontier-is)
+              ∙ sym (sets-append (replicate maxStates 0) 0 (orderOf first joined (so .k)) (members (pass .frontier)))
               ∙ ap (sets (replicate maxStates 0) 0) (sym (order-next first joined (so .k)));
           count-is = c ∙ sym before-size;
-          looks = omega (arith, so .looks, some-fresh some, c);
+          passes = omega (arith, so .passes, some-frontier some, c);
         }
 
-    module _ (e : subset fresh empty ≡ true) where
-      done : (lookAt first joined (so .k)) .fresh ⊆ empty
-      done s h = subset-in e s (⊆-of-eq (sym (so .fresh-is)) s h)
+    module _ (e : subset frontier empty ≡ true) where
+      done : (passAt first joined (so .k)) .frontier ⊆ empty
+      done s h = subset-in e s (⊆-of-eq (sym (so .frontier-is)) s h)
 
-      r-before : r ≡ (lookAt first joined (so .k)) .before
-      r-before = so .r-is ∙ sym (steps (so .k)) ∙ look-still first joined step (forwardBy-proper store rows initial Z) none more (so .k) done
+      r-before : r ≡ (passAt first joined (so .k)) .before
+      r-before = so .r-is ∙ sym (steps (so .k)) ∙ pass-still first joined step (forwardBy-proper rows cover initial Z) none more (so .k) done
 
-      before-within : (lookAt first joined (so .k)) .before ⊆ firstStates (cover .n)
+      before-within : (passAt first joined (so .k)) .before ⊆ firstStates (is-cover .n)
       unfolding forwardBy
       before-within =
-          subst (λ (X : Set). X ⊆ firstStates (cover .n)) (sym (look-before first joined step (forwardBy-proper store rows initial Z) none more (so .k)))
-          (iterate-has (λ X. X ⊆ firstStates (cover .n)) step empty (λ s h. absurd (empty-in h)) (λ X h. coverBy-within rows cover _) (so .k))
+          subst (λ (X : Set). X ⊆ firstStates (is-cover .n)) (sym (pass-before first joined step (forwardBy-proper rows cover initial Z) none more (so .k)))
+          (iterate-has (λ X. X ⊆ firstStates (is-cover .n)) step empty (λ s h. absurd (empty-in h)) (λ X h. coverBy-within cover is-cover _) (so .k))
 
-      pub looking-least : IsLeast step r
-      looking-least =
-          let few : so .k ≤ cover .n = omega (arith, so .looks, so .count-is, size-bound before-within) in
+      pub passing-least : IsLeast step r
+      passing-least =
+          let few : so .k ≤ is-cover .n = omega (arith, so .passes, so .count-is, size-bound before-within) in
           subst (IsLeast step)
-          (iterate-done first joined step (forwardBy-proper store rows initial Z) none more (so .k) done (cover .n) few ∙ sym r-before)
-          (forward-least store rows cover initial Z)
+          (iterate-done first joined step (forwardBy-proper rows cover initial Z) none more (so .k) done (is-cover .n) few ∙ sym r-before)
+          (forward-least rows cover is-cover initial Z)
 
-      whole : orderBy store rows initial Z ≡ orderOf first joined (so .k)
+      whole : orderBy rows cover initial Z ≡ orderOf first joined (so .k)
       unfolding orderBy
       whole =
-          let few : so .k ≤ maxStates = omega (arith, so .looks, so .count-is, size-most ((lookAt first joined (so .k)) .before)) in
-          order-still first joined step (forwardBy-proper store rows initial Z) none more (so .k) done maxStates few
+          let few : so .k ≤ maxStates = omega (arith, so .passes, so .count-is, size-most ((passAt first joined (so .k)) .before)) in
+          order-still first joined step (forwardBy-proper rows cover initial Z) none more (so .k) done maxStates few
 
-      pub looking-order : order ≡ padded (orderBy store rows initial Z)
-      looking-order =
-          let room : length (orderOf first joined (so .k)) ≤ maxStates = omega (arith, order-long first joined (so .k), size-most ((lookAt first joined (so .k)) .before)) in
+      pub passing-order : order ≡ padded (orderBy rows cover initial Z)
+      passing-order =
+          let room : length (orderOf first joined (so .k)) ≤ maxStates = omega (arith, order-long first joined (so .k), size-most ((passAt first joined (so .k)) .before)) in
           so .order-is ∙ sets-padded (orderOf first joined (so .k)) room ∙ ap padded (sym whole)
 
-      pub looking-count : count ≡ length (orderBy store rows initial Z)
-      looking-count = so .count-is ∙ sym (order-long first joined (so .k)) ∙ ap length (sym whole)
+      pub passing-count : count ≡ length (orderBy rows cover initial Z)
+      passing-count = so .count-is ∙ sym (order-long first joined (so .k)) ∙ ap length (sym whole)
 
-      pub looking-entered : entered ≡ union initial (successorsBy store r)
-      looking-entered = so .entered-is ∙ ap (λ (X : Set). union initial (successorsBy store X)) (sym r-before)
+      pub passing-entered : entered ≡ union initial (successorsBy rows r)
+      passing-entered = so .entered-is ∙ ap (λ (X : Set). union initial (successorsBy rows X)) (sym r-before)

@@ -1,110 +1,110 @@
--- The cover for the groups, and the order of the first round.
+-- The cover for the list of the first round, and the order of that round.
 --
---   Adding, adding-*         `narrow_by_groups`: the rows after the groups added so far
---   first-cover              the rows with which the first round begins
+--   Meeting, meeting-*       `first_cover_of`: the cover of a state for the groups added so far
 --   order-is                 the order that `forward` gives is that of the table
 --   order-refused, order-listed      the answer of `first_order`
-use Prim.Native.Nat.{ℕ, suc, _-_, _≤_, _<_}
-use native.Mathlib.Nat.{le-refl, le-of-eq}
+use Prim.Native.Nat.{ℕ, _+_, _-_, _*_, _≤_, _<_}
+use native.Mathlib.Nat.{le-refl}
 use native.Mathlib.Omega.{arith}
-use mathlib.Core.Path.{_≡_, refl, sym, ap, ap₂, _∙_, subst}
-use mathlib.Core.List.{List, [], _∷_}
-use lib.ListN.{length, drop, replicate, drop-of-length-le}
-use lib.Seq.{drop-cons}
+use mathlib.Core.Path.{_≡_, refl, sym, ap, ap₂, _∙_}
+use mathlib.Core.Bool.{cond}
+use mathlib.Core.List.{List, [], _∷_, _++_, append-assoc, append-nil}
+use lib.ListN.{length, replicate}
 use Rattle.basics.specs.Bounds.{tabulate}
-use Rattle.model.specs.Sets.{maxStates, Set, empty, meet, members, firstStates}
-use Rattle.model.specs.Tables.{notForbidden}
-use Rattle.model.specs.Rounds.{iterate, roundOf, firstRound}
+use Rattle.model.specs.Sets.{WORDS, maxStates, Set, member, meet, members, firstStates}
+use Rattle.model.specs.Tables.{Table, coverOf, notForbidden}
+use Rattle.model.specs.Rounds.{roundOf, firstRound}
 use Rattle.basics.specs.Refusals.{refuse, Answered, answered, unlessRefused}
 use Rattle.model.specs.Stores.{setAt, tableOf, sharedGrounds}
 use Rattle.model.specs.Calls.{overwrite}
-use Rattle.basics.proofs.BoundLaws.{length-tabulate, getD-tabulate}
 use Rattle.basics.proofs.RefusalLaws.{answer-refused, answer-none}
 use Rattle.model.proofs.ListLaws.{concat-cong}
 use Rattle.model.proofs.SetLaws.{_⊆_, meet-in, difference-in}
 use Rattle.model.proofs.CoverLaws.{notForbidden-within}
-use Rattle.rounds.specs.Steps.{covers, narrowed, narrowedBy, coverBy, forwardBy, IsCover}
-use Rattle.rounds.specs.Order.{Look, lookAt, orderOf, firstLook, joinedBy, forwardOrder, firstBy, joinsBy, orderBy, padded}
+use Rattle.table.specs.Rows.{rowsOf, groupsOf, groupsIn}
+use Rattle.table.proofs.Parts.{HasRows, store-rows, groups-of}
+use Rattle.rounds.specs.Steps.{covers, coverBy, forwardBy, IsCover}
+use Rattle.rounds.specs.Order.{Pass, passAt, orderOf, firstPass, laterPass, forwardOrder, firstPassBy, laterPassBy, orderBy, padded}
 use Rattle.rounds.specs.declared.Expansion.the-variants.{Listed, Refused as ExpansionRefused}
 use Rattle.rounds.specs.OrderAnswers.{OrderAnswer, orderAnswer, Ordered}
-use Rattle.rounds.proofs.Bridge.{covers-add, covers-start, coverBy-is, successorsBy-is, coverBy-within, forwardBy-proper, forward-least}
-use Rattle.rounds.proofs.Looks.{look-before, fixed-done, order-still, lookAt-cong}
+use Rattle.rounds.proofs.Bridge.{groups-last, coverBy-is, successorsBy-is, coverBy-within, forwardBy-proper, forward-least}
+use Rattle.rounds.proofs.Passes.{pass-before, fixed-done, order-still, passAt-cong}
 use Rattle.rounds.proofs.Expanding.{forward-none, forward-more}
 
--- ---- the groups
+-- ---- the cover of a state
 
--- of the g sets f 0, f 1, .., those from f j on are added
-pub record Adding (g : ℕ) (f : ℕ → Set) (before : List Set) (rows : List Set) (j : ℕ) : Type 0 where
+-- of the g groups the first j are still to be added to the list that `met` is the cover for
+pub record Meeting (groups : List ℕ) (g n s : ℕ) (met : Set) (j : ℕ) : Type 0 where
+  pub list : List Set
+  pub met-is : met ≡ coverOf n list s
+  pub whole : groupsIn groups j ++ list ≡ groupsIn groups g
   pub left : j ≤ g
-  pub is : rows ≡ narrowedBy before (drop j (tabulate g f))
 
-module _ (g : ℕ) (f : ℕ → Set) (before : List Set) where
-  pub adding-start : Adding g f before before g
-  unfolding narrowedBy
-  adding-start =
-      record { left = le-refl g; is = ap (narrowedBy before) (sym (drop-of-length-le (tabulate g f) (le-of-eq (length-tabulate f g)))) }
+module _ (groups : List ℕ) (g n s : ℕ) where
+  pub meeting-start : {all : Set} → all ≡ firstStates n → Meeting groups g n s all g
+  unfolding coverOf
+  meeting-start e = record { list = []; met-is = e; whole = append-nil _; left = le-refl g }
 
-  pub adding-turn : {rows rows′ : List Set} {Z : Set} (j : ℕ) → 0 < j → Z ≡ f (j - 1) → rows′ ≡ narrowed rows Z → Adding g f before rows j
-      → Adding g f before rows′ (j - 1)
-  unfolding narrowedBy
-  adding-turn j h z e so =
-      let l : j - 1 < g = omega (arith, so .left) in
-      let k : suc (j - 1) ≡ j = omega arith in
-      let first = drop-cons (tabulate g f) (j - 1) [] (subst (λ (m : ℕ). j - 1 < m) (sym (length-tabulate f g)) l) in
-      record {
-        left = omega arith;
-        is =
-            e
-            ∙ ap₂ narrowed (so .is ∙ ap (λ (i : ℕ). narrowedBy before (drop i (tabulate g f))) (sym k)) (z ∙ sym (getD-tabulate f g (j - 1) [] l))
-            ∙ ap (narrowedBy before) (sym first);
-      }
+  module _ {met : Set} {j : ℕ} (so : Meeting groups g n s met j) where
+    pub meeting-turn : {met′ X : Set} → 0 < j → X ≡ setAt groups (WORDS * (j - 1)) → met′ ≡ cond (member X s) (meet met X) met
+        → Meeting groups g n s met′ (j - 1)
+    unfolding coverOf
+    meeting-turn {X = X} some x e =
+        record {
+          list = X ∷ so .list;
+          met-is = e ∙ ap (λ (Y : Set). cond (member X s) (meet Y X) Y) (so .met-is);
+          whole =
+              sym (append-assoc (groupsIn groups (j - 1)) (X ∷ []) (so .list))
+              ∙ ap (λ (P : List Set). P ++ so .list) (ap (λ (Y : Set). groupsIn groups (j - 1) ++ (Y ∷ [])) x ∙ sym (groups-last groups j some))
+              ∙ so .whole;
+          left = omega (arith, so .left);
+        }
 
-  pub adding-end : {rows : List Set} {j : ℕ} → j ≤ 0 → Adding g f before rows j → rows ≡ narrowedBy before (tabulate g f)
-  adding-end {j = j} h so = let z : j ≡ 0 = omega arith in so .is ∙ ap (λ (i : ℕ). narrowedBy before (drop i (tabulate g f))) z
-
--- with Z added too
-pub first-cover : (store : List ℕ) (n g : ℕ) (Z : Set) {all : Set} {before rows : List Set} → all ≡ firstStates n
-    → before ≡ narrowedBy (replicate maxStates all) ((tableOf store 0 g) .groups) → rows ≡ narrowed before Z → rows ≡ covers n (Z ∷ (tableOf store n g) .groups)
-unfolding tableOf
-first-cover store n g Z a e r = r ∙ ap (λ (X : List Set). narrowed X Z) (covers-start n _ a e) ∙ covers-add n _ Z
+    pub meeting-end : (Z : Set) {r : Set} → j ≤ 0 → r ≡ cond (member Z s) (meet met Z) met → r ≡ coverOf n (Z ∷ groupsIn groups g) s
+    unfolding coverOf groupsIn tabulate
+    meeting-end Z none e =
+        let z : j ≡ 0 = omega arith in
+        e ∙ ap (λ (Y : Set). cond (member Z s) (meet Y Z) Y) (so .met-is ∙ ap (λ (L : List Set). coverOf n L s) (rw z at (so .whole)))
 
 -- ---- the order
 
-module _ (store : List ℕ) (n g : ℕ) (few : n ≤ maxStates) (L : List Set) (Z : Set) (within : Z ⊆ firstStates n) where
-  abbrev rows : List Set
-  rows = covers n L
+module _ (t : Table) (rows : List ℕ) (has : HasRows t rows) (few : t .n ≤ maxStates) (L : List Set) (Z : Set) (within : Z ⊆ firstStates (t .n)) where
+  abbrev cover : List Set
+  cover = covers (t .n) L
 
-  abbrev is-cover : IsCover rows
-  is-cover = record { n = n; list = L; is = refl }
+  abbrev is-cover : IsCover cover
+  is-cover = record { n = t .n; list = L; is = refl }
 
-  abbrev initial : Set
-  initial = (tableOf store n g) .initial
+  -- the first pass, what joins by a pass, and R's step
+  abbrev first : Set
+  first = firstPassBy cover (t .initial) Z
 
-  agree : (k : ℕ) → (lookAt (firstBy rows initial Z) (joinsBy store rows Z) k ≡ lookAt (firstLook (tableOf store n g) L Z) (joinedBy (tableOf store n g) L Z) k)
-      × ((lookAt (firstBy rows initial Z) (joinsBy store rows Z) k) .fresh ⊆ firstStates n)
-  unfolding firstLook joinedBy tableOf
+  abbrev joined : Set → Set
+  joined = laterPassBy rows cover Z
+
+  abbrev step : Set → Set
+  step = forwardBy rows cover (t .initial) Z
+
+  agree : (k : ℕ) → (passAt first joined k ≡ passAt (firstPass t L Z) (laterPass t L Z) k) × ((passAt first joined k) .frontier ⊆ firstStates (t .n))
+  unfolding firstPass laterPass
   agree =
-      lookAt-cong (λ X. X ⊆ firstStates n) (firstBy rows initial Z) _ (joinsBy store rows Z) _
-      (coverBy-is store n g L _ (λ s h. within s (meet-in h .0))) (coverBy-within rows is-cover _)
-      (λ X j.
-      ap (λ (Y : Set). coverBy rows (meet Z Y)) (successorsBy-is store n g X j) ∙ coverBy-is store n g L _ (λ s h. within s (meet-in h .0)))
-      (λ X Y s h. coverBy-within rows is-cover _ s (difference-in h .0))
+      passAt-cong (λ X. X ⊆ firstStates (t .n)) first _ joined _
+      (coverBy-is (t .n) L _ (λ s h. within s (meet-in h .0))) (coverBy-within cover is-cover _)
+      (λ X j. ap (λ (Y : Set). coverBy cover (meet Z Y)) (successorsBy-is t rows has X j) ∙ coverBy-is (t .n) L _ (λ s h. within s (meet-in h .0)))
+      (λ X Y s h. coverBy-within cover is-cover _ s (difference-in h .0))
 
-  pub order-is : orderBy store rows initial Z ≡ forwardOrder (tableOf store n g) L Z
-  unfolding orderBy forwardOrder orderOf tableOf
+  pub order-is : orderBy rows cover (t .initial) Z ≡ forwardOrder t L Z
+  unfolding orderBy forwardOrder orderOf
   order-is =
-      order-still (firstBy rows initial Z) (joinsBy store rows Z) (forwardBy store rows initial Z) (forwardBy-proper store rows initial Z)
-      (forward-none store rows initial Z) (forward-more store rows initial Z) n
-      (fixed-done (firstBy rows initial Z) (joinsBy store rows Z) (forwardBy store rows initial Z) (forwardBy-proper store rows initial Z)
-      (forward-none store rows initial Z) (forward-more store rows initial Z) n
-      (ap (forwardBy store rows initial Z) at-n ∙ sym (forward-least store rows is-cover initial Z .solves) ∙ sym at-n))
+      let proper = forwardBy-proper rows cover (t .initial) Z in
+      let none = forward-none rows cover (t .initial) Z in
+      let more = forward-more rows cover (t .initial) Z in
+      let at-n = pass-before first joined step proper none more (t .n) in
+      order-still first joined step proper none more (t .n)
+      (fixed-done first joined step proper none more (t .n)
+      (ap step at-n ∙ sym (forward-least rows cover is-cover (t .initial) Z .solves) ∙ sym at-n))
       maxStates few
-      ∙ concat-cong _ _ n (λ k h. ap (λ (l : Look). members (l .fresh)) (agree k .0))
-    where
-      at-n : (lookAt (firstBy rows initial Z) (joinsBy store rows Z) n) .before ≡ iterate (forwardBy store rows initial Z) empty n
-      at-n =
-          look-before (firstBy rows initial Z) (joinsBy store rows Z) (forwardBy store rows initial Z) (forwardBy-proper store rows initial Z)
-          (forward-none store rows initial Z) (forward-more store rows initial Z) n
+      ∙ concat-cong _ _ (t .n) (λ k h. ap (λ (l : Pass). members (l .frontier)) (agree k .0))
 
 -- ---- the answer
 
@@ -117,18 +117,18 @@ module _ (store : List ℕ) (n g : ℕ) where
       (sym gives, sym (ap (unlessRefused (padded []) (λ (a : OrderAnswer). a .states)) gives))
 
   module _ (none : refuse (sharedGrounds store n g) ≡ 0) (few : n ≤ maxStates) where
-    pub order-listed : {Z initial : Set} {rows : List Set} {order : List ℕ} {count : ℕ} → Z ≡ notForbidden n ((tableOf store n 0) .forbidden)
-        → rows ≡ covers n (Z ∷ (tableOf store n g) .groups) → initial ≡ setAt store 0
-        → order ≡ padded (orderBy store rows initial Z) → count ≡ length (orderBy store rows initial Z)
+    pub order-listed : {Z initial : Set} {cover : List Set} {order : List ℕ} {count : ℕ} → Z ≡ notForbidden n ((tableOf store n 0) .forbidden)
+        → cover ≡ covers n (Z ∷ groupsIn (groupsOf store) g) → initial ≡ setAt store 0
+        → order ≡ padded (orderBy (rowsOf store) cover initial Z) → count ≡ length (orderBy (rowsOf store) cover initial Z)
         → Ordered store n g (record { expansion = Listed count; states = order })
     unfolding orderAnswer firstRound roundOf tableOf
-    order-listed {Z} {initial} {rows} z c i o m =
+    order-listed {Z} {initial} {cover} z c i o m =
         let t = tableOf store n g in
         let Z0 = notForbidden n ((tableOf store n 0) .forbidden) in
-        let same : orderBy store rows initial Z ≡ forwardOrder t (Z0 ∷ t .groups) Z0 =
-        ap₂ (λ (R : List Set) (X : Set). orderBy store R X Z) c i
-        ∙ ap (λ (X : Set). orderBy store (covers n (X ∷ t .groups)) (setAt store 0) X) z
-        ∙ order-is store n g few (Z0 ∷ t .groups) Z0 (notForbidden-within n ((tableOf store n 0) .forbidden)) in
+        let same : orderBy (rowsOf store) cover initial Z ≡ forwardOrder t (Z0 ∷ t .groups) Z0 =
+        ap₂ (λ (C : List Set) (X : Set). orderBy (rowsOf store) C X Z) (c ∙ ap (λ (L : List Set). covers n (Z ∷ L)) (groups-of store n g)) i
+        ∙ ap (λ (X : Set). orderBy (rowsOf store) (covers n (X ∷ t .groups)) (setAt store 0) X) z
+        ∙ order-is t (rowsOf store) (store-rows store n g) few (Z0 ∷ t .groups) Z0 (notForbidden-within n ((tableOf store n 0) .forbidden)) in
         let listed : ℕ → List ℕ → Answered OrderAnswer = λ k xs. answered (record { count = k; states = xs }) in
         let gives =
         ap₂ listed (m ∙ ap length same) (o ∙ ap padded same)

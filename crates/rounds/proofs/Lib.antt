@@ -1,6 +1,6 @@
 pub mod Bridge
 pub mod Lists
-pub mod Looks
+pub mod Passes
 pub mod Expanding
 pub mod FirstCover
 pub mod Leaving

@@ -6,7 +6,8 @@
 --   sets-append                   one list written behind the other
 --   times-append, times-members   how often a number stands in two lists one after the other, and in the list of a set
 --   filter-rising                 the numbers that pass rise
-use Prim.Native.Nat.{ℕ, zero, suc, _+_, _≤_, _<_}
+--   Stored, stored-*              a loop that stores a set at each place of an array
+use Prim.Native.Nat.{ℕ, zero, suc, _+_, _≤_, _<_, zero-le}
 use native.Mathlib.Nat.{not-suc-le-zero, zero-add, add-zero}
 use native.Mathlib.Omega.{arith}
 use mathlib.Core.Path.{_≡_, refl, sym, ap, ap₂, _∙_, subst}
@@ -15,11 +16,11 @@ use mathlib.Core.Bool.{Bool, true, false, cond, _&&_, _||_}
 use mathlib.Core.List.{List, [], _∷_, _++_, append-assoc, append-nil}
 use borrow.Author.Tests.{eq-eqb, ne-eqb, eqb-true, eqb-false, lt-ltb, le-ltb, ltb-true}
 use lib.Dec.{eqb, ltb}
-use lib.ListN.{length, getD, length-append, List·getD-append}
-use lib.Seq.{sets, getD-append-add}
-use Rattle.basics.specs.Bounds.{filter}
+use lib.ListN.{length, getD, set, replicate, length-append, length-set, length-replicate, List·getD-append}
+use lib.Seq.{sets, getD-append-add, ext-getD, getD-set-same, getD-set-other}
+use Rattle.basics.specs.Bounds.{filter, tabulate}
 use Rattle.model.specs.Sets.{WORDS, maxStates, Set, member, single, union, difference, members, size}
-use Rattle.basics.proofs.BoundLaws.{and-true, and-intro, is-false, decided, same-test, below-suc, lt-or-ge, or-intro, or-true}
+use Rattle.basics.proofs.BoundLaws.{and-true, and-intro, is-false, decided, same-test, below-suc, lt-or-ge, or-intro, or-true, length-tabulate, getD-tabulate}
 use Rattle.model.proofs.SetLaws.{In, in-bound, in-single, single-in, in-union, union-in, in-difference, difference-in, in-or-out}
 use Rattle.state_set.specs.WordSets.{wordSet, wordsBelow}
 use Rattle.state_set.proofs.WordSets.{wordSet-in, words-in, words-more}
@@ -193,51 +194,68 @@ times-members X s =
 
 -- ---- the numbers that pass rise
 
+module _ (p : ℕ → Bool) (n : ℕ) where
+  filter-front : (i : ℕ) → i < length (filter n p) → getD (filter (suc n) p) i 0 ≡ getD (filter n p) i 0
+  unfolding filter
+  filter-front i h = List·getD-append (filter n p) (cond (p n) (n ∷ []) []) 0 i h
+
+  -- behind those below n there is n, or nothing
+  filter-last : (i : ℕ) → length (filter n p) ≤ i → i < length (filter (suc n) p) → (i ≡ length (filter n p)) × (getD (filter (suc n) p) i 0 ≡ n)
+  unfolding filter
+  filter-last i l h =
+      ⊎-elim
+      (λ (t : p n ≡ true).
+      let grown : filter (suc n) p ≡ filter n p ++ (n ∷ []) = ap (λ (b : Bool). filter n p ++ cond b (n ∷ []) []) t in
+      let e : i ≡ length (filter n p) = omega (arith, ap length grown, length-append (filter n p) (n ∷ [])) in
+      (e, ap₂ (λ (xs : List ℕ) (k : ℕ). getD xs k 0) grown (e ∙ sym (add-zero _)) ∙ getD-append-add (filter n p) (n ∷ []) 0 0))
+      (λ (f : p n ≡ false).
+      let same : filter (suc n) p ≡ filter n p = ap (λ (b : Bool). filter n p ++ cond b (n ∷ []) []) f ∙ append-nil (filter n p) in
+      absurd (omega (arith, ap length same)))
+      (decided (p n))
+
 filter-below : (p : ℕ → Bool) (n i : ℕ) → i < length (filter n p) → getD (filter n p) i 0 < n
 unfolding filter
 filter-below p zero i h = absurd (not-suc-le-zero h)
 filter-below p (suc n) i h =
-    ⊎-elim
-    (λ (t : p n ≡ true).
-    let grown : filter (suc n) p ≡ filter n p ++ (n ∷ []) = ap (λ (b : Bool). filter n p ++ cond b (n ∷ []) []) t in
-    let l : i < length (filter n p ++ (n ∷ [])) = subst (λ (xs : List ℕ). i < length xs) grown h in
-    ⊎-elim
-    (λ (a : i < length (filter n p)).
-    let e : getD (filter (suc n) p) i 0 ≡ getD (filter n p) i 0 = ap (λ (xs : List ℕ). getD xs i 0) grown ∙ List·getD-append (filter n p) (n ∷ []) 0 i a in
-    omega (arith, e, filter-below p n i a))
-    (λ (b : length (filter n p) ≤ i).
-    let z : i ≡ length (filter n p) + 0 = omega (arith, l, length-append (filter n p) (n ∷ [])) in
-    let e : getD (filter (suc n) p) i 0 ≡ n = ap₂ (λ (xs : List ℕ) (k : ℕ). getD xs k 0) grown z ∙ getD-append-add (filter n p) (n ∷ []) 0 0 in
-    omega (arith, e))
-    (lt-or-ge i (length (filter n p))))
-    (λ (f : p n ≡ false).
-    let same : filter (suc n) p ≡ filter n p = ap (λ (b : Bool). filter n p ++ cond b (n ∷ []) []) f ∙ append-nil (filter n p) in
-    let e : getD (filter (suc n) p) i 0 ≡ getD (filter n p) i 0 = ap (λ (xs : List ℕ). getD xs i 0) same in
-    omega (arith, e, filter-below p n i (subst (λ (xs : List ℕ). i < length xs) same h)))
-    (decided (p n))
+    ⊎-elim (λ a. omega (arith, filter-front p n i a, filter-below p n i a)) (λ b. omega (arith, filter-last p n i b h .1)) (lt-or-ge i (length (filter n p)))
 
 pub filter-rising : (p : ℕ → Bool) (n i j : ℕ) → i < j → j < length (filter n p) → getD (filter n p) i 0 < getD (filter n p) j 0
 unfolding filter
 filter-rising p zero i j l h = absurd (not-suc-le-zero h)
 filter-rising p (suc n) i j l h =
     ⊎-elim
-    (λ (t : p n ≡ true).
-    let grown : filter (suc n) p ≡ filter n p ++ (n ∷ []) = ap (λ (b : Bool). filter n p ++ cond b (n ∷ []) []) t in
-    let k : j < length (filter n p ++ (n ∷ [])) = subst (λ (xs : List ℕ). j < length xs) grown h in
-    let a : i < length (filter n p) = omega (arith, length-append (filter n p) (n ∷ [])) in
-    let x : getD (filter (suc n) p) i 0 ≡ getD (filter n p) i 0 = ap (λ (xs : List ℕ). getD xs i 0) grown ∙ List·getD-append (filter n p) (n ∷ []) 0 i a in
-    ⊎-elim
-    (λ (b : j < length (filter n p)).
-    let y : getD (filter (suc n) p) j 0 ≡ getD (filter n p) j 0 = ap (λ (xs : List ℕ). getD xs j 0) grown ∙ List·getD-append (filter n p) (n ∷ []) 0 j b in
-    omega (arith, x, y, filter-rising p n i j l b))
-    (λ (b : length (filter n p) ≤ j).
-    let z : j ≡ length (filter n p) + 0 = omega (arith, k, length-append (filter n p) (n ∷ [])) in
-    let y : getD (filter (suc n) p) j 0 ≡ n = ap₂ (λ (xs : List ℕ) (k : ℕ). getD xs k 0) grown z ∙ getD-append-add (filter n p) (n ∷ []) 0 0 in
-    omega (arith, x, y, filter-below p n i a))
-    (lt-or-ge j (length (filter n p))))
-    (λ (f : p n ≡ false).
-    let same : filter (suc n) p ≡ filter n p = ap (λ (b : Bool). filter n p ++ cond b (n ∷ []) []) f ∙ append-nil (filter n p) in
-    let x : getD (filter (suc n) p) i 0 ≡ getD (filter n p) i 0 = ap (λ (xs : List ℕ). getD xs i 0) same in
-    let y : getD (filter (suc n) p) j 0 ≡ getD (filter n p) j 0 = ap (λ (xs : List ℕ). getD xs j 0) same in
-    omega (arith, x, y, filter-rising p n i j l (subst (λ (xs : List ℕ). j < length xs) same h)))
-    (decided (p n))
+    (λ b. let a : i < length (filter n p) = omega arith in omega (arith, filter-front p n i a, filter-front p n j b, filter-rising p n i j l b))
+    (λ b.
+    let last = filter-last p n j b h in
+    let a : i < length (filter n p) = omega (arith, last .0) in
+    omega (arith, filter-front p n i a, last .1, filter-below p n i a))
+    (lt-or-ge j (length (filter n p)))
+
+-- ---- sets stored one after the other
+
+pub record Stored (m : ℕ) (f : ℕ → Set) (rows : List Set) (k : ℕ) : Type 0 where
+  pub long : length rows ≡ m
+  pub within : k ≤ m
+  pub is : (i : ℕ) → i < k → getD rows i [] ≡ f i
+
+module _ (m : ℕ) (f : ℕ → Set) where
+  pub stored-start : (row : Set) → Stored m f (replicate m row) 0
+  stored-start row = record { long = length-replicate m row; within = zero-le; is = λ i h. absurd (not-suc-le-zero h) }
+
+  module _ {rows : List Set} {k : ℕ} (so : Stored m f rows k) where
+    pub stored-turn : {row : Set} → k < m → row ≡ f k → Stored m f (set rows k row) (k + 1)
+    stored-turn {row} h e =
+        record {
+          long = length-set rows k row ∙ so .long;
+          within = omega arith;
+          is = λ i l.
+              ⊎-elim
+              (λ (q : i ≡ k). ap (λ (j : ℕ). getD (set rows k row) j []) q ∙ getD-set-same rows k row [] (omega (arith, so .long)) ∙ e ∙ ap f (sym q))
+              (λ (b : i < k). getD-set-other rows k i row [] (λ q. omega arith) ∙ so .is i b)
+              (below-suc (omega (arith, l)));
+        }
+
+    pub stored-all : m ≤ k → rows ≡ tabulate m f
+    stored-all h =
+        ext-getD [] rows (tabulate m f) (so .long ∙ sym (length-tabulate f m))
+        (λ i l. let b : i < m = omega (arith, so .long) in so .is i (omega arith) ∙ sym (getD-tabulate f m i [] b))

@@ -1,4 +1,4 @@
--- The promises of the order (specs/OrderPromises): that of `forward` by its looks, that of first_order by its contract.
+-- The promises of the order (specs/OrderPromises): that of `forward` by its passes, that of first_order by its contract.
 use Prim.Native.Nat.{ℕ}
 use mathlib.Core.Path.{_≡_, refl, sym, ap, _∙_, subst}
 use mathlib.Core.List.{List, []}
@@ -13,10 +13,13 @@ use Rattle.model.specs.Calls.{overwrite}
 use Rattle.basics.proofs.RefusalLaws.{answered-value, refused-is}
 use Rattle.model.proofs.SetLaws.{subset-in}
 use Rattle.model.proofs.FirstWords.{same-call}
+use Rattle.table.specs.Rows.{tableOn}
+use Rattle.table.proofs.Parts.{on-rows}
 use Rattle.rounds.specs.Order.{forwardOrder, padded, InOrder}
 use Rattle.rounds.specs.OrderAnswers.{OrderAnswer, orderAnswer}
 use Rattle.rounds.specs.OrderPromises.{OrderPromises}
-use Rattle.rounds.proofs.Looks.{in-order}
+use Rattle.rounds.proofs.Bridge.{least-is}
+use Rattle.rounds.proofs.Passes.{in-order}
 use Rattle.rounds.proofs.FirstCover.{order-is}
 
 -- the order of the first round of a table
@@ -31,11 +34,14 @@ unfolding padded overwrite
 padded-front xs = take-at xs (drop (length xs) (replicate maxStates 0)) (length xs) refl
 
 pub promises : OrderPromises
-unfolding orderAnswer
+unfolding orderAnswer tableOn
 promises =
     record {
-      forward = λ store n g L Z few within.
-          subst (InOrder (tableOf store n g) L Z) (sym (order-is store n g few L Z (subset-in within))) (in-order (tableOf store n g) L Z);
+      forward = λ n initial forbidden groups rows L Z few within.
+          let t = tableOn n initial forbidden groups rows in
+          subst (InOrder t L Z) (sym (order-is t rows (on-rows n initial forbidden groups rows) few L Z (subset-in within))) (in-order t L Z);
+      forward-R = λ n initial forbidden groups rows L Z R within e.
+          least-is (tableOn n initial forbidden groups rows) rows (on-rows n initial forbidden groups rows) L Z (subset-in within) e;
       first-order = λ store n g r a c e.
           let t = tableOf store n g in
           let is = answered-value (sharedGrounds store n g) (listed t) (sym (c .0) ∙ e) in

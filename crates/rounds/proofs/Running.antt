@@ -1,39 +1,40 @@
 -- The loop of `run`: what its calls compute are the sets and the tests of the model's round.
 --
 --   forward-within, backward-within     R and S hold states of the table only
---   Running                             the invariant of the loop: Z, which is that of round i, is still to be added to the list that the rows are
---                                       the covers for
---   run-start                           it holds at the start, after the groups are added
---   rows-cover                          the rows after Z is added are a cover
+--   group-added, Z-added                the set that is added next, where a group is left and where none is
+--   Running                             the invariant of the loop: some sets are still to be added to the list that the cover is for, and then it is
+--                                       that of round i
+--   run-start, run-add                  it holds at the start, with Z and all groups left; the last set left is added
+--   is-cover                            where none is left, the cover is one
 --   conclude-safe, -unsafe, -open       what `conclude` concludes, by the tests of steps 2 and 4
 --   run-safe, run-unsafe, run-undecided     where the rounds end
 --   run-turn                            the invariant holds again after a round that goes on
-use Prim.Native.Nat.{ℕ, suc, _+_, _≤_, _<_, zero-le}
+use Prim.Native.Nat.{ℕ, suc, _+_, _-_, _≤_, _<_, zero-le}
 use native.Mathlib.Nat.{not-suc-le-zero}
 use native.Mathlib.Numerals.{add-one}
 use native.Mathlib.Omega.{arith}
 use mathlib.Core.Path.{_≡_, refl, sym, ap, ap₂, _∙_, subst}
 use mathlib.Core.Logic.{⊎-elim}
 use mathlib.Core.Bool.{Bool, true, false, not}
-use mathlib.Core.List.{List, _∷_}
-use lib.ListN.{replicate}
-use borrow.Author.Tests.{not-false}
-use Rattle.model.specs.Sets.{maxStates, Set, empty, union, meet, subset, firstStates}
+use mathlib.Core.List.{List, [], _∷_, _++_, append-assoc, append-nil}
+use borrow.Author.Tests.{not-false, ne-eqb}
+use Rattle.basics.specs.Bounds.{tabulate}
+use Rattle.model.specs.Sets.{Set, empty, union, meet, subset, firstStates}
 use Rattle.model.specs.Tables.{Table, hold, notForbidden}
 use Rattle.model.specs.Rounds.{iterate, forwardStep, forward, backwardStep, backward, Round, roundOf, firstRound, nextRound, isSafe, isUnsafe, safe, unsafe, undecided, run}
-use Rattle.model.specs.Stores.{setAt, tableOf}
 use Rattle.model.specs.Promises.{IsLeast, IsGreatest, roundAt, Continues}
 use Rattle.basics.proofs.BoundLaws.{below-suc, not-true}
 use Rattle.model.proofs.SetLaws.{empty-in, meet-in, _⊆_, ⊆-of-eq}
-use Rattle.model.proofs.Fixpoints.{iterate-has, least-unique, greatest-unique}
+use Rattle.model.proofs.Fixpoints.{iterate-has, greatest-unique}
 use Rattle.model.proofs.CoverLaws.{hold-within, notForbidden-within, forwardStep-within, backwardStep-within}
 use Rattle.model.proofs.RoundLaws.{first-stop}
-use Rattle.table.specs.Rows.{successorsBy, meetHold}
-use Rattle.rounds.specs.Steps.{covers, narrowed, narrowedBy, forwardBy, backwardBy, IsCover}
+use Rattle.table.specs.Rows.{groupsIn, successorsBy, meetHold}
+use Rattle.table.proofs.Parts.{HasRows}
+use Rattle.rounds.specs.Steps.{covers, narrowed, nextAdded, forwardBy, backwardBy, IsCover}
 use Rattle.rounds.specs.declared.Conclusion.the-variants.{Safe as ConcludesSafe, Unsafe as ConcludesUnsafe, Open}
 use Rattle.rounds.specs.declared.Concluded.{Concluded}
-use Rattle.rounds.specs.Answers.{concludes, setBeside, Concludes}
-use Rattle.rounds.proofs.Bridge.{covers-add, covers-start, successorsBy-is, meetHold-is, forwardBy-proper, backwardBy-proper, forward-least, backward-greatest, forward-is, backward-is}
+use Rattle.rounds.specs.DecideAnswers.{concludes, setBeside, Concludes}
+use Rattle.rounds.proofs.Bridge.{groups-last, covers-add, successorsBy-is, meetHold-is, backwardBy-proper, backward-greatest, least-is, backward-is}
 
 -- ---- sets of the table's states
 
@@ -48,31 +49,56 @@ module _ (t : Table) (L : List Set) where
   backward-within R =
       iterate-has (λ X. X ⊆ firstStates (t .n)) (backwardStep t L R) (firstStates (t .n)) (λ s h. h) (λ X h. backwardStep-within t L R X) (t .n)
 
+-- ---- the sets that are added
+
+module _ (groups : List ℕ) (Z : Set) (j : ℕ) where
+  pub group-added : 0 < j → Z ∷ groupsIn groups j ≡ (Z ∷ groupsIn groups (j - 1)) ++ (nextAdded groups j Z ∷ [])
+  unfolding nextAdded
+  group-added some = rw (ne-eqb j 0 (λ z. omega arith)) (ap (λ (L : List Set). Z ∷ L) (groups-last groups j some))
+
+  pub Z-added : j ≤ 0 → Z ∷ groupsIn groups j ≡ nextAdded groups j Z ∷ []
+  unfolding nextAdded groupsIn tabulate
+  Z-added none = let z : j ≡ 0 = omega arith in rw z
+
 -- ---- the invariant
 
-pub record Running (store : List ℕ) (n g allowance : ℕ) (initial : Set) (rows : List Set) (Z : Set) (i : ℕ) : Type 0 where
+pub record Running (t : Table) (rows : List ℕ) (allowance : ℕ) (left cover : List Set) (Z : Set) (i : ℕ) : Type 0 where
+  pub has : HasRows t rows
   pub list : List Set
-  pub rows-are : rows ≡ covers n list
-  pub initial-is : initial ≡ setAt store 0
-  pub within : Z ⊆ firstStates n
-  pub round-is : roundOf (tableOf store n g) (Z ∷ list) Z ≡ roundAt (tableOf store n g) i
+  pub cover-is : cover ≡ covers (t .n) list
+  pub within : Z ⊆ firstStates (t .n)
+  pub round-is : roundOf t (left ++ list) Z ≡ roundAt t i
   pub used : i ≤ allowance
-  pub before : (k : ℕ) → k < i → Continues (tableOf store n g) k
+  pub before : (k : ℕ) → k < i → Continues t k
 
-module _ (store : List ℕ) (n g allowance : ℕ) where
-  pub run-start : {initial all Z : Set} {rows : List Set} → initial ≡ setAt store 0 → all ≡ firstStates n
-      → rows ≡ narrowedBy (replicate maxStates all) ((tableOf store 0 g) .groups) → Z ≡ notForbidden n ((tableOf store n 0) .forbidden)
-      → Running store n g allowance initial rows Z 0
-  unfolding roundAt firstRound tableOf
-  run-start a f c e =
+module _ (t : Table) (rows : List ℕ) (allowance : ℕ) where
+  pub run-start : {Z : Set} {cover : List Set} → HasRows t rows → cover ≡ covers (t .n) [] → Z ≡ notForbidden (t .n) (t .forbidden)
+      → Running t rows allowance (Z ∷ t .groups) cover Z 0
+  unfolding roundAt firstRound
+  run-start h c e =
       record {
-        list = (tableOf store n g) .groups;
-        rows-are = covers-start n _ f c;
-        initial-is = a;
-        within = λ s h. notForbidden-within n ((tableOf store n 0) .forbidden) s (⊆-of-eq e s h);
-        round-is = ap (λ (Z : Set). roundOf (tableOf store n g) (Z ∷ (tableOf store n g) .groups) Z) e;
+        has = h;
+        list = [];
+        cover-is = c;
+        within = λ s m. notForbidden-within (t .n) (t .forbidden) s (⊆-of-eq e s m);
+        round-is = ap₂ (λ (Z : Set) (L : List Set). roundOf t (Z ∷ L) Z) e (append-nil (t .groups));
         used = zero-le;
         before = λ k l. absurd (not-suc-le-zero l);
+      }
+
+  pub run-add : (X : Set) {left left′ before cover : List Set} {Z : Set} {i : ℕ} → left ≡ left′ ++ (X ∷ []) → cover ≡ narrowed before X
+      → Running t rows allowance left before Z i → Running t rows allowance left′ cover Z i
+  run-add X {left′ = left′} {Z = Z} last e so =
+      record {
+        has = so .has;
+        list = X ∷ so .list;
+        cover-is = e ∙ ap (λ (C : List Set). narrowed C X) (so .cover-is) ∙ covers-add (t .n) (so .list) X;
+        within = so .within;
+        round-is =
+            ap (λ (L : List Set). roundOf t L Z) (sym (append-assoc left′ (X ∷ []) (so .list)) ∙ ap (λ (P : List Set). P ++ so .list) (sym last))
+            ∙ so .round-is;
+        used = so .used;
+        before = so .before;
       }
 
 -- ---- what the tests of a round come to
@@ -115,71 +141,57 @@ not-not false = refl
 
 -- ---- a turn
 
--- `added`: the rows after Z is added
-module _ {store : List ℕ} {n g allowance : ℕ} {initial : Set} {before rows : List Set} {Z : Set} {i : ℕ}
-    (so : Running store n g allowance initial before Z i) (added : rows ≡ narrowed before Z) where
-  -- the table, the list with Z, the round, and its tests
-  abbrev table : Table
-  table = tableOf store n g
-
-  abbrev listNow : List Set
-  listNow = Z ∷ so .list
-
+-- no set is left to be added
+module _ {t : Table} {rows : List ℕ} {allowance : ℕ} {cover : List Set} {Z : Set} {i : ℕ} (so : Running t rows allowance [] cover Z i) where
+  -- the round, and its tests
   abbrev roundNow : Round
-  roundNow = roundOf table listNow Z
+  roundNow = roundOf t (so .list) Z
 
   abbrev safeNow : Bool
-  safeNow = isSafe table roundNow
+  safeNow = isSafe t roundNow
 
   abbrev unsafeNow : Bool
-  unsafeNow = isUnsafe table roundNow
+  unsafeNow = isUnsafe t roundNow
 
-  pub rows-now : rows ≡ covers n listNow
-  rows-now = added ∙ ap (λ (X : List Set). narrowed X Z) (so .rows-are) ∙ covers-add n (so .list) Z
+  abbrev pub is-cover : IsCover cover
+  is-cover = record { n = t .n; list = so .list; is = so .cover-is }
 
-  abbrev pub rows-cover : IsCover rows
-  rows-cover = record { n = n; list = listNow; is = rows-now }
+  R-is : {R : Set} → IsLeast (forwardBy rows cover (t .initial) Z) R → R ≡ roundNow .R
+  unfolding roundOf
+  R-is {R} e =
+      least-is t rows (so .has) (so .list) Z (so .within)
+      (subst (λ (C : List Set). IsLeast (forwardBy rows C (t .initial) Z) R) (so .cover-is) e)
 
-  R-is : {R : Set} → IsLeast (forwardBy store rows initial Z) R → R ≡ roundNow .R
-  unfolding roundOf tableOf
-  R-is e =
-      least-unique _ (forwardBy-proper store rows initial Z) e (forward-least store rows rows-cover initial Z)
-      ∙ ap₂ (λ (X : List Set) (Y : Set). iterate (forwardBy store X Y Z) empty n) rows-now (so .initial-is)
-      ∙ forward-is store n g listNow Z (so .within)
-
-  S-is : {R S : Set} → R ≡ roundNow .R → IsGreatest (backwardBy store rows R) S → S ≡ roundNow .S
-  unfolding roundOf tableOf
+  S-is : {R S : Set} → R ≡ roundNow .R → IsGreatest (backwardBy rows cover R) S → S ≡ roundNow .S
+  unfolding roundOf
   S-is {R} r e =
-      greatest-unique _ (backwardBy-proper store rows R) e (backward-greatest store rows rows-cover R)
-      ∙ ap₂ (λ (X : List Set) (Y : Set). iterate (backwardBy store X Y) (firstStates n) n) rows-now r
-      ∙ backward-is store n g listNow _ (forward-within table listNow Z)
+      greatest-unique _ (backwardBy-proper rows cover R) e (backward-greatest rows cover is-cover R)
+      ∙ ap₂ (λ (C : List Set) (Y : Set). iterate (backwardBy rows C Y) (firstStates (t .n)) (t .n)) (so .cover-is) r
+      ∙ backward-is t rows (so .has) (so .list) _ (forward-within t (so .list) Z)
 
-  safe-is : {R : Set} {b : Bool} → R ≡ roundNow .R → b ≡ subset (union initial (successorsBy store R)) Z → safeNow ≡ b
-  unfolding isSafe roundOf tableOf
-  safe-is r e =
-      sym
-      (e
-      ∙ ap₂ (λ (X Y : Set). subset (union X (successorsBy store Y)) Z) (so .initial-is) r
-      ∙ ap (λ (Y : Set). subset (union (setAt store 0) Y) Z) (successorsBy-is store n g _ (forward-within table listNow Z)))
+  safe-is : {R : Set} → R ≡ roundNow .R → subset (union (t .initial) (successorsBy rows R)) Z ≡ safeNow
+  unfolding isSafe roundOf
+  safe-is r =
+      ap (λ (X : Set). subset (union (t .initial) X) Z) (ap (successorsBy rows) r ∙ successorsBy-is t rows (so .has) _ (forward-within t (so .list) Z))
 
-  unsafe-is : {S : Set} {b : Bool} → S ≡ roundNow .S → b ≡ subset initial S → unsafeNow ≡ not b
-  unfolding isUnsafe roundOf tableOf
-  unsafe-is s e = sym (ap not (e ∙ ap₂ subset (so .initial-is) s))
+  unsafe-is : {S : Set} → S ≡ roundNow .S → subset (t .initial) S ≡ not unsafeNow
+  unfolding isUnsafe
+  unsafe-is s = ap (subset (t .initial)) s ∙ sym (not-not _)
 
-  Z-is : {S Z′ : Set} → S ≡ roundNow .S → Z′ ≡ meetHold store S S → Z′ ≡ meet (roundNow .S) (hold n (table .row) (roundNow .S))
-  unfolding roundOf tableOf
-  Z-is s e = e ∙ ap (λ (X : Set). meetHold store X X) s ∙ meetHold-is store n g _ _ (backward-within table listNow _)
+  Z-is : {S Z′ : Set} → S ≡ roundNow .S → Z′ ≡ meetHold rows S S → Z′ ≡ meet (roundNow .S) (hold (t .n) (t .row) (roundNow .S))
+  unfolding roundOf
+  Z-is s e = e ∙ ap (λ (X : Set). meetHold rows X X) s ∙ meetHold-is t rows (so .has) _ _ (backward-within t (so .list) _)
 
   -- ---- where the round leads
 
-  continues : safeNow ≡ false → unsafeNow ≡ false → Continues table i
+  continues : safeNow ≡ false → unsafeNow ≡ false → Continues t i
   continues s u =
-      record { not-safe = ap (isSafe table) (sym (so .round-is)) ∙ s; not-unsafe = ap (isUnsafe table) (sym (so .round-is)) ∙ u }
+      record { not-safe = ap (isSafe t) (sym (so .round-is)) ∙ s; not-unsafe = ap (isUnsafe t) (sym (so .round-is)) ∙ u }
 
-  before-next : safeNow ≡ false → unsafeNow ≡ false → (k : ℕ) → k < suc i → Continues table k
-  before-next s u k h = ⊎-elim (λ e. subst (Continues table) (sym e) (continues s u)) (so .before k) (below-suc h)
+  before-next : safeNow ≡ false → unsafeNow ≡ false → (k : ℕ) → k < suc i → Continues t k
+  before-next s u k h = ⊎-elim (λ e. subst (Continues t) (sym e) (continues s u)) (so .before k) (below-suc h)
 
-  module _ {r : Concluded} (e : Concludes store rows initial Z r) where
+  module _ {r : Concluded} (e : Concludes rows cover (t .initial) Z r) where
     R-now : e .R ≡ roundNow .R
     R-now = R-is (e .R-least)
 
@@ -187,40 +199,43 @@ module _ {store : List ℕ} {n g allowance : ℕ} {initial : Set} {before rows :
     S-now = S-is R-now (e .S-greatest)
 
     concluded : r .conclusion ≡ concludes safeNow (not unsafeNow)
-    concluded = e .conclusion ∙ ap₂ concludes (sym (safe-is R-now refl)) (sym (ap not (unsafe-is S-now refl) ∙ not-not (subset initial (e .S))))
+    concluded = e .conclusion ∙ ap₂ concludes (safe-is R-now) (unsafe-is S-now)
 
-    pub run-safe : r .conclusion ≡ ConcludesSafe → safe i (r .set .words) ≡ run table allowance
+    pub run-safe : r .conclusion ≡ ConcludesSafe → safe i (r .set .words) ≡ run t allowance
     unfolding setBeside
     run-safe q =
         ap (safe i) ((rw q at (e .set)) ∙ R-now ∙ ap (λ (x : Round). x .R) (so .round-is))
-        ∙ sym (first-stop table allowance .at-safe i (so .used) (so .before) (ap (isSafe table) (sym (so .round-is)) ∙ is-safe safeNow unsafeNow (sym concluded ∙ q)))
+        ∙ sym (first-stop t allowance .at-safe i (so .used) (so .before) (ap (isSafe t) (sym (so .round-is)) ∙ is-safe safeNow unsafeNow (sym concluded ∙ q)))
 
-    pub run-unsafe : r .conclusion ≡ ConcludesUnsafe → (unsafe i ≡ run table allowance) × (r .set .words ≡ empty)
+    pub run-unsafe : r .conclusion ≡ ConcludesUnsafe → (unsafe i ≡ run t allowance) × (r .set .words ≡ empty)
     unfolding setBeside
     run-unsafe q =
         let tests = is-unsafe safeNow unsafeNow (sym concluded ∙ q) in (
           sym
-              (first-stop table allowance .at-unsafe i (so .used) (so .before) (ap (isSafe table) (sym (so .round-is)) ∙ tests .0)
-              (ap (isUnsafe table) (sym (so .round-is)) ∙ tests .1)),
+              (first-stop t allowance .at-unsafe i (so .used) (so .before) (ap (isSafe t) (sym (so .round-is)) ∙ tests .0)
+              (ap (isUnsafe t) (sym (so .round-is)) ∙ tests .1)),
           rw q at (e .set),
         )
 
-    pub run-undecided : r .conclusion ≡ Open → i ≡ allowance → undecided i ≡ run table allowance
+    pub run-undecided : r .conclusion ≡ Open → i ≡ allowance → undecided i ≡ run t allowance
     run-undecided q h =
         let tests = is-open safeNow unsafeNow (sym concluded ∙ q) in
-        ap undecided h ∙ sym (first-stop table allowance .at-undecided (λ k l. before-next (tests .0) (tests .1) k (omega arith)))
+        ap undecided h ∙ sym (first-stop t allowance .at-undecided (λ k l. before-next (tests .0) (tests .1) k (omega arith)))
 
-    pub run-turn : r .conclusion ≡ Open → (i ≡ allowance → ⊥) → Running store n g allowance initial rows (r .set .words) (i + 1)
-    unfolding setBeside roundAt nextRound roundOf tableOf
-    run-turn q other =
+    -- with the next Z left to be added, and no group
+    pub run-turn : (groups : List ℕ) {j : ℕ} → j ≤ 0 → r .conclusion ≡ Open → (i ≡ allowance → ⊥)
+        → Running t rows allowance (r .set .words ∷ groupsIn groups j) cover (r .set .words) (i + 1)
+    unfolding setBeside roundAt nextRound roundOf groupsIn tabulate
+    run-turn groups {j} none q other =
+        let z : j ≡ 0 = omega arith in
         let tests = is-open safeNow unsafeNow (sym concluded ∙ q) in
         let next = Z-is S-now (rw q at (e .set)) in
         record {
-          list = listNow;
-          rows-are = rows-now;
-          initial-is = so .initial-is;
-          within = λ x h. hold-within n (table .row) _ x (meet-in (⊆-of-eq next x h) .1);
-          round-is = rw add-one (ap (λ (Z : Set). roundOf table (Z ∷ listNow) Z) next ∙ ap (nextRound table) (so .round-is));
+          has = so .has;
+          list = so .list;
+          cover-is = so .cover-is;
+          within = λ x h. hold-within (t .n) (t .row) _ x (meet-in (⊆-of-eq next x h) .1);
+          round-is = rw (z, add-one) (ap (λ (Z : Set). roundOf t (Z ∷ so .list) Z) next ∙ ap (nextRound t) (so .round-is));
           used = omega (arith, so .used);
           before = λ k h. before-next (tests .0) (tests .1) k (omega arith);
         }

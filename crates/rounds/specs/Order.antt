@@ -1,14 +1,15 @@
 -- The order in which the states of R are expanded (the specification, "Rounds").
 --
---   Look                      a look: the states that it expands, and those that the looks before it have expanded
---   lookAt first joined k     look k. The first expands `first`, each later one what joined by the one before: joined X is what the
+--   Pass                      a pass (02: a look; an iteration of a breadth-first search): its frontier, which are the states that it expands,
+--                             and the states that the passes before it have expanded
+--   passAt first joined k     pass k. The first expands `first`, each later one what joined by the one before: joined X is what the
 --                             successors of X bring
---   orderOf first joined n    the states in the order in which the first n looks expand them, rising within a look
---   forwardOrder t L Z        that order for R of a round of a table: firstLook and joinedBy are what its looks go by
---   orderBy store rows ..     that order over the rows of the cover and the words of the store
+--   orderOf first joined n    the states in the order in which the first n passes expand them, rising within a pass
+--   forwardOrder t L Z        that order for R of a round of a table: firstPass and laterPass are what its passes go by
+--   orderBy rows cover ..     that order over the rows and the cover
 --   padded xs                 xs at the front of an array of maxStates places, the others 0
 --   times s xs                how often s stands in xs
---   InOrder t L Z xs          xs has each state of R once, and no other, look by look; each look is what the specification says; each rises
+--   InOrder t L Z xs          xs has each state of R once, and no other, pass by pass; each pass is what the specification says; each rises
 use Prim.Native.Nat.{ℕ, zero, suc, _+_, _<_}
 use mathlib.Core.Path.{_≡_}
 use mathlib.Core.Bool.{cond, not, _&&_}
@@ -23,43 +24,43 @@ use Rattle.model.specs.Calls.{overwrite}
 use Rattle.table.specs.Rows.{successorsBy}
 use Rattle.rounds.specs.Steps.{coverBy}
 
-pub record Look : Type 0 where
+pub record Pass : Type 0 where
   pub before : Set
-  pub fresh : Set
+  pub frontier : Set
 
-unfoldable pub lookAt : Set → (Set → Set) → ℕ → Look
-lookAt first joined zero = record { before = empty; fresh = first }
-lookAt first joined (suc k) =
-    let look = lookAt first joined k in
-    let seen = union (look .before) (look .fresh) in
-    record { before = seen; fresh = difference (joined (look .fresh)) seen }
+unfoldable pub passAt : Set → (Set → Set) → ℕ → Pass
+passAt first joined zero = record { before = empty; frontier = first }
+passAt first joined (suc k) =
+    let pass = passAt first joined k in
+    let seen = union (pass .before) (pass .frontier) in
+    record { before = seen; frontier = difference (joined (pass .frontier)) seen }
 
 unfoldable pub orderOf : Set → (Set → Set) → ℕ → List ℕ
-orderOf first joined n = concat n (λ k. members ((lookAt first joined k) .fresh))
+orderOf first joined n = concat n (λ k. members ((passAt first joined k) .frontier))
 
 -- ---- of a round of a table
 
-unfoldable pub firstLook : Table → List Set → Set → Set
-firstLook t L Z = cover (t .n) L (meet Z (t .initial))
+unfoldable pub firstPass : Table → List Set → Set → Set
+firstPass t L Z = cover (t .n) L (meet Z (t .initial))
 
-unfoldable pub joinedBy : Table → List Set → Set → Set → Set
-joinedBy t L Z X = cover (t .n) L (meet Z (post (t .n) (t .row) X))
+unfoldable pub laterPass : Table → List Set → Set → Set → Set
+laterPass t L Z X = cover (t .n) L (meet Z (post (t .n) (t .row) X))
 
--- n looks, as many as there can be states that join.
+-- n passes, as many as there can be states that join.
 unfoldable pub forwardOrder : Table → List Set → Set → List ℕ
-forwardOrder t L Z = orderOf (firstLook t L Z) (joinedBy t L Z) (t .n)
+forwardOrder t L Z = orderOf (firstPass t L Z) (laterPass t L Z) (t .n)
 
--- ---- over the rows of the cover and the words of the store
+-- ---- over the rows and the cover
 
-abbrev pub firstBy : List Set → Set → Set → Set
-firstBy rows initial Z = coverBy rows (meet Z initial)
+abbrev pub firstPassBy : List Set → Set → Set → Set
+firstPassBy cover initial Z = coverBy cover (meet Z initial)
 
-abbrev pub joinsBy : List ℕ → List Set → Set → Set → Set
-joinsBy store rows Z X = coverBy rows (meet Z (successorsBy store X))
+abbrev pub laterPassBy : List ℕ → List Set → Set → Set → Set
+laterPassBy rows cover Z X = coverBy cover (meet Z (successorsBy rows X))
 
--- As many looks as there can be states: the last of them expand nothing.
+-- As many passes as there can be states: the last of them expand nothing.
 unfoldable pub orderBy : List ℕ → List Set → Set → Set → List ℕ
-orderBy store rows initial Z = orderOf (firstBy rows initial Z) (joinsBy store rows Z) maxStates
+orderBy rows cover initial Z = orderOf (firstPassBy cover initial Z) (laterPassBy rows cover Z) maxStates
 
 unfoldable pub padded : List ℕ → List ℕ
 padded xs = overwrite xs (replicate maxStates 0)
@@ -70,19 +71,19 @@ unfoldable pub times : ℕ → List ℕ → ℕ
 times s [] = 0
 times s (x ∷ xs) = cond (eqb x s) 1 0 + times s xs
 
-abbrev pub freshAt : Table → List Set → Set → ℕ → Set
-freshAt t L Z k = (lookAt (firstLook t L Z) (joinedBy t L Z) k) .fresh
+abbrev pub frontierAt : Table → List Set → Set → ℕ → Set
+frontierAt t L Z k = (passAt (firstPass t L Z) (laterPass t L Z) k) .frontier
 
 pub record InOrder (t : Table) (L : List Set) (Z : Set) (xs : List ℕ) : Type 0 where
   -- each state of R once, and no other
   pub each-once : (s : ℕ) → times s xs ≡ cond (member (forward t L Z) s) 1 0
-  -- the looks, one after the other
-  pub by-looks : xs ≡ concat (t .n) (λ k. members (freshAt t L Z k))
+  -- the passes, one after the other
+  pub by-passes : xs ≡ concat (t .n) (λ k. members (frontierAt t L Z k))
   -- the first: cover(Z meet Init)
-  pub first-look : freshAt t L Z 0 ≡ cover (t .n) L (meet Z (t .initial))
+  pub first-pass : frontierAt t L Z 0 ≡ cover (t .n) L (meet Z (t .initial))
   -- a later one: what joined by the one before, and was in none so far
-  pub later-look : (k s : ℕ)
-      → member (freshAt t L Z (suc k)) s
-      ≡ (member (cover (t .n) L (meet Z (post (t .n) (t .row) (freshAt t L Z k)))) s && not (any (suc k) (λ j. member (freshAt t L Z j) s)))
-  -- within a look the states rise
-  pub rising : (k i j : ℕ) → i < j → j < length (members (freshAt t L Z k)) → getD (members (freshAt t L Z k)) i 0 < getD (members (freshAt t L Z k)) j 0
+  pub later-pass : (k s : ℕ)
+      → member (frontierAt t L Z (suc k)) s
+      ≡ (member (cover (t .n) L (meet Z (post (t .n) (t .row) (frontierAt t L Z k)))) s && not (any (suc k) (λ j. member (frontierAt t L Z j) s)))
+  -- within a pass the states rise
+  pub rising : (k i j : ℕ) → i < j → j < length (members (frontierAt t L Z k)) → getD (members (frontierAt t L Z k)) i 0 < getD (members (frontierAt t L Z k)) j 0

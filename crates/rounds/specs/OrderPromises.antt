@@ -8,17 +8,22 @@ use mathlib.Core.List.{List, []}
 use lib.ListN.{length, take}
 use Rattle.basics.specs.Refusals.{refuse, refused, answered}
 use Rattle.model.specs.Sets.{maxStates, Set, subset, firstStates}
-use Rattle.model.specs.Rounds.{firstRound}
+use Rattle.model.specs.Rounds.{forward as forwardSet, firstRound}
+use Rattle.model.specs.Promises.{IsLeast}
 use Rattle.model.specs.Stores.{storeWords, tableOf, sharedGrounds}
-use Rattle.rounds.specs.Steps.{covers}
+use Rattle.table.specs.Rows.{tableOn}
+use Rattle.rounds.specs.Steps.{covers, forwardBy}
 use Rattle.rounds.specs.Order.{orderBy, padded, InOrder}
 use Rattle.rounds.specs.OrderAnswers.{OrderAnswer, orderAnswer, orderedOf, Ordered}
 use Rattle.rounds.specs.declared.FirstOrder.{FirstOrder}
 
 pub record OrderPromises : Type 0 where
-  -- the order in the contract of `forward`, on the rows of the cover for a list and the words of a store
-  pub forward : (store : List ℕ) (n g : ℕ) (L : List Set) (Z : Set) → n ≤ maxStates → subset Z (firstStates n) ≡ true
-      → InOrder (tableOf store n g) L Z (orderBy store (covers n L) ((tableOf store n g) .initial) Z)
+  -- the order in the contract of `forward`, of rows and the cover for a list
+  pub forward : (n : ℕ) (initial forbidden : Set) (groups : List Set) (rows : List ℕ) (L : List Set) (Z : Set) → n ≤ maxStates
+      → subset Z (firstStates n) ≡ true → InOrder (tableOn n initial forbidden groups rows) L Z (orderBy rows (covers n L) initial Z)
+  -- R in the contract is the R whose states these are
+  pub forward-R : (n : ℕ) (initial forbidden : Set) (groups : List Set) (rows : List ℕ) (L : List Set) (Z R : Set) → subset Z (firstStates n) ≡ true
+      → IsLeast (forwardBy rows (covers n L) initial Z) R → R ≡ forwardSet (tableOn n initial forbidden groups rows) L Z
   -- what first_order returns is the order of the first round
   pub first-order : (store : List ℕ) (n g : ℕ) (r : FirstOrder) (a : OrderAnswer) → Ordered store n g r → orderedOf r ≡ answered a
       → InOrder (tableOf store n g) ((firstRound (tableOf store n g)) .list) ((firstRound (tableOf store n g)) .Z) (take (a .count) (a .states))

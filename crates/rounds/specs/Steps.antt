@@ -1,44 +1,58 @@
--- The steps of R and S as the code takes them: over the rows of an array and the words of a store.
+-- The steps of R and S as the code takes them: over the rows of a table as they are lent, and the cover in an array.
 --
---   covers n L              the rows that hold the cover of each state for the list L
---   narrowed rows Z         the rows after Z is added to the list
---   narrowedBy rows L       the rows after the sets of L are added, from the last to the first
---   outside Y               the states that a set can hold, without those of Y
---   coverBy rows X          the cover of X
+--   covers n L              the cover of each state for the list L
+--   narrowed cover Z        the cover after Z is added to the list
+--   nextAdded groups j Z    the set added next, where the first j groups and then Z are still to be added, from the last group to the first
+--   coverBy cover X         the cover of X
 --   forwardBy, backwardBy   R's step and S's step
---   IsCover rows            the rows hold the cover of each state for some list of sets
-use Prim.Native.Nat.{ℕ}
+--   stepsByWord rows X      for each word of a set the successors of the states that X has in it
+--   IsCover cover           it has the cover of each state for some list of sets
+--   Leads rows steps X Y    every step from a state of X leads into Y, and into what `steps` has for the state's word
+--   Prepared rows steps cover      what a round is given: a cover, and what the states of the table step to, word by word
+use Prim.Native.Nat.{ℕ, _-_, _*_, _/_}
 use mathlib.Core.Path.{_≡_}
-use mathlib.Core.List.{List, [], _∷_}
+use mathlib.Core.Bool.{cond}
+use mathlib.Core.List.{List, []}
+use lib.Dec.{eqb}
 use lib.ListN.{getD}
 use Rattle.basics.specs.Bounds.{tabulate}
-use Rattle.model.specs.Sets.{maxStates, Set, union, meet, difference, image, firstStates}
+use Rattle.model.specs.Sets.{WORDS, maxStates, Set, union, meet, image, firstStates}
+use Rattle.model.specs.WellFormed.{In, _⊆_}
 use Rattle.model.specs.Tables.{coverOf}
-use Rattle.table.specs.Rows.{successorsBy, meetHold, mapAt}
+use Rattle.model.specs.Stores.{setAt}
+use Rattle.state_set.specs.WordSets.{wordSet}
+use Rattle.table.specs.Rows.{rowIn, successorsBy, meetHold, mapAt}
 
 unfoldable pub covers : ℕ → List Set → List Set
 covers n L = tabulate maxStates (coverOf n L)
 
 unfoldable pub narrowed : List Set → Set → List Set
-narrowed rows Z = mapAt Z (λ row. meet row Z) [] rows
+narrowed cover Z = mapAt Z (λ row. meet row Z) [] cover
 
-unfoldable pub narrowedBy : List Set → List Set → List Set
-narrowedBy rows [] = rows
-narrowedBy rows (Z ∷ L) = narrowed (narrowedBy rows L) Z
-
-unfoldable pub outside : Set → Set
-outside Y = difference (firstStates maxStates) Y
+unfoldable pub nextAdded : List ℕ → ℕ → Set → Set
+nextAdded groups j Z = cond (eqb j 0) Z (setAt groups (WORDS * (j - 1)))
 
 unfoldable pub coverBy : List Set → Set → Set
-coverBy rows X = image maxStates (λ s. getD rows s []) X
+coverBy cover X = image maxStates (λ s. getD cover s []) X
 
 unfoldable pub forwardBy : List ℕ → List Set → Set → Set → Set → Set
-forwardBy store rows initial Z X = coverBy rows (meet Z (union initial (successorsBy store X)))
+forwardBy rows cover initial Z X = coverBy cover (meet Z (union initial (successorsBy rows X)))
 
 unfoldable pub backwardBy : List ℕ → List Set → Set → Set → Set
-backwardBy store rows R X = coverBy rows (meetHold store R X)
+backwardBy rows cover R X = coverBy cover (meetHold rows R X)
 
-pub record IsCover (rows : List Set) : Type 0 where
+unfoldable pub stepsByWord : List ℕ → Set → List Set
+stepsByWord rows X = tabulate WORDS (λ w. successorsBy rows (wordSet w (getD X w 0)))
+
+pub record IsCover (cover : List Set) : Type 0 where
   pub n : ℕ
   pub list : List Set
-  pub is : rows ≡ covers n list
+  pub is : cover ≡ covers n list
+
+pub record Leads (rows : List ℕ) (steps : List Set) (X Y : Set) : Type 0 where
+  pub into : (s : ℕ) → In X s → rowIn rows s ⊆ Y
+  pub by-word : (s : ℕ) → In X s → rowIn rows s ⊆ getD steps (s / 64) []
+
+pub record Prepared (rows : List ℕ) (steps cover : List Set) : Type 0 where
+  pub is-cover : IsCover cover
+  pub steps-are : steps ≡ stepsByWord rows (firstStates (is-cover .n))

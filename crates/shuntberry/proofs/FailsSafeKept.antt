@@ -12,9 +12,10 @@ use Rattle.basics.proofs.BoundLaws.{lt-or-ge}
 use Rattle.basics.proofs.RefusalLaws.{numbered, numbered-append, answer-none, answered-not-refused, refused-is}
 use Rattle.model.specs.Stores.{storeWords, badStates}
 use Rattle.model.specs.Blocks.{maxSite}
-use Rattle.model.specs.Contents.{oldForm, newForm}
-use Rattle.model.specs.Calls.{decideGrounds, decideAnswer, shortestGrounds, shortestAnswer, readGrounds, readAnswerAs, readGroundsAs, writeGrounds, writeAnswer}
+use Rattle.model.specs.Contents.{oldForm}
+use Rattle.model.specs.Calls.{decideGrounds, decideAnswer, shortestGrounds, shortestAnswer, readAnswerAs, readGroundsAs, writeGrounds, writeAnswer}
 use Rattle.model.proofs.CallLaws.{read-numbered}
+use Rattle.model.proofs.Ranges.{read-range}
 use Rattle.paths.specs.Distances.{distancesGrounds, distancesAnswer}
 use Rattle.paths.specs.Within.{withinAnswer}
 use Rattle.rounds.specs.OrderAnswers.{orderAnswer}
@@ -22,7 +23,7 @@ use Rattle.generator.specs.Load.{generateGrounds, generateAnswer}
 use Rattle.replay.specs.Logs.{replayGrounds, replayAnswer}
 use Rattle.edit_session.specs.Edits.{editGrounds, openAnswer, editAnswer}
 use Rattle.modal.specs.Modal.{possibleWords, modalGrounds, modalAnswer}
-use Rattle.release_windows.specs.Answers.{Opening, minute, never, span, grounds, waiting, nextOpenAnswer}
+use Rattle.release_windows.specs.WindowAnswers.{Opening, minute, never, span, grounds, waiting, nextOpenAnswer}
 use Rattle.release_windows.proofs.Answering.{sound-answer, opens, shuts}
 use Rattle.file_check.specs.CheckAnswers.{checkAnswer}
 use Rattle.file_rewrite.specs.RewriteAnswers.{rewriteGrounds, rewriteAnswer}
@@ -65,14 +66,15 @@ some gs b m zero e = absurd (answered-not-refused (sym (answer-none gs b m (sym 
 some gs b m (suc k) e = omega arith
 
 numbers : Numbered
-unfolding decideAnswer decideGrounds shortestAnswer shortestGrounds readAnswerAs writeAnswer writeGrounds rewriteAnswer rewriteGrounds checkAnswer distancesAnswer distancesGrounds withinAnswer generateAnswer generateGrounds replayAnswer replayGrounds openAnswer editAnswer editGrounds modalAnswer modalGrounds nextOpenAnswer grounds
+unfolding decideAnswer decideGrounds shortestAnswer shortestGrounds readAnswerAs writeAnswer writeGrounds rewriteAnswer rewriteGrounds checkAnswer distancesAnswer distancesGrounds withinAnswer orderAnswer generateAnswer generateGrounds replayAnswer replayGrounds openAnswer editAnswer editGrounds modalAnswer modalGrounds nextOpenAnswer grounds
 numbers =
     record {
       decide = λ store n g allowance room. some (decideGrounds store n g allowance room) _ refl;
       shortest-path = λ store n g room. some (shortestGrounds store n g room) _ refl;
       distances = λ store n g room. some (distancesGrounds store n g room) _ refl;
       within = λ store n g j. some _ _ refl;
-      read = λ input site room. some (readGrounds input site room) _ (read-numbered newForm input site room);
+      first-order = λ store n g. some _ _ refl;
+      read = λ form input site room. some (readGroundsAs form input site room) _ (read-numbered form input site room);
       write = λ store n g site room. some (writeGrounds store n g site room) _ refl;
       rewrite = λ input room.
           some (rewriteGrounds input room) _ (numbered-append (readGroundsAs oldForm input 0 storeWords) _ (read-numbered oldForm input 0 storeWords) refl);
@@ -114,5 +116,6 @@ fails-safe =
       minute = λ k time windows days m e. later time windows days m e;
       minute-never = λ k. refl;
       no-time = λ k windows days. refl;
+      table = λ k input site room a e. let range = read-range input site room e in (omega (arith, range .n), omega (arith, range .g));
       read = λ k. handed-on;
     }

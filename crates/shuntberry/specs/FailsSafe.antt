@@ -1,4 +1,4 @@
--- What a C program reads of a refused call, should it not look at `refusal`. Of each field that answers (verdict, found, within, never, minute, n and g): no
+-- What a C program reads of a refused call, should it not look at `refusal`. Of each field that answers (verdict, found, within, never, an open minute, n, g): no
 -- answer that the call can give. Counts, sizes, steps, coverage and lengths are 0, and sets empty or as they were handed in: there only `refusal` tells,
 -- which is never 0. `FailsSafeKept.fails-safe` proves it.
 --
@@ -16,7 +16,8 @@ use Rattle.basics.specs.Refusals.{refused, answered}
 use Rattle.model.specs.Sets.{Set}
 use Rattle.model.specs.Stores.{storeWords}
 use Rattle.model.specs.Blocks.{maxSite}
-use Rattle.model.specs.Calls.{decideAnswer, shortestAnswer, readAnswer, writeAnswer}
+use Rattle.model.specs.Contents.{Form}
+use Rattle.model.specs.Calls.{decideAnswer, shortestAnswer, TableRead, readAnswerAs, readAnswer, writeAnswer}
 use Rattle.paths.specs.Distances.{distancesAnswer}
 use Rattle.paths.specs.Within.{withinAnswer}
 use Rattle.rounds.specs.OrderAnswers.{orderAnswer}
@@ -24,7 +25,7 @@ use Rattle.generator.specs.Load.{generateAnswer}
 use Rattle.replay.specs.Logs.{replayAnswer}
 use Rattle.edit_session.specs.Edits.{Edit, openAnswer, editAnswer}
 use Rattle.modal.specs.Modal.{possibleWords, modalAnswer}
-use Rattle.release_windows.specs.Answers.{minute, never, nextOpenAnswer}
+use Rattle.release_windows.specs.WindowAnswers.{minute, never, nextOpenAnswer}
 use Rattle.file_check.specs.CheckText.{refusedFile}
 use Rattle.file_check.specs.CheckAnswers.{checkAnswer}
 use Rattle.file_rewrite.specs.RewriteAnswers.{rewriteAnswer}
@@ -54,7 +55,9 @@ pub record Numbered : Type 0 where
   pub shortest-path : (store : List ℕ) (n g room k : ℕ) → shortestAnswer store n g room ≡ refused k → 0 < k
   pub distances : (store : List ℕ) (n g room k : ℕ) → distancesAnswer store n g room ≡ refused k → 0 < k
   pub within : (store : List ℕ) (n g j k : ℕ) → withinAnswer store n g j ≡ refused k → 0 < k
-  pub read : (input : List ℕ) (site room k : ℕ) → readAnswer input site room ≡ refused k → 0 < k
+  pub first-order : (store : List ℕ) (n g k : ℕ) → orderAnswer store n g ≡ refused k → 0 < k
+  -- of either form
+  pub read : (form : Form) (input : List ℕ) (site room k : ℕ) → readAnswerAs form input site room ≡ refused k → 0 < k
   pub write : (store : List ℕ) (n g site room k : ℕ) → writeAnswer store n g site room ≡ refused k → 0 < k
   pub rewrite : (input : List ℕ) (room k : ℕ) → rewriteAnswer input room ≡ refused k → 0 < k
   pub check : (input : List ℕ) (site room k : ℕ) → checkAnswer input site room ≡ refused k → 0 < k
@@ -82,5 +85,8 @@ pub record FailsSafe : Type 0 where
       → m < (minuteFields (refused k)) .minute
   pub minute-never : (k : ℕ) → (minuteFields (refused k)) .minute ≡ (minuteFields (answered never)) .minute
   pub no-time : (k : ℕ) (windows days : List ℕ) → nextOpenAnswer ((minuteFields (refused k)) .minute) windows days ≡ refused 31
-  -- n of a refused read, in any store
+  -- n and g of a refused read: greater than any that it answers with
+  pub table : (k : ℕ) (input : List ℕ) (site room : ℕ) (a : TableRead) → readAnswer input site room ≡ answered a
+      → (a .n < (tableFields (refused k)) .n) × (a .g < (tableFields (refused k)) .g)
+  -- and that n, in any store
   pub read : (k : ℕ) → HandedOn ((tableFields (refused k)) .n)

@@ -15,7 +15,7 @@ use Rattle.model.specs.Sets.{Set, empty}
 use Rattle.model.specs.Calls.{Decision, Shortest, TableRead}
 use Rattle.replay.specs.Logs.{Replay}
 use Rattle.modal.specs.Modal.{ModalAnswer}
-use Rattle.release_windows.specs.Answers.{Opening, minute, never}
+use Rattle.release_windows.specs.WindowAnswers.{Opening, minute, never}
 use Rattle.file_check.specs.CheckText.{FileVerdict, safe, unsafe, refusedFile}
 use Rattle.file_check.specs.CheckAnswers.{CheckedFile}
 use Rattle.shuntberry.specs.declared.CheckFields.{CheckFields}
@@ -89,7 +89,7 @@ minuteFields (refused k) = record { refusal = k; never = noAnswer; minute = noMi
 minuteFields (answered (minute m)) = record { refusal = 0; never = 0; minute = m }
 minuteFields (answered never) = record { refusal = 0; never = 1; minute = noMinute }
 
--- `ground` is the number with which read refuses the file: that is an answer, whose text says so, but no verdict.
+-- `ground`, which is `file_refusal` in C, is the number with which read refuses the file: that is an answer, whose text says so, but no verdict.
 abbrev pub checkedFields : ℕ → FileVerdict → CheckFields
 checkedFields l (safe n) = record { length = l; n = n; refusal = 0; ground = 0; verdict = 0; reserved = 0 }
 checkedFields l (unsafe n) = record { length = l; n = n; refusal = 0; ground = 0; verdict = 1; reserved = 0 }
@@ -97,4 +97,4 @@ checkedFields l (refusedFile k) = record { length = l; n = noTable; refusal = 0;
 
 abbrev pub checkFields : Answered CheckedFile → CheckFields
 checkFields (refused k) = record { length = 0; n = noTable; refusal = k; ground = 0; verdict = noVerdict; reserved = 0 }
-checkFields (answered a) = checkedFields (a .length) (a .verdict)
+checkFields (answered a) = checkedFields (a .textLength) (a .verdict)

@@ -1,3 +1,4 @@
 pub mod Fields
 pub mod FailsSafe
+pub mod Figures
 pub mod Small

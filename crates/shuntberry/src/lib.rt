@@ -1,5 +1,6 @@
 // The calls for C (include/shuntberry.h). Each only calls the call of the same name and lays its answer out in a struct of the
-// specification's numbers. specs/Fields says which, for an answer and for a refusal; specs/FailsSafe, that a refusal is none of the numbers of an answer.
+// specification's numbers. specs/Fields says which, for an answer and for a refusal; specs/FailsSafe, that no field that answers
+// has a number of an answer where the call is refused.
 ghost use mathlib.Core.Path.{_≡_};
 ghost use Prim.Native.Nat.{_≤_};
 ghost use lib.ListN.{length};
@@ -8,25 +9,25 @@ ghost use Rattle.model.specs.Sets.{empty, maxStates};
 ghost use Rattle.model.specs.Files.{maxFile};
 ghost use Rattle.model.specs.Calls.{decideAnswer, decideBuffer, shortestAnswer, shortestBuffer, readAnswer, readBuffer, writeAnswer, writeBuffer};
 ghost use Rattle.model.proofs.Ranges.{DecisionRange, ReadRange};
-ghost use Rattle.rounds.specs.Answers.{answerOf};
-ghost use Rattle.paths.specs.Answers.{shortestOf};
+ghost use Rattle.rounds.specs.DecideAnswers.{decidedOf};
+ghost use Rattle.paths.specs.PathAnswers.{shortestOf};
 ghost use Rattle.paths.specs.Distances.{distancesAnswer, distancesBuffer, distancesOf};
-ghost use Rattle.paths.specs.Within.{withinAnswer, answerOf as withinOf};
+ghost use Rattle.paths.specs.Within.{withinAnswer, withinOf};
 ghost use Rattle.file_reading.specs.ReadAnswers.{readOf};
 ghost use Rattle.file_writing.specs.WriteAnswers.{writtenOf};
 ghost use Rattle.file_check.specs.CheckAnswers.{checkedOf, checkAnswer, checkBuffer};
 ghost use Rattle.file_rewrite.specs.RewriteAnswers.{rewriteAnswer, rewriteBuffer};
 ghost use Rattle.generator.specs.Load.{generateAnswer, generateBuffer};
-ghost use Rattle.generator.specs.Answers.{generatedOf};
+ghost use Rattle.generator.specs.GenerateAnswers.{generatedOf};
 ghost use Rattle.replay.specs.Logs.{replayAnswer};
-ghost use Rattle.replay.specs.Answers.{replayedOf};
+ghost use Rattle.replay.specs.ReplayAnswers.{replayedOf};
 ghost use Rattle.replay.proofs.Ranges.{ReplayRange};
 ghost use Rattle.edit_session.specs.Edits.{add, remove, openAnswer, editAnswer, editBuffer};
-ghost use Rattle.edit_session.specs.Answers.{answerOf as sessionOf};
+ghost use Rattle.edit_session.specs.SessionAnswers.{sessionOf};
 ghost use Rattle.modal.specs.Modal.{modalAnswer, modalBuffer};
-ghost use Rattle.modal.specs.Answers.{answerOf as modalOf};
+ghost use Rattle.modal.specs.ModalAnswers.{modalDecidedOf};
 ghost use Rattle.modal.proofs.Ranges.{ModalRange};
-ghost use Rattle.release_windows.specs.Answers.{nextOpenAnswer, openingOf};
+ghost use Rattle.release_windows.specs.WindowAnswers.{nextOpenAnswer, openingOf};
 ghost use Rattle.shuntberry.specs.Small.{WhereAnswered};
 ghost use Rattle.shuntberry.specs.Fields.{refusalNumber, decisionFields, shortestFields, withinFields, tableFields, fileFields, replayFields, sessionFields, modalFields, minuteFields, checkFields};
 use edit_session::Session;
@@ -101,8 +102,8 @@ fn refused_decision(refusal: u8) -> DecisionFields
 }
 
 fn lay_out_decision(answer: Decision) -> DecisionFields
-    requires { ⌜ WhereAnswered DecisionRange (answerOf answer) ⌝ }
-    ensures { λ r. ⌜ r ≡ decisionFields (answerOf answer) ⌝ }
+    requires { ⌜ WhereAnswered DecisionRange (decidedOf answer) ⌝ }
+    ensures { λ r. ⌜ r ≡ decisionFields (decidedOf answer) ⌝ }
 {
     let verdict = answer.verdict;
     let invariant = answer.invariant.words;
@@ -154,7 +155,7 @@ pub extern "C" fn shuntberry_decide(
 
 // ---- check: from a file's bytes to the text and the verdict
 
-// `ground` is the number with which read refuses the file.
+// `ground`, which is `file_refusal` in C, is the number with which read refuses the file.
 #[repr(C)]
 pub struct CheckFields {
     pub length: usize,
@@ -555,8 +556,8 @@ fn refused_modal(refusal: u8) -> ModalFields
 }
 
 fn lay_out_modal(answer: ModalDecision) -> ModalFields
-    requires { ⌜ WhereAnswered ModalRange (modalOf answer) ⌝ }
-    ensures { λ r. ⌜ r ≡ modalFields (modalOf answer) ⌝ }
+    requires { ⌜ WhereAnswered ModalRange (modalDecidedOf answer) ⌝ }
+    ensures { λ r. ⌜ r ≡ modalFields (modalDecidedOf answer) ⌝ }
 {
     let verdict = answer.verdict;
     let invariant = answer.invariant.words;

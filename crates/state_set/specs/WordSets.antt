@@ -1,6 +1,6 @@
 -- Sets word by word, for loops that go through the bits of one word after the other.
 --
---   onesIn w X        the ones in the first w words of X, summed (in all its words they are the states: `Counts.size-ones`)
+--   onesIn w X        the ones in the first w words of X, summed (in all its words they are the states: `call_statements`, States)
 --   wordSet w x       the states of word w that x has a bit for
 --   wordsBelow w X    the states of X in the words before w
 use Prim.Native.Nat.{ℕ, zero, suc, _+_, _/_, _%_}

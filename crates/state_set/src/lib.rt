@@ -15,6 +15,11 @@ ghost use Rattle.model.specs.Sets.{member, empty, single, union, meet, differen
 // The model's WORDS is the same number.
 pub const WORDS: usize = 8;
 
+pub const WORD_BITS: usize = 64;
+
+// As many as a set can hold.
+pub const MAX_STATES: usize = WORD_BITS * WORDS;
+
 pub struct StateSet {
     pub words: [u64; WORDS],
 }
@@ -25,7 +30,7 @@ fn word_below(n: usize, from: usize) -> u64
 {
     if n <= from {
         0
-    } else if n - from < 64 {
+    } else if n - from < WORD_BITS {
         (1 << (n - from)) - 1
     } else {
         !0
@@ -45,7 +50,7 @@ impl StateSet {
     {
         let mut words = [0; WORDS];
         for w in 0..WORDS {
-            words[w] = word_below(n, 64 * w);
+            words[w] = word_below(n, WORD_BITS * w);
         }
         StateSet { words }
     }
@@ -53,17 +58,17 @@ impl StateSet {
     pub fn contains(self, s: usize) -> bool
         ensures { λ r. ⌜ r ≡ member (self .words) s ⌝ }
     {
-        let w = s / 64;
-        w < WORDS && self.words[w] >> (s % 64) & 1 == 1
+        let w = s / WORD_BITS;
+        w < WORDS && self.words[w] >> (s % WORD_BITS) & 1 == 1
     }
 
     // The set with s; the same set where s is a state that no set can hold.
     pub fn with(mut self, s: usize) -> Self
         ensures { λ r. ⌜ r .words ≡ union (self .words) (single s) ⌝ }
     {
-        let w = s / 64;
+        let w = s / WORD_BITS;
         if w < WORDS {
-            self.words[w] |= 1 << (s % 64);
+            self.words[w] |= 1 << (s % WORD_BITS);
         }
         self
     }
@@ -158,9 +163,9 @@ impl StateSet {
     {
         for w in 0..WORDS {
             if self.words[w] != 0 {
-                return 64 * w + u64::trailing_zeros(self.words[w]) as usize;
+                return WORD_BITS * w + u64::trailing_zeros(self.words[w]) as usize;
             }
         }
-        64 * WORDS
+        MAX_STATES
     }
 }

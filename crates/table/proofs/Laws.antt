@@ -1,12 +1,10 @@
 -- Laws of the store that the functions' proofs cite.
 --
---   Copying, copied             a loop that copies the words of a set; the set when it is done
 --   beyond-is                   a set has a state from n up exactly if it is not inside the first n states
 --   all-states                  none has one where n is the most that there can be
 --   beyond-none, -union, -turn, -end    a loop that joins sets, one of which may have a state from n up
 --   or-none                     words joined are 0 just where each of them is
 --   non-zero-hit                a word other than 0; non-zero-start, -turn, -end: a loop that joins words, to see whether there is one
---   malformed-initial, .., malformed-last   the tests of ground 17, one after the other
 use Prim.Native.Nat.{ℕ, _+_, _≤_, _<_}
 use native.Mathlib.Nat.{le-antisymm}
 use native.Mathlib.Numerals.{add-one}
@@ -15,46 +13,15 @@ use mathlib.Core.Path.{_≡_, refl, sym, ap, _∙_, subst}
 use mathlib.Core.Logic.{inl, inr, ⊎-elim}
 use mathlib.Core.Bool.{Bool, true, false, not, _&&_, _||_}
 use mathlib.Core.List.{List}
-use borrow.Author.Count.{below-more}
 use borrow.Author.Tests.{le-leb, leb-true, eqb-true, eq-eqb, ne-eqb, lt-leb}
 use lib.Bits.{bitOr, or-add-and, and-le-r}
 use lib.Dec.{eqb, leb}
-use lib.ListN.{length, getD, set, take, drop, length-set, length-take, length-drop}
-use lib.Seq.{ext-getD, getD-take, getD-drop, getD-set-same, getD-set-other}
+use lib.ListN.{getD}
 use Rattle.basics.specs.Bounds.{any}
-use Rattle.model.specs.Sets.{WORDS, maxStates, Set, member, subset, firstStates, empty, union}
-use Rattle.model.specs.Stores.{maxGroups, markedAt, restingAt, groupAt, rowAt, storeWords, setAt, beyond, nonZero, malformed}
+use Rattle.model.specs.Sets.{maxStates, Set, member, subset, firstStates, empty, union}
+use Rattle.model.specs.Stores.{beyond, nonZero}
 use Rattle.basics.proofs.BoundLaws.{and-true, and-intro, or-intro, or-true as or-cases, is-false, same-test, lt-or-ge, clash, decided, any-intro, any-find, no-any, not-true}
 use Rattle.model.proofs.SetLaws.{In, in-bound, empty-in, in-firstStates, firstStates-in, in-union, union-in, subset-in, subset-not}
-
--- ---- a set copied out of the store
-
--- the first w words are those of the store from `at` on
-pub record Copying (store : List ℕ) (at : ℕ) (words : List ℕ) (w : ℕ) : Type 0 where
-  pub within : w ≤ WORDS
-  pub long : length words ≡ WORDS
-  pub same : (k : ℕ) → k < w → getD words k 0 ≡ getD store (at + k) 0
-
-module _ (store : List ℕ) (at : ℕ) where
-  pub copying-more : (words : List ℕ) (w : ℕ) → w < WORDS → Copying store at words w → Copying store at (set words w (getD store (at + w) 0)) (w + 1)
-  copying-more words w h c =
-      record {
-        within = omega arith;
-        long = length-set words w _ ∙ c .long;
-        same =
-            below-more (λ k. getD (set words w (getD store (at + w) 0)) k 0 ≡ getD store (at + k) 0) w
-            (λ k l. getD-set-other words w k _ 0 (λ e. omega arith) ∙ c .same k l)
-            (getD-set-same words w _ 0 (subst (λ (m : ℕ). w < m) (sym (c .long)) h));
-      }
-
-  pub copied : (words : List ℕ) (w : ℕ) → at + WORDS ≤ length store → WORDS ≤ w → Copying store at words w → words ≡ setAt store at
-  unfolding setAt
-  copied words w h l c =
-      let long : length (take WORDS (drop at store)) ≡ WORDS = simp (length-take, length-drop) (omega arith) in
-      ext-getD 0 words (take WORDS (drop at store)) (c .long ∙ sym long)
-      (λ k b.
-      let below : k < WORDS = subst (λ (m : ℕ). k < m) (c .long) b in
-      c .same k (omega arith) ∙ sym (getD-take WORDS (drop at store) k 0 below ∙ getD-drop at store k 0))
 
 -- ---- acceptance
 
@@ -136,57 +103,3 @@ module _ (xs : List ℕ) (from : ℕ) where
 
   pub non-zero-end : (i to joined : ℕ) → i ≤ to → to ≤ i → nonZero xs from i ≡ not (eqb joined 0) → nonZero xs from to ≡ not (eqb joined 0)
   non-zero-end i to joined l h e = subst (λ (k : ℕ). nonZero xs from k ≡ not (eqb joined 0)) (le-antisymm l h) e
-
--- ---- the tests of ground 17, one after the other
-
-or-true : (a : Bool) → (a || true) ≡ true
-or-true true = refl
-or-true false = refl
-
-module _ (store : List ℕ) (n g : ℕ) where
-  abbrev pub initial-beyond : Bool
-  initial-beyond = beyond n (setAt store 0)
-
-  abbrev pub marked-beyond : Bool
-  marked-beyond = beyond n (setAt store markedAt)
-
-  abbrev pub resting-beyond : Bool
-  resting-beyond = beyond n (setAt store restingAt)
-
-  abbrev pub group-beyond : Bool
-  group-beyond = any g (λ j. beyond n (setAt store (groupAt j)))
-
-  abbrev pub row-beyond : Bool
-  row-beyond = any n (λ s. beyond n (setAt store (rowAt s)))
-
-  abbrev pub group-used : Bool
-  group-used = nonZero store (groupAt g) (groupAt maxGroups)
-
-  pub malformed-initial : initial-beyond ≡ true → true ≡ malformed store n g
-  unfolding malformed
-  malformed-initial e = rw e
-
-  pub malformed-marked : marked-beyond ≡ true → true ≡ malformed store n g
-  unfolding malformed
-  malformed-marked e = rw (e, or-true initial-beyond)
-
-  pub malformed-resting : resting-beyond ≡ true → true ≡ malformed store n g
-  unfolding malformed
-  malformed-resting e = rw (e, or-true (initial-beyond || marked-beyond))
-
-  pub malformed-group : group-beyond ≡ true → true ≡ malformed store n g
-  unfolding malformed
-  malformed-group e = rw (e, or-true (initial-beyond || marked-beyond || resting-beyond))
-
-  pub malformed-row : row-beyond ≡ true → true ≡ malformed store n g
-  unfolding malformed
-  malformed-row e = rw (e, or-true (initial-beyond || marked-beyond || resting-beyond || group-beyond))
-
-  pub malformed-unused : group-used ≡ true → true ≡ malformed store n g
-  unfolding malformed
-  malformed-unused e = rw (e, or-true (initial-beyond || marked-beyond || resting-beyond || group-beyond || row-beyond))
-
-  pub malformed-last : initial-beyond ≡ false → marked-beyond ≡ false → resting-beyond ≡ false → group-beyond ≡ false → row-beyond ≡ false → group-used ≡ false
-      → nonZero store (rowAt n) storeWords ≡ malformed store n g
-  unfolding malformed
-  malformed-last a b c d e f = rw (a, b, c, d, e, f)

@@ -2,5 +2,8 @@ pub mod Laws
 pub mod MapAt
 pub mod Joins
 pub mod Hold
-pub mod Hangs
+pub mod Parts
 pub mod States
+pub mod Overwriting
+pub mod Putting
+pub mod Filling

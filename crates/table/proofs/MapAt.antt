@@ -4,7 +4,7 @@
 --   mapAt-tabulate                       of a list f 0, f 1, ..
 --   mapAt-none, mapAt-peel               no state, no change; a state's element changed first, then those at the rest
 --   mapAt-parts                          one set after the other, where they have no state in common
---   Mapping, mapping-turn, -end          the loop over the bits of a word: its invariant, a turn of it, and what it leaves
+--   Mapping, mapping-bound, -turn, -end  the loop over the bits of a word: its invariant, the state that is next, a turn of it, and what it leaves
 --   map-start, map-word, map-all         the loop over the words: the elements at the states in the words passed are changed
 use Prim.Native.Nat.{ℕ, _+_, _-_, _*_, _^_, _≤_, _<_}
 use native.Mathlib.Omega.{arith}
@@ -17,7 +17,7 @@ use lib.Count.{trailingZeros}
 use lib.ListN.{length, getD, set, length-set}
 use lib.Seq.{ext-getD, getD-set-same, getD-set-other}
 use Rattle.basics.specs.Bounds.{tabulate}
-use Rattle.model.specs.Sets.{WORDS, Set, member, single, union, difference, empty}
+use Rattle.model.specs.Sets.{WORDS, maxStates, Set, member, single, union, difference, empty}
 use Rattle.basics.proofs.BoundLaws.{is-false, same-test, length-tabulate, getD-tabulate, tabulate-cong}
 use Rattle.model.proofs.SetLaws.{Proper, In, in-bound, in-or-out, empty-in, in-single, single-in, in-union, union-in, in-difference, difference-in}
 use Rattle.state_set.specs.WordSets.{wordSet, wordsBelow}
@@ -104,6 +104,9 @@ pub record Mapping {A : Type 0} (f : A → A) (z : A) (goal : List A) (w rest : 
   pub whole : mapAt (wordSet w rest) f z now ≡ goal
 
 module _ {A : Type 0} (f : A → A) (z : A) (goal : List A) {w rest : ℕ} {now : List A} (so : Mapping f z goal w rest now) where
+  pub mapping-bound : w < WORDS → (rest ≡ 0 → ⊥) → 64 * w + trailingZeros 64 rest < maxStates
+  mapping-bound h some = in-bound (word-lowest w rest h (so .fits) some)
+
   pub mapping-turn : {new : A} → w < WORDS → (rest ≡ 0 → ⊥) → new ≡ f (getD now (64 * w + trailingZeros 64 rest) z)
       → Mapping f z goal w (bitAnd rest (rest - 1)) (set now (64 * w + trailingZeros 64 rest) new)
   mapping-turn h some p =

@@ -1,15 +1,16 @@
 // The lent store (the specification, "The store"): its layout, the sets in it, and the acceptance test that the calls share.
 //
-//   set_at, group_at, row_at     a set of the store
-//   successors                   post: all successors of the states of a set
-//   meet_hold, none_held         x meet hold(y): the states of a set whose every successor is in another; whether there is none
-//   none_forbidden               whether a set has no forbidden state: none that is marked so, and no hang
-//   forbidden_among, forbidden   the forbidden states of a set; those of a table
+//   set_at, row_at               a set of the store; the set in a row
+//   clear, put_set               0 in every word of a table; a set put into the store
+//   join_successors, successors  what the states of a word step to, joined to a set; post: all successors of the states of a set
+//   held_word, meet_hold         x meet hold(y), the states of a set whose every successor is in another: a word of it; all of it
+//   forbidden_by, forbidden      the forbidden states of a store with given rows, and with its own
 //   Rows, row_of, union_of       a row of words for each state, the set in one row, the union of the rows of a set's states
 //   any_beyond, non_zero         whether some of the store's sets have a state from n up; whether some of its words are not 0
 //   refusal                      the first of the grounds 10, 14, 15 and 17 that holds, or 0
 //
-// Functions below the calls ask for a store that is long enough; `refusal` asks for nothing.
+// Functions below the calls ask for a store, or for rows, that are long enough; `refusal` asks for nothing. What works on a table is lent its parts: the
+// rows (`&store[ROWS_AT..]`, or possible steps as they are lent), the groups (`&store[GROUPS_AT..]`), and sets by value.
 ghost use mathlib.Core.Path.{_≡_};
 ghost use Prim.Native.Nat.{_+_, _*_, _≤_, _<_};
 ghost use mathlib.Core.Bool.{not, _&&_};
@@ -17,15 +18,17 @@ ghost use lib.Dec.{eqb};
 ghost use lib.ListN.{length, getD};
 ghost use mathlib.Core.List.{[]};
 ghost use Rattle.basics.specs.Bounds.{any};
-ghost use Rattle.model.specs.Sets.{WORDS, maxStates, empty, union, meet, subset, image};
+ghost use Rattle.model.specs.Sets.{WORDS, maxStates, union, subset, image};
+ghost use Rattle.model.specs.Tables.{hangs as hangs·model};
 ghost use Rattle.state_set.specs.WordSets.{wordSet};
 ghost use Rattle.basics.specs.Refusals.{refuse};
-ghost use Rattle.model.specs.Stores.{storeWords, maxGroups, groupAt, rowAt, setAt, tableOf, beyond, nonZero, malformed, sharedGrounds};
-ghost use Rattle.table.specs.Rows.{successorsBy, meetHold, forbiddenBy};
+ghost use Rattle.model.specs.Stores.{storeWords, maxGroups, setAt, tableOf, beyond, nonZero, malformed, sharedGrounds};
+ghost use Rattle.table.specs.Rows.{rowsWords, rowIn, rowsIn, forbiddenBy, successorsBy, meetHold};
+ghost use Rattle.table.specs.Writing.{overwriteFrom, cleared};
+use state_set::MAX_STATES;
 use state_set::StateSet;
+use state_set::WORD_BITS;
 use state_set::WORDS;
-
-pub const MAX_STATES: usize = 64 * WORDS;
 
 pub const MAX_GROUPS: usize = 64;
 
@@ -54,67 +57,79 @@ pub fn set_at(store: &[u64], at: usize) -> StateSet
     StateSet { words }
 }
 
-pub fn group_at(store: &[u64], j: usize) -> StateSet
-    requires { ⌜ (j < maxGroups) × (storeWords ≤ length (now store)) ⌝ }
-    ensures { λ r. ⌜ r .words ≡ setAt (now (store .entry)) (groupAt j) ⌝ }
+// The words of a table, those of unused groups and rows among them.
+pub fn clear(store: &mut [u64])
+    requires { ⌜ storeWords ≤ length (now store) ⌝ }
+    ensures { λ r. ⌜ now (store .exit) ≡ cleared (now (store .entry)) ⌝ }
 {
-    set_at(store, GROUPS_AT + WORDS * j)
+    for i in 0..STORE_WORDS {
+        store[i] = 0;
+    }
+}
+
+// A set into the words from `at` on.
+pub fn put_set(store: &mut [u64], at: usize, x: StateSet)
+    requires { ⌜ at + WORDS ≤ length (now store) ⌝ }
+    ensures { λ r. ⌜ now (store .exit) ≡ overwriteFrom at (x .words) (now (store .entry)) ⌝ }
+{
+    for w in 0..WORDS {
+        store[at + w] = x.words[w];
+    }
 }
 
 // The successors of state s.
-pub fn row_at(store: &[u64], s: usize) -> StateSet
-    requires { ⌜ (s < maxStates) × (storeWords ≤ length (now store)) ⌝ }
-    ensures { λ r. ⌜ r .words ≡ setAt (now (store .entry)) (rowAt s) ⌝ }
+pub fn row_at(rows: &[u64], s: usize) -> StateSet
+    requires { ⌜ (s < maxStates) × (rowsWords ≤ length (now rows)) ⌝ }
+    ensures { λ r. ⌜ r .words ≡ rowIn (now (rows .entry)) s ⌝ }
 {
-    set_at(store, ROWS_AT + WORDS * s)
+    set_at(rows, WORDS * s)
 }
 
 // The successors of the states that `bits` has in word w, joined to `found`.
-fn join_successors(store: &[u64], w: usize, bits: u64, found: StateSet) -> StateSet
-    requires { ⌜ (w < WORDS) × (storeWords ≤ length (now store)) ⌝ }
-    ensures { λ r. ⌜ r .words ≡ union (found .words) (successorsBy (now (store .entry)) (wordSet w bits)) ⌝ }
+pub fn join_successors(rows: &[u64], w: usize, bits: u64, found: StateSet) -> StateSet
+    requires { ⌜ (w < WORDS) × (rowsWords ≤ length (now rows)) ⌝ }
+    ensures { λ r. ⌜ r .words ≡ union (found .words) (successorsBy (now (rows .entry)) (wordSet w bits)) ⌝ }
 {
     let mut joined = found;
     let mut rest = bits;
     while rest != 0 {
-        let s = 64 * w + u64::trailing_zeros(rest) as usize;
-        joined = joined.union(row_at(store, s));
+        let s = WORD_BITS * w + u64::trailing_zeros(rest) as usize;
+        joined = joined.union(row_at(rows, s));
         rest &= rest - 1;
     }
     joined
 }
 
 // All successors of states in x.
-pub fn successors(store: &[u64], x: StateSet) -> StateSet
-    requires { ⌜ storeWords ≤ length (now store) ⌝ }
-    ensures { λ r. ⌜ r .words ≡ successorsBy (now (store .entry)) (x .words) ⌝ }
+pub fn successors(rows: &[u64], x: StateSet) -> StateSet
+    requires { ⌜ rowsWords ≤ length (now rows) ⌝ }
+    ensures { λ r. ⌜ r .words ≡ successorsBy (now (rows .entry)) (x .words) ⌝ }
 {
     let mut found = StateSet::empty();
     for w in 0..WORDS {
-        found = join_successors(store, w, x.words[w], found);
+        found = join_successors(rows, w, x.words[w], found);
     }
     found
 }
 
 // Every successor of s is in y.
-fn row_inside(store: &[u64], s: usize, y: StateSet) -> bool
-    requires { ⌜ (s < maxStates) × (storeWords ≤ length (now store)) ⌝ }
-    ensures { λ b. ⌜ b ≡ subset (setAt (now (store .entry)) (rowAt s)) (y .words) ⌝ }
+fn row_inside(rows: &[u64], s: usize, y: StateSet) -> bool
+    requires { ⌜ (s < maxStates) × (rowsWords ≤ length (now rows)) ⌝ }
+    ensures { λ b. ⌜ b ≡ subset (rowIn (now (rows .entry)) s) (y .words) ⌝ }
 {
-    row_at(store, s).is_subset(y)
+    row_at(rows, s).is_subset(y)
 }
 
-// Of the states that `bits` has in word w, those that are in hold(y), as bits. They are gathered in a number and not in a set, where each would
-// be one word written and the whole set read again.
-fn held_bits(store: &[u64], w: usize, bits: u64, y: StateSet) -> u64
-    requires { ⌜ (w < WORDS) × (storeWords ≤ length (now store)) ⌝ }
-    ensures { λ r. ⌜ wordSet w r ≡ meetHold (now (store .entry)) (wordSet w bits) (y .words) ⌝ }
+// Word w of x meet hold(y). The states are gathered in a number and not in a set, where each would be one word written and the whole set read again.
+pub fn held_word(rows: &[u64], x: StateSet, w: usize, y: StateSet) -> u64
+    requires { ⌜ (w < WORDS) × (rowsWords ≤ length (now rows)) ⌝ }
+    ensures { λ r. ⌜ r ≡ getD (meetHold (now (rows .entry)) (x .words) (y .words)) w 0 ⌝ }
 {
     let mut kept = 0;
-    let mut rest = bits;
+    let mut rest = x.words[w];
     while rest != 0 {
         let i = u64::trailing_zeros(rest) as usize;
-        if row_inside(store, 64 * w + i, y) {
+        if row_inside(rows, WORD_BITS * w + i, y) {
             kept |= 1 << i;
         }
         rest &= rest - 1;
@@ -123,52 +138,33 @@ fn held_bits(store: &[u64], w: usize, bits: u64, y: StateSet) -> u64
 }
 
 // x meet hold(y)
-pub fn meet_hold(store: &[u64], x: StateSet, y: StateSet) -> StateSet
-    requires { ⌜ storeWords ≤ length (now store) ⌝ }
-    ensures { λ r. ⌜ r .words ≡ meetHold (now (store .entry)) (x .words) (y .words) ⌝ }
+pub fn meet_hold(rows: &[u64], x: StateSet, y: StateSet) -> StateSet
+    requires { ⌜ rowsWords ≤ length (now rows) ⌝ }
+    ensures { λ r. ⌜ r .words ≡ meetHold (now (rows .entry)) (x .words) (y .words) ⌝ }
 {
     let mut words = [0; WORDS];
     for w in 0..WORDS {
-        words[w] = held_bits(store, w, x.words[w], y);
+        words[w] = held_word(rows, x, w, y);
     }
     StateSet { words }
 }
 
-// No state of x is in hold(y). No set is made of them: one that is written a word at a time and then read whole is slow.
-fn none_held(store: &[u64], x: StateSet, y: StateSet) -> bool
-    requires { ⌜ storeWords ≤ length (now store) ⌝ }
-    ensures { λ b. ⌜ b ≡ subset (meetHold (now (store .entry)) (x .words) (y .words)) empty ⌝ }
+// The states below n without a successor that do not rest: screens with no way out.
+fn hangs(rows: &[u64], n: usize, resting: StateSet) -> StateSet
+    requires { ⌜ rowsWords ≤ length (now rows) ⌝ }
+    ensures { λ r. ⌜ r .words ≡ hangs·model n (rowsIn (now (rows .entry)) n) (resting .words) ⌝ }
 {
-    let mut all = 0;
-    for w in 0..WORDS {
-        all |= held_bits(store, w, x.words[w], y);
-    }
-    all == 0
+    let others = StateSet::first_states(n).difference(resting);
+    meet_hold(rows, others, StateSet::empty())
 }
 
-// No state of x is forbidden.
-pub fn none_forbidden(store: &[u64], x: StateSet) -> bool
-    requires { ⌜ storeWords ≤ length (now store) ⌝ }
-    ensures { λ b. ⌜ b ≡ subset (meet (x .words) (forbiddenBy (now (store .entry)))) empty ⌝ }
+// The marked states, and those below n that hang by the rows: the one place that works out what is forbidden.
+pub fn forbidden_by(store: &[u64], n: usize, rows: &[u64]) -> StateSet
+    requires { ⌜ (storeWords ≤ length (now store)) × (rowsWords ≤ length (now rows)) ⌝ }
+    ensures { λ r. ⌜ r .words ≡ forbiddenBy (now (store .entry)) n (now (rows .entry)) ⌝ }
 {
-    if x.meets(set_at(store, MARKED_AT)) {
-        return false;
-    }
-    let others = x.difference(set_at(store, RESTING_AT));
-    none_held(store, others, StateSet::empty())
-}
-
-// The forbidden states of x: those marked so, and the hangs, which step nowhere and are not resting.
-pub fn forbidden_among(store: &[u64], x: StateSet) -> StateSet
-    requires { ⌜ storeWords ≤ length (now store) ⌝ }
-    ensures { λ r. ⌜ r .words ≡ meet (x .words) (forbiddenBy (now (store .entry))) ⌝ }
-{
-    let hangs = meet_hold(
-        store,
-        x.difference(set_at(store, RESTING_AT)),
-        StateSet::empty(),
-    );
-    x.meet(set_at(store, MARKED_AT)).union(hangs)
+    let hung = hangs(rows, n, set_at(store, RESTING_AT));
+    set_at(store, MARKED_AT).union(hung)
 }
 
 // The forbidden states of a table with n states; its groups play no part.
@@ -176,7 +172,7 @@ pub fn forbidden(store: &[u64], n: usize) -> StateSet
     requires { ⌜ storeWords ≤ length (now store) ⌝ }
     ensures { λ r. ⌜ r .words ≡ (tableOf (now (store .entry)) n 0) .forbidden ⌝ }
 {
-    set_at(store, MARKED_AT).union(forbidden_among(store, StateSet::first_states(n)))
+    forbidden_by(store, n, &store[ROWS_AT..])
 }
 
 // One row of words for each state.
@@ -198,7 +194,7 @@ fn join_rows(rows: &Rows, w: usize, bits: u64, found: StateSet) -> StateSet
     let mut joined = found;
     let mut rest = bits;
     while rest != 0 {
-        let s = 64 * w + u64::trailing_zeros(rest) as usize;
+        let s = WORD_BITS * w + u64::trailing_zeros(rest) as usize;
         joined = joined.union(row_of(rows, s));
         rest &= rest - 1;
     }

@@ -1,4 +1,4 @@
-// Generated tables, numbered from 0 on. tests/expected.py makes them anew from this comment.
+// Generated tables, numbered from 0 on. tests/expected/programs.py makes them anew from this comment.
 //
 // noise(x) is y xor y / 65536, where y = (1664525 x + 1013904223) modulo 2^32, and draw(t, p) is noise of noise of noise of P t + p, where
 // P is 32 for each state that a table can have, more than the places p of any table. A number is taken modulo 2^32 here only to be seen to
@@ -21,8 +21,8 @@ use crate::add;
 use crate::group;
 use crate::left_out;
 use crate::step;
+use state_set::MAX_STATES;
 use table::MARKED_AT;
-use table::MAX_STATES;
 use table::RESTING_AT;
 use table::STORE_WORDS;
 

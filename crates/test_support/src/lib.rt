@@ -26,12 +26,13 @@ pub use generated::groups_of;
 use generated::noise;
 pub use generated::states_of;
 use libc::STDOUT_FILENO;
+use state_set::MAX_STATES;
 use state_set::StateSet;
+use state_set::WORD_BITS;
 use state_set::WORDS;
 use table::GROUPS_AT;
 use table::MARKED_AT;
 use table::MAX_GROUPS;
-use table::MAX_STATES;
 use table::RESTING_AT;
 use table::ROWS_AT;
 
@@ -47,7 +48,7 @@ pub fn left_out() {
 // Bit i of the word `at` set.
 fn put_bit(store: &mut [u64], at: usize, i: usize) {
     if at < store.len() {
-        store[at] |= 1 << (i % 64);
+        store[at] |= 1 << (i % WORD_BITS);
     } else {
         left_out();
     }
@@ -57,7 +58,7 @@ fn put_bit(store: &mut [u64], at: usize, i: usize) {
 pub fn add(store: &mut [u64], at: usize, s: usize) {
     if s < MAX_STATES {
         if at < store.len() {
-            put_bit(store, at + s / 64, s % 64);
+            put_bit(store, at + s / WORD_BITS, s % WORD_BITS);
             return;
         }
     }

@@ -1,5 +1,5 @@
-// Asks for the next open minute and prints the answers. The stored output was written by expected.py, which looks at one minute after the
-// other on a calendar.
+// Asks for the next open minute and prints the answers. The stored output was written by tests/expected/windows.py, which looks at one minute
+// after the other on a calendar.
 use libc::STDOUT_FILENO;
 use release_windows::MAX_TIME;
 use release_windows::NextOpen;

@@ -14,12 +14,13 @@ use Rattle.model.specs.Stores.{setAt, dialogueOf, tableOf, layout, beyond, nonZ
 use Rattle.model.specs.Blocks.{weighted, checkOf, blockOf}
 use Rattle.model.specs.Contents.{setBytes, sets, contents}
 use Rattle.model.specs.Calls.{release, decisionOf}
-use Rattle.worked_tables.specs.Tables.{A, B, D, E, F, G}
+use Rattle.model.specs.Resting.{rested}
+use Rattle.worked_tables.specs.Tables.{A, B, D, E, F, G, restingG}
 use Rattle.worked_tables.specs.Worked.{LineA, LineB, LineC, LineD, LineE, LineF, LineG, Worked}
 use Rattle.worked_tables.proofs.Decides.{zeros, fits, decides}
 
 computes : Type 0
-unfolding any all first filter tabulate bit member number setOf empty union meet subset same meets states firstStates members size smallest image isDeadEnd isHang hangs post hold coverOf cover notForbidden iterate forwardStep forward backwardStep backward roundOf firstRound nextRound isSafe isUnsafe settle rounds run eliminationStep eliminated backwardNumber reaching shortest walk smallestPath setAt dialogueOf tableOf concat layout refuse beyond nonZero badStates setBytes sets contents weighted checkOf blockOf decisionOf zeros fits
+unfolding any all first filter tabulate bit member number setOf empty union meet subset same meets states firstStates members size smallest image isDeadEnd isHang hangs post hold coverOf cover notForbidden iterate forwardStep forward backwardStep backward roundOf firstRound nextRound isSafe isUnsafe settle rounds run eliminationStep eliminated backwardNumber reaching shortest walk smallestPath setAt dialogueOf tableOf concat layout refuse beyond nonZero badStates setBytes sets contents weighted checkOf blockOf decisionOf rested zeros fits
 computes = Unit {0}
 
 -- A pair by a call: what stands in a tuple itself is computed twice, which costs seconds for B and C.
@@ -40,7 +41,7 @@ c = both (decides B 2 refl refl refl) (decides B 3 refl refl refl)
 
 d : LineD
 unfolding computes
-d = decides D release refl refl refl
+d = both (decides D release refl refl refl) refl
 
 e : LineE
 unfolding computes
@@ -52,7 +53,7 @@ f = decides F release refl refl refl
 
 g : LineG
 unfolding computes
-g = decides G release refl refl refl
+g = (decides G release refl refl refl, decides restingG release refl refl refl, refl)
 
 pub worked : Worked
 worked =
@@ -64,5 +65,5 @@ worked =
       line-E = e;
       line-F = f;
       line-G = g;
-      line-H = (refl, refl, refl, refl);
+      line-H = (refl, refl, refl, refl, refl, refl, refl, refl);
     }

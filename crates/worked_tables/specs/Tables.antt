@@ -1,5 +1,5 @@
--- Tables A to G (the specification, "Worked tables"), written as it writes them: none has a resting state. C is B, and H says of a table only
--- its n and g.
+-- Tables A to G (the specification, "Worked tables"), written as it writes them: none has a resting state but restingG. C is B, and H says of a
+-- table only its n and g.
 --
 --   wordOf states                              the word whose bits are these states, each below 64 and named once
 --   set states                                 the set of these states
@@ -12,6 +12,7 @@ use lib.Dec.{eqb}
 use lib.ListN.{replicate}
 use Rattle.model.specs.Sets.{WORDS, Set}
 use Rattle.model.specs.Tables.{Dialogue}
+use Rattle.model.specs.Resting.{rested}
 
 abbrev pub wordOf : List ℕ → ℕ
 wordOf [] = 0
@@ -54,5 +55,9 @@ E = table 3 (0 ∷ []) (2 ∷ []) [] ((0, 0) ∷ (1, 2) ∷ [])
 abbrev pub F : Dialogue
 F = table 1 (0 ∷ []) (0 ∷ []) [] []
 
+-- State 0 is a hang, and so forbidden; in restingG it rests, and nothing is forbidden.
 abbrev pub G : Dialogue
 G = table 1 [] [] [] []
+
+abbrev pub restingG : Dialogue
+restingG = rested G (set (0 ∷ []))

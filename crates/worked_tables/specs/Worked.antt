@@ -20,7 +20,7 @@ use Rattle.model.specs.Stores.{dialogueOf, tableOf, layout}
 use Rattle.model.specs.Blocks.{blocksFor, checkOf, blockOf}
 use Rattle.model.specs.Contents.{oldForm, newForm, contents, contentLength}
 use Rattle.model.specs.Calls.{release, overwrite, Decision, decideAnswer, decideBuffer}
-use Rattle.worked_tables.specs.Tables.{set, A, B, D, E, F, G}
+use Rattle.worked_tables.specs.Tables.{set, A, B, D, E, F, G, restingG}
 
 abbrev pub held : Dialogue → Dialogue
 held t = dialogueOf (layout t) (t .n) (length (t .groups))
@@ -60,8 +60,12 @@ LineB = Unsafe B release 3 (0 ∷ 1 ∷ 2 ∷ 3 ∷ []) × (backwardNumber (stor
 abbrev pub LineC : Type 0
 LineC = Undecided B 2 2 × Unsafe B 3 3 (0 ∷ 1 ∷ 2 ∷ 3 ∷ [])
 
+-- With the contents of its file: the groups stand before the rows, each from the first to the last.
 abbrev pub LineD : Type 0
-LineD = Unsafe D release 0 (0 ∷ 1 ∷ 2 ∷ 3 ∷ [])
+LineD =
+    Unsafe D release 0 (0 ∷ 1 ∷ 2 ∷ 3 ∷ [])
+    × (contents newForm (held D)
+    ≡ 0x05 ∷ 0x00 ∷ 0x03 ∷ 0x80 ∷ 0x01 ∷ 0x08 ∷ 0x00 ∷ 0x01 ∷ 0x02 ∷ 0x04 ∷ 0x02 ∷ 0x04 ∷ 0x08 ∷ 0x00 ∷ 0x10 ∷ [])
 
 -- The specification's bytes and check are of the old form; those of the new one stand beside them.
 abbrev pub LineE : Type 0
@@ -76,14 +80,19 @@ abbrev pub LineF : Type 0
 LineF = Unsafe F release 0 (0 ∷ [])
 
 abbrev pub LineG : Type 0
-LineG = Safe G release 0 []
+LineG = Safe G release 0 [] × Safe restingG release 0 [] × ((stored restingG) .forbidden ≡ set [])
 
+-- The new form, and the old one, in which the contents just fill a block.
 abbrev pub LineH : Type 0
 LineH =
     (contentLength newForm 61 0 ≡ 516)
     × (blocksFor (contentLength newForm 61 0) ≡ 2)
     × (contentLength newForm 61 1 ≡ 524)
     × (blocksFor (contentLength newForm 61 1) ≡ 2)
+    × (contentLength oldForm 61 0 ≡ 508)
+    × (blocksFor (contentLength oldForm 61 0) ≡ 1)
+    × (contentLength oldForm 61 1 ≡ 516)
+    × (blocksFor (contentLength oldForm 61 1) ≡ 2)
 
 pub record Worked : Type 0 where
   pub line-A : LineA

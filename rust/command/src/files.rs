@@ -72,8 +72,9 @@ impl<'c> Input<'c> {
     /// The same, where standard input may be empty.
     pub fn take_or_nothing(self, most: usize) -> Result<Vec<u8>, Failure> {
         let mut file = self.open()?;
-        let to_out = self.out.is_some_and(|out| is_named(&file, out));
-        if to_out || sys::is_file_due() && is_output(&file) {
+        let to_out = |out| is_same(file.metadata(), fs::metadata(out));
+        // To put another file in its place would take away what was read, with the names that a file does not hold.
+        if self.out.is_some_and(to_out) || sys::is_file_due() && is_output(file.metadata()) {
             return Err(Failure::Failed("input and output are one file".to_string()));
         }
         read_whole(&mut file, most).map_err(|error| {
@@ -101,18 +102,14 @@ impl<'c> Input<'c> {
 }
 
 /// Whether a file on a disk is standard output too. The shell has emptied it then, or what is written goes into what is read.
-fn is_output(file: &File) -> bool {
+fn is_output(file: io::Result<Metadata>) -> bool {
     let output = io::stdout().as_fd().try_clone_to_owned().map(File::from);
     is_same(file, output.and_then(|output| output.metadata()))
 }
 
-/// Whether it is the file of a name: to put another in its place would take away what was read, with the names that a file does not hold.
-fn is_named(file: &File, name: &Path) -> bool {
-    is_same(file, fs::metadata(name))
-}
-
-fn is_same(file: &File, other: io::Result<Metadata>) -> bool {
-    match (file.metadata(), other) {
+/// Whether both are one file on a disk.
+fn is_same(file: io::Result<Metadata>, other: io::Result<Metadata>) -> bool {
+    match (file, other) {
         (Ok(a), Ok(b)) => a.is_file() && a.dev() == b.dev() && a.ino() == b.ino(),
         _ => false,
     }
@@ -195,50 +192,144 @@ pub fn say(line: &str) {
     let _ = io::stderr().write_all(line.as_bytes());
 }
 
-/// Puts a whole file in the place of another, or leaves that as it was: half a file, or one of no bytes, could be taken for a table.
-pub fn replace(path: &Path, bytes: &[u8]) -> Result<(), Failure> {
-    replaced(path, bytes)
-        .map_err(|error| Failure::Failed(format!("{} could not be written: {error}", shown(path))))
+/// A file, or a name that is free: bytes that go into a pipe or a device are released to nobody knows whom.
+pub fn need_place(path: &Path) -> Result<(), Failure> {
+    match fs::metadata(path) {
+        Ok(data) if !data.is_file() => Err(Failure::Failed(format!(
+            "{} could not be written: it is no file",
+            shown(path)
+        ))),
+        _ => Ok(()),
+    }
 }
 
-fn replaced(path: &Path, bytes: &[u8]) -> io::Result<()> {
-    let path = &behind_links(path)?;
-    let there = fs::metadata(path).ok();
-    if let Some(data) = &there {
-        let kind = data.file_type();
-        if kind.is_fifo() || kind.is_char_device() {
-            return OpenOptions::new().write(true).open(path)?.write_all(bytes);
+/// Not the file that standard output goes to: another file in its place would take away what is printed. Where the shell has emptied it, it gets a
+/// line, since a file of no bytes is a draft.
+pub fn need_apart(path: &Path) -> Result<(), Failure> {
+    if !is_output(fs::metadata(path)) {
+        return Ok(());
+    }
+    if fs::metadata(path).is_ok_and(|data| data.len() == 0) {
+        print(b"failed\n")?;
+    }
+    Err(Failure::Failed(format!(
+        "{} could not be written: standard output goes there too",
+        shown(path)
+    )))
+}
+
+/// Puts a whole file in the place of another, or leaves that as it was: half a file, or one of no bytes, could be taken for a table.
+pub fn replace(path: &Path, bytes: &[u8]) -> Result<(), Failure> {
+    replace_after(path, bytes, || Ok(()))
+}
+
+/// The same, where something must be done before: it comes when only the new name is wanting, and where it fails the file is not put there.
+pub fn replace_after(
+    path: &Path,
+    bytes: &[u8],
+    last: impl FnOnce() -> Result<(), Failure>,
+) -> Result<(), Failure> {
+    let failed = |error: io::Error| {
+        Failure::Failed(format!("{} could not be written: {error}", shown(path)))
+    };
+    match Place::of(path).map_err(failed)? {
+        Place::Stream(mut stream) => {
+            last()?;
+            stream.write_all(bytes).map_err(failed)
         }
-        if !kind.is_file() {
-            return Err(io::Error::other("it is no file"));
+        Place::File { path, old } => {
+            let part = Part::written(&path, bytes, old).map_err(failed)?;
+            last()?;
+            part.rename(&path).map_err(failed)
         }
     }
-    let folder = match path.parent() {
+}
+
+/// Where bytes go.
+enum Place {
+    /// A pipe or a device.
+    Stream(File),
+    /// A file, or a name that is free, behind all links; and what is there now.
+    File {
+        path: PathBuf,
+        old: Option<Metadata>,
+    },
+}
+
+impl Place {
+    fn of(path: &Path) -> io::Result<Place> {
+        let path = behind_links(path)?;
+        let is_free = |error: &io::Error| {
+            error.kind() == io::ErrorKind::NotFound && path.file_name().is_some()
+        };
+        let old = match fs::metadata(&path) {
+            Ok(data) => Some(data),
+            Err(error) if is_free(&error) => None,
+            Err(error) => return Err(error), // an empty name, or one that is too long: better now than once all is written
+        };
+        let kind = old.as_ref().map(Metadata::file_type);
+        match kind {
+            Some(kind) if kind.is_fifo() || kind.is_char_device() => {
+                let stream = OpenOptions::new().write(true).open(path)?;
+                Ok(Place::Stream(stream))
+            }
+            Some(kind) if !kind.is_file() => Err(io::Error::other("it is no file")),
+            _ if old.as_ref().is_some_and(is_protected) => {
+                Err(io::Error::other("it is write-protected"))
+            }
+            _ => Ok(Place::File { path, old }),
+        }
+    }
+}
+
+/// Whether its owner may not write it. The folder alone would let it be replaced, but who protects a released file means it to stay.
+fn is_protected(file: &Metadata) -> bool {
+    const OWNER_WRITES: u32 = 0o200;
+    file.mode() & OWNER_WRITES == 0
+}
+
+/// A file that is written whole, and has not its name yet. Where it does not get it, it is taken away.
+struct Part {
+    at: PathBuf,
+}
+
+impl Part {
+    fn written(path: &Path, bytes: &[u8], old: Option<Metadata>) -> io::Result<Part> {
+        let (at, mut file) = new_part(folder_of(path))?;
+        let part = Part { at };
+        file.write_all(bytes)?;
+        if let Some(old) = old {
+            file.set_permissions(old.permissions())?; // who may read it stays the same
+        }
+        file.sync_all()?;
+        Ok(part)
+    }
+
+    fn rename(self, path: &Path) -> io::Result<()> {
+        {
+            let _held = sys::Held::new();
+            fs::rename(&self.at, path)?;
+            sys::set_part(None);
+            std::mem::forget(self); // there is nothing to take away
+        }
+        // The new name too, as far as the file system can.
+        let _ = File::open(folder_of(path)).and_then(|folder| folder.sync_all());
+        Ok(())
+    }
+}
+
+impl Drop for Part {
+    fn drop(&mut self) {
+        let _ = fs::remove_file(&self.at);
+        sys::set_part(None);
+    }
+}
+
+fn folder_of(path: &Path) -> &Path {
+    match path.parent() {
         Some(folder) if !folder.as_os_str().is_empty() => folder,
         _ => Path::new("."),
-    };
-    let (part, mut file) = new_part(folder)?;
-    let written = file
-        .write_all(bytes)
-        .and_then(|()| match there {
-            Some(data) => file.set_permissions(data.permissions()), // who may read it stays the same
-            None => Ok(()),
-        })
-        .and_then(|()| file.sync_all())
-        .and_then(|()| {
-            let _held = sys::Held::new();
-            fs::rename(&part, path)?;
-            sys::set_part(None);
-            Ok(())
-        });
-    if written.is_err() {
-        let _ = fs::remove_file(&part);
-        sys::set_part(None);
-        return written;
     }
-    // The new name too, as far as the file system can.
-    let _ = File::open(folder).and_then(|folder| folder.sync_all());
-    Ok(())
 }
 
 /// The file that a name stands for. A link to nothing is none: what it should lead to, a disk that is not there for one, would stay without the file.

@@ -8,6 +8,7 @@
 //!
 //! At least one window must be said, or `window none`: a text that was cut or emptied is found.
 
+use crate::calendar;
 use crate::lines::{Mistake, Mistakes, number, quoted, said};
 use shuntberry::{MAX_DAYS, MAX_WINDOWS, Window};
 use std::collections::HashMap;
@@ -90,9 +91,13 @@ impl Reader {
     /// `window none` stands alone.
     fn first(&mut self, none: bool) -> Result<(), String> {
         let &mut (line, first_none) = self.first.get_or_insert((self.at, none));
+        let other = match first_none {
+            true => "says none",
+            false => "is one",
+        };
         match line != self.at && (none || first_none) {
             true => Err(format!(
-                "window none goes with no other window, and line {line} is one"
+                "window none goes with no other window, and line {line} {other}"
             )),
             false => Ok(()),
         }
@@ -188,39 +193,18 @@ fn two_digits(word: &str) -> Option<usize> {
     number(word).filter(|_| word.len() == 2)
 }
 
-// ---- Days: of the common calendar, counted from 1 January 2000, a Saturday
+// ---- Days, counted from 1 January 2000, a Saturday
+
+const FIRST_YEAR: usize = 2000;
 
 /// `2026-12-25`
 fn day_of(word: &str) -> Option<usize> {
     let mut parts = word.split('-');
     let (year, month, day) = (parts.next()?, parts.next()?, parts.next()?);
     let year = number(year).filter(|_| year.len() == 4)?;
-    let (month, day) = (two_digits(month)?, two_digits(day)?);
-    let fits = parts.next().is_none() && year >= 2000 && (1..=12).contains(&month);
-    (fits && (1..=days_of(year, month)).contains(&day)).then(|| {
-        let months: usize = (1..month).map(|month| days_of(year, month)).sum();
-        days_before(year) + months + day - 1
-    })
-}
-
-fn is_leap(year: usize) -> bool {
-    year.is_multiple_of(4) && (!year.is_multiple_of(100) || year.is_multiple_of(400))
-}
-
-fn days_of(year: usize, month: usize) -> usize {
-    match month {
-        2 if is_leap(year) => 29,
-        2 => 28,
-        4 | 6 | 9 | 11 => 30,
-        _ => 31,
-    }
-}
-
-/// The days from 2000 on before a year.
-fn days_before(year: usize) -> usize {
-    let years = year - 2000;
-    let leaps = |years: usize| years.div_ceil(4) - years.div_ceil(100) + years.div_ceil(400);
-    365 * years + leaps(years)
+    let fits = parts.next().is_none() && year >= FIRST_YEAR;
+    let day = calendar::day_of(year, two_digits(month)?, two_digits(day)?)?;
+    fits.then(|| day - calendar::new_year(FIRST_YEAR))
 }
 
 /// A minute, as the library counts them from 2000 on.
@@ -252,20 +236,8 @@ impl Moment {
     /// Date and time, with a character between them.
     pub fn written(self, between: char) -> String {
         let (day, minute) = (self.0 / DAY, self.0 % DAY);
-        let mut year = 2000 + day / 366;
-        while days_before(year + 1) <= day {
-            year += 1;
-        }
-        let mut left = day - days_before(year);
-        let mut month = 1;
-        while left >= days_of(year, month) {
-            left -= days_of(year, month);
-            month += 1;
-        }
+        let date = calendar::date(calendar::new_year(FIRST_YEAR) + day);
         let (hour, minute) = (minute / 60, minute % 60);
-        format!(
-            "{year:04}-{month:02}-{:02}{between}{hour:02}:{minute:02}",
-            left + 1
-        )
+        format!("{date}{between}{hour:02}:{minute:02}")
     }
 }

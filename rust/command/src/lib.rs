@@ -3,18 +3,25 @@
 //! - [`commands`]: one module for each command;
 //! - [`words`], [`source`], [`files`], [`sys`]: the words of a call, the table that it is about, input and output, signals;
 //! - [`table`], [`text`], [`picture`], [`house`]: a table in its store, as text and as a picture; a house's windows and closed days;
-//! - [`lines`], [`shown`], [`json`], [`refusals`], [`failure`]: what they share.
+//! - [`record`], [`drawing`], [`svg`], [`sha256`]: the record of a check, with a drawing by Graphviz in it;
+//! - [`lines`], [`shown`], [`json`], [`html`], [`calendar`], [`refusals`], [`failure`]: what they share.
 
+pub mod calendar;
 pub mod commands;
+pub mod drawing;
 pub mod failure;
 pub mod files;
 pub mod house;
+pub mod html;
 pub mod json;
 pub mod lines;
 pub mod picture;
+pub mod record;
 pub mod refusals;
+pub mod sha256;
 pub mod shown;
 pub mod source;
+pub mod svg;
 pub mod sys;
 pub mod table;
 pub mod text;
@@ -113,8 +120,9 @@ fn call(program: &str, command: &'static Command, words: &[OsString], streams: S
         Failure::Wrong(why) => Failure::Wrong(format!("{why}\n{}", command.usage(program))),
         other => other,
     })?;
-    if call.has(&files::OUT) {
+    if let Some(out) = call.path(&files::OUT) {
         sys::no_file_due();
+        files::need_apart(out)?;
     }
     (command.run)(&call).map_err(|failure| match failure {
         Failure::Wrong(why) => Failure::Wrong(format!("{why}\n{}", command.usage(program))),

@@ -5,6 +5,7 @@
 //! Graphviz hands on to an SVG.
 
 use crate::lines::Names;
+use crate::svg::Asked;
 use crate::table::{Set, Table};
 use shuntberry::{
     MAX_ALLOWANCE, PATH_PLACES, Refused, StateSet, UNREACHABLE, Verdict, decide, distances,
@@ -19,8 +20,22 @@ pub struct Options {
     pub groups: bool,
 }
 
+/// A graph.
+#[derive(Debug)]
+pub struct Graph {
+    /// In Graphviz' language.
+    pub text: String,
+    /// What a drawing of it must have.
+    pub asked: Asked,
+}
+
 /// The graph of a table, under a title, with names for the states that have one.
-pub fn dot(table: &Table, names: &Names, title: &str, options: Options) -> Result<String, Refused> {
+pub fn graph(
+    table: &Table,
+    names: &Names,
+    title: &str,
+    options: Options,
+) -> Result<Graph, Refused> {
     let mut away = vec![0; table.n()];
     distances(table.store(), table.n(), table.g(), &mut away)?;
     let picture = Picture {
@@ -30,7 +45,10 @@ pub fn dot(table: &Table, names: &Names, title: &str, options: Options) -> Resul
         away: options.distances.then_some(away),
         groups: options.groups,
     };
-    Ok(picture.graph(title))
+    Ok(Graph {
+        text: picture.graph(title),
+        asked: picture.asked(title),
+    })
 }
 
 // ---- What is known of a table and its states
@@ -47,11 +65,7 @@ impl Found {
         let (store, n, g) = (table.store(), table.n(), table.g());
         let mut path = [0; PATH_PLACES];
         let (verdict, path, invariant) = match decide(store, n, g, MAX_ALLOWANCE, &mut path)? {
-            Verdict::Safe { invariant, .. } => (
-                "safe: no forbidden state can be reached".to_string(),
-                &[][..],
-                invariant,
-            ),
+            Verdict::Safe { invariant, .. } => (SAFE.to_string(), &[][..], invariant),
             Verdict::Unsafe { path, .. } => (unsafe_in(path.len() - 1), path, StateSet::default()),
             Verdict::Undecided { .. } => ("undecided".to_string(), &[][..], StateSet::default()),
         };
@@ -63,7 +77,11 @@ impl Found {
     }
 }
 
-fn unsafe_in(steps: usize) -> String {
+/// What is said of a safe table.
+pub const SAFE: &str = "safe: no forbidden state can be reached";
+
+/// What is said of an unsafe one, by the steps of its path.
+pub fn unsafe_in(steps: usize) -> String {
     match steps {
         0 => "unsafe: a session can start in a forbidden state".to_string(),
         _ => format!(
@@ -218,14 +236,20 @@ struct Picture<'t> {
 }
 
 impl Picture<'_> {
-    fn graph(&self, title: &str) -> String {
+    /// The lines above the graph.
+    fn heading(&self, title: &str) -> [String; 3] {
         let n = self.table.n();
-        let sizes = [counted(n, "state"), counted(self.table.g(), "group")].join(", ");
         let verdict = match n {
             0 => "an untouched draft, safe",
             _ => &self.found.verdict,
         };
-        let label = lines([title, verdict, &sizes]);
+        let sizes = [counted(n, "state"), counted(self.table.g(), "group")].join(", ");
+        [title.to_string(), verdict.to_string(), sizes]
+    }
+
+    fn graph(&self, title: &str) -> String {
+        let n = self.table.n();
+        let label = lines(self.heading(title).iter().map(String::as_str));
         // The legend stands below the graph; a layout by forces has no place for it but among the states.
         let (layout, legend) = match self.is_tangled() {
             true => (
@@ -293,63 +317,110 @@ impl Picture<'_> {
         KINDS.into_iter().filter(is).collect()
     }
 
-    fn state(&self, s: usize) -> String {
-        let kinds = self.kinds(s);
+    /// The lines of a state.
+    fn said(&self, s: usize) -> Vec<String> {
         let number = match self.names.get(&s) {
             Some(name) => format!("{s} {name}"),
             None => s.to_string(),
         };
+        let kinds = self.kinds(s);
         let words = joined(", ", kinds.iter().filter_map(|kind| kind.word()));
         let away = self.away.as_ref().map(|away| steps_away(away[s]));
         let groups = (0..self.table.g())
             .filter(|&j| self.groups && self.table.set(Set::Group(j)).contains(s));
         let groups = joined(", ", groups).map(|groups| format!("in group {groups}"));
-        let said = [Some(number), words, away, groups];
+        [Some(number), words, away, groups]
+            .into_iter()
+            .flatten()
+            .collect()
+    }
+
+    fn state(&self, s: usize) -> String {
+        let kinds = self.kinds(s);
         format!(
             r#"s{s} [label="{}", class="{}", {}]"#,
-            lines(said.iter().flatten().map(String::as_str)),
+            lines(self.said(s).iter().map(String::as_str)),
             joined(" ", kinds.iter().map(|kind| kind.class())).unwrap_or_default(),
             Look::of(&kinds).node()
         )
     }
 
+    /// The number of a step on the path.
+    fn number_on_path(&self, s: usize, t: usize) -> Option<usize> {
+        let before = self.found.path.windows(2).position(|pair| pair == [s, t]);
+        before.map(|before| before + 1)
+    }
+
     fn step(&self, s: usize, t: usize) -> String {
-        let Some(k) = self.found.path.windows(2).position(|pair| pair == [s, t]) else {
+        let Some(number) = self.number_on_path(s, t) else {
             return format!("s{s} -> s{t}");
         };
         format!(
-            r##"s{s} -> s{t} [class="path", headlabel="{}", labelangle=40, labeldistance=2.2, penwidth=4, color="#a63d00", fontcolor="#a63d00", fontname="Helvetica-Bold"]"##,
-            k + 1
+            r##"s{s} -> s{t} [class="path", headlabel="{number}", labelangle=40, labeldistance=2.2, penwidth=4, color="#a63d00", fontcolor="#a63d00", fontname="Helvetica-Bold"]"##
         )
     }
 
-    /// A row for each kind that the picture has, in Graphviz' HTML: as nodes they would pull the states apart.
-    fn legend(&self) -> String {
+    /// For each kind that the picture has how it is drawn, and what that means; then what else is said.
+    fn legend_rows(&self) -> Vec<(Option<Kind>, &'static str, &'static str)> {
         let present = |kind: &Kind| (0..self.table.n()).any(|s| self.kinds(s).contains(kind));
-        let row =
-            |cell: String, means: &str| format!(r#"<tr>{cell}<td align="left">{means}</td></tr>"#);
-        let plain = |words: &str| format!("<td>{words}</td>");
-        let mut rows = String::new();
-        for kind in KINDS.into_iter().filter(present) {
+        let kinds = KINDS.into_iter().filter(present).map(|kind| {
             let (drawn, means) = kind.legend();
-            rows += &match kind {
-                Kind::Initial => row(plain(drawn), means),
-                _ => row(Look::of(&[kind]).cell(drawn), means),
+            (Some(kind), drawn, means)
+        });
+        // Without states dot draws no legend.
+        let away = (self.away.is_some() && self.table.n() > 0).then_some((
+            None,
+            "N steps, or never",
+            "how far it is to the nearest forbidden state",
+        ));
+        kinds.chain(away).collect()
+    }
+
+    /// A row for each, in Graphviz' HTML: as nodes they would pull the states apart.
+    fn legend(&self) -> String {
+        let mut rows = String::new();
+        for (kind, drawn, means) in self.legend_rows() {
+            let cell = match kind {
+                None | Some(Kind::Initial) => format!("<td>{drawn}</td>"),
+                Some(kind) => Look::of(&[kind]).cell(drawn),
             };
+            rows += &format!(r#"<tr>{cell}<td align="left">{means}</td></tr>"#);
         }
-        if self.away.is_some() {
-            rows += &row(
-                plain("N steps, or never"),
-                "how far it is to the nearest forbidden state",
-            );
+        match rows.is_empty() {
+            true => r#""""#.to_string(), // dot takes no table without rows
+            false => format!(r#"<<table border="0" cellspacing="6">{rows}</table>>"#),
         }
-        format!(r#"<<table border="0" cellspacing="6">{rows}</table>>"#)
+    }
+
+    /// What a drawing must have.
+    fn asked(&self, title: &str) -> Asked {
+        let mut asked = Asked::default();
+        asked.words.extend(self.heading(title));
+        for (_, drawn, means) in self.legend_rows() {
+            asked.words.extend([drawn, means].map(str::to_string));
+        }
+        for s in 0..self.table.n() {
+            asked.titles.push(format!("s{s}"));
+            asked.words.extend(self.said(s));
+            if self.table.set(Set::Initial).contains(s) {
+                let start = format!("start{s}");
+                asked.titles.extend([format!("{start}->s{s}"), start]);
+                asked.words.push("start".to_string());
+            }
+            for t in self.successors(s) {
+                asked.titles.push(format!("s{s}->s{t}"));
+                let number = self.number_on_path(s, t);
+                asked.words.extend(number.map(|number| number.to_string()));
+            }
+        }
+        asked
     }
 }
 
 // ---- Words
 
-fn counted(count: usize, what: &str) -> String {
+/// A number of things.
+pub fn counted(count: usize, what: &str) -> String {
     format!("{count} {what}{}", if count == 1 { "" } else { "s" })
 }
 

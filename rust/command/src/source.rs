@@ -3,7 +3,8 @@
 use crate::failure::Failure;
 use crate::files::{Input, TEXT_BYTES};
 use crate::lines::{Mistake, Mistakes, Names};
-use crate::refusals::ground;
+use crate::refusals::{BY_OPTION, ground};
+use crate::sha256::sha256;
 use crate::table::Table;
 use crate::text::{self, Text};
 use crate::words::{Call, Opt};
@@ -46,6 +47,8 @@ pub struct Source {
     pub file: Vec<u8>,
     /// Names of its states.
     pub names: Names,
+    /// The text that `--names` takes them from, as it is shown, and the sum of its bytes.
+    pub names_from: Option<(String, String)>,
 }
 
 impl Source {
@@ -71,6 +74,7 @@ impl Source {
             site,
             file: Vec::new(),
             names: Names::new(),
+            names_from: None,
         };
         if call.has(&TEXT) {
             alone(call)?;
@@ -80,35 +84,36 @@ impl Source {
         } else {
             source.file = take(input, FILE_BYTES + 1)?;
             if let Some(path) = call.path(&NAMES) {
-                source.names = source.names_of(Input::of(call, Some(path)))?;
+                source.take_names(Input::of(call, Some(path)))?;
             }
         }
         Ok(source)
     }
 
-    /// The names that a text has; of a file that is refused none, since there is no table to compare.
-    fn names_of(&self, input: Input) -> Result<Names, Failure> {
-        let text = parsed(input, text::parse)?;
+    /// Takes the names that a text has; of a file that is refused none, since there is no table to compare.
+    fn take_names(&mut self, input: Input) -> Result<(), Failure> {
+        let name = input.shown();
+        let bytes = text_bytes(input)?;
+        let text = parsed_of(&name, &bytes, text::parse)?;
         match Table::read(&self.file, self.site) {
-            Ok(table) if table != text.table => Err(Failure::Mistakes(
-                Vec::new(),
-                format!(
-                    "{} is the text of another table, so its names say nothing here",
-                    input.shown()
-                ),
-            )),
-            Ok(_) => Ok(text.names),
-            Err(_) => Ok(Names::new()),
+            Ok(table) if table != text.table => {
+                return Err(Failure::Mistakes(
+                    Vec::new(),
+                    format!("{name} is the text of another table, so its names say nothing here"),
+                ));
+            }
+            Ok(_) => self.names = text.names,
+            Err(_) => {}
         }
+        self.names_from = Some((name, sha256(&bytes)));
+        Ok(())
     }
 
     /// The table.
     pub fn table(&self) -> Result<Table, Failure> {
         Table::read(&self.file, self.site).map_err(|refused| {
-            Failure::Refused(
-                refused,
-                format!("{}: {}", self.shown, ground(refused, &self.file)),
-            )
+            let why = ground(refused, &self.file, self.site, BY_OPTION);
+            Failure::Refused(refused, format!("{}: {why}", self.shown))
         })
     }
 }
@@ -138,14 +143,27 @@ pub fn alone(call: &Call) -> Result<(), Failure> {
 
 /// What a text says; else its mistakes, a line each.
 pub fn parsed<T>(input: Input, parse: fn(&[u8]) -> Result<T, Mistakes>) -> Result<T, Failure> {
-    let name = input.shown();
+    parsed_of(&input.shown(), &text_bytes(input)?, parse)
+}
+
+/// The bytes of a text.
+fn text_bytes(input: Input) -> Result<Vec<u8>, Failure> {
     let bytes = input.take(TEXT_BYTES + 1)?;
     if bytes.len() > TEXT_BYTES {
         return Err(Failure::Failed(format!(
-            "{name} is longer than {TEXT_BYTES} bytes, and no text"
+            "{} is longer than {TEXT_BYTES} bytes, and no text",
+            input.shown()
         )));
     }
-    parse(&bytes).map_err(|mistakes| {
+    Ok(bytes)
+}
+
+fn parsed_of<T>(
+    name: &str,
+    bytes: &[u8],
+    parse: fn(&[u8]) -> Result<T, Mistakes>,
+) -> Result<T, Failure> {
+    parse(bytes).map_err(|mistakes| {
         let line = |Mistake { line, reason }: &Mistake| format!("{name}:{line}: {reason}");
         let (shown, count) = (mistakes.first(), mistakes.count);
         let cut = match count - shown.len() {

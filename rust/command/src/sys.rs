@@ -1,15 +1,15 @@
 //! What the standard library has no word for: standard streams that are closed, signals, and printing that a signal cannot cut.
 //!
 //! A signal ends the program as it always does, so never with status 0. Before that the handler takes the part of a file away that
-//! `-o` was about to rename, and, where a file was due on standard output and has no byte yet, writes `failed` there: with nothing there
-//! it would be an empty file, which is a draft.
+//! `-o` was about to rename, ends the programs that were started, and, where a file was due on standard output and has no byte yet, writes
+//! `failed` there: with nothing there it would be an empty file, which is a draft.
 
 use std::ffi::{CString, c_char, c_int, c_ulong, c_void};
 use std::fs::File;
 use std::io::{self, IsTerminal};
 use std::os::fd::{AsFd, IntoRawFd};
 use std::ptr;
-use std::sync::atomic::{AtomicBool, AtomicPtr, Ordering::SeqCst};
+use std::sync::atomic::{AtomicBool, AtomicI32, AtomicPtr, Ordering::SeqCst};
 
 #[repr(C)]
 struct Poll {
@@ -27,6 +27,7 @@ unsafe extern "C" {
     fn fcntl(fd: c_int, command: c_int, ...) -> c_int;
     fn signal(number: c_int, action: usize) -> usize;
     fn raise(number: c_int) -> c_int;
+    fn kill(process: c_int, number: c_int) -> c_int;
     fn write(fd: c_int, bytes: *const c_void, length: usize) -> isize;
     fn close(fd: c_int) -> c_int;
     fn unlink(path: *const c_char) -> c_int;
@@ -41,11 +42,12 @@ const POLLOUT: i16 = 4;
 const SIG_SETMASK: c_int = 2;
 const DEFAULT: usize = 0;
 const IGNORE: usize = 1;
+const SIGKILL: c_int = 9;
 const SIGPIPE: c_int = 13;
 const SIGXFSZ: c_int = 25;
 /// Those that cannot be caught (KILL, STOP), or end nothing by themselves (CHLD, CONT, TSTP, TTIN, TTOU, URG, WINCH), and the two that the C library
 /// keeps for itself.
-const LEFT_ALONE: [c_int; 11] = [9, 19, 17, 18, 20, 21, 22, 23, 28, 32, 33];
+const LEFT_ALONE: [c_int; 11] = [SIGKILL, 19, 17, 18, 20, 21, 22, 23, 28, 32, 33];
 const LAST_SIGNAL: c_int = 64;
 
 const OUTPUT: c_int = 1;
@@ -56,6 +58,9 @@ const PIPE_BYTES: usize = 4096;
 static FILE_DUE: AtomicBool = AtomicBool::new(false);
 /// The name of the file that is not whole yet.
 static PART: AtomicPtr<c_char> = AtomicPtr::new(ptr::null_mut());
+/// The group of the programs that were started and run still; 0 where there is none.
+static GROUP: AtomicI32 = AtomicI32::new(NO_GROUP);
+const NO_GROUP: i32 = 0;
 
 /// Which of the standard streams were closed.
 #[derive(Clone, Copy, Debug)]
@@ -105,11 +110,15 @@ fn handle(number: c_int) {
 
 /// The handler of every signal that ends a program.
 extern "C" fn ended(number: c_int) {
-    // SAFETY: unlink, poll, write, signal and raise may be called here; the path stays where it is until the program ends.
+    // SAFETY: unlink, kill, poll, write, signal and raise may be called here; the path stays where it is until the program ends.
     unsafe {
         let part = PART.load(SeqCst);
         if !part.is_null() {
             unlink(part);
+        }
+        let group = GROUP.load(SeqCst);
+        if group != NO_GROUP {
+            kill(-group, SIGKILL);
         }
         if FILE_DUE.swap(false, SeqCst) {
             let mut output = Poll {
@@ -231,4 +240,20 @@ pub fn is_file_due() -> bool {
 /// The file that is not whole yet, and is taken away where a signal ends the program; none once it has its name.
 pub fn set_part(part: Option<CString>) {
     PART.store(part.map_or(ptr::null_mut(), CString::into_raw), SeqCst);
+}
+
+/// The group of the programs that were started, by its leader, which are ended where a signal ends this one; none once they are done.
+pub fn set_group(leader: Option<u32>) {
+    let group = leader.and_then(|leader| i32::try_from(leader).ok());
+    GROUP.store(group.unwrap_or(NO_GROUP), SeqCst);
+}
+
+/// Ends a group of programs, by its leader, which must not have been waited for.
+pub fn end_group(leader: u32) {
+    if let Ok(group) = i32::try_from(leader)
+        && group > 1
+    {
+        // SAFETY: only numbers go in. 0 and 1 would be this program's own group, and every process.
+        unsafe { kill(-group, SIGKILL) };
+    }
 }

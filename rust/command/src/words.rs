@@ -42,6 +42,8 @@ pub struct Command {
     pub more: &'static str,
     /// Its options.
     pub options: &'static [&'static Opt],
+    /// Those of them that must be given.
+    pub needs: &'static [&'static Opt],
     /// What it has on standard output.
     pub output: Output,
     /// What it does.
@@ -54,9 +56,13 @@ impl Command {
         let options: String = self
             .options
             .iter()
-            .map(|option| match option.value {
-                Some(value) => format!(" [{} {value}]", option.name),
-                None => format!(" [{}]", option.name),
+            .map(|option| {
+                let needed = self.needs.iter().any(|other| other.name == option.name);
+                match option.value {
+                    Some(value) if needed => format!(" {} {value}", option.name),
+                    Some(value) => format!(" [{} {value}]", option.name),
+                    None => format!(" [{}]", option.name),
+                }
             })
             .collect();
         format!("usage: {program}{options} {}", self.words)

@@ -1,4 +1,4 @@
-//! Texts: encode and decode are inverse over the files of `tables/` and over random tables; a text may be written in many ways; each mistake has its
+//! Texts: encode and decode are inverse over the files of `tests/files` and over random tables; a text may be written in many ways; each mistake has its
 //! line and its reason.
 
 use shuntberry::{MAX_GROUPS, MAX_SITE, MAX_STATES};
@@ -27,11 +27,11 @@ fn round_trips(table: &Table) {
     }
 }
 
-/// The texts of `tables/` are worked out by Python from the tables themselves.
+/// The texts of `tests/files` are worked out by Python from the tables themselves.
 #[test]
 fn files_of_tables() {
     let mut count = 0;
-    for entry in fs::read_dir("../../tables").unwrap() {
+    for entry in fs::read_dir("../../tests/files").unwrap() {
         let path = entry.unwrap().path();
         if path.extension().is_none_or(|kind| kind != "table") {
             continue;
@@ -56,7 +56,10 @@ fn files_of_tables() {
         round_trips(&table);
         count += 1;
     }
-    assert!(count >= 30, "only {count} files of tables/ are accepted");
+    assert!(
+        count >= 30,
+        "only {count} files of tests/files are accepted"
+    );
 }
 
 /// Numbers by xorshift: any table may come of them.

@@ -55,6 +55,25 @@ pub fn named(random: &mut Random) -> Vec<Family> {
     families
 }
 
+/// Beside those for decide: a corridor whose covers are exact, so that one round takes it back state by state, and
+/// what is long in other ways.
+pub fn more_for_decide() -> Vec<Family> {
+    let n = MAX_STATES;
+    let exact = Dialogue {
+        groups: exact_groups(n, |_| true),
+        ..corridor(n)
+    };
+    vec![
+        family(
+            format!("corridor, {} groups", exact.groups.len()),
+            vec![exact],
+        ),
+        family(format!("cycle of {n}"), vec![cycle(n)]),
+        family("grid of 16 by 32", vec![grid(16, 32)]),
+        family(format!("ladder of {}", n / 2), vec![ladder(n / 2)]),
+    ]
+}
+
 /// Beside those for shortest path: distances of many sizes, and no path.
 pub fn more_for_shortest_path(random: &mut Random) -> Vec<Family> {
     vec![
@@ -87,9 +106,8 @@ pub fn more_for_files(random: &mut Random) -> Vec<Family> {
 
 /// For replay: logs of 16,384 entries that are walked to their end, and one that breaks at the corridor's.
 pub fn for_logs(random: &mut Random) -> Vec<Family> {
-    let around = |n: usize| with_rows((0..n).map(|s| set_where(n, |t| t == (s + 1) % n)).collect());
     vec![
-        family("16,384 entries, cycle", vec![around(MAX_STATES)]),
+        family("16,384 entries, cycle", vec![cycle(MAX_STATES)]),
         family(
             "16,384 entries, dense rows",
             some(|| dense(MAX_STATES, random)),
@@ -166,6 +184,27 @@ fn corridor(n: usize) -> Dialogue {
     with_rows((0..n).map(|s| set_where(n, |t| t == s + 1)).collect())
 }
 
+fn cycle(n: usize) -> Dialogue {
+    with_rows((0..n).map(|s| set_where(n, |t| t == (s + 1) % n)).collect())
+}
+
+/// From the first corner to the last, to the right and down.
+fn grid(height: usize, width: usize) -> Dialogue {
+    let n = height * width;
+    let steps = |s, t| t == s + width || t == s + 1 && t % width != 0;
+    with_rows((0..n).map(|s| set_where(n, |t| steps(s, t))).collect())
+}
+
+/// Two rails of equal length, with a rung both ways at each place.
+fn ladder(length: usize) -> Dialogue {
+    let n = 2 * length;
+    with_rows(
+        (0..n)
+            .map(|s| set_where(n, |t| t == s + 2 || t == s ^ 1))
+            .collect(),
+    )
+}
+
 fn fan_out(n: usize, fan_out: usize, groups: usize, random: &mut Random) -> Dialogue {
     let mut rows = vec![vec![false; n]; n];
     add_fan_out(&mut rows, fan_out, random);
@@ -202,7 +241,7 @@ fn leads_nowhere(n: usize, random: &mut Random) -> Dialogue {
 
 /// Groups by the bits of a state's number: the cover of each of these states is the state alone.
 fn exact_groups(n: usize, exact: impl Fn(usize) -> bool) -> Vec<Set> {
-    (0..n.ilog2() + 1)
+    (0..(n - 1).ilog2() + 1)
         .flat_map(|bit| [0, 1].map(|value| (bit, value)))
         .map(|(bit, value)| set_where(n, |s| exact(s) && s >> bit & 1 == value))
         .collect()

@@ -3,9 +3,9 @@
 
 use std::collections::BTreeSet;
 
-use crate::accept::{self, MAX_LOG};
+use crate::accept::{self, MAX_ALLOWANCE, MAX_LOG, PATH_PLACES};
 use crate::buffer::Lent;
-use crate::calls::{Calls, Replay};
+use crate::calls::{Calls, Replay, SAFE};
 use crate::examine::{Outcome, Tally};
 use crate::generate::Random;
 use crate::named;
@@ -197,9 +197,33 @@ pub fn random_logs(
         tally.count("percent covered", answer.percent);
     }
     tally.count("refusal by replay", answer.refusal);
-    libraries
-        .iter()
-        .try_for_each(|library| replay(*library, &store, (n, g), &log, answer))
+    for library in libraries {
+        replay(*library, &store, (n, g), &log, answer)?;
+        follows_none_where_safe(*library, dialogue, &store, &log)?;
+    }
+    Ok(())
+}
+
+/// The library's own two answers: where its decide says safe, its replay follows no forbidden entry.
+fn follows_none_where_safe(
+    library: &dyn Calls,
+    dialogue: &Dialogue,
+    store: &[u64],
+    log: &[u8],
+) -> Outcome {
+    let (n, g) = (dialogue.n, dialogue.g());
+    let decision = library.decide(store, n, g, MAX_ALLOWANCE, &mut [0; PATH_PLACES]);
+    let followed = library.replay(store, n, g, log).followed as usize;
+    let forbidden = dialogue.table().forbidden;
+    match entries(log)[..followed].iter().find(|&&s| forbidden[s]) {
+        Some(state) if decision.refusal == 0 && decision.verdict == SAFE => {
+            let name = library.name();
+            Err(format!(
+                "{name}'s replay follows {state}, which is forbidden, and its decide says safe"
+            ))
+        }
+        _ => Ok(()),
+    }
 }
 
 /// What the specification says of an answer, tried on the definition's own words; whether a state was followed

@@ -11,7 +11,7 @@ use crate::named;
 use crate::rounds;
 use crate::search;
 use crate::table::{
-    Dialogue, MAX_GROUPS, MAX_STATES, STORE_WORDS, Set, Table, put_words, set_where, words,
+    Dialogue, MAX_GROUPS, MAX_STATES, STORE_WORDS, Set, Table, WORDS, put_words, set_where, words,
 };
 
 /// Up to so many steps that are only possible, all choices are tried: two for each step.
@@ -391,7 +391,8 @@ pub fn spoiled(
             // A state from n up, or a word of an unused row.
             1 if dialogue.n < MAX_STATES => {
                 let state = random.within(dialogue.n, MAX_STATES - 1);
-                let row = random.pick(&[random.clone().below(dialogue.n), dialogue.n, state]);
+                let used = random.below(dialogue.n);
+                let row = random.pick(&[used, dialogue.n, state]);
                 put(
                     &mut possible,
                     possible_at(row) + state / 64,
@@ -401,12 +402,10 @@ pub fn spoiled(
             2 => possible.extend(random.words(3)),
             // Some steps are possible no longer, among them certain ones.
             _ => {
-                let at = possible_at(random.below(dialogue.n));
-                possible
-                    .iter_mut()
-                    .skip(at)
-                    .take(1)
-                    .for_each(|word| *word = 0);
+                let at = possible_at(random.below(dialogue.n)) + random.below(WORDS);
+                if let Some(word) = possible.get_mut(at) {
+                    *word = 0;
+                }
             }
         }
     }
@@ -425,7 +424,7 @@ fn put(buffer: &mut [u64], at: usize, bits: u64) {
     }
 }
 
-/// Answers worked out by hand, the order of the grounds, and tables without states.
+/// Answers worked out by hand, the order of the grounds, steps that are certain and not possible, and tables without states.
 pub fn edges(libraries: &[&dyn Calls], random: &mut Random, tally: &mut Tally) -> Outcome {
     for (name, optional, by_hand) in by_hand() {
         let fault = |fault: String| format!("{name}: {fault}");
@@ -436,6 +435,7 @@ pub fn edges(libraries: &[&dyn Calls], random: &mut Random, tally: &mut Tally) -
         accepted(libraries, &optional, random, tally).map_err(fault)?;
     }
     orders(libraries, random)?;
+    uncertain(libraries, random)?;
     drafts(libraries, random)
 }
 
@@ -588,6 +588,34 @@ fn orders(libraries: &[&dyn Calls], random: &mut Random) -> Outcome {
         let path = random.places(room);
         for library in libraries {
             decide_modal(*library, store, (n, g), possible, &path, &answer)?;
+        }
+    }
+    Ok(())
+}
+
+/// A certain step that is not possible, in each word of a row.
+fn uncertain(libraries: &[&dyn Calls], random: &mut Random) -> Outcome {
+    let from = random.below(MAX_STATES);
+    for word in 0..WORDS {
+        let to = 64 * word + random.below(64);
+        let step = Dialogue::of(MAX_STATES, &[0], &[], &[], &[(from, to), (to, from)]);
+        let store = step.to_store();
+        let mut possible = Optional {
+            dialogue: step.clone(),
+            possible: step.rows.clone(),
+        }
+        .possible_words();
+        possible[possible_at(from) + word] = 0;
+        let path = random.places(PATH_PLACES);
+        for library in libraries {
+            decide_modal(
+                *library,
+                &store,
+                (MAX_STATES, 0),
+                &possible,
+                &path,
+                &refused(28),
+            )?;
         }
     }
     Ok(())

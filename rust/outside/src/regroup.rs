@@ -44,6 +44,8 @@ pub fn regrouped_tables(
         let table = Kind::random(random).dialogue(random);
         let others = put_another_way(&table, random, tally);
         let path = random.places(PATH_PLACES);
+        let more = random.below(4);
+        let own = random.places(PATH_PLACES + more);
         let mut needed = false;
         for library in libraries {
             for (allowance, room) in CALLS {
@@ -60,6 +62,10 @@ pub fn regrouped_tables(
                             found.0,
                             other.groups,
                         ));
+                    }
+                    if room == PATH_PLACES {
+                        let alone = decide(*library, other, allowance, &own);
+                        same_written(library.name(), &expected, &alone, &own)?;
                     }
                 }
             }
@@ -91,6 +97,30 @@ fn decide(
     let mut path = path.to_vec();
     let answer = library.decide(&table.to_store(), table.n, table.g(), allowance, &mut path);
     (answer, path)
+}
+
+/// Two drafters, each with a path buffer of her own: the same answer and the same states written, and no other place.
+fn same_written(
+    name: &str,
+    one: &(Decision, Vec<u16>),
+    other: &(Decision, Vec<u16>),
+    before: &[u16],
+) -> Outcome {
+    let written = match (one.0.refusal, one.0.verdict) {
+        (0, 1) => one.0.steps as usize + 1,
+        _ => 0,
+    };
+    let expected = [&one.1[..written], &before[written..]].concat();
+    if one.0 == other.0 && other.1 == expected {
+        return Ok(());
+    }
+    Err(format!(
+        "{name}'s decide answered {:?} and wrote {:?}, and in another path buffer {:?} and {:?}",
+        one.0,
+        &one.1[..written],
+        other.0,
+        &other.1[..written],
+    ))
 }
 
 fn regrouped(table: &Dialogue, groups: Vec<Set>) -> Dialogue {

@@ -1,4 +1,4 @@
-//! The files of `tables/` that are of the old form, rewritten as the specification says, and held to those that stand
+//! The files of `tests/files` that are of the old form, rewritten as the specification says, and held to those that stand
 //! beside them.
 
 use std::fs;
@@ -8,7 +8,7 @@ use shuntberry_outside::rewriting::rewritten;
 #[test]
 fn old_tables_are_rewritten() {
     let (mut accepted, mut refused) = (0, 0);
-    for entry in fs::read_dir("../../tables").unwrap() {
+    for entry in fs::read_dir("../../tests/files").unwrap() {
         let path = entry.unwrap().path();
         let name = path.file_name().unwrap().to_str().unwrap();
         let Some(name) = name
@@ -32,7 +32,7 @@ fn old_tables_are_rewritten() {
     }
     assert!(
         accepted >= 5 && refused >= 5,
-        "only {accepted} old files of tables/ were rewritten, and {refused} refused"
+        "only {accepted} old files of tests/files were rewritten, and {refused} refused"
     );
 }
 

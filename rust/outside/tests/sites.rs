@@ -1,4 +1,4 @@
-//! The files of `tables/`, which are files of site 0: read and written again there, and read at other sites.
+//! The files of `tests/files`, which are files of site 0: read and written again there, and read at other sites.
 #![cfg(feature = "library")]
 
 use shuntberry::{FILE_BYTES, MAX_SITE, Refused, STORE_WORDS, read, write};
@@ -8,7 +8,7 @@ use shuntberry::{FILE_BYTES, MAX_SITE, Refused, STORE_WORDS, read, write};
 #[test]
 fn tables_are_files_of_site_0() {
     let (mut accepted, mut refused) = (0, 0);
-    for entry in std::fs::read_dir("../../tables").unwrap() {
+    for entry in std::fs::read_dir("../../tests/files").unwrap() {
         let path = entry.unwrap().path();
         if path.extension().is_none_or(|kind| kind != "table") {
             continue;
@@ -45,7 +45,7 @@ fn tables_are_files_of_site_0() {
     }
     assert!(
         accepted >= 10 && refused >= 10,
-        "only {accepted} files of tables/ were read, and {refused} refused"
+        "only {accepted} files of tests/files were read, and {refused} refused"
     );
 }
 

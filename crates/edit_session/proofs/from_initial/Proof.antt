@@ -7,4 +7,10 @@ use Rattle.edit_session.proofs.from_initial.Tie as tie
 pub from-initial-spec : {M : Type 1} → statement M
 from-initial-spec =
     tie.close
-    (tie.spec (λ c κs. search needs) (λ c κs. search needs) (λ c. from-initial-is _ (c .before .set-at .ensures) (c .reached .ensures)))
+    (tie.spec
+    (λ c. search needs)
+    (λ c. search needs)
+    (λ c. search needs)
+    (λ c κs. search needs)
+    (λ c κs. search needs)
+    (λ c. from-initial-is _ (c .before .set-at .ensures) (c .reached .ensures)))

@@ -7,4 +7,10 @@ use Rattle.edit_session.proofs.has_step.Tie as tie
 pub has-step-spec : {M : Type 1} → statement M
 has-step-spec =
     tie.close
-    (tie.spec (λ c κs. search needs) (λ c κs. search needs) (λ c. has-step-is _ _ _ (c .contains .ensures) (c .before .row-at .ensures)))
+    (tie.spec
+    (λ c. search needs)
+    (λ c. search needs)
+    (λ c. search needs)
+    (λ c κs. search needs)
+    (λ c κs. search needs)
+    (λ c. has-step-is _ _ _ (c .contains .ensures) (c .before .row-at .ensures)))

@@ -3,7 +3,7 @@ use Prim.Native.Nat.{_-_, _≤_}
 use borrow.Author.Needs.{needs}
 use Rattle.model.specs.Blocks.{contentBytes}
 use Rattle.file_blocks.specs.Places.{contentFrom}
-use Rattle.file_blocks.proofs.Overwriting.{Over, over-all}
+use Rattle.table.proofs.Overwriting.{Over, over-all}
 use Rattle.file_blocks.proofs.BlockLaws.{content-none, content-more}
 use Rattle.file_blocks.proofs.copy_content.Statement.{statement}
 use Rattle.file_blocks.proofs.copy_content.Tie as tie

@@ -6,8 +6,6 @@ use lib.Seq.{length-take-le}
 use Rattle.file_check.proofs.Reports.{told, report-range, safe-reported, unsafe-reported, undecided-reported, refused-reported}
 use Rattle.file_check.proofs.check_table.Statement.{statement}
 use Rattle.file_check.proofs.check_table.Tie as tie
-use Rattle.file_check.proofs.check_table.Reads as reads
-use Rattle.file_check.proofs.check_table.Lts as lts
 
 write-safe-requires : tie.Need-write-safe-requires
 write-safe-requires c κs =

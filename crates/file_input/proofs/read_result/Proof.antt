@@ -2,8 +2,6 @@
 use Rattle.file_input.proofs.Results.{castable, failed, ended, given, too-many}
 use Rattle.file_input.proofs.read_result.Statement.{statement}
 use Rattle.file_input.proofs.read_result.Tie as tie
-use Rattle.file_input.proofs.read_result.Reads as reads
-use Rattle.file_input.proofs.read_result.Lts as lts
 
 pub read-result-spec : {M : Type 1} → statement M
 read-result-spec =

@@ -1,11 +1,17 @@
 -- `content_refusal`: the grounds in their order.
 use Prim.Native.Nat.{_-_}
 use native.Mathlib.Omega.{arith}
-use mathlib.Core.Path.{_≡_, _∙_}
+use mathlib.Core.Path.{_≡_, sym, ap, _∙_}
+use mathlib.Core.Bool.{not}
 use borrow.Author.Needs.{needs}
+use borrow.Author.Tests.{lt-ltb, le-ltb, eq-eqb, ne-eqb}
 use Rattle.model.specs.Blocks.{contentsOf}
+use Rattle.model.specs.Calls.{contentGrounds}
+use Rattle.basics.proofs.BoundLaws.{or-left, or-right, or-none}
+use Rattle.basics.proofs.RefusalLaws.{refuse-first}
+use Rattle.model.proofs.CallLaws.{second-pass}
 use Rattle.file_blocks.specs.Places.{formOf}
-use Rattle.file_reading.proofs.Grounds.{no-states, many-states, second-is, second-low, second-high, other-blocks, Sized, joined-long, sized-inside, set-beyond, filler-non-zero, content-right}
+use Rattle.file_reading.proofs.Grounds.{second-is, second-low, second-high, blocks-are, Sized, joined-long, sized-inside, behind-size}
 use Rattle.file_reading.proofs.content_refusal.Statement.{statement}
 use Rattle.file_reading.proofs.content_refusal.Tie as tie
 
@@ -27,29 +33,36 @@ joined : (c : tie.Else5) → let args = c .before .before .before .before .befor
 joined c = c .before .before .before .before .before .before .before .before .before .before .pre
 
 pub content-refusal-spec : {M : Type 1} → statement M
+unfolding contentGrounds
 content-refusal-spec =
     tie.close
     (tie.spec
-    (λ c. no-states _ _ _ _ (c .if1 .taken))
-    (λ c. many-states _ _ _ _ (c .before .if1 .left) (c .if2 .taken))
+    (λ c. refuse-first 0 _ (search (needs, eq-eqb, or-left)))
+    (λ c. refuse-first 0 _ (search (needs, lt-ltb, or-right)))
     (λ c κs. search needs)
-    (λ c. second-low _ _ _ _ (c .before .before .before .if1 .left) (c .before .before .if2 .left) (c .before .added .ensures .0) (c .if3 .taken))
-    (λ c. second-high _ _ _ _ (c .before .before .before .before .if1 .left) (c .before .before .before .if2 .left)
-    (second-is (c .before .before .added .ensures .0) (c .before .if3 .left)) (c .if4 .taken))
+    (λ c. refuse-first 1 _ (search (needs, ne-eqb, le-ltb, or-none), second-low _ (c .before .added .ensures .0) (search needs)))
+    (λ c.
+    refuse-first 1 _ (search (needs, ne-eqb, le-ltb, or-none), second-high _ (second-is (c .before .before .added .ensures .0) (search needs)) (c .if4 .taken)))
     (λ c κs. search needs)
     (λ c κs. search needs)
     (λ c.
     let size = c .before .before in
-    let groups = size .before in
-    other-blocks _ _ _ _ (groups .before .before .before .before .if1 .left) (groups .before .before .before .if2 .left)
-    (second-is (groups .before .before .added .ensures .0) (groups .before .if3 .left)) (groups .if4 .left) (size .content-length .ensures .0) (c .before .blocks-for .ensures) (c .if5 .taken))
+    let args = size .before .before .before .before .before .before .before .before .args in
+    let second = second-is (size .before .before .before .added .ensures .0) (size .before .before .if3 .left) in
+    refuse-first 2 _ (
+      search (needs, ne-eqb, le-ltb, or-none),
+      (
+        second-pass _ _ _ second (size .before .if4 .left),
+        ap not (ne-eqb _ _ (λ e. c .if5 .taken (e ∙ sym (blocks-are (formOf (args .form)) (args .n) (args .second) _ second (size .content-length .ensures .0) (c .before .blocks-for .ensures))))),
+      ),
+    ))
     (λ c κs. (sized-inside _ (joined c) (sized c), search needs))
-    (λ c. set-beyond _ (joined (c .before .before)) (sized (c .before .before)) (c .before .any-beyond .ensures) (c .if6 .taken))
+    (λ c. behind-size _ (joined (c .before .before)) (sized (c .before .before)) (c .before .any-beyond .ensures) (refuse-first 0 _ (search needs)))
     (λ c. search needs)
     (λ c κs. (search needs, omega (arith, joined-long _ (joined (c .before .before)))))
     (λ c.
     let sets = c .before .before in
-    filler-non-zero _ (joined (sets .before .before)) (sized (sets .before .before)) (sets .before .any-beyond .ensures) (sets .if6 .left) (c .before .non-zero .ensures) (c .if7 .taken))
+    behind-size _ (joined (sets .before .before)) (sized (sets .before .before)) (sets .before .any-beyond .ensures) (refuse-first 1 _ (search (needs, sym, _∙_))))
     (λ c.
     let sets = c .before .before in
-    content-right _ (joined (sets .before .before)) (sized (sets .before .before)) (sets .before .any-beyond .ensures) (sets .if6 .left) (c .before .non-zero .ensures) (c .if7 .left)))
+    behind-size _ (joined (sets .before .before)) (sized (sets .before .before)) (sets .before .any-beyond .ensures) (refuse-first 2 _ (search (needs, sym, _∙_)))))

@@ -6,7 +6,7 @@ use Rattle.basics.specs.Bounds.{tabulate}
 use Rattle.model.specs.Sets.{WORDS}
 use Rattle.model.specs.Contents.{setIn}
 use Rattle.model.proofs.ContentLaws.{setIn-proper}
-use Rattle.file_blocks.proofs.Overwriting.{Over, over-none, over-next, over-list}
+use Rattle.table.proofs.Overwriting.{Over, over-none, over-next, over-list}
 use Rattle.file_reading.proofs.fill_set.Statement.{statement}
 use Rattle.file_reading.proofs.fill_set.Tie as tie
 

@@ -3,15 +3,16 @@ use Prim.Native.Nat.{_+_, _-_, _≤_}
 use native.Mathlib.Omega.{arith}
 use borrow.Author.Needs.{needs}
 use lib.ListN.{length-take, length-drop}
-use Rattle.model.specs.Contents.{heads}
-use Rattle.file_blocks.specs.Places.{formOf}
+use Rattle.model.specs.Contents.{heads, setNumber}
+use Rattle.file_blocks.specs.Places.{formOf, placeOf}
 use Rattle.file_reading.proofs.Words.{set-inside}
-use Rattle.file_reading.proofs.Filling.{Filling, filling-none, filling-more, filling-all}
+use Rattle.table.proofs.Filling.{Filling, filling-none, filling-more, filling-all}
+use Rattle.file_reading.proofs.Filling.{set-put}
 use Rattle.file_reading.proofs.fill_sets.Statement.{statement}
 use Rattle.file_reading.proofs.fill_sets.Tie as tie
 
 abbrev Inv-loop : tie.InvT-loop
-Inv-loop form bytes n g store₀ w k₀ k-end store k = (k ≤ heads (formOf form) + g + n) × Filling (formOf form) bytes n g k store₀ store
+Inv-loop form bytes n g store₀ w k₀ k-end store k = (k ≤ heads (formOf form) + g + n) × Filling (placeOf (formOf form) g) (setNumber bytes n) k store₀ store
 
 abbrev μ-loop : tie.MeasureT-loop
 μ-loop form bytes n g store₀ w k₀ k-end store k = heads (formOf form) + g + n - k
@@ -24,7 +25,7 @@ fill-sets-spec =
     μ-loop
     (λ c κs. search needs)
     (λ c κs. search needs)
-    (λ c. (search needs, filling-none _ _ _ _ _))
+    (λ c. (search needs, filling-none _ _ _))
     (λ c κs. search needs)
     (λ c. search needs)
     (λ c. search needs)
@@ -39,8 +40,8 @@ fill-sets-spec =
     (λ c.
     let place = c .before .before .before .before in (
       search needs,
-      filling-more _ _ _ _ _ _ _ _ (place .before .before .loop .inv .1) (place .before .before .before .before .set-width .ensures)
-          (place .place-of .ensures .0) (c .before .before .fill-set .ensures) (search needs),
+      filling-more _ _ _ _ _ (place .before .before .loop .inv .1) _ (search needs)
+          (set-put _ _ _ _ _ _ _ (place .before .before .before .before .set-width .ensures) (place .place-of .ensures .0) (c .before .before .fill-set .ensures)),
     ))
     (λ c. search needs)
-    (λ c. filling-all _ _ _ _ _ _ _ _ (search needs) (search needs) (c .before .loop .inv .1)))
+    (λ c. filling-all _ _ _ _ _ (c .before .loop .inv .1) _ (search needs) (search needs)))

@@ -5,7 +5,7 @@ use lib.ListN.{length}
 use Rattle.basics.specs.Bounds.{concat}
 use Rattle.model.specs.Blocks.{blockBytes, contentBytes}
 use Rattle.file_blocks.proofs.BlockLaws.{length-contentFrom}
-use Rattle.file_blocks.proofs.Overwriting.{Over, parts-none, parts-more}
+use Rattle.table.proofs.Overwriting.{Over, parts-none, parts-more}
 use Rattle.file_reading.proofs.Joining.{blockContent, joining-all}
 use Rattle.file_reading.proofs.join.Statement.{statement}
 use Rattle.file_reading.proofs.join.Tie as tie

@@ -1,7 +1,5 @@
 -- `rest_dead_ends`: the states in hold of the empty set.
-use native.Mathlib.Omega.{arith}
 use borrow.Author.Needs.{needs}
-use lib.ListN.{length-take, length-drop}
 use Rattle.file_rewrite.proofs.Rested.{rested-by}
 use Rattle.file_rewrite.proofs.rest_dead_ends.Statement.{statement}
 use Rattle.file_rewrite.proofs.rest_dead_ends.Tie as tie
@@ -10,13 +8,13 @@ pub rest-dead-ends-spec : {M : Type 1} → statement M
 rest-dead-ends-spec =
     tie.close
     (tie.spec
-    (λ c κs. search needs)
-    (λ c κs. search needs)
-    (λ c κs. search needs)
     (λ c. search needs)
     (λ c. search needs)
     (λ c. search needs)
-    (λ c κs. simp (length-take, length-drop) (omega arith))
+    (λ c κs. search needs)
+    (λ c κs. search needs)
+    (λ c κs. search needs)
+    (λ c κs. search needs)
     (λ c. search needs)
     (λ c.
     let put = c .before .before in

@@ -2,7 +2,7 @@
 use mathlib.Core.Path.{refl, _∙_}
 use borrow.Author.Needs.{needs}
 use Rattle.model.specs.Contents.{headerBytes}
-use Rattle.file_blocks.proofs.Overwriting.{overwrite-lent}
+use Rattle.table.proofs.Overwriting.{overwrite-lent}
 use Rattle.file_writing.proofs.Joining.{contents-written}
 use Rattle.file_writing.proofs.join.Statement.{statement}
 use Rattle.file_writing.proofs.join.Tie as tie

@@ -6,7 +6,7 @@ use lib.ListN.{length-take, length-drop}
 use Rattle.basics.specs.Bounds.{concat}
 use Rattle.model.specs.Stores.{headSets}
 use Rattle.file_writing.specs.Writing.{placedSet}
-use Rattle.file_blocks.proofs.Overwriting.{Over, parts-none}
+use Rattle.table.proofs.Overwriting.{Over, parts-none}
 use Rattle.file_blocks.proofs.BlockLaws.{sets-fit}
 use Rattle.file_writing.proofs.Joining.{sets-more, sets-all, set-room}
 use Rattle.file_writing.proofs.join_sets.Statement.{statement}

@@ -3,7 +3,7 @@ use Prim.Native.Nat.{_-_, _≤_}
 use mathlib.Core.Path.{refl}
 use borrow.Author.Needs.{needs}
 use Rattle.file_writing.specs.Writing.{wordBytes}
-use Rattle.file_blocks.proofs.Overwriting.{Over, over-all}
+use Rattle.table.proofs.Overwriting.{Over, over-all}
 use Rattle.file_writing.proofs.SetBytes.{bytes-none, bytes-more}
 use Rattle.file_writing.proofs.put_bytes.Statement.{statement}
 use Rattle.file_writing.proofs.put_bytes.Tie as tie

@@ -3,7 +3,7 @@ use Prim.Native.Nat.{_-_, _≤_}
 use borrow.Author.Needs.{needs}
 use Rattle.basics.specs.Bounds.{concat}
 use Rattle.file_writing.specs.Writing.{wordsBytes}
-use Rattle.file_blocks.proofs.Overwriting.{Over, parts-none, parts-all}
+use Rattle.table.proofs.Overwriting.{Over, parts-none, parts-all}
 use Rattle.file_writing.proofs.SetBytes.{words-more}
 use Rattle.file_writing.proofs.put_words.Statement.{statement}
 use Rattle.file_writing.proofs.put_words.Tie as tie

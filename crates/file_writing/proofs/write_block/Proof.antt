@@ -2,7 +2,7 @@
 use mathlib.Core.Path.{refl, _∙_}
 use borrow.Author.Needs.{needs}
 use Rattle.model.specs.Blocks.{checkAt}
-use Rattle.file_blocks.proofs.Overwriting.{overwrite-lent}
+use Rattle.table.proofs.Overwriting.{overwrite-lent}
 use Rattle.file_writing.proofs.WriteLaws.{length-blockFront, block-written}
 use Rattle.file_writing.proofs.write_block.Statement.{statement}
 use Rattle.file_writing.proofs.write_block.Tie as tie
@@ -29,4 +29,4 @@ write-block-spec =
     let content = sum .before .before .before .before in
     let number = content .before .before .before .before in
     let front = overwrite-lent _ _ _ _ _ 2 refl (number .write-le16 .ensures) (content .copy-content .ensures) in
-    overwrite-lent _ _ _ _ _ checkAt (length-blockFront _ _) front (check .write-le162 .ensures) ∙ block-written _ _ _ _ _ _ front (sum .check-of .ensures)))
+    overwrite-lent _ _ _ _ _ checkAt (length-blockFront _ _) front (check .write-le162 .ensures) ∙ block-written _ _ _ _ _ _ front (sum .checksum-of .ensures)))

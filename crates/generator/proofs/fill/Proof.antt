@@ -21,5 +21,5 @@ fill-spec =
     let marked = rows .before .before .before .before in
     let initial = marked .before .before .before .before .before in
     let cleared = initial .before .before .before .before .before in
-    filled _ _ _ _ _ _ _ _ _ _ (search needs) (search needs) (cleared .clear .ensures) (initial .put-set .ensures)
+    filled _ _ _ (search needs) _ (search needs) (cleared .clear .ensures) (initial .put-set .ensures)
     (initial .before .single .ensures) (marked .put-set2 .ensures) (marked .before .single2 .ensures) (rows .put-rows .ensures)))

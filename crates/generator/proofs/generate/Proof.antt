@@ -3,7 +3,7 @@ use native.Mathlib.Nat.{le-of-eq}
 use native.Mathlib.Omega.{arith}
 use mathlib.Core.Path.{sym}
 use borrow.Author.Needs.{needs}
-use Rattle.generator.proofs.Numbers.{front-numbers, front-long, front-inside}
+use Rattle.generator.proofs.Numbers.{front-long}
 use Rattle.generator.proofs.Generating.{accepted-load, refused-load, filled-load}
 use Rattle.generator.proofs.generate.Statement.{statement}
 use Rattle.generator.proofs.generate.Tie as tie
@@ -18,17 +18,15 @@ generate-spec =
     (λ c. omega (arith, accepted-load _ _ _ (c .before .refusal .ensures) (c .if1 .left) .most))
     (λ c. search needs)
     (λ c κs. omega (arith, accepted-load _ _ _ (c .before .before .refusal .ensures) (c .before .if1 .left) .most))
-    (λ c. front-inside _ _ _ _ (c .before .put-numbers .ensures))
-    (λ c. sym (front-long _ _ _ _ (c .before .before .put-numbers .ensures)))
+    (λ c. let test = c .before .before .before in omega (arith, accepted-load _ _ _ (test .before .refusal .ensures) (test .if1 .left) .most))
+    (λ c. sym (front-long _ _ _ (c .before .before .put-numbers .ensures)))
     (λ c κs.
-    let numbers = c .before .before .before in
-    let test = numbers .before .before in
+    let test = c .before .before .before .before .before in
     let held = accepted-load _ _ _ (test .before .refusal .ensures) (test .if1 .left) in
-    (held .some, held .small, le-of-eq (sym (front-long _ _ _ _ (numbers .put-numbers .ensures))), held .long))
+    (held .some, held .small, le-of-eq (sym (front-long _ _ _ (c .before .before .before .put-numbers .ensures))), held .long))
     (λ c. search needs)
     (λ c.
     let fill = c .before .before in
     let numbers = fill .before .before .before .before in
     let test = numbers .before .before in
-    filled-load _ _ _ _ (test .before .refusal .ensures) (test .if1 .left) _ _
-    (front-numbers _ _ _ _ (numbers .put-numbers .ensures)) (fill .fill .ensures)))
+    filled-load _ _ _ _ (test .before .refusal .ensures) (test .if1 .left) _ _ (numbers .put-numbers .ensures) (fill .fill .ensures)))

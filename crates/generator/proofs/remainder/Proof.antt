@@ -1,6 +1,7 @@
 -- `remainder`: what the quotient leaves, or n less.
+use native.Mathlib.Omega.{arith}
 use borrow.Author.Needs.{needs}
-use Rattle.generator.proofs.Remainders.{product-fits, taken, taken-fits, left-is, left-over}
+use Rattle.generator.proofs.Remainders.{product-fits, taken, left-is, left-over}
 use Rattle.generator.proofs.remainder.Statement.{statement}
 use Rattle.generator.proofs.remainder.Tie as tie
 
@@ -9,7 +10,7 @@ remainder-spec =
     tie.close
     (tie.spec
     (λ c. record { fits = product-fits {n = c .args .n} (search needs) (search needs) (search needs) })
-    (λ c. record { fits = taken-fits (search needs) (search needs) (search needs) })
+    (λ c. omega (arith, taken {x = c .args .x} {n = c .args .n} {inverse = c .args .inverse} (search needs) (search needs) (search needs)))
     (λ c. taken (search needs) (search needs) (search needs))
     (λ c. left-is (search needs) (search needs) (search needs) (search needs))
     (λ c. left-over (search needs) (search needs) (search needs) (search needs)))

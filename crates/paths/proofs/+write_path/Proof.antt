@@ -28,31 +28,33 @@ write-path-below t = and 3 write-path-kinds.ps (falls 3 write-path-kinds.ps _<_ 
 
 abbrev claims : ℕ → write-path-lts.Claims
 claims t =
-    (smallest-in-layer-reads.Asked, smallest-in-layer-reads.Learnt, row-at-reads.Asked, row-at-reads.Learnt, write-path-below t, write-path.Post)
+    (row-at-reads.Asked, row-at-reads.Learnt, smallest-in-layer-reads.Asked, smallest-in-layer-reads.Learnt, write-path-below t, write-path.Post)
 
 pub +write-path-spec : {M : Type 1} → statement M
 +write-path-spec =
     close μ-write-path
     (λ t.
     write-path-lts.spec (claims t) (write-path-at t) write-path.Post
-    (λ c κs. omega (arith, c .before .before .pre .1 .short))
-    (λ c. omega (arith, writable-first _ _ _ _ _ (c .smallest-in-layer .ensures) (c .before .before .before .pre .1)))
+    (λ c. omega (arith, writable-first _ _ _ _ _ (c .before .before .pre .1)))
     (λ c. search needs)
-    (λ c. omega (arith, c .before .before .before .pre .1 .short, c .before .before .before .pre .1 .fits))
-    (λ c κs. (writable-first _ _ _ _ _ (c .before .smallest-in-layer .ensures) (c .before .before .before .before .pre .1), c .before .before .before .before .pre .1 .long))
+    (λ c. let pre = c .before .before .pre .1 in omega (arith, pre .short, pre .fits))
+    (λ c. let start = c .before .before .before in omega (arith, start, start .pre .1 .short))
+    (λ c κs. let pre = c .before .before .before .pre .1 in (writable-first _ _ _ _ _ pre, pre .long))
+    (λ c κs. omega (arith, c .before .before .before .before .pre .1 .short, c .before .if1 .taken))
     (λ c. search needs)
     (λ c. let start = c .before .before .before .before .before .before in omega (arith, start, start .pre .1 .short))
     (λ c κs.
-    let d = c .before .before .before in
-    let start = d .before .before .before in (
-      omega (arith, start .pre .0, c .before .before .if1 .taken),
-      rw length-set (writable-rest _ _ _ _ _ (d .smallest-in-layer .ensures) (start .pre .1) (c .before .row-at .ensures) (c .before .before .if1 .taken)),
+    let r = c .before .before in
+    let some = r .before .if1 .taken in
+    let start = r .before .before .before .before in (
+      omega (arith, start .pre .0, some),
+      rw length-set (writable-rest _ _ _ _ _ (start .pre .1) (r .row-at .ensures) (c .before .smallest-in-layer .ensures) some),
     ))
     (λ c. ap length (c .before .before .write-path .ensures) ∙ simp (length-sets, length-set))
     (λ c.
-    let call = c .before .before .before in
-    let d = call .before .before .before in
+    let next = c .before .before .before .before in
+    let r = next .before in
     c .before .before .write-path .ensures
-    ∙ rw (walkBy-step _ _ _ _ _ (d .smallest-in-layer .ensures) (call .before .row-at .ensures) (call .before .before .if1 .taken), add-one))
+    ∙ rw (walkBy-step _ _ _ _ _ (r .row-at .ensures) (next .smallest-in-layer .ensures) (r .before .if1 .taken), add-one))
     (λ c. simp length-set)
-    (λ c. rw (walkBy-last _ _ _ _ _ (c .before .smallest-in-layer .ensures) (c .if1 .left))))
+    (λ c. rw (walkBy-last _ _ _ _ _ (c .if1 .left))))

@@ -1,58 +1,55 @@
--- `all_distances`: the layers so far, then what `sweep_transposed` makes of them.
-use Prim.Native.Nat.{_-_, _<_}
-use native.Mathlib.Omega.{arith}
-use mathlib.Core.Path.{refl, ap₂, _∙_}
+-- `all_distances`: the layers so far.
+use Prim.Native.Nat.{suc, _-_}
+use mathlib.Core.Path.{refl, sym, ap₂, _∙_}
+use mathlib.Core.List.{[]}
 use borrow.Author.Needs.{needs}
-use Rattle.model.specs.Sets.{difference}
-use Rattle.model.specs.Stores.{tableOf}
+use borrow.Author.Tests.{not-false}
+use Rattle.model.specs.Sets.{maxStates, empty, difference}
+use Rattle.basics.proofs.BoundLaws.{not-true}
 use Rattle.state_set.proofs.Words.{proper}
-use Rattle.paths.specs.Search.{Swept}
-use Rattle.paths.proofs.Layers.{swept-start, swept-some, swept-kept, swept-end}
+use Rattle.table.specs.Rows.{tableOn}
+use Rattle.table.proofs.Parts.{row-in}
+use Rattle.paths.specs.Search.{steppingInto}
+use Rattle.paths.proofs.Transposed.{stepping-new}
+use Rattle.paths.proofs.Layers.{Swept, swept-start, swept-turn, swept-end}
 use Rattle.paths.proofs.all_distances.Statement.{statement}
 use Rattle.paths.proofs.all_distances.Tie as tie
 
 abbrev Inv-loop : tie.InvT-loop
-Inv-loop store n distances₀ layer₀ rest₀ d₀ distances layer rest d = Swept (tableOf store n 0) d distances (layer .words) (rest .words)
+Inv-loop rows n forbidden distances₀ found₀ layer₀ d₀ distances found layer d =
+    Swept rows (tableOn n empty (forbidden .words) [] rows) d distances (found .words) (layer .words)
 
 abbrev μ-loop : tie.MeasureT-loop
-μ-loop store n distances₀ layer₀ rest₀ d₀ distances layer rest d = n - d
-
--- a layer with a state is below n
-below : (c : tie.Then1 Inv-loop μ-loop) → c .before .before .loop .d < c .before .before .before .before .before .before .before .args .n
-unfolding tableOf
-below c =
-    let held = c .before .before .before .before .before .before .before .pre in
-    swept-some (held .formed) (held .small) (c .before .before .loop .inv) _ (c .before .is-empty .ensures) (c .if1 .taken)
+μ-loop rows n forbidden distances₀ found₀ layer₀ d₀ distances found layer d = suc maxStates - d
 
 pub all-distances-spec : {M : Type 1} → statement M
-unfolding tableOf
+unfolding tableOn
 all-distances-spec =
     tie.close
     (tie.spec
     Inv-loop
     μ-loop
-    (λ c κs. c .before .pre .long)
+    (λ c. swept-start _ (row-in _ _) (c .before .pre .formed) (proper (search needs) (λ w. search needs)))
     (λ c κs. search needs)
     (λ c κs. search needs)
-    (λ c.
-    let held = c .before .before .before .before .pre in
-    swept-start (held .formed) (held .small) (proper (search needs) (λ w. search needs)) (c .before .before .forbidden .ensures)
-    (c .difference .ensures ∙ ap₂ difference (c .before .first-states .ensures) refl))
     (λ c κs. search needs)
-    (λ c κs. let d = c .before .before .before .before in (d .before .before .before .before .before .pre, d .loop .inv))
+    (λ c κs. search needs)
+    (λ c κs. search needs)
     (λ c. c .sweep-transposed .ensures)
     (λ c κs. search needs)
-    (λ c κs. let d = c .before .before .before .before .before in d .before .before .before .before .before .pre .long)
+    (λ c κs. c .before .before .before .before .before .before .before .before .before .before .pre .long)
     (λ c κs. search needs)
+    (λ c. search needs)
+    (λ c. search needs)
     (λ c.
-    let turn = c .before .before .before .before .before in
-    omega (arith, below turn, turn .before .before .before .before .before .before .before .pre .small))
-    (λ c. omega (arith, below (c .before .before .before .before .before)))
+    let turn = c .before .before .before .before .before .before .before .before in
+    let rest = c .before .before .before .before .before .before in
+    let some = sym (turn .before .is-empty .ensures) ∙ not-true _ (turn .if1 .taken) in
+    swept-turn _ (row-in _ _) (turn .before .before .before .before .pre .formed) (turn .before .before .loop .inv) some (c .before .before .mark .ensures)
+    (c .before .stepping-into .ensures
+    ∙ ap₂ (steppingInto _) (rest .difference .ensures ∙ ap₂ difference (rest .before .first-states .ensures) refl) refl
+    ∙ stepping-new _ _ _ _)
+    (c .union .ensures))
     (λ c.
-    let turn = c .before .before .before .before .before in
-    let held = turn .before .before .before .before .before .before .before .pre in
-    swept-kept _ _ (held .formed) (held .small) (turn .before .before .loop .inv) (below turn) (c .before .before .mark .ensures) (c .before .meet-hold .ensures)
-    (c .difference2 .ensures))
-    (λ c.
-    let held = c .before .before .before .before .before .before .before .pre in
-    swept-end (held .formed) (held .small) (c .before .before .loop .inv) _ (c .before .is-empty .ensures) (c .if1 .left)))
+    swept-end _ (row-in _ _) (c .before .before .before .before .pre .formed) (c .before .before .loop .inv)
+    (sym (c .before .is-empty .ensures) ∙ not-false _ (c .if1 .left))))

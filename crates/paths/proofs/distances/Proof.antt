@@ -1,9 +1,10 @@
 -- `distances`: the grounds in their order, then the distances of the first n states.
+use native.Mathlib.Omega.{arith}
 use borrow.Author.Needs.{needs}
+use Rattle.model.proofs.SetLaws.{empty-in}
 use Rattle.model.proofs.Acceptance.{Store}
-use Rattle.paths.proofs.Groups.{holds-table}
-use Rattle.paths.proofs.Answers.{accepted}
-use Rattle.paths.proofs.DistanceAnswers.{distances-refused, distances-short, distances-written}
+use Rattle.paths.proofs.Groups.{holds-states}
+use Rattle.paths.proofs.Answers.{accepted, distances-refused, distances-short, distances-written}
 use Rattle.paths.proofs.distances.Statement.{statement}
 use Rattle.paths.proofs.distances.Tie as tie
 
@@ -18,10 +19,15 @@ distances-spec =
     (λ c κs. search needs)
     (λ c. distances-refused _ _ _ _ (c .before .refusal .ensures) (c .if1 .taken))
     (λ c. distances-short _ _ _ _ (held (c .before)) (c .if2 .taken))
-    (λ c κs. holds-table _ _ _ (held (c .before)))
-    (λ c κs. let d = c .before .before .before in (held (d .before) .small, d .if2 .left))
+    (λ c. omega (arith, held (c .before) .long))
+    (λ c. omega (arith, held (c .before) .long))
+    (λ c. search needs)
+    (λ c κs. held (c .before .before) .long)
+    (λ c κs. holds-states _ _ _ (c .forbidden .ensures) (held (c .before .before .before)) (λ s h. absurd (empty-in h)))
+    (λ c κs. let d = c .before .before .before .before .before in (held (d .before) .small, d .if2 .left))
     (λ c. search needs)
     (λ c.
     let put = c .before .before in
     let known = put .before .before .before in
-    distances-written _ _ _ _ (held (known .before .before)) (known .before .if2 .left) (known .all-distances .ensures) (put .put-distances .ensures)))
+    let e = known .before .before .before in
+    distances-written _ _ _ _ (held (e .before)) (e .if2 .left) (known .before .forbidden .ensures) (known .all-distances .ensures) (put .put-distances .ensures)))

@@ -1,30 +1,24 @@
 -- `first_layer`: the layers so far hold no forbidden state, and each has its row. A layer with a state makes one more found, so there are fewer
 -- layers than states.
-use Prim.Native.Nat.{_-_, _<_}
-use native.Mathlib.Omega.{arith}
-use mathlib.Core.Path.{_≡_, sym, _∙_}
-use mathlib.Core.Bool.{false}
+use Prim.Native.Nat.{suc, _-_}
+use mathlib.Core.Path.{refl, sym, ap, _∙_}
 use borrow.Author.Needs.{needs}
 use borrow.Author.Tests.{not-false}
-use Rattle.model.specs.Sets.{maxStates, empty, subset}
+use lib.ListN.{length, length-set}
+use Rattle.model.specs.Sets.{maxStates}
 use Rattle.basics.proofs.BoundLaws.{not-true}
 use Rattle.state_set.proofs.Words.{proper}
-use Rattle.paths.proofs.Outward.{Outward, outward-start, outward-below, outward-turn, outward-hit, outward-end}
+use Rattle.paths.proofs.Outward.{Outward, outward-start, outward-turn, outward-hit, outward-end, PutDown, put-start, put-turn, put-hit}
 use Rattle.paths.proofs.first_layer.Statement.{statement}
 use Rattle.paths.proofs.first_layer.Tie as tie
 
 abbrev Inv-loop : tie.InvT-loop
-Inv-loop store layers₀ found₀ layer₀ steps₀ layers found layer steps = Outward store (found₀ .words) steps (found .words) (layer .words) layers
+Inv-loop rows forbidden layers₀ found₀ layer₀ steps₀ layers found layer steps =
+    Outward rows (found₀ .words) (forbidden .words) steps (found .words) (layer .words)
+    × PutDown rows (found₀ .words) (length layers₀) steps layers
 
 abbrev μ-loop : tie.MeasureT-loop
-μ-loop store layers₀ found₀ layer₀ steps₀ layers found layer steps = maxStates - steps
-
--- the layer has a state
-some : (c : tie.Then1 Inv-loop μ-loop) → subset (c .before .before .loop .layer .words) empty ≡ false
-some c = sym (c .before .is-empty .ensures) ∙ not-true _ (c .if1 .taken)
-
-below : (c : tie.Then1 Inv-loop μ-loop) → c .before .before .loop .steps < maxStates
-below c = outward-below _ _ (c .before .before .loop .inv) (some c)
+μ-loop rows forbidden layers₀ found₀ layer₀ steps₀ layers found layer steps = suc maxStates - steps
 
 pub first-layer-spec : {M : Type 1} → statement M
 first-layer-spec =
@@ -32,25 +26,31 @@ first-layer-spec =
     (tie.spec
     Inv-loop
     μ-loop
-    (λ c. outward-start _ _ (proper (search needs) (λ w. search needs)) (c .before .pre .1))
+    (λ c. (outward-start _ _ _ (proper (search needs) (λ w. search needs)), put-start _ _ refl))
     (λ c κs. search needs)
     (λ c κs. search needs)
     (λ c κs. search needs)
-    (λ c. record { fits = omega (arith, below (c .before .before .before .before)) })
-    (λ c. below (c .before .before .before .before))
+    (λ c κs. search needs)
+    (λ c. ap length (c .before .put-row .ensures) ∙ simp length-set (c .before .before .before .before .before .before .before .before .loop .inv .1 .long))
     (λ c.
-    let d = c .before .before .before .before in
-    outward-hit _ _ (d .before .before .loop .inv) (some d) (sym (c .before .before .before .none-forbidden .ensures) ∙ not-true _ (c .before .before .if2 .taken))
-    (c .before .forbidden-among .ensures))
-    (λ c. record { fits = omega (arith, below (c .before .before .before)) })
-    (λ c. below (c .before .before .before))
+    let hit = c .before .before .before .before in
+    let d = hit .before .before in
+    let so = d .before .before .loop .inv in (
+      outward-hit _ _ _ (so .0) (sym (hit .before .meets .ensures) ∙ hit .if2 .taken),
+      put-hit _ _ _ (so .0) (so .1) (c .before .before .meet .ensures) (c .before .put-row .ensures),
+    ))
     (λ c κs. search needs)
     (λ c κs. search needs)
-    (λ c. omega (arith, below (c .before .before .before .before .before)))
-    (λ c. let l = below (c .before .before .before .before .before) in omega arith)
+    (λ c κs. search needs)
+    (λ c. search needs)
+    (λ c. search needs)
     (λ c.
-    let d = c .before .before .before .before .before in
-    outward-turn _ _ (d .before .before .loop .inv) (some d)
-    (sym (c .before .before .before .before .none-forbidden .ensures) ∙ not-false _ (c .before .before .before .if2 .left))
-    (c .before .newly-reached .ensures) (c .union .ensures))
-    (λ c. (outward-end _ _ (c .before .before .loop .inv) (sym (c .before .is-empty .ensures) ∙ not-false _ (c .if1 .left)), tt)))
+    let on = c .before .before .before .before .before in
+    let d = on .before .before in
+    let so = d .before .before .loop .inv in
+    let some = sym (d .before .is-empty .ensures) ∙ not-true _ (d .if1 .taken) in (
+      outward-turn _ _ _ (so .0) some (sym (on .before .meets .ensures) ∙ on .if2 .left) (c .before .newly-reached .ensures) (c .union .ensures),
+      put-turn _ _ _ (so .0) (so .1) (c .before .before .before .put-row2 .ensures),
+    ))
+    (λ c. c .before .before .loop .inv .1 .long)
+    (λ c. (outward-end _ _ _ (c .before .before .loop .inv .0) (sym (c .before .is-empty .ensures) ∙ not-false _ (c .if1 .left)), tt)))

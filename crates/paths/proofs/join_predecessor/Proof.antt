@@ -3,20 +3,21 @@ use Prim.Native.Nat.{_-_, _≤_}
 use mathlib.Core.Path.{_≡_, _∙_}
 use mathlib.Core.List.{[]}
 use borrow.Author.Needs.{needs}
-use Rattle.model.specs.Sets.{WORDS, single, union}
+use Rattle.model.specs.Sets.{WORDS}
 use Rattle.state_set.specs.WordSets.{wordsBelow}
 use Rattle.state_set.proofs.Words.{proper}
 use Rattle.table.specs.Rows.{mapAt}
 use Rattle.table.proofs.MapAt.{map-start, map-word, map-all}
+use Rattle.paths.specs.Search.{withBit}
 use Rattle.paths.proofs.join_predecessor.Statement.{statement}
 use Rattle.paths.proofs.join_predecessor.Tie as tie
 
 abbrev Inv-loop : tie.InvT-loop
-Inv-loop rows₀ s successors w₀ rows w =
-    (w ≤ WORDS) × (rows ≡ mapAt (wordsBelow w (successors .words)) (λ row. union row (single s)) [] rows₀)
+Inv-loop before₀ s successors w₀ before w =
+    (w ≤ WORDS) × (before ≡ mapAt (wordsBelow w (successors .words)) (withBit s) [] before₀)
 
 abbrev μ-loop : tie.MeasureT-loop
-μ-loop rows₀ s successors w₀ rows w = WORDS - w
+μ-loop before₀ s successors w₀ before w = WORDS - w
 
 pub join-predecessor-spec : {M : Type 1} → statement M
 join-predecessor-spec =

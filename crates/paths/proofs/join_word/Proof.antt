@@ -1,30 +1,24 @@
 -- `join_word`: to join s to the rows of the bits that are left leads to the whole.
-use Prim.Native.Nat.{_+_, _*_}
 use native.Mathlib.Omega.{arith}
-use mathlib.Core.Path.{refl, ap₂, _∙_}
+use mathlib.Core.Path.{refl}
 use mathlib.Core.List.{[]}
 use borrow.Author.Needs.{needs}
-use lib.Count.{trailingZeros, trailing-le}
-use Rattle.model.specs.Sets.{single, union}
-use Rattle.model.proofs.SetLaws.{In, in-bound}
+use lib.Count.{trailing-le}
 use Rattle.state_set.specs.WordSets.{wordSet}
 use Rattle.state_set.proofs.Counts.{bits-fit, states-fit}
-use Rattle.state_set.proofs.WordSets.{word-lowest, word-less}
+use Rattle.state_set.proofs.WordSets.{word-less}
 use Rattle.table.specs.Rows.{mapAt}
-use Rattle.table.proofs.MapAt.{Mapping, mapping-turn, mapping-end}
+use Rattle.table.proofs.MapAt.{Mapping, mapping-bound, mapping-turn, mapping-end}
+use Rattle.paths.specs.Search.{withBit}
 use Rattle.paths.proofs.join_word.Statement.{statement}
 use Rattle.paths.proofs.join_word.Tie as tie
 
 abbrev Inv-loop : tie.InvT-loop
-Inv-loop rows₀ s w bits rest₀ rows rest =
-    Mapping (λ row. union row (single s)) [] (mapAt (wordSet w bits) (λ row. union row (single s)) [] rows₀) w rest rows
+Inv-loop before₀ s w bits rest₀ before rest =
+    Mapping (withBit s) [] (mapAt (wordSet w bits) (withBit s) [] before₀) w rest before
 
 abbrev μ-loop : tie.MeasureT-loop
-μ-loop rows₀ s w bits rest₀ rows rest = rest
-
--- the state taken is one that is left
-taken : (c : tie.In-loop Inv-loop μ-loop) → In (wordSet (c .before .before .args .w) (c .before .loop .rest)) (64 * c .before .before .args .w + trailingZeros 64 (c .before .loop .rest))
-taken c = word-lowest _ _ (search needs) (c .before .loop .inv .fits) (c .loop-test .taken)
+μ-loop before₀ s w bits rest₀ before rest = rest
 
 pub join-word-spec : {M : Type 1} → statement M
 join-word-spec =
@@ -36,14 +30,14 @@ join-word-spec =
     (λ c. search needs)
     (λ c. bits-fit _ (trailing-le 64 _))
     (λ c. states-fit _ _ (search needs) (trailing-le 64 _))
-    (λ c κs. in-bound (taken (c .before)))
-    (λ c κs. search needs)
-    (λ c. record { fits = omega (arith, in-bound (taken (c .before .before .before .before))) })
-    (λ c. in-bound (taken (c .before .before .before .before)))
     (λ c. search needs)
-    (λ c. word-less _ (c .before .before .before .before .loop-test .taken))
-    (λ c.
-    let d = c .before .before .before .before in
-    mapping-turn _ _ _ (d .before .loop .inv) (search needs) (d .loop-test .taken)
-    (c .before .with .ensures ∙ ap₂ union (c .before .before .row-of .ensures) refl))
+    (λ c. record { fits = omega (arith, mapping-bound _ _ _ (c .before .loop .inv) (search needs) (c .loop-test .taken)) })
+    (λ c. search needs)
+    (λ c. mapping-bound _ _ _ (c .before .loop .inv) (search needs) (c .loop-test .taken))
+    (λ c. search needs)
+    (λ c. mapping-bound _ _ _ (c .before .before .loop .inv) (search needs) (c .before .loop-test .taken))
+    (λ c. search needs)
+    (λ c. search needs)
+    (λ c. word-less _ (c .before .loop-test .taken))
+    (λ c. mapping-turn _ _ _ (c .before .before .loop .inv) (search needs) (c .before .loop-test .taken) refl)
     (λ c. mapping-end _ _ _ (c .before .loop .inv) (c .loop-test .left)))

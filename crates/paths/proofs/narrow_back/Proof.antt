@@ -9,10 +9,10 @@ use Rattle.paths.proofs.narrow_back.Statement.{statement}
 use Rattle.paths.proofs.narrow_back.Tie as tie
 
 abbrev Inv-loop : tie.InvT-loop
-Inv-loop store layers₀ d i₀ layers i = (i ≤ d) × (narrowedBack store i layers ≡ narrowedBack store d layers₀)
+Inv-loop rows layers₀ d i₀ layers i = (i ≤ d) × (narrowedBack rows i layers ≡ narrowedBack rows d layers₀)
 
 abbrev μ-loop : tie.MeasureT-loop
-μ-loop store layers₀ d i₀ layers i = i
+μ-loop rows layers₀ d i₀ layers i = i
 
 pub narrow-back-spec : {M : Type 1} → statement M
 narrow-back-spec =

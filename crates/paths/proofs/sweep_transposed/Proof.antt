@@ -1,53 +1,50 @@
 -- `sweep_transposed`: the layers so far.
-use Prim.Native.Nat.{_-_, _<_}
-use native.Mathlib.Omega.{arith}
-use mathlib.Core.Path.{refl, ap₂, _∙_}
+use Prim.Native.Nat.{suc, _-_}
+use mathlib.Core.Path.{refl, sym, ap₂, _∙_}
+use mathlib.Core.List.{[]}
 use borrow.Author.Needs.{needs}
-use Rattle.model.specs.Sets.{meet}
-use Rattle.model.specs.Stores.{tableOf}
-use Rattle.paths.specs.Search.{Swept}
-use Rattle.paths.proofs.Layers.{transposes, swept-some, swept-transposed, swept-end}
+use borrow.Author.Tests.{not-false}
+use Rattle.model.specs.Sets.{maxStates, empty, difference}
+use Rattle.basics.proofs.BoundLaws.{not-true}
+use Rattle.state_set.proofs.Words.{proper}
+use Rattle.table.specs.Rows.{tableOn}
+use Rattle.table.proofs.Parts.{row-in}
+use Rattle.paths.proofs.Transposed.{transposed-start, transposed-image}
+use Rattle.paths.proofs.Layers.{Swept, swept-start, swept-turn, swept-end}
 use Rattle.paths.proofs.sweep_transposed.Statement.{statement}
 use Rattle.paths.proofs.sweep_transposed.Tie as tie
 
 abbrev Inv-loop : tie.InvT-loop
-Inv-loop store n distances₀ from before layer₀ rest₀ d₀ distances layer rest d = Swept (tableOf store n 0) d distances (layer .words) (rest .words)
+Inv-loop rows n before distances₀ found₀ layer₀ d₀ distances found layer d =
+    Swept rows (tableOn n empty (found₀ .words) [] rows) d distances (found .words) (layer .words)
 
 abbrev μ-loop : tie.MeasureT-loop
-μ-loop store n distances₀ from before layer₀ rest₀ d₀ distances layer rest d = n - d
-
--- a layer with a state is below n
-below : (c : tie.Then1 Inv-loop μ-loop) → c .before .before .loop .d < c .before .before .before .before .before .args .n
-unfolding tableOf
-below c =
-    let held = c .before .before .before .before .before .pre .0 in
-    swept-some (held .formed) (held .small) (c .before .before .loop .inv) _ (c .before .is-empty .ensures) (c .if1 .taken)
+μ-loop rows n before distances₀ found₀ layer₀ d₀ distances found layer d = suc maxStates - d
 
 pub sweep-transposed-spec : {M : Type 1} → statement M
-unfolding tableOf
+unfolding tableOn
 sweep-transposed-spec =
     tie.close
     (tie.spec
     Inv-loop
     μ-loop
-    (λ c κs. (c .before .pre .0 .small, c .before .pre .0 .long))
-    (λ c. c .before .before .pre .1)
+    (λ c κs. let held = c .before .before .pre in (transposed-start _, held .small, held .long))
+    (λ c. swept-start _ (row-in _ _) (c .before .before .before .pre .formed) (proper (search needs) (λ w. search needs)))
     (λ c κs. search needs)
     (λ c κs. search needs)
     (λ c κs. search needs)
     (λ c κs. search needs)
     (λ c κs. search needs)
+    (λ c. search needs)
+    (λ c. search needs)
     (λ c.
     let turn = c .before .before .before .before .before .before in
-    omega (arith, below turn, turn .before .before .before .before .before .pre .0 .small))
-    (λ c. omega (arith, below (c .before .before .before .before .before .before)))
-    (λ c.
-    let turn = c .before .before .before .before .before .before in
-    let entry = turn .before .before .before in
-    let held = entry .before .before .pre .0 in
-    swept-transposed (held .formed) (held .small) (turn .before .before .loop .inv) _ (transposes _ _ (entry .predecessors .ensures)) (below turn)
+    let joined = turn .before .before .before in
+    let some = sym (turn .before .is-empty .ensures) ∙ not-true _ (turn .if1 .taken) in
+    swept-turn _ (row-in _ _) (joined .before .before .before .pre .formed) (turn .before .before .loop .inv) some
     (c .before .before .before .before .mark .ensures)
-    (c .before .meet .ensures ∙ ap₂ meet (c .before .before .union-of .ensures) refl) (c .difference .ensures))
+    (c .before .difference .ensures ∙ ap₂ difference (c .before .before .union-of .ensures ∙ transposed-image _ _ (joined .join-predecessors .ensures) _) refl)
+    (c .union .ensures))
     (λ c.
-    let held = c .before .before .before .before .before .pre .0 in
-    swept-end (held .formed) (held .small) (c .before .before .loop .inv) _ (c .before .is-empty .ensures) (c .if1 .left)))
+    swept-end _ (row-in _ _) (c .before .before .before .before .before .before .pre .formed) (c .before .before .loop .inv)
+    (sym (c .before .is-empty .ensures) ∙ not-false _ (c .if1 .left))))

@@ -1,30 +1,39 @@
 -- `reached`: after some number of turns, what so many steps lead to, till a layer is empty. The measure: the states not looked at yet.
 use Prim.Native.Nat.{ℕ, suc, _-_}
 use native.Mathlib.Omega.{arith}
-use mathlib.Core.Path.{sym, ap, _∙_}
+use mathlib.Core.Path.{_≡_, sym, ap, _∙_}
+use mathlib.Core.Bool.{false}
 use borrow.Author.Needs.{needs}
 use borrow.Author.Tests.{not-false}
-use Rattle.model.specs.Sets.{maxStates, difference, size}
+use Rattle.model.specs.Sets.{maxStates, empty, difference, subset, size}
 use Rattle.basics.proofs.BoundLaws.{not-true}
 use Rattle.model.proofs.Counting.{size-most}
 use Rattle.state_set.proofs.Words.{proper}
-use Rattle.reach.proofs.Layers.{before, Layered, layered-start, layered-turn, layered-less, layered-expanded, layered-end}
+use Rattle.table.specs.Rows.{rowIn, successorsBy}
+use Rattle.reach.specs.Reached.{reachBy}
+use Rattle.reach.proofs.Layers.{Layered, layered-start, layered-turn, layered-less, layered-expanded, layered-end}
 use Rattle.reach.proofs.reached.Statement.{statement}
 use Rattle.reach.proofs.reached.Tie as tie
 
 abbrev Inv-loop : tie.InvT-loop
-Inv-loop store found₀ layer₀ found layer = (k : ℕ) × Layered store (found₀ .words) k (found .words) (layer .words)
+Inv-loop rows found₀ layer₀ found layer = (k : ℕ) × Layered (rowIn rows) (found₀ .words) k (found .words) (layer .words)
 
 abbrev μ-loop : tie.MeasureT-loop
-μ-loop store found₀ layer₀ found layer = maxStates - size (difference (found .words) (layer .words))
+μ-loop rows found₀ layer₀ found layer = maxStates - size (difference (found .words) (layer .words))
+
+-- the layer has a state
+some : (c : tie.Then1 Inv-loop μ-loop) → subset (c .before .before .loop .layer .words) empty ≡ false
+some c = sym (c .before .is-empty .ensures) ∙ not-true _ (c .if1 .taken)
 
 -- a turn
 turn : (c : tie.After-union Inv-loop μ-loop) → let so = c .before .before .before .before .loop .inv in
-    Layered (c .before .before .before .before .before .before .args .store .now) (c .before .before .before .before .before .before .args .from .words)
+    Layered (rowIn (c .before .before .before .before .before .before .args .rows .now)) (c .before .before .before .before .before .before .args .from .words)
     (suc (so .0)) (c .union .result .words) (c .before .newly-reached .result .words)
-turn c = layered-turn _ _ (c .before .before .before .before .loop .inv .1) (c .before .newly-reached .ensures) (c .union .ensures)
+unfolding successorsBy
+turn c = layered-turn _ _ (c .before .before .before .before .loop .inv .1) (some (c .before .before)) (c .before .newly-reached .ensures) (c .union .ensures)
 
 pub reached-spec : {M : Type 1} → statement M
+unfolding reachBy successorsBy
 reached-spec =
     tie.close
     (tie.spec
@@ -36,10 +45,9 @@ reached-spec =
     (λ c κs. search needs)
     (λ c.
     let so = c .before .before .before .before .loop .inv in
-    let done = c .before .before .before .is-empty .ensures in
     omega (
       arith,
-      layered-less _ _ (so .1) (sym done ∙ not-true _ (c .before .before .if1 .taken)),
+      layered-less _ _ (so .1) (some (c .before .before)),
       ap size (layered-expanded _ _ (so .1)),
       ap size (layered-expanded _ _ (turn c)),
       size-most (difference (c .union .result .words) (c .before .newly-reached .result .words)),

@@ -1,21 +1,18 @@
--- `is_closed`: none of the closed days passed is the day.
-use Prim.Native.Nat.{_-_, _≤_}
-use native.Mathlib.Omega.{arith}
-use mathlib.Core.Path.{_≡_, refl}
+-- `is_closed`: each closed day is looked at.
+use Prim.Native.Nat.{_-_}
+use mathlib.Core.Path.{refl}
 use borrow.Author.Needs.{needs}
-use borrow.Author.Tests.{eq-eqb, ne-eqb}
 use lib.Dec.{eqb}
-use lib.ListN.{length, drop}
-use Rattle.release_windows.specs.Windows.{some}
-use Rattle.release_windows.proofs.Searches.{some-turn, some-hit, some-end}
+use lib.ListN.{length}
+use Rattle.release_windows.proofs.Searches.{Sought, sought-turn, sought-end}
 use Rattle.release_windows.proofs.is_closed.Statement.{statement}
 use Rattle.release_windows.proofs.is_closed.Tie as tie
 
 abbrev Inv-loop : tie.InvT-loop
-Inv-loop closed day i₀ i-end i = (i ≤ length closed) × (some (eqb day) (drop i closed) ≡ some (eqb day) closed)
+Inv-loop closed day found₀ i₀ i-end found i = Sought (eqb day) closed found i
 
 abbrev μ-loop : tie.MeasureT-loop
-μ-loop closed day i₀ i-end i = length closed - i
+μ-loop closed day found₀ i₀ i-end found i = length closed - i
 
 pub is-closed-spec : {M : Type 1} → statement M
 is-closed-spec =
@@ -23,12 +20,10 @@ is-closed-spec =
     (tie.spec
     Inv-loop
     μ-loop
-    (λ c. (search needs, refl))
+    (λ c. record { within = search needs; rest = refl })
     (λ c. search needs)
     (λ c. search needs)
-    (λ c. record { fits = omega (arith, c .shared-slice-known .given (c .before .before .loop .i)) })
-    (λ c. some-hit (eqb _) _ (search needs) (c .before .before .before .loop .inv .1) (eq-eqb _ _ (c .if1 .taken)))
     (λ c. search needs)
     (λ c. search needs)
-    (λ c. (search needs, some-turn (eqb _) _ (search needs) (c .before .before .before .loop .inv .1) (ne-eqb _ _ (c .if1 .left))))
-    (λ c. some-end (eqb _) _ {i = c .before .loop .i} (search needs) (c .before .loop .inv .1)))
+    (λ c. sought-turn (c .before .before .loop .inv) (search needs) refl)
+    (λ c. sought-end (c .before .loop .inv) (search needs)))

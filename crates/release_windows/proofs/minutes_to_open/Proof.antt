@@ -3,8 +3,8 @@ use Prim.Native.Nat.{_-_}
 use native.Mathlib.Omega.{arith}
 use mathlib.Core.Path.{sym, _∙_}
 use borrow.Author.Needs.{needs}
-use Rattle.release_windows.specs.Answers.{span}
-use Rattle.release_windows.proofs.Jumps.{at-most-week, NoneOpen, none-yet, over-day, over-wait, opened, all-shut}
+use Rattle.release_windows.specs.WindowAnswers.{span}
+use Rattle.release_windows.proofs.Jumps.{at-most-week, NoneOpen, over-day, over-wait, opened, all-shut}
 use Rattle.release_windows.proofs.minutes_to_open.Statement.{statement}
 use Rattle.release_windows.proofs.minutes_to_open.Tie as tie
 
@@ -20,7 +20,8 @@ minutes-to-open-spec =
     (tie.spec
     Inv-loop
     μ-loop
-    (λ c. none-yet _ _ _)
+    (λ c. record { shut = λ j h. absurd (omega (arith, h)) })
+    (λ c. search needs)
     (λ c. search needs)
     (λ c κs. search needs)
     (λ c. search needs)

@@ -2,33 +2,18 @@
 use mathlib.Core.Path.{sym, _∙_}
 use borrow.Author.Needs.{needs}
 use borrow.Author.Tests.{lt-ltb, le-ltb}
-use Rattle.basics.specs.Refusals.{refuse}
-use Rattle.release_windows.specs.Answers.{grounds}
+use Rattle.basics.proofs.RefusalLaws.{refuse-first}
+use Rattle.release_windows.specs.WindowAnswers.{grounds}
 use Rattle.release_windows.proofs.refusal.Statement.{statement}
 use Rattle.release_windows.proofs.refusal.Tie as tie
 
 pub refusal-spec : {M : Type 1} → statement M
-unfolding refuse grounds
+unfolding grounds
 refusal-spec =
     tie.close
     (tie.spec
-    (λ c. rw (lt-ltb _ _ (c .if1 .taken)))
-    (λ c. rw (le-ltb _ _ (c .before .if1 .left), lt-ltb _ _ (c .if2 .taken)))
-    (λ c. rw (le-ltb _ _ (c .before .before .if1 .left), le-ltb _ _ (c .before .if2 .left), lt-ltb _ _ (c .if3 .taken)))
+    (λ c. refuse-first 0 _ (search (needs, lt-ltb)))
+    (λ c. refuse-first 1 _ (search (needs, le-ltb)))
     (λ c κs. search needs)
-    (λ c.
-    let d = c .before .before in
-    rw (
-      le-ltb _ _ (d .before .before .if1 .left),
-      le-ltb _ _ (d .before .if2 .left),
-      le-ltb _ _ (d .if3 .left),
-      sym (c .before .any-outside .ensures) ∙ c .if4 .taken,
-    ))
-    (λ c.
-    let d = c .before .before in
-    rw (
-      le-ltb _ _ (d .before .before .if1 .left),
-      le-ltb _ _ (d .before .if2 .left),
-      le-ltb _ _ (d .if3 .left),
-      sym (c .before .any-outside .ensures) ∙ c .if4 .left,
-    )))
+    (λ c. refuse-first 2 _ (search (needs, le-ltb, sym, _∙_)))
+    (λ c. refuse-first 3 _ (search (needs, le-ltb, sym, _∙_))))

@@ -1,24 +1,22 @@
 -- `backward`: s is the cover of the states that stay, which step to none outside the set before it.
-use mathlib.Core.Path.{_≡_, sym, _∙_}
+use mathlib.Core.Path.{sym, _∙_}
 use borrow.Author.Needs.{needs}
 use Rattle.model.specs.Sets.{size}
 use Rattle.state_set.proofs.Words.{proper}
-use Rattle.table.specs.Rows.{meetHold}
-use Rattle.rounds.specs.Steps.{coverBy}
-use Rattle.rounds.proofs.Leaving.{held-again}
+use Rattle.rounds.specs.Steps.{Leads}
+use Rattle.rounds.proofs.Leaving.{leads-again}
 use Rattle.rounds.proofs.Staying.{Staying, staying-start, staying-less, staying-turn, staying-greatest, staying-next}
 use Rattle.rounds.proofs.backward.Statement.{statement}
 use Rattle.rounds.proofs.backward.Tie as tie
 
 abbrev Inv-loop : tie.InvT-loop
-Inv-loop store rows before₀ s₀ staying₀ before s staying =
-    Staying store rows (s₀ .words) (staying .words) (s .words) × (meetHold store (staying .words) (before .words) ≡ staying .words)
+Inv-loop rows steps cover before₀ s₀ staying₀ before s staying =
+    Staying rows cover (s₀ .words) (staying .words) (s .words) × Leads rows steps (staying .words) (before .words)
 
 abbrev μ-loop : tie.MeasureT-loop
-μ-loop store rows before₀ s₀ staying₀ before s staying = size (s .words)
+μ-loop rows steps cover before₀ s₀ staying₀ before s staying = size (s .words)
 
 pub backward-spec : {M : Type 1} → statement M
-unfolding coverBy
 backward-spec =
     tie.close
     (tie.spec
@@ -34,14 +32,14 @@ backward-spec =
     let so = m .before .loop .inv .0 in
     let e = sym (c .before .equals .ensures) ∙ c .if1 .taken in
     let pre = m .before .before .before .pre in (
-      staying-greatest _ _ _ so (m .meet-hold-within .ensures) (u .union-of .ensures) (pre .1) (pre .2) e,
-      staying-next _ _ _ so (m .meet-hold-within .ensures) (u .union-of .ensures) (pre .1) (pre .2) e,
+      staying-greatest _ _ _ so (m .meet-hold-within .ensures) (u .cover-of .ensures) (pre .1) (pre .2) e,
+      staying-next _ _ _ so (m .meet-hold-within .ensures) (u .cover-of .ensures) (pre .1) (pre .2) e,
     ))
     (λ c.
     let u = c .before .before in
     let m = u .before in
-    staying-less _ _ _ (m .before .loop .inv .0) (m .meet-hold-within .ensures) (u .union-of .ensures) (sym (c .before .equals .ensures) ∙ c .if1 .left))
+    staying-less _ _ _ (m .before .loop .inv .0) (m .meet-hold-within .ensures) (u .cover-of .ensures) (sym (c .before .equals .ensures) ∙ c .if1 .left))
     (λ c.
     let u = c .before .before in
     let m = u .before in
-    (staying-turn _ _ _ (m .before .loop .inv .0) (m .meet-hold-within .ensures) (u .union-of .ensures), held-again _ _ _ (m .meet-hold-within .ensures))))
+    (staying-turn _ _ _ (m .before .loop .inv .0) (m .meet-hold-within .ensures) (u .cover-of .ensures), leads-again _ _ _ _ _ (m .before .loop .inv .1) (m .meet-hold-within .ensures))))

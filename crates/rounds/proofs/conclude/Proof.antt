@@ -3,9 +3,9 @@ use mathlib.Core.Path.{_≡_, refl, ap, _∙_}
 use borrow.Author.Needs.{needs}
 use Rattle.model.specs.Sets.{Set, union, subset}
 use Rattle.table.specs.Rows.{successorsBy}
-use Rattle.rounds.specs.Answers.{setBeside}
+use Rattle.rounds.specs.DecideAnswers.{setBeside}
 use Rattle.rounds.proofs.Bridge.{forward-closed, backward-greatest}
-use Rattle.rounds.proofs.Leaving.{entered-holds}
+use Rattle.rounds.proofs.Leaving.{leads-start}
 use Rattle.rounds.proofs.Running.{conclude-safe, conclude-unsafe, conclude-open}
 use Rattle.rounds.proofs.conclude.Statement.{statement}
 use Rattle.rounds.proofs.conclude.Tie as tie
@@ -23,7 +23,7 @@ at-S c = c .before .before .before
 -- step 2's test is of Init union post(R)
 entered : (c : tie.After-is-subset)
     → let a = at-R c .before .before .args in
-    c .is-subset .result ≡ subset (union (a .initial .words) (successorsBy (a .store .now) (at-R c .forward .result .r .words))) (a .z .words)
+    c .is-subset .result ≡ subset (union (a .initial .words) (successorsBy (a .rows .now) (at-R c .forward .result .r .words))) (a .z .words)
 entered c = c .is-subset .ensures ∙ ap (λ (X : Set). subset X (at-R c .before .before .args .z .words)) (at-R c .forward .ensures .3)
 
 safe-now : tie.Need-returns
@@ -34,7 +34,7 @@ safe-now c =
       R = _;
       S = _;
       R-least = r .forward .ensures .0;
-      S-greatest = backward-greatest _ _ (r .before .before .pre .1) _;
+      S-greatest = backward-greatest _ _ (r .before .before .pre .1 .is-cover) _;
       conclusion = conclude-safe _ (entered (c .before)) (c .if1 .taken);
       set = refl;
     }
@@ -76,9 +76,9 @@ conclude-spec =
     safe-now
     (λ c κs. let r = at-R (c .before) in (
       search needs,
-      r .before .before .pre .1,
-      forward-closed _ _ (r .before .before .pre .1) _ _ (r .forward .ensures .0),
-      entered-holds _ _ _ _ (r .forward .ensures .0) (r .forward .ensures .3),
+      r .before .before .pre .1 .is-cover,
+      forward-closed _ _ (r .before .before .pre .1 .is-cover) _ _ (r .forward .ensures .0),
+      leads-start _ _ _ _ _ (r .before .before .pre .1) (r .forward .ensures .0) (r .forward .ensures .3),
     ))
     (λ c κs. search needs)
     (λ c κs. search needs)

@@ -6,24 +6,23 @@ use borrow.Author.Needs.{needs}
 use lib.Count.{trailing-le}
 use lib.Seq.{sets}
 use Rattle.model.specs.Sets.{maxStates, union, members, size, image}
-use Rattle.model.specs.Stores.{rowAt, setAt}
 use Rattle.state_set.specs.WordSets.{wordSet}
 use Rattle.state_set.proofs.Words.{proper}
 use Rattle.state_set.proofs.Counts.{bits-fit, states-fit}
 use Rattle.state_set.proofs.WordSets.{word-less}
-use Rattle.table.specs.Rows.{successorsBy}
+use Rattle.table.specs.Rows.{rowIn, successorsBy}
 use Rattle.table.proofs.Joins.{WordJoining, bits-start, bits-bound, bits-turn, bits-end}
 use Rattle.rounds.proofs.Expanding.{Recording, record-room, record-turn, record-end}
 use Rattle.rounds.proofs.expand_word.Statement.{statement}
 use Rattle.rounds.proofs.expand_word.Tie as tie
 
 abbrev Inv-loop : tie.InvT-loop
-Inv-loop store w bits order₀ so-far₀ rest₀ order so-far rest =
-    WordJoining (λ s. setAt store (rowAt s)) (union (so-far₀ .found .words) (image maxStates (λ s. setAt store (rowAt s)) (wordSet w bits))) w rest (so-far .found .words)
+Inv-loop rows w bits order₀ so-far₀ rest₀ order so-far rest =
+    WordJoining (rowIn rows) (union (so-far₀ .found .words) (image maxStates (rowIn rows) (wordSet w bits))) w rest (so-far .found .words)
     × Recording (sets order₀ (so-far₀ .count) (members (wordSet w bits))) (so-far₀ .count + size (wordSet w bits)) w rest order (so-far .count)
 
 abbrev μ-loop : tie.MeasureT-loop
-μ-loop store w bits order₀ so-far₀ rest₀ order so-far rest = rest
+μ-loop rows w bits order₀ so-far₀ rest₀ order so-far rest = rest
 
 pub expand-word-spec : {M : Type 1} → statement M
 unfolding successorsBy

@@ -7,7 +7,6 @@ use Rattle.rounds.proofs.joining.Statement.{statement}
 use Rattle.rounds.proofs.joining.Tie as tie
 
 pub joining-spec : {M : Type 1} → statement M
-unfolding coverBy
 joining-spec =
     tie.close
     (tie.spec
@@ -19,5 +18,5 @@ joining-spec =
     let a = c .before .before .before .before .args in
     c .difference2 .ensures
     ∙ ap (λ (X : Set). difference X (a .r .words))
-    (c .before .union-of .ensures
-    ∙ ap (coverBy (a .rows .now)) (c .before .before .difference .ensures ∙ ap (λ (X : Set). difference X (a .r .words)) (c .before .before .before .meet .ensures)))))
+    (c .before .cover-of .ensures
+    ∙ ap (coverBy (a .cover .now)) (c .before .before .difference .ensures ∙ ap (λ (X : Set). difference X (a .r .words)) (c .before .before .before .meet .ensures)))))

@@ -1,30 +1,30 @@
--- `meet_hold_within`: the states that left are those of one word, or all of each row is looked at.
-use Prim.Native.Nat.{ℕ, _/_}
-use mathlib.Core.Path.{sym, ap, _∙_}
+-- `meet_hold_within`: the words passed are those of the states that are in hold.
+use Prim.Native.Nat.{_-_}
 use borrow.Author.Needs.{needs}
-use Rattle.model.specs.Sets.{subset}
-use Rattle.rounds.proofs.Leaving.{within-word}
+use Rattle.model.specs.Sets.{WORDS}
+use Rattle.state_set.proofs.Words.{Filling, filling-none, filling-more, filling-all}
+use Rattle.table.specs.Rows.{meetHold}
+use Rattle.table.proofs.Hold.{meetHold-proper}
 use Rattle.rounds.proofs.meet_hold_within.Statement.{statement}
 use Rattle.rounds.proofs.meet_hold_within.Tie as tie
+
+abbrev Inv-loop : tie.InvT-loop
+Inv-loop rows steps x before y words₀ w₀ words w = Filling (meetHold rows (x .words) (y .words)) words₀ w words
+
+abbrev μ-loop : tie.MeasureT-loop
+μ-loop rows steps x before y words₀ w₀ words w = WORDS - w
 
 pub meet-hold-within-spec : {M : Type 1} → statement M
 meet-hold-within-spec =
     tie.close
     (tie.spec
-    (λ c κs. search needs)
-    (λ c κs. search needs)
+    Inv-loop
+    μ-loop
+    (λ c. filling-none _ _ (meetHold-proper _ _ _ .long) (search needs))
+    (λ c κs. (search needs, search needs, search needs))
     (λ c. search needs)
     (λ c. search needs)
-    (λ c κs. search needs)
-    (λ c κs. search needs)
     (λ c. search needs)
     (λ c. search needs)
-    (λ c κs. search needs)
-    (λ c.
-    let i = c .before .before .before in
-    let f = i .before in
-    let s = f .before .before in
-    within-word _ _ _ _ _ (s .before .before .before .pre .1) (s .before .difference .ensures) (f .before .if1 .taken) (ap (λ (k : ℕ). k / 64) (s .smallest .ensures))
-    (sym (ap (subset _) (f .first-states .ensures)) ∙ sym (i .is-subset .ensures) ∙ c .before .before .if2 .taken) (c .avoiding .ensures))
-    (λ c κs. search needs)
-    (λ c. search needs))
+    (λ c. filling-more _ _ _ _ (c .before .before .loop .inv) _ (search needs) (c .held-word-within .ensures))
+    (λ c. filling-all _ _ _ _ (c .before .loop .inv) (search needs)))

@@ -1,5 +1,5 @@
 -- `not_forbidden`: all states without the forbidden ones.
-use mathlib.Core.Path.{ap₂, _∙_}
+use mathlib.Core.Path.{refl, ap₂, _∙_}
 use borrow.Author.Needs.{needs}
 use Rattle.model.specs.Sets.{difference}
 use Rattle.rounds.proofs.Bridge.{notForbidden-is}
@@ -12,6 +12,4 @@ not-forbidden-spec =
     (tie.spec
     (λ c κs. search needs)
     (λ c κs. search needs)
-    (λ c κs. search needs)
-    (λ c.
-    c .difference .ensures ∙ ap₂ difference (c .before .before .first-states .ensures) (c .before .forbidden .ensures) ∙ notForbidden-is _ _))
+    (λ c. c .difference .ensures ∙ ap₂ difference (c .before .first-states .ensures) refl ∙ notForbidden-is _ _))

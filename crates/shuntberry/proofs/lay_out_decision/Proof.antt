@@ -5,13 +5,13 @@ use borrow.Author.Needs.{needs}
 use Rattle.model.specs.Sets.{Set}
 use Rattle.model.proofs.Ranges.{DecisionRange}
 use Rattle.rounds.specs.declared.Verdict.{Verdict}
-use Rattle.rounds.specs.Answers.{answersWith}
+use Rattle.rounds.specs.DecideAnswers.{decidedWith}
 use Rattle.shuntberry.specs.Small.{WhereAnswered}
 use Rattle.shuntberry.proofs.lay_out_decision.Statement.{statement}
 use Rattle.shuntberry.proofs.lay_out_decision.Tie as tie
 
 -- the range of the numbers, once the verdict is known
-known : {v w : Verdict} (X : Set) → v ≡ w → WhereAnswered DecisionRange (answersWith v X) → WhereAnswered DecisionRange (answersWith w X)
+known : {v w : Verdict} (X : Set) → v ≡ w → WhereAnswered DecisionRange (decidedWith v X) → WhereAnswered DecisionRange (decidedWith w X)
 known X e range = rw e at range
 
 pub lay-out-decision-spec : {M : Type 1} → statement M

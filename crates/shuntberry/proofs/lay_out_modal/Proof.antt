@@ -5,13 +5,13 @@ use borrow.Author.Needs.{needs}
 use Rattle.model.specs.Sets.{Set}
 use Rattle.modal.proofs.Ranges.{ModalRange}
 use Rattle.modal.specs.declared.ModalVerdict.{ModalVerdict}
-use Rattle.modal.specs.Answers.{answersWith}
+use Rattle.modal.specs.ModalAnswers.{modalDecidedWith}
 use Rattle.shuntberry.specs.Small.{WhereAnswered}
 use Rattle.shuntberry.proofs.lay_out_modal.Statement.{statement}
 use Rattle.shuntberry.proofs.lay_out_modal.Tie as tie
 
 -- the range of the numbers, once the verdict is known
-known : {v w : ModalVerdict} (X : Set) → v ≡ w → WhereAnswered ModalRange (answersWith v X) → WhereAnswered ModalRange (answersWith w X)
+known : {v w : ModalVerdict} (X : Set) → v ≡ w → WhereAnswered ModalRange (modalDecidedWith v X) → WhereAnswered ModalRange (modalDecidedWith w X)
 known X e range = rw e at range
 
 pub lay-out-modal-spec : {M : Type 1} → statement M

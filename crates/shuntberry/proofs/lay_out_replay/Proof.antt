@@ -2,7 +2,7 @@
 use mathlib.Core.Path.{sym, ap}
 use native.Mathlib.Omega.{arith}
 use borrow.Author.Needs.{needs}
-use Rattle.replay.specs.Answers.{replayedOf}
+use Rattle.replay.specs.ReplayAnswers.{replayedOf}
 use Rattle.shuntberry.specs.Fields.{replayFields}
 use Rattle.shuntberry.proofs.lay_out_replay.Statement.{statement}
 use Rattle.shuntberry.proofs.lay_out_replay.Tie as tie

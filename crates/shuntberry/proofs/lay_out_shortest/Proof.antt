@@ -2,7 +2,7 @@
 use mathlib.Core.Path.{sym, ap}
 use native.Mathlib.Omega.{arith}
 use borrow.Author.Needs.{needs}
-use Rattle.paths.specs.Answers.{shortestOf}
+use Rattle.paths.specs.PathAnswers.{shortestOf}
 use Rattle.shuntberry.specs.Fields.{shortestFields}
 use Rattle.shuntberry.proofs.lay_out_shortest.Statement.{statement}
 use Rattle.shuntberry.proofs.lay_out_shortest.Tie as tie

@@ -3,8 +3,7 @@ use mathlib.Core.Path.{ap, _∙_}
 use borrow.Author.Needs.{needs}
 use lib.Count.{trailing-le}
 use Rattle.model.specs.Sets.{maxStates, union, image}
-use Rattle.model.specs.Stores.{rowAt, setAt}
-use Rattle.table.specs.Rows.{successorsBy}
+use Rattle.table.specs.Rows.{rowIn, successorsBy}
 use Rattle.state_set.specs.WordSets.{wordSet}
 use Rattle.state_set.proofs.Words.{proper}
 use Rattle.state_set.proofs.Counts.{bits-fit, states-fit}
@@ -14,11 +13,11 @@ use Rattle.table.proofs.join_successors.Statement.{statement}
 use Rattle.table.proofs.join_successors.Tie as tie
 
 abbrev Inv-loop : tie.InvT-loop
-Inv-loop store w bits joined₀ rest₀ joined rest =
-    WordJoining (λ s. setAt store (rowAt s)) (union (joined₀ .words) (image maxStates (λ s. setAt store (rowAt s)) (wordSet w bits))) w rest (joined .words)
+Inv-loop rows w bits joined₀ rest₀ joined rest =
+    WordJoining (rowIn rows) (union (joined₀ .words) (image maxStates (rowIn rows) (wordSet w bits))) w rest (joined .words)
 
 abbrev μ-loop : tie.MeasureT-loop
-μ-loop store w bits joined₀ rest₀ joined rest = rest
+μ-loop rows w bits joined₀ rest₀ joined rest = rest
 
 pub join-successors-spec : {M : Type 1} → statement M
 unfolding successorsBy

@@ -4,15 +4,15 @@ use borrow.Author.Needs.{needs}
 use Rattle.model.specs.Sets.{WORDS}
 use Rattle.state_set.proofs.Words.{Filling, filling-none, filling-more, filling-all}
 use Rattle.table.specs.Rows.{meetHold}
-use Rattle.table.proofs.Hold.{held-word, meetHold-proper}
+use Rattle.table.proofs.Hold.{meetHold-proper}
 use Rattle.table.proofs.meet_hold.Statement.{statement}
 use Rattle.table.proofs.meet_hold.Tie as tie
 
 abbrev Inv-loop : tie.InvT-loop
-Inv-loop store y x words₀ w₀ words w = Filling (meetHold store (x .words) (y .words)) words₀ w words
+Inv-loop rows x y words₀ w₀ words w = Filling (meetHold rows (x .words) (y .words)) words₀ w words
 
 abbrev μ-loop : tie.MeasureT-loop
-μ-loop store y x words₀ w₀ words w = WORDS - w
+μ-loop rows x y words₀ w₀ words w = WORDS - w
 
 pub meet-hold-spec : {M : Type 1} → statement M
 meet-hold-spec =
@@ -21,12 +21,10 @@ meet-hold-spec =
     Inv-loop
     μ-loop
     (λ c. filling-none _ _ (meetHold-proper _ _ _ .long) (search needs))
-    (λ c. search needs)
-    (λ c. search needs)
     (λ c κs. search needs)
     (λ c. search needs)
     (λ c. search needs)
     (λ c. search needs)
     (λ c. search needs)
-    (λ c. filling-more _ _ _ _ (c .before .before .before .loop .inv) _ (search needs) (held-word _ _ _ _ _ (search needs) (search needs) (c .held-bits .ensures)))
+    (λ c. filling-more _ _ _ _ (c .before .before .loop .inv) _ (search needs) (c .held-word .ensures))
     (λ c. filling-all _ _ _ _ (c .before .loop .inv) (search needs)))

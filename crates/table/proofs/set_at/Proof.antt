@@ -1,15 +1,16 @@
 -- `set_at`: the words passed are those of the store.
 use Prim.Native.Nat.{_-_}
-use mathlib.Core.Path.{refl}
-use borrow.Author.Count.{below-none}
+use mathlib.Core.Path.{sym}
 use borrow.Author.Needs.{needs}
 use Rattle.model.specs.Sets.{WORDS}
-use Rattle.table.proofs.Laws.{Copying, copying-more, copied}
+use Rattle.model.specs.Stores.{setAt}
+use Rattle.model.proofs.StoreLaws.{length-setAt, getD-setAt}
+use Rattle.state_set.proofs.Words.{Filling, filling-none, filling-more, filling-all}
 use Rattle.table.proofs.set_at.Statement.{statement}
 use Rattle.table.proofs.set_at.Tie as tie
 
 abbrev Inv-loop : tie.InvT-loop
-Inv-loop store at words₀ w₀ words w = Copying store at words w
+Inv-loop store at words₀ w₀ words w = Filling (setAt store at) words₀ w words
 
 abbrev μ-loop : tie.MeasureT-loop
 μ-loop store at words₀ w₀ words w = WORDS - w
@@ -20,7 +21,7 @@ set-at-spec =
     (tie.spec
     Inv-loop
     μ-loop
-    (λ c. record { within = search needs; long = refl; same = below-none _ })
+    (λ c. filling-none _ _ (length-setAt _ _ (search needs)) (search needs))
     (λ c. search needs)
     (λ c. search needs)
     (λ c. search needs)
@@ -28,5 +29,5 @@ set-at-spec =
     (λ c. search needs)
     (λ c. search needs)
     (λ c. search needs)
-    (λ c. copying-more _ _ _ _ (search needs) (c .before .before .loop .inv))
-    (λ c. copied _ _ _ _ (search needs) (search needs) (c .before .loop .inv)))
+    (λ c. filling-more _ _ _ _ (c .before .before .loop .inv) _ (search needs) (sym (getD-setAt _ _ _ (search needs))))
+    (λ c. filling-all _ _ _ _ (c .before .loop .inv) (search needs)))

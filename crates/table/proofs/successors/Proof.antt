@@ -2,18 +2,17 @@
 use Prim.Native.Nat.{_-_}
 use borrow.Author.Needs.{needs}
 use Rattle.model.specs.Sets.{WORDS}
-use Rattle.model.specs.Stores.{rowAt, setAt}
-use Rattle.table.specs.Rows.{successorsBy}
+use Rattle.table.specs.Rows.{rowIn, successorsBy}
 use Rattle.state_set.proofs.Words.{proper}
 use Rattle.table.proofs.Joins.{WordsJoining, words-start, words-turn, words-end}
 use Rattle.table.proofs.successors.Statement.{statement}
 use Rattle.table.proofs.successors.Tie as tie
 
 abbrev Inv-loop : tie.InvT-loop
-Inv-loop store x found₀ w₀ found w = WordsJoining (λ s. setAt store (rowAt s)) (x .words) w (found .words)
+Inv-loop rows x found₀ w₀ found w = WordsJoining (rowIn rows) (x .words) w (found .words)
 
 abbrev μ-loop : tie.MeasureT-loop
-μ-loop store x found₀ w₀ found w = WORDS - w
+μ-loop rows x found₀ w₀ found w = WORDS - w
 
 pub successors-spec : {M : Type 1} → statement M
 unfolding successorsBy

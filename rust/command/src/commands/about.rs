@@ -59,10 +59,17 @@ fn begin(streams: Streams) -> Result<(), Failure> {
     }
 }
 
-/// Prints the version, under the name that the program was called by.
+/// The version, three numbers.
+pub const VERSION: &str = env!("SHUNTBERRY_RELEASE");
+
+/// The version, under the name that the program was called by.
+pub fn version_line(program: &str) -> String {
+    format!("{program} (Shuntberry) {VERSION}")
+}
+
+/// Prints it.
 pub fn version_of(program: &str) -> Done {
-    let version = env!("SHUNTBERRY_RELEASE");
-    print(format!("{program} (Shuntberry) {version}\n").as_bytes()).map(|()| status::DONE)
+    print((version_line(program) + "\n").as_bytes()).map(|()| status::DONE)
 }
 
 fn overview() -> String {

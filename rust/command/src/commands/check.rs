@@ -1,11 +1,13 @@
 //! `check`: the verdict on one table, in the three lines of the program of the specification. Text and verdict are the proved call's.
 
+use crate::commands::release::vacuous;
 use crate::failure::{Done, Failure, status};
 use crate::files::{print, say};
 use crate::json::Object;
 use crate::lines::Names;
-use crate::refusals::hint;
+use crate::refusals::{hint, old_form};
 use crate::source::{JSON, NAMES, SITE, Source, TEXT, name_lines};
+use crate::table::Table;
 use crate::text::looks_like_text;
 use crate::words::{Call, Command, Opt, Output};
 use shuntberry::checking::{CHECK_TEXT_BYTES, Checked, check};
@@ -14,7 +16,7 @@ use shuntberry::{MAX_ALLOWANCE, PATH_PLACES, Refused, Verdict, decide};
 const EXPLAIN: Opt = Opt {
     name: "--explain",
     value: None,
-    about: "puts a refusal into words too, on standard error",
+    about: "puts a refusal into words too, on standard error, and says where safe says little",
 };
 const QUIET: Opt = Opt {
     name: "--quiet",
@@ -35,6 +37,7 @@ pub const CHECK: Command = Command {
     about: "is a forbidden state of a table reachable",
     more: "Prints safe with an invariant, unsafe with a path, or refused with a number. Without FILE standard input is read.",
     options: &[&SITE, &EXPLAIN, &QUIET, &JSON, &ALLOWANCE, &TEXT, &NAMES],
+    needs: &[],
     output: Output::Answer,
     run,
 };
@@ -55,10 +58,13 @@ fn run(call: &Call) -> Done {
         Some(answer) => answer,
         None => Answer::of(&source.file, source.site)?,
     };
-    if call.has(&EXPLAIN)
-        && let Judged::Refused(refused) = answer.judged
-    {
-        explain(refused, &source.file);
+    if call.has(&EXPLAIN) {
+        if let Judged::Refused(refused) = answer.judged {
+            explain(refused, &source.file, source.site);
+        }
+        if let Some(why) = answer.vacuous(&source.file, source.site) {
+            say(&format!("check: {why}; {DECLINED}\n"));
+        }
     }
     if call.has(&JSON) {
         print(
@@ -80,6 +86,9 @@ fn run(call: &Call) -> Done {
 }
 
 // ---- Answers
+
+/// What is said behind that.
+pub const DECLINED: &str = "release declines such a table";
 
 /// What was found.
 #[derive(Clone, Copy, Debug, PartialEq, Eq)]
@@ -137,6 +146,12 @@ impl Answer {
         }
     }
 
+    /// Why it says little that the table of this file is safe, if it does; of a draft nothing, which has a word of its own.
+    pub fn vacuous(&self, file: &[u8], site: usize) -> Option<&'static str> {
+        let table = Table::read(file, site).ok()?;
+        vacuous(&table).filter(|_| self.status() == status::DONE)
+    }
+
     /// The answer's word.
     pub fn word(&self) -> &'static str {
         match self.judged {
@@ -144,6 +159,14 @@ impl Answer {
             Judged::Unsafe => "unsafe",
             Judged::Undecided => "undecided",
             Judged::Refused(_) => "refused",
+        }
+    }
+
+    /// The same, but that a table without states is a draft: who looks at this word alone must not take an empty file for a table that may be released.
+    pub fn told(&self) -> &'static str {
+        match self.is_draft() {
+            true => "draft",
+            false => self.word(),
         }
     }
 
@@ -158,7 +181,7 @@ impl Answer {
     }
 
     /// The number behind a word of the text.
-    fn number(&self, word: &str) -> Option<usize> {
+    pub fn number(&self, word: &str) -> Option<usize> {
         let mut words = self.text.split_whitespace();
         words.find(|other| *other == word)?;
         words.next()?.parse().ok()
@@ -166,13 +189,7 @@ impl Answer {
 
     /// As JSON, behind what stands in the object already.
     pub fn object(&self, object: Object, names: &Names) -> Object {
-        // Who looks at this word alone must not take an empty file for a table that may be released.
-        let word = if self.is_draft() {
-            "draft"
-        } else {
-            self.word()
-        };
-        let object = object.text("verdict", word);
+        let object = object.text("verdict", self.told());
         if let Judged::Refused(refused) = self.judged {
             return object
                 .plain("refusal", refused.0)
@@ -233,10 +250,13 @@ fn undecided(source: &Source, allowance: usize) -> Result<Option<Answer>, Failur
     }))
 }
 
-fn explain(refused: Refused, file: &[u8]) {
+fn explain(refused: Refused, file: &[u8], site: usize) {
     say(&format!("check: {refused}\n"));
     let hint = hint(refused).unwrap_or("the program is whole: no file gives this number");
     say(&format!("check: look whether {hint}\n"));
+    if let Some(why) = old_form(refused, file, site) {
+        say(&format!("check: {why}\n"));
+    }
     if looks_like_text(file) {
         say(
             "check: it looks like a text: --text checks that, and the command encode makes a file of it\n",

@@ -1,6 +1,6 @@
 //! `check-all`: a line for each of many files, by the same proved call as `check`.
 
-use crate::commands::check::{Answer, Judged};
+use crate::commands::check::{Answer, DECLINED, Judged};
 use crate::failure::{Done, Failure, status};
 use crate::files::{Input, TEXT_BYTES, print, say};
 use crate::json::Object;
@@ -33,15 +33,16 @@ pub const CHECK_ALL: Command = Command {
     words: "[FILE|FOLDER ..]",
     counts: (0, usize::MAX),
     about: "check many files, with a line for each",
-    more: "A folder stands for the files in it, and in its folders, whose names end in .table.",
+    more: "A folder stands for the files in it, and in its folders, whose names end in .table, in capitals or not. The others are named on standard error.",
     options: &[&SITE, &FROM, &ZERO, &JSON],
+    needs: &[],
     output: Output::Answer,
     run,
 };
 
 fn run(call: &Call) -> Done {
     let site = site(call)?;
-    let files = files(call)?;
+    let (files, passed) = files(call)?;
     if files.is_empty() {
         return Err(Failure::Wrong("there is no file to check".to_string()));
     }
@@ -50,11 +51,18 @@ fn run(call: &Call) -> Done {
     let mut lines = Vec::new();
     for (done, file) in files.iter().enumerate() {
         progress.show(done, &counts, &mut lines)?;
-        let answer = file.answer(site);
-        if let Err(why) = &answer {
+        let found = file.answer(site);
+        let remark = match &found {
+            Ok((_, vacuous)) => {
+                vacuous.map(|why| format!("{}: {why}; {DECLINED}", shown(file.path())))
+            }
+            Err(why) => Some(why.clone()),
+        };
+        if let Some(remark) = remark {
             progress.clear();
-            say(&format!("check-all: {why}\n"));
+            say(&format!("check-all: {remark}\n"));
         }
+        let answer = found.map(|(answer, _)| answer);
         counts.count(&answer);
         lines.extend(file.line(&answer, call.has(&JSON)).into_bytes());
         if lines.len() > LINES_BYTES {
@@ -63,7 +71,7 @@ fn run(call: &Call) -> Done {
         }
     }
     progress.clear();
-    lines.extend(counts.line(call.has(&JSON)).into_bytes());
+    lines.extend(counts.line(&passed, call.has(&JSON)).into_bytes());
     print(&lines)?;
     Ok(counts.status())
 }
@@ -80,15 +88,17 @@ enum Entry {
     Fails(PathBuf, String),
 }
 
-fn files(call: &Call) -> Result<Vec<Entry>, Failure> {
+fn files(call: &Call) -> Result<(Vec<Entry>, Passed), Failure> {
     let mut files = Vec::new();
+    let mut passed = Passed::default();
     for name in call.names() {
-        add(Path::new(name), &mut files);
+        add(Path::new(name), &mut files, &mut passed);
     }
     match call.path(&FROM) {
         Some(list) => {
             for name in listed(list, call.has(&ZERO))? {
-                add(Path::new(OsStr::from_bytes(&name)), &mut files);
+                let name = OsStr::from_bytes(&name);
+                add(Path::new(name), &mut files, &mut passed);
             }
         }
         None if call.has(&ZERO) => {
@@ -96,7 +106,7 @@ fn files(call: &Call) -> Result<Vec<Entry>, Failure> {
         }
         None => {}
     }
-    Ok(files)
+    Ok((files, passed))
 }
 
 /// The names of a list. One of no names is an accident.
@@ -117,7 +127,7 @@ fn listed(list: &Path, zero: bool) -> Result<Vec<Vec<u8>>, Failure> {
         .collect())
 }
 
-fn add(path: &Path, files: &mut Vec<Entry>) {
+fn add(path: &Path, files: &mut Vec<Entry>, all: &mut Passed) {
     if !path.is_dir() {
         return files.push(Entry::Named(path.to_path_buf()));
     }
@@ -127,26 +137,45 @@ fn add(path: &Path, files: &mut Vec<Entry>) {
     if files.len() == before {
         let why = "there is no file in it whose name ends in .table".to_string();
         files.push(Entry::Fails(path.to_path_buf(), why));
-    } else {
-        passed.say(path);
     }
+    passed.say(path);
+    all.others += passed.others;
+    all.links += passed.links;
 }
 
-/// How many things in a folder were passed over.
+/// How many things in a folder were passed over, and the first of them.
 #[derive(Default)]
 struct Passed {
     others: usize,
     links: usize,
+    first: Vec<PathBuf>,
 }
 
 impl Passed {
+    /// So many files are named.
+    const NAMED: usize = 10;
+
+    fn add(&mut self, path: PathBuf) {
+        self.others += 1;
+        if self.first.len() < Passed::NAMED {
+            self.first.push(path);
+        }
+    }
+
     fn say(&self, folder: &Path) {
         let (one, many) = (("", "was"), ("s", "were"));
         let ending = |count| if count == 1 { one } else { many };
+        for path in &self.first {
+            say(&format!("check-all: not checked: {}\n", shown(path)));
+        }
         if self.others > 0 {
             let (s, were) = ending(self.others);
+            let more = match self.others - self.first.len() {
+                0 => String::new(),
+                more => format!("; {more} of them are not named here"),
+            };
             say(&format!(
-                "check-all: {}: {} file{s} whose name does not end in .table {were} not checked\n",
+                "check-all: {}: {} file{s} whose name does not end in .table {were} not checked{more}\n",
                 shown(folder),
                 self.others
             ));
@@ -160,6 +189,12 @@ impl Passed {
             ));
         }
     }
+}
+
+/// Whether a name ends in `.table`; some systems write it in capitals.
+fn is_table(path: &Path) -> bool {
+    path.extension()
+        .is_some_and(|end| end.eq_ignore_ascii_case("table"))
 }
 
 /// The files below a folder, in the order of their names. A link to a folder is not followed: it could lead in a circle.
@@ -177,12 +212,12 @@ fn search(folder: &Path, files: &mut Vec<Entry>, passed: &mut Passed) {
         let path = entry.path();
         if entry.file_type().is_ok_and(|kind| kind.is_dir()) {
             search(&path, files, passed);
-        } else if path.extension().is_some_and(|end| end == "table") {
+        } else if is_table(&path) {
             files.push(Entry::Found(path));
         } else if path.is_dir() {
             passed.links += 1;
         } else {
-            passed.others += 1;
+            passed.add(path);
         }
     }
 }
@@ -194,8 +229,8 @@ impl Entry {
         }
     }
 
-    /// What is found of the file, or why it failed.
-    fn answer(&self, site: usize) -> Result<Answer, String> {
+    /// What is found of the file, and why that says little, if it does; or why it failed.
+    fn answer(&self, site: usize) -> Result<(Answer, Option<&'static str>), String> {
         match self {
             Entry::Fails(path, why) => return Err(format!("{}: {why}", shown(path))),
             // A pipe could wait for ever; one that is named is meant.
@@ -213,7 +248,9 @@ impl Entry {
         let file = Input::named(self.path())
             .take(FILE_BYTES + 1)
             .map_err(why)?;
-        Answer::of(&file, site).map_err(why)
+        let answer = Answer::of(&file, site).map_err(why)?;
+        let vacuous = answer.vacuous(&file, site);
+        Ok((answer, vacuous))
     }
 
     fn line(&self, answer: &Result<Answer, String>, json: bool) -> String {
@@ -279,7 +316,7 @@ impl Counts {
         )
     }
 
-    fn line(&self, json: bool) -> String {
+    fn line(&self, passed: &Passed, json: bool) -> String {
         let all = self.all();
         match json {
             true => Object::default()
@@ -289,6 +326,8 @@ impl Counts {
                 .plain("refused", self.refused)
                 .plain("drafts", self.drafts)
                 .plain("failed", self.failed)
+                .plain("not_checked", passed.others)
+                .plain("not_followed", passed.links)
                 .line(),
             false => format!(
                 "{all} file{}: {}\n",

@@ -14,6 +14,7 @@ pub const DECODE: Command = Command {
     about: "a file as text",
     more: "Without FILE standard input is read, without -o standard output written.",
     options: &[&SITE, &OUT, &TEXT, &NAMES],
+    needs: &[],
     output: Output::File,
     run,
 };

@@ -13,6 +13,7 @@ pub const ENCODE: Command = Command {
     about: "a text as a file",
     more: "Without TEXT standard input is read, without -o standard output written.",
     options: &[&SITE, &OUT],
+    needs: &[],
     output: Output::File,
     run,
 };

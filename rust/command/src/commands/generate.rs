@@ -14,6 +14,7 @@ pub const GENERATE: Command = Command {
     about: "the file of the table that a seed gives",
     more: "It has STATES states, each with up to FANOUT successors. SEED is below 4294967296.",
     options: &[&SITE, &OUT],
+    needs: &[],
     output: Output::File,
     run,
 };

@@ -17,6 +17,7 @@ pub const INSPECT: Command = Command {
     about: "a line for each screen, and what a reviewer should look at",
     more: "Without FILE standard input is read.",
     options: &[&SITE, &TEXT, &NAMES, &JSON],
+    needs: &[],
     output: Output::Answer,
     run,
 };
@@ -35,22 +36,28 @@ fn run(call: &Call) -> Done {
 }
 
 /// A table with what the library says of it.
-struct Found<'t> {
+#[derive(Debug)]
+pub struct Found<'t> {
     table: &'t Table,
     names: &'t Names,
     reachable: StateSet,
     away: Vec<u16>,
 }
 
-/// What a reviewer should look at: a word for programs, a sentence, and the screens that it is about.
-struct Remark {
-    word: &'static str,
-    said: &'static str,
-    states: Vec<usize>,
+/// What a reviewer should look at.
+#[derive(Debug)]
+pub struct Remark {
+    /// A word for programs.
+    pub word: &'static str,
+    /// A sentence.
+    pub said: &'static str,
+    /// The screens that it is about.
+    pub states: Vec<usize>,
 }
 
 impl<'t> Found<'t> {
-    fn of(table: &'t Table, names: &'t Names) -> Result<Found<'t>, Refused> {
+    /// What the library says of a table.
+    pub fn of(table: &'t Table, names: &'t Names) -> Result<Found<'t>, Refused> {
         let (store, n, g) = (table.store(), table.n(), table.g());
         let mut away = vec![0; n];
         distances(store, n, g, &mut away)?;
@@ -66,13 +73,37 @@ impl<'t> Found<'t> {
         self.table.set(set).contains(s)
     }
 
-    fn groups(&self, s: usize) -> Vec<usize> {
+    /// What a state is: `initial`, `marked`, `resting`, `hang`.
+    pub fn kinds(&self, s: usize) -> Vec<&'static str> {
+        let kinds = [
+            (self.is(Set::Initial, s), "initial"),
+            (self.is(Set::Marked, s), "marked"),
+            (self.is(Set::Resting, s), "resting"),
+            (self.table.is_hang(s), "hang"),
+        ];
+        let held = kinds.into_iter().filter(|(holds, _)| *holds);
+        held.map(|(_, kind)| kind).collect()
+    }
+
+    /// The groups that a state is in.
+    pub fn groups(&self, s: usize) -> Vec<usize> {
         (0..self.table.g())
             .filter(|&j| self.is(Set::Group(j), s))
             .collect()
     }
 
-    fn distance(&self, s: usize) -> Option<u16> {
+    /// The states that the steps of a state lead to.
+    pub fn successors(&self, s: usize) -> Vec<usize> {
+        self.table.set(Set::Successors(s)).states().collect()
+    }
+
+    /// Whether a session can come to a state.
+    pub fn is_reachable(&self, s: usize) -> bool {
+        self.reachable.contains(s)
+    }
+
+    /// The number of steps to the nearest forbidden state, if there is a way to one.
+    pub fn distance(&self, s: usize) -> Option<u16> {
         Some(self.away[s]).filter(|&away| away != UNREACHABLE)
     }
 
@@ -96,8 +127,14 @@ impl<'t> Found<'t> {
         said
     }
 
-    fn screen(&self, s: usize) -> String {
-        match self.names.get(&s) {
+    /// The name of a state, if it has one.
+    pub fn name(&self, s: usize) -> Option<&str> {
+        self.names.get(&s).map(String::as_str)
+    }
+
+    /// A state by its number, and its name if it has one.
+    pub fn screen(&self, s: usize) -> String {
+        match self.name(s) {
             Some(name) => format!("{s} {name}"),
             None => s.to_string(),
         }
@@ -106,13 +143,9 @@ impl<'t> Found<'t> {
     /// `state 3 over-limit: marked, hang, groups 0 2, reachable, distance 0`
     fn line(&self, s: usize) -> String {
         let groups: Vec<String> = self.groups(s).iter().map(|j| j.to_string()).collect();
-        let mut words = Vec::new();
-        words.extend(self.is(Set::Initial, s).then(|| "initial".to_string()));
-        words.extend(self.is(Set::Marked, s).then(|| "marked".to_string()));
-        words.extend(self.is(Set::Resting, s).then(|| "resting".to_string()));
-        words.extend(self.table.is_hang(s).then(|| "hang".to_string()));
+        let mut words: Vec<String> = self.kinds(s).into_iter().map(str::to_string).collect();
         words.extend((!groups.is_empty()).then(|| format!("groups {}", groups.join(" "))));
-        words.push(match self.reachable.contains(s) {
+        words.push(match self.is_reachable(s) {
             true => "reachable".to_string(),
             false => "not reachable".to_string(),
         });
@@ -146,7 +179,7 @@ impl<'t> Found<'t> {
 
     fn state(&self, s: usize) -> Object {
         let object = Object::default().plain("state", s);
-        let object = match self.names.get(&s) {
+        let object = match self.name(s) {
             Some(name) => object.text("name", name),
             None => object,
         };
@@ -166,7 +199,8 @@ impl<'t> Found<'t> {
 
     // ---- What to look at
 
-    fn remarks(&self) -> Vec<Remark> {
+    /// What a reviewer should look at.
+    pub fn remarks(&self) -> Vec<Remark> {
         let n = self.table.n();
         let those = |is: &dyn Fn(usize) -> bool| (0..n).filter(|&s| is(s)).collect::<Vec<usize>>();
         let forbidden = self.table.forbidden();
@@ -219,7 +253,8 @@ impl<'t> Found<'t> {
             (
                 "not-reached",
                 "screens that nothing reaches",
-                those(&|s| !self.reachable.contains(s)),
+                // That a forbidden one is not is what is wanted.
+                those(&|s| !self.reachable.contains(s) && !forbidden.contains(&s)),
             ),
         ];
         remarks.extend(

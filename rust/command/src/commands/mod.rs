@@ -12,16 +12,18 @@ pub mod options;
 pub mod picture;
 pub mod release;
 pub mod replay;
+pub mod report;
 pub mod rewrite;
 pub mod within;
 
 use crate::words::Command;
 
 /// All of them, in the order of the help.
-pub const COMMANDS: [&Command; 13] = [
+pub const COMMANDS: [&Command; 14] = [
     &check::CHECK,
     &check_all::CHECK_ALL,
     &release::RELEASE,
+    &report::REPORT,
     &inspect::INSPECT,
     &within::WITHIN,
     &replay::REPLAY,

@@ -23,6 +23,7 @@ pub const NEXT_OPEN: Command = Command {
     about: "when a release may be loaded next",
     more: "HOUSE is a text with lines window monday 22:00 for 6h, and closed 2026-12-25.",
     options: &[&AT, &JSON],
+    needs: &[&AT],
     output: Output::Answer,
     run,
 };

@@ -28,6 +28,7 @@ pub const OPTIONS: Command = Command {
     about: "is a table with possible steps safe for every choice between them",
     more: "FILE has the certain steps, and FILE2 the possible ones too; or, with --text, a text has them as lines possible STATE -> STATE..",
     options: &[&POSSIBLE, &SITE, &TEXT, &NAMES, &JSON],
+    needs: &[],
     output: Output::Answer,
     run,
 };
@@ -78,6 +79,7 @@ impl Modal {
             site: source.site,
             file: Input::named(possible).take(shuntberry::FILE_BYTES + 1)?,
             names: Names::new(),
+            names_from: None,
         };
         let more = other.table()?;
         if !table.is_alike(&more) {

@@ -1,12 +1,14 @@
 //! `picture`: the graph of a table, for Graphviz or drawn by it.
 
+use crate::drawing::{Limits, NotDrawn, draw};
 use crate::failure::{Done, Failure, status};
 use crate::files::{OUT, put, say};
-use crate::picture::{self, Options};
+use crate::picture::{self, Graph, Options};
 use crate::source::{NAMES, SITE, Source, TEXT};
+use crate::svg::{Drawing, cleaned};
+use crate::table::Table;
 use crate::words::{Call, Command, Opt, Output};
-use std::io::{self, IsTerminal, Write};
-use std::process::{Command as Program, Stdio};
+use std::io::{self, IsTerminal};
 
 const SVG: Opt = Opt {
     name: "--svg",
@@ -32,6 +34,7 @@ pub const PICTURE: Command = Command {
     about: "a file as a graph for Graphviz, or as an SVG",
     more: "Without FILE standard input is read, without -o standard output written.",
     options: &[&SITE, &OUT, &SVG, &DISTANCES, &GROUPS, &TEXT, &NAMES],
+    needs: &[],
     output: Output::File,
     run,
 };
@@ -43,50 +46,42 @@ fn run(call: &Call) -> Done {
         distances: call.has(&DISTANCES),
         groups: call.has(&GROUPS),
     };
-    let graph = picture::dot(&table, &source.names, &source.shown, options)
+    let graph = picture::graph(&table, &source.names, &source.shown, options)
         .map_err(|refused| Failure::Refused(refused, refused.to_string()))?;
     if call.has(&SVG) {
-        if io::stderr().is_terminal() {
-            let (n, steps) = (table.n(), table.steps());
-            say(&format!(
-                "picture: dot draws {n} states and {steps} steps\n"
-            ));
-        }
-        put(call, &svg(graph.as_bytes())?)?;
+        say_drawing(PICTURE.name, &table);
+        put(call, &svg(graph)?)?;
     } else {
-        put(call, graph.as_bytes())?;
+        put(call, graph.text.as_bytes())?;
     }
     Ok(status::DONE)
 }
 
-/// What `dot` draws of a graph.
-fn svg(graph: &[u8]) -> Result<Vec<u8>, Failure> {
-    let failed = |why: &dyn std::fmt::Display| {
-        Failure::Failed(format!("dot could not draw the graph: {why}"))
+/// What `dot` draws of a graph, if that is a drawing of just this table.
+fn svg(graph: Graph) -> Result<Vec<u8>, Failure> {
+    let svg = draw(&graph.text, Limits::NONE).map_err(|why| {
+        Failure::Failed(match why {
+            NotDrawn::Missing => "--svg needs the program dot of Graphviz, which is not installed; without --svg the graph itself is written".to_string(),
+            _ => why.to_string(),
+        })
+    })?;
+    let why = match cleaned(&svg, graph.asked) {
+        Ok(Drawing { active: None, .. }) => return Ok(svg), // as dot wrote it, with the classes of states and steps
+        Ok(Drawing { active, .. }) => {
+            let what = active.unwrap_or_default();
+            format!("it has '{what}', which no drawing of a table has")
+        }
+        Err(why) => why,
     };
-    let mut dot = Program::new("dot")
-        .arg("-Tsvg")
-        .stdin(Stdio::piped())
-        .stdout(Stdio::piped())
-        .spawn()
-        .map_err(|error| match error.kind() {
-            io::ErrorKind::NotFound => Failure::Failed("--svg needs the program dot of Graphviz, which is not installed; without --svg the graph itself is written".to_string()),
-            _ => failed(&error),
-        })?;
-    // dot reads all of the graph before it writes, but nothing says that it must.
-    let input = dot.stdin.take();
-    let (written, drawn) = std::thread::scope(|scope| {
-        let writer = scope.spawn(move || input.map_or(Ok(()), |mut input| input.write_all(graph)));
-        let drawn = dot.wait_with_output();
-        (writer.join(), drawn)
-    });
-    let drawn = drawn.map_err(|error| failed(&error))?;
-    if !drawn.status.success() {
-        return Err(failed(&drawn.status));
-    }
-    match written {
-        Ok(Ok(())) if !drawn.stdout.is_empty() => Ok(drawn.stdout),
-        Ok(Err(error)) => Err(failed(&error)),
-        _ => Err(failed(&"it drew nothing")),
+    Err(Failure::Failed(format!(
+        "what dot printed is no drawing of the table: {why}"
+    )))
+}
+
+/// Says on a terminal what takes its time.
+pub fn say_drawing(name: &str, table: &Table) {
+    if io::stderr().is_terminal() {
+        let (n, steps) = (table.n(), table.steps());
+        say(&format!("{name}: dot draws {n} states and {steps} steps\n"));
     }
 }

@@ -23,6 +23,7 @@ pub const REPLAY: Command = Command {
     about: "a pump's log walked through a table",
     more: "LOG has a state number of two bytes, low byte first, for each screen that was shown.",
     options: &[&SITE, &TEXT, &NAMES, &TEXT_LOG, &JSON],
+    needs: &[],
     output: Output::Answer,
     run,
 };
@@ -59,10 +60,10 @@ fn run(call: &Call) -> Done {
     Ok(status::DONE)
 }
 
-/// Whether bytes are all such as are typed. In a log every second one is the high byte of a state's number, 0 or 1.
+/// Whether bytes are such as stand in a text. In a log every second one is the high byte of a state's number, 0 or 1.
 fn is_printed(log: &[u8]) -> bool {
-    let is_typed = |byte: &u8| byte.is_ascii_graphic() || byte.is_ascii_whitespace();
-    !log.is_empty() && log.iter().all(is_typed)
+    let is_typed = |c: char| !c.is_control() || c.is_ascii_whitespace();
+    !log.is_empty() && str::from_utf8(log).is_ok_and(|text| text.chars().all(is_typed))
 }
 
 /// The bytes of a log that is written in words, with the names that are known of the table's screens.
@@ -167,11 +168,10 @@ impl<'t> Walk<'t> {
         Some((at + 1, entry, why))
     }
 
-    /// The first followed entry that shows a forbidden screen: then the table is unsafe, and this pump was there.
+    /// The first entry that shows a forbidden screen, followed or not: the pump was there, also if the table has no step that leads there.
     fn forbidden(&self) -> Option<usize> {
         let forbidden = self.table.forbidden();
-        let followed = &self.entries[..self.found.followed];
-        followed.iter().position(|s| forbidden.contains(s))
+        self.entries.iter().position(|s| forbidden.contains(s))
     }
 
     /// The screens that can be reached and that no followed entry shows.

@@ -15,6 +15,7 @@ pub const REWRITE: Command = Command {
     about: "a file of the old form in the new one, with its dead ends resting",
     more: "OLD is a file of site 0. Without OLD standard input is read, without -o standard output written.",
     options: &[&OUT],
+    needs: &[],
     output: Output::File,
     run,
 };

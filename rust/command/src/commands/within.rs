@@ -17,6 +17,7 @@ pub const WITHIN: Command = Command {
     about: "is a forbidden state at most K steps away",
     more: "Without FILE standard input is read. The status is 1 for yes and 4 for no: no is not safe.",
     options: &[&SITE, &TEXT, &NAMES, &JSON],
+    needs: &[],
     output: Output::Answer,
     run,
 };

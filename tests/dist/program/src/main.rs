@@ -1,6 +1,6 @@
 //! Prints for each file what `check` prints, by the package that ./dist ships: a line with its name, then the text.
 
-use shuntberry::{MAX_ALLOWANCE, PATH_PLACES, Refused, STORE_WORDS, Verdict, decide, read};
+use shuntberry::{MAX_ALLOWANCE, PATH_PLACES, Refused, STORE_WORDS, Table, Verdict, decide, read};
 
 fn text(file: &[u8]) -> Result<String, Refused> {
     let mut store = vec![0; STORE_WORDS];
@@ -25,7 +25,10 @@ fn text(file: &[u8]) -> Result<String, Refused> {
         }
         Verdict::Undecided { count } => format!("undecided refinements {count}"),
     };
-    Ok(format!("states {} groups {}\n{verdict}", table.n, table.g))
+    let text = format!("states {} groups {}\n{verdict}", table.n, table.g);
+    let report = Table::from_bytes(file, 0)?.check()?;
+    assert_eq!(report.text(), format!("{text}\n"));
+    Ok(text)
 }
 
 fn main() -> std::io::Result<()> {

@@ -36,5 +36,4 @@ smallest-spec =
     (λ c. search needs)
     (λ c. search needs)
     (λ c. (search needs, below-more _ _ (c .before .before .before .loop .inv .1) (c .if1 .left)))
-    (λ c. search needs)
     (λ c. smallest-none _ _ (c .before .loop .inv .1) (search needs)))

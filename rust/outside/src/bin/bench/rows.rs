@@ -94,9 +94,10 @@ impl Call {
     /// The greatest ratio to the peer that is aimed at, on every family.
     pub fn target(self) -> Option<f64> {
         match self {
-            Call::Decide => Some(1.2),
-            Call::ShortestPath => Some(1.5),
-            Call::Read | Call::Write => Some(2.0),
+            Call::Decide | Call::ShortestPath | Call::Within | Call::Distances => Some(1.5),
+            Call::Generate | Call::NextOpen => Some(1.5),
+            Call::DecideModal | Call::Read => Some(1.3),
+            Call::Write => Some(2.0),
             _ => None,
         }
     }
@@ -359,13 +360,14 @@ pub fn rows(only: &[String]) -> Vec<Row> {
     };
     let mut random = Random::new(SEED);
     let named = families::named(&mut random);
+    let rounds = families::more_for_decide();
     let paths = families::more_for_shortest_path(&mut random);
     let files = families::more_for_files(&mut random);
     let distances = families::more_for_distances(&mut random);
     // What is in a table plays no part in how long a file of it takes: sizes are enough.
     let (all, sizes) = ("", "growth, fan-out");
     for (call, kind, more) in [
-        (Call::Decide, all, &[][..]),
+        (Call::Decide, all, &rounds),
         (Call::ShortestPath, all, &paths),
         (Call::Distances, all, &distances),
         (Call::Within, all, &distances),

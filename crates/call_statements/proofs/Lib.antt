@@ -1,0 +1,4 @@
+pub mod GroundsKept
+pub mod AcceptingKept
+pub mod StatesKept
+pub mod RewriteCallsKept

@@ -1,0 +1,4 @@
+pub mod Grounds
+pub mod Accepting
+pub mod States
+pub mod RewriteCalls

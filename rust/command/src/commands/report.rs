@@ -1,0 +1,162 @@
+//! `report`: the record of a check, as a page. What is checked, summed up, looked at and drawn are the bytes of one read.
+
+use crate::calendar::utc;
+use crate::commands::about::{VERSION, version_line};
+use crate::commands::check::{Answer, Judged};
+use crate::commands::inspect::Found;
+use crate::commands::picture::say_drawing;
+use crate::commands::release::vacuous;
+use crate::drawing::{Limits, draw};
+use crate::failure::{Done, Failure};
+use crate::files::{Input, OUT, need_place, print, replace, say};
+use crate::lines::{cut, number};
+use crate::picture::{self, Options};
+use crate::record::Record;
+use crate::refusals::{BY_ENCODE, ground};
+use crate::sha256::sha256;
+use crate::shown::shown;
+use crate::source::{NAMES, SITE, Source};
+use crate::svg::{Drawing, cleaned};
+use crate::table::Table;
+use crate::words::{Call, Command, Output};
+use shuntberry::Refused;
+use std::env;
+use std::path::Path;
+use std::time::{Duration, SystemTime, UNIX_EPOCH};
+
+/// The command.
+pub const REPORT: Command = Command {
+    name: "report",
+    words: "FILE",
+    counts: (1, 1),
+    about: "check a file, and write the record of that as a page",
+    more: "-o OUT names the page, which is HTML and stands alone. Of a file that is refused there is none. dot of Graphviz draws the picture, if it is there.",
+    options: &[&OUT, &SITE, &NAMES],
+    needs: &[&OUT],
+    output: Output::Answer,
+    run,
+};
+
+/// What the picture may take: a record is not worth a longer wait, and no browser a longer page.
+const PICTURE: Limits = Limits {
+    within: Duration::from_secs(30),
+    bytes: 16 << 20,
+};
+
+fn run(call: &Call) -> Done {
+    let (Some(from), Some(to)) = (call.name(0), call.path(&OUT)) else {
+        return Err(Failure::Wrong(
+            "no place for the record is given: expected -o OUT, as -o record.html".to_string(),
+        ));
+    };
+    let date = date()?;
+    let source = Source::of(call, Some(from))?;
+    let answer = Answer::of(&source.file, source.site)?;
+    print(answer.text.as_bytes())?;
+    if let Judged::Refused(refused) = answer.judged {
+        let why = ground(refused, &source.file, source.site, BY_ENCODE);
+        let name = &source.shown;
+        say(&format!(
+            "report: {name}: there is no record: it is {why}\n"
+        ));
+        return Ok(answer.status());
+    }
+    let table = source.table()?;
+    let record = Record {
+        file: source.shown.clone(),
+        length: source.file.len(),
+        sum: sha256(&source.file),
+        site: source.site,
+        answer: &answer,
+        found: &Found::of(&table, &source.names).map_err(refused)?,
+        names_from: source.names_from.clone(),
+        vacuous: vacuous(&table),
+        picture: pictured(&table, &source, from)?,
+        date,
+        version: version_line("shuntberry"),
+        proved: proved(),
+    };
+    need_place(to)?;
+    replace(to, record.page().as_bytes())?;
+    Ok(answer.status())
+}
+
+fn refused(refused: Refused) -> Failure {
+    Failure::Refused(refused, refused.to_string())
+}
+
+/// The picture, or why there is none: a record is one without it too.
+fn pictured(
+    table: &Table,
+    source: &Source,
+    from: &Path,
+) -> Result<Result<Drawing, String>, Failure> {
+    if table.n() == 0 {
+        return Ok(Err("the table has no states".to_string()));
+    }
+    // The whole name stands above; a long one would make all else small.
+    let title = cut(&shown(from.file_name().unwrap_or(from.as_os_str())));
+    let graph = picture::graph(table, &source.names, &title, Options::default());
+    let graph = graph.map_err(refused)?;
+    say_drawing(REPORT.name, table);
+    let drawn = draw(&graph.text, PICTURE).map_err(|why| why.to_string());
+    Ok(drawn.and_then(|svg| {
+        let left_out = |why| format!("what dot printed is left out, since {why}");
+        cleaned(&svg, graph.asked).map_err(left_out)
+    }))
+}
+
+/// A variable that gives the date, for records that must come out the same.
+const GIVEN_DATE: &str = "SOURCE_DATE_EPOCH";
+
+/// When it is now; or the date that was given, and that it was.
+fn date() -> Result<String, Failure> {
+    let Some(word) = env::var_os(GIVEN_DATE) else {
+        let now = SystemTime::now().duration_since(UNIX_EPOCH).ok();
+        let seconds = now.and_then(|now| usize::try_from(now.as_secs()).ok());
+        return seconds.and_then(utc).ok_or_else(|| {
+            Failure::Failed("the clock shows no time from 1970 to 9999: set it".to_string())
+        });
+    };
+    let given = word.to_str().and_then(number).and_then(utc);
+    given
+        .map(|date| format!("{date} (given by {GIVEN_DATE}, not by the clock)"))
+        .ok_or_else(|| {
+            Failure::Failed(format!(
+                "{GIVEN_DATE} is '{}', and no number of seconds from 1970 to 9999: mend or unset it",
+                shown(&word)
+            ))
+        })
+}
+
+// ---- What was proved
+
+/// From the folder of the program, where it is installed.
+const PROVED: &str = "../share/doc/shuntberry/PROVED";
+/// Far more than the file has.
+const PROVED_BYTES: usize = 1 << 16;
+
+/// What the file PROVED of this installation says of its sources: its first paragraphs, or why they are not shown.
+fn proved() -> Result<Vec<String>, String> {
+    let program = env::current_exe()
+        .map_err(|error| format!("where it is installed is not known: {error}"))?;
+    let path = program.parent().unwrap_or(Path::new("/")).join(PROVED);
+    if !path.exists() {
+        return Err(
+            "there is no file PROVED beside the program, as an installed one has".to_string(),
+        );
+    }
+    let bytes = Input::named(&path)
+        .take(PROVED_BYTES)
+        .map_err(|_| "the file PROVED could not be read".to_string())?;
+    let text = String::from_utf8(bytes).map_err(|_| "the file PROVED is no text".to_string())?;
+    let mut lines = text.lines();
+    let own = format!("Shuntberry {VERSION} ");
+    if !lines.next().is_some_and(|line| line.starts_with(&own)) {
+        return Err("the file PROVED beside the program is that of another version".to_string());
+    }
+    let facts = lines
+        .skip_while(|line| line.is_empty())
+        .take_while(|line| !line.is_empty());
+    Ok(facts.map(shown).collect())
+}

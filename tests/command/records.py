@@ -1,0 +1,761 @@
+#!/usr/bin/env python3
+"""report: what a record says is what tests/expected/spec.py and model.py work out of the table; the page stands alone, whatever the names are and whatever dot prints;
+and there is a whole record or none, whatever goes wrong."""
+import hashlib
+import html
+import os
+import random
+import re
+import resource
+import shutil
+import signal
+import subprocess
+import threading
+import time
+from datetime import datetime, timezone
+from html.parser import HTMLParser
+from pathlib import Path
+
+import support
+from support import FAILED, NO_RELEASE, PROGRAM, REFUSED, SAFE, TABLES, TOP, UNSAFE, WORK, call, gives, group, need, status_of, tables
+import drafts
+import model
+import spec
+from model import screen
+
+SEED = random.randrange(2**30)
+random.seed(SEED)
+VERSION = (TOP / "VERSION").read_text().strip()
+A, B, E, EMPTY = (TABLES / f"{name}.table" for name in "a b e empty".split())
+NOW = "1767225599"  # 2025-12-31T23:59:59Z
+out = WORK / "record.html"
+fakes = WORK / "fakes"
+fakes.mkdir()
+NO_DOT = {"PATH": str(WORK / "nowhere"), "SOURCE_DATE_EPOCH": NOW}
+FAKE_DOT = NO_DOT | {"PATH": f"{fakes}"}
+REAL_DOT = {"PATH": os.environ["PATH"], "SOURCE_DATE_EPOCH": NOW}
+
+
+# ---- pages
+
+VOID = {"meta"}
+PLACES = {  # the elements that a page may have, and their attributes
+    "html": {"lang"}, "head": set(), "meta": {"charset", "name", "content", "http-equiv"}, "title": set(), "style": set(), "body": set(), "header": set(),
+    "section": {"class"}, "footer": set(), "div": {"class", "role", "aria-label", "tabindex"}, "h1": set(), "h2": set(), "p": {"class"}, "strong": set(),
+    "code": set(), "pre": set(), "bdi": set(), "ul": {"class"}, "ol": {"class"}, "li": set(), "table": {"class"}, "thead": set(), "tbody": set(),
+    "tr": {"class"}, "th": {"scope"}, "td": {"class"}, "figure": set(), "figcaption": set(),
+    "svg": {"role", "aria-label", "width", "height", "viewbox", "style"},
+}
+LOOKS = {"fill", "stroke", "stroke-width", "stroke-dasharray", "transform"}
+WRITING = {"text-anchor", "x", "y", "font-family", "font-weight", "font-style", "font-size"}
+PLACED = {"points", "d", "cx", "cy", "rx", "ry", "viewbox"}
+# A drawing that was changed at random may have an attribute of place or look at an element where it means nothing.
+DRAWN = dict.fromkeys(("g", "polygon", "polyline", "path", "ellipse", "text"), LOOKS | WRITING | PLACED)
+
+
+class Page(HTMLParser):
+    """A page as elements: (name, attributes, [elements and texts])."""
+
+    def __init__(self, text):
+        super().__init__(convert_charrefs=True)
+        self.open = [("page", {}, [])]
+        self.feed(text)
+        self.close()
+        need(len(self.open) == 1, "elements that are not closed", [element[0] for element in self.open])
+        self.root = self.open[0]
+
+    def handle_starttag(self, name, attributes):
+        drawn = any(element[0] == "svg" for element in self.open)
+        allowed = DRAWN if drawn else PLACES
+        need(name in allowed, f"the page has an element {name}")
+        for attribute, value in attributes:
+            need(attribute in allowed[name], f"{name} has an attribute {attribute}")
+            need(not re.search(r"https?:|url\s*\(|javascript|data:|//", value, re.I), f"{name} {attribute} refers to {value}")
+        element = (name, dict(attributes), [])
+        self.open[-1][2].append(element)
+        if name not in VOID:
+            self.open.append(element)
+
+    def handle_startendtag(self, name, attributes):
+        need(name in DRAWN, f"<{name}/> is none of a drawing's")
+        self.handle_starttag(name, attributes)
+        self.handle_endtag(name)
+
+    def handle_endtag(self, name):
+        need(self.open.pop()[0] == name, f"</{name}> closes something else")
+
+    def handle_data(self, data):
+        self.open[-1][2].append(data)
+
+    def handle_comment(self, data):
+        need(False, "the page has a comment", data)
+
+    handle_pi = handle_comment
+
+    def handle_decl(self, data):
+        need(data == "DOCTYPE html", data)
+
+    unknown_decl = handle_comment
+
+
+def every(element, name, **having):
+    found = []
+    for child in element[2]:
+        if not isinstance(child, str):
+            if child[0] == name and all(child[1].get(key.strip("_")) == value for key, value in having.items()):
+                found.append(child)
+            found += every(child, name, **having)
+    return found
+
+
+def text_of(element):
+    return "".join(child if isinstance(child, str) else text_of(child) for child in element[2])
+
+
+def section(root, heading):
+    found = [part for part in every(root, "section") if text_of(every(part, "h2")[0]) == heading]
+    need(len(found) <= 1, f"{heading} stands there twice")
+    return found[0] if found else None
+
+
+def rows(table):
+    return [[text_of(cell) for cell in row[2] if not isinstance(cell, str)] for row in every(table, "tr")]
+
+
+def shown(name):
+    """A file's name as the command shows it."""
+    return name if name.isprintable() and not name.startswith('"') else None
+
+
+WORKED_OUT = {}
+
+
+def worked_out(table):
+    """What check prints of a table, and its shortest path, worked out once."""
+    if id(table) not in WORKED_OUT:
+        WORKED_OUT[id(table)] = table, spec.printed(table), spec.shortest_path(table)
+    return WORKED_OUT[id(table)][1:]
+
+
+def expected_verdict(table):
+    if not table.n:
+        return "draft", "draft: the table has no states, and nothing is to be released"
+    path = worked_out(table)[1]
+    if path is None:
+        return "safe", "safe: no forbidden state can be reached"
+    steps = len(path) - 1
+    if not steps:
+        return "unsafe", "unsafe: a session can start in a forbidden state"
+    return "unsafe", f"unsafe: a forbidden state is reached in {steps} step{'s' * (steps != 1)}"
+
+
+def check_page(page, table, path, site=0, names=None, text=None, date="2025-12-31T23:59:59Z (given by SOURCE_DATE_EPOCH, not by the clock)", named=None):
+    """A page says of a table what is true, and all of it. Gives what it says of the picture."""
+    source = page.decode()
+    need(source.startswith("<!DOCTYPE html>\n") and source.endswith("<p>End of the record.</p>\n</footer>\n</body>\n</html>\n"), "a page that is not whole")
+    need(not re.search(r"<script|https?:|url\(|@import|@font-face|\bon[a-z]+\s*=", source, re.I), "a page that does not stand alone")
+    root = Page(source).root
+    names = names or {}
+    word, sentence = expected_verdict(table)
+    file = path.read_bytes()
+    named = shown(str(path)) if named is None else named
+    need(text_of(every(root, "title")[0]) == f"{word}: {named}: record of a check by Shuntberry", "the title")
+    need([text_of(h) for h in every(root, "h1")] == [sentence], "the verdict", sentence)
+    need(every(root, "html")[0][1] == {"lang": "en"}, "the language")
+    for other in {"safe", "unsafe", "draft"} - {word}:  # who looks for a word alone finds the right one
+        need(other == "draft" and "untouched draft" in source or not re.search(rf"\b{other}\b", re.sub(re.escape(html.escape(named)), "", source)), f"a record of {word} says {other}")
+    # what was checked
+    text_lines = worked_out(table)[0].splitlines()
+    facts = {
+        "File": named, "SHA-256": hashlib.sha256(file).hexdigest(), "Length": f"{len(file)} bytes", "Site": str(site), "States": str(table.n),
+        "Groups": str(len(table.groups)), "Refinements": text_lines[1].split()[-1], "Checked": date,
+    }
+    if text:
+        facts["Names"] = f"from {shown(str(text))}, a text of the same table: the file itself has none to compare them with"
+        facts["SHA-256 of that text"] = hashlib.sha256(text.read_bytes()).hexdigest()
+    need(dict(rows(section(root, "What was checked"))) == facts, rows(section(root, "What was checked")), facts)
+    need(all(th[1].get("scope") in ("row", "col") for th in every(root, "th")), "a heading without a scope")
+    # remarks, path and invariant
+    look = model.remarks(table, names)
+    found = section(root, "What to look at")
+    need([text_of(item) for item in every(found, "li")] == look, look)
+    need(look or "nothing in particular" in text_of(found), "nothing to look at")
+    states = [int(state) for state in text_lines[2].split(":")[-1].split() if state.isdigit()]
+    heading = {"safe": "Invariant", "unsafe": "Path", "draft": None}[word]
+    for other in {"Invariant", "Path"} - {heading}:
+        need(section(root, other) is None, f"a record of {word} has the section {other}")
+    if heading:
+        found = section(root, heading)
+        need([text_of(item) for item in every(found, "li")] == [screen(s, names) for s in states], "the states of the", heading)
+    vacuous = table.n and (not table.initial or not table.forbidden())
+    need(("does not release it without --even-if-vacuous" in text_of(every(root, "header")[0])) == bool(vacuous), "vacuous")
+    # the screens
+    found = section(root, "Screens")
+    away, reachable, hangs = model.distances(table), model.reached(table, table.initial), table.dead_ends() - table.resting
+    columns = ["State", *["Name"] * bool(text), "Is", *["Groups"] * bool(table.groups), "Reachable", "Distance", "Steps to"]
+    lines, steps = [columns], {}
+    for a, b in sorted(table.steps):
+        steps[a] = f"{steps[a]} {b}" if a in steps else str(b)
+    for s in range(table.n):
+        kinds = [kind for kind, held in [("initial", table.initial), ("marked", table.marked), ("resting", table.resting), ("hang", hangs)] if s in held]
+        groups = " ".join(str(j) for j, held in enumerate(table.groups) if s in held)
+        lines.append([str(s), *[names.get(s, "")] * bool(text), ", ".join(kinds), *[groups] * bool(table.groups), "yes" if s in reachable else "no", str(away.get(s, "never")), steps.get(s, "")])
+    need(rows(found) == (lines if table.n else []), "the table of screens", rows(found)[:5], lines[:5])
+    need([int(row[2][0][2][0]) for row in every(found, "tr", class_="forbidden")] == sorted(table.forbidden()), "the rows of forbidden screens")
+    # the program
+    need(text_of(every(section(root, "Program"), "code")[0]) == f"shuntberry (Shuntberry) {VERSION}", "the version")
+    need("Not proved: the program around the proved call" in text_of(section(root, "Program")), "what is not proved")
+    need("not whether the file was released" in text_of(every(root, "footer")[0]), "that it says nothing of a release")
+    return section(root, "Picture")
+
+
+def words_of(table, names, title):
+    """The lines of words that a picture of the table has, as often as they must stand there: as pictures.py has the labels."""
+    word, sentence = expected_verdict(table)
+    count = lambda number, what: f"{number} {what}{'s' * (number != 1)}"
+    lines = [title, sentence, f"{count(table.n, 'state')}, {count(len(table.groups), 'group')}"]
+    hangs = table.dead_ends() - table.resting
+    for s in range(table.n):
+        kinds = [("forbidden", table.marked), ("hang", hangs), ("resting", table.resting), ("dead end", table.dead_ends() & table.resting)]
+        lines += [screen(s, names), ", ".join(kind for kind, held in kinds if s in held)]
+    lines += ["start"] * len(table.initial)
+    path = worked_out(table)[1] or []
+    lines += [str(k) for k in range(1, len(path))]
+    return [line for line in lines if line]
+
+
+def report(*words, env=NO_DOT, **how):
+    out.unlink(missing_ok=True)
+    return call("report", "-o", out, *words, env=env, **how)
+
+
+def no_record(given, status, said=None):
+    need(given.status == status and not out.exists() and not list(WORK.glob(".shuntberry*")), f"expected status {status} and no record", given)
+    need(said is None or re.search(said, given.err.decode(errors="replace")), f"expected {said}", given)
+
+
+# ---- every file of tests/files, and random ones, without dot
+
+EVERY = [(model.table_of(path.with_suffix(".txt").read_text()), path) for path, expected in tables() if status_of(expected) != REFUSED]
+for i in range(40):
+    path = WORK / f"{i}.table"
+    table = drafts.table()
+    path.write_bytes(spec.encode(table))
+    EVERY.append((table, path))
+status_for = lambda table: {"safe": SAFE, "unsafe": UNSAFE, "draft": NO_RELEASE}[expected_verdict(table)[0]]
+for table, path in EVERY:
+    given = report(path)
+    need(given.status == status_for(table) and given.out.decode() == worked_out(table)[0] and not given.err, given)
+    picture = check_page(out.read_bytes(), table, path)
+    why = "the program dot of Graphviz is not installed" if table.n else "the table has no states"
+    need(text_of(picture).split("Picture")[1].strip() == f"There is no picture: {why}.", text_of(picture))
+for path, expected in tables():
+    if status_of(expected) == REFUSED:
+        given = report(path)
+        no_record(given, REFUSED, "there is no record: it is refused")
+        need(given.out.decode() == expected, given)
+group(f"records of tables, seed {SEED}")
+
+# ---- names and sites
+
+text = WORK / "named.txt"
+for table, path in EVERY:
+    names = {s: f"screen-{s}" for s in range(table.n) if random.random() < 0.7}
+    text.write_text(spec.text(table) + "".join(f"state {s} {name}\n" for s, name in names.items()))
+    given = report(path, "--names", text)
+    need(given.status == status_for(table), given)
+    check_page(out.read_bytes(), table, path, names=names, text=text)
+site = WORK / "site.table"
+site.write_bytes(model.at_site(B.read_bytes(), 77))
+table_a, table_b = (model.table_of((TABLES / f"{name}.txt").read_text()) for name in "ab")
+need(report(site, "--site", "77").status == UNSAFE, "a file of another site")
+check_page(out.read_bytes(), table_b, site, site=77)
+no_record(report(site), REFUSED, "refused 13.*ask who made it, and do not try numbers")
+no_record(report(B, "--names", TABLES / "a.txt"), REFUSED, "the text of another table")
+text.write_text("states x\n")
+no_record(report(B, "--names", text), REFUSED, "mistake")
+# names of files: as they are, or in quotes with escapes, and never markup
+place = WORK / "names"
+place.mkdir()
+NAMES = {
+    "a b.table": None, "<b>bold</b>": None, "</title><script>alert(1)</script>": None, "&lt;&amp;&#60;": None, "\"'>": '"\\"\'>"', "it's": None, "-x": None,
+    "-->": None, "]]>": None, "}</style>": None, "{{x}}": None, "two\nlines": '"two\\nlines"', "\x1b[31mred": '"\\u{1b}[31mred"', "\u202eright": '"\\u{202e}right"',
+    "größe": None, "שלום": None, b"\xff\xfe<i>": '"\\xff\\xfe<i>"', "%n%s": None, "\\N\\G": None, "x" * 255: None, "unsafe": None,
+}
+for name, told in NAMES.items():
+    path = place / os.fsdecode(name)
+    path.parent.mkdir(parents=True, exist_ok=True)
+    path.write_bytes(A.read_bytes())
+    for env in NO_DOT, REAL_DOT:
+        given = report("--", name, cwd=place, env=env)
+        need(given.status == SAFE, given)
+        picture = check_page(out.read_bytes(), table_a, path, named=told or name)
+        if every(picture, "svg"):
+            title = told or path.name
+            need(text_of(every(picture, "text")[0]) == (title if len(title) <= 40 else title[:40] + ".."), "the title of the picture", name)
+group("names of screens and of files")
+
+# ---- the date, and what was proved
+
+for seconds in 0, 1, 59, 86399, 86400, 951782400, 951868799, 951868800, 1709164800, 4107542399, 4107542400, 253402300799, *(random.randrange(253402300800) for _ in range(200)):
+    report(A, env=NO_DOT | {"SOURCE_DATE_EPOCH": str(seconds), "TZ": "Asia/Tokyo"})
+    days, rest = divmod(seconds, 86400)
+    date = datetime.fromordinal(days + datetime(1970, 1, 1).toordinal()).strftime("%Y-%m-%d").rjust(10, "0")
+    expected = f"{date}T{rest // 3600:02}:{rest // 60 % 60:02}:{rest % 60:02}Z (given by SOURCE_DATE_EPOCH, not by the clock)"
+    need(dict(rows(section(Page(out.read_text()).root, "What was checked")))["Checked"] == expected, seconds, expected)
+for word in "", "x", "-1", "1.5", " 1", "1 ", "0x10", "253402300800", "99999999999999999999999", "1e9", b"\xff":
+    no_record(report(A, env=NO_DOT | {"SOURCE_DATE_EPOCH": word}), FAILED, "SOURCE_DATE_EPOCH is .* mend or unset it")
+before = datetime.now(timezone.utc).replace(microsecond=0)
+report(A, env={"PATH": NO_DOT["PATH"]})
+date = dict(rows(section(Page(out.read_text()).root, "What was checked")))["Checked"]
+need(before <= datetime.strptime(date, "%Y-%m-%dT%H:%M:%S%z") <= datetime.now(timezone.utc), date)
+
+installed = WORK / "installed"
+(installed / "bin").mkdir(parents=True), (installed / "share/doc/shuntberry").mkdir(parents=True)
+shutil.copy(PROGRAM, installed / "bin/shuntberry")
+proved = installed / "share/doc/shuntberry/PROVED"
+FACTS = "commit   0123456789abcdef\ntree     clean\nkit      rt <1> & \"2\"\nlibrary  logic=proved functions=29"
+
+
+def program_of(status=SAFE):
+    out.unlink(missing_ok=True)
+    support.count += 1
+    run = subprocess.run([installed / "bin/shuntberry", "report", A, "-o", out], capture_output=True, env=NO_DOT)
+    need(run.returncode == status, run)
+    root = Page(out.read_text()).root
+    return section(root, "Program")
+
+
+need("there is no file PROVED beside the program" in text_of(program_of()), "no PROVED")
+proved.write_text(f"Shuntberry {VERSION} for x86-64 Linux\n\n{FACTS}\n\nProved, of each of these crates: its theorems\n  model\n")
+need([text_of(pre) for pre in every(program_of(), "pre")] == [FACTS], text_of(program_of()))
+for content, why in [
+    (f"Shuntberry {VERSION}1 for x86-64 Linux\n\n{FACTS}\n".encode(), "that of another version"), (b"", "that of another version"), (b"\xff", "no text"),
+    (f"Shuntberry 4.0.0 for x86-64 Linux\n\n{FACTS}\n".encode(), "that of another version"),
+]:
+    proved.write_bytes(content)
+    need(why in text_of(program_of()) and not every(program_of(), "pre"), why)
+proved.unlink()
+proved.mkdir()
+need("could not be read" in text_of(program_of()), "a folder PROVED")
+group("dates, and what was proved")
+
+# ---- the picture: dot may fail, hang, or print what it likes
+
+LEGEND = {  # what stands in the legend, by kind: how it is drawn, and the first words of what that means
+    "initial": "start and an arrow", "forbidden": "eight corners", "hang": "eight corners, broken line", "resting": "double line", "dead-end": "double broken line",
+    "path": "thick line", "invariant": "shaded",
+}
+report(B)
+without = out.read_bytes()
+head, tail = re.split(rb"<p>There is no picture: [^\n]*</p>\n", without)
+
+
+def dot(commands):
+    (fakes / "dot").write_text(f"#!/bin/sh\n{commands}\n")
+    os.chmod(fakes / "dot", 0o755)
+
+
+def left_out(why, path=B, target=out, env=FAKE_DOT):
+    """The record is what it is without dot, but that it says why there is no picture."""
+    target.unlink(missing_ok=True)
+    given = call("report", path, "-o", target, env=env)
+    need(given.status == UNSAFE and given.out == (TABLES / "b.expected").read_bytes(), given)
+    page = target.read_bytes()
+    found = re.fullmatch(re.escape(head) + rb"<p>There is no picture: ([^\n<]*)\.</p>\n" + re.escape(tail), page)
+    need(found and re.search(why, html.unescape(found[1].decode())), f"expected {why!r}", page[:3000] if not found else found[1])
+
+
+cat = "/bin/cat >/dev/null"
+for commands, why in [
+    ("exit 1", "exit status: 1"), (f"{cat}; exit 7", "exit status: 7"), (f"{cat}; kill -9 $$", "signal: 9"), (f"{cat}; kill -15 $$", "signal: 15"), (cat, "it drew nothing"),
+    ("exit 0", "it drew nothing|Broken pipe"), (f"{cat}; echo '<svg>'; exit 3", "exit status: 3"), (f"{cat}; echo rubbish", "words outside|no SVG"),
+    (f"{cat}; echo '<html><body>safe</body></html>'", "an element 'html'"), (f"{cat}; /bin/cat /bin/sh", "no UTF-8"), (f"{cat}; /usr/bin/yes '<g>'", "more than 16777216 bytes"),
+    ("/bin/cat", "words outside"),
+]:
+    dot(commands)
+    left_out(why)
+(fakes / "dot").write_text("no program")
+left_out("dot could not draw the graph")
+os.chmod(fakes / "dot", 0o644)
+left_out("dot could not draw the graph: .*denied|is not installed")
+(fakes / "dot").unlink()
+os.mkdir(fakes / "dot")
+left_out("dot could not draw the graph: .*denied|is not installed")
+os.rmdir(fakes / "dot")
+
+
+def drawing(words, titles, more=""):
+    """A drawing as dot prints it, with these words and titles."""
+    escape = lambda word: html.escape(word).replace("-", "&#45;")
+    shapes = "".join(f'<g id="n{i}" class="node"><title>{escape(title)}</title>\n<polygon fill="white" stroke="black" points="0,0 1,1"/></g>\n' for i, title in enumerate(titles))
+    lines = "".join(f'<text text-anchor="middle" x="1" y="-2.5" font-family="Helvetica,sans-Serif" font-size="14.00">{escape(word)}</text>\n' for word in words)
+    return (
+        '<?xml version="1.0" encoding="UTF-8" standalone="no"?>\n<!DOCTYPE svg PUBLIC "-//W3C//DTD SVG 1.1//EN"\n "http://www.w3.org/Graphics/SVG/1.1/DTD/svg11.dtd">\n'
+        '<!-- Generated by graphviz -->\n<svg width="62pt" height="33pt"\n viewBox="0.00 0.00 62.00 33.00" xmlns="http://www.w3.org/2000/svg">\n'
+        f'<g id="graph0" class="graph" transform="scale(1 1) rotate(0) translate(4 33)">\n<title>table</title>\n{shapes}{lines}{more}</g>\n</svg>\n'
+    )
+
+
+titles = [f"s{s}" for s in range(5)] + [f"s{a}->s{b}" for a, b in table_b.steps] + ["start0", "start0->s0"]
+legend = [
+    "start and an arrow", "a session can start here", "eight corners", "forbidden, since it is marked so", "eight corners, broken line",
+    "a hang: forbidden, since it has no way out and does not rest", "thick line", "on the path from a start to a forbidden state, its steps numbered",
+]
+words = words_of(table_b, {}, "b.table") + legend
+svg = WORK / "drawn.svg"
+dot(f"{cat}; /bin/cat '{svg}'")
+
+
+def drawn(content):
+    svg.write_bytes(content if isinstance(content, bytes) else content.encode())
+
+
+def pictured(why=None):
+    """picture --svg holds the same drawing to the table: it is written as it is, or not at all."""
+    target = WORK / "pictured.svg"
+    target.write_bytes(b"as it was")
+    gives(FAILED if why is not None else SAFE, "", "picture", "--svg", "-o", target, "b.table", cwd=TABLES, env=FAKE_DOT, err=why and f"no drawing of the table: .*({why})|dot could not draw")
+    need(target.read_bytes() == (b"as it was" if why is not None else svg.read_bytes()), f"another picture: {why}")
+
+
+def accepted(content, does=None):
+    drawn(content)
+    pictured(does)
+    need(report(B, env=FAKE_DOT).status == UNSAFE, "a good drawing")
+    picture = check_page(out.read_bytes(), table_b, B)
+    need(sorted(text_of(word) for word in every(picture, "text")) == sorted(words), text_of(picture))
+    return out.read_text()
+
+
+good = drawing(words, titles)
+page = accepted(good)
+need(accepted(good.replace("\n", "\r\n")), "other ends of lines")
+# what is no place or look is dropped, wherever it stands
+hostile = good.replace("<polygon", '<polygon onclick="alert(1)" style="fill:url(http://x.test/)" href="http://x.test/" xlink:href="javascript:alert(1)" id="x" class="y"')
+hostile = hostile.replace("<?xml", '<?xml-stylesheet href="http://x.test/x.css"?><!-- <script>alert(1)</script> --><?xml').replace('xmlns="', 'onload="alert(1)" xml:base="http://x.test/" xmlns="')
+need(accepted(hostile, "it has 'xml-stylesheet'") == page, "a drawing that is cleaned")
+for does in "onclick", "onLoad", "style", "href", "xlink:href", "xml:base":
+    need(accepted(good.replace("<polygon", f'<polygon {does}="x"'), f"it has '{does}'") == page, "a drawing that is cleaned")
+# and what cannot be dropped is no drawing
+for more, why in [
+    ("<script>alert(1)</script>", "an element 'script'"), ("<SCRIPT>alert(1)</SCRIPT>", "an element 'SCRIPT'"), ('<script href="http://x.test/x.js"/>', "an element 'script'"),
+    ('<image href="http://x.test/x.png" x="1" y="1"/>', "an element 'image'"), ('<a href="http://x.test/"><text>start</text></a>', "an element 'a'"),
+    ("<style>@import 'http://x.test/x.css';</style>", "an element 'style'"), ("<foreignObject><p>safe</p></foreignObject>", "an element 'foreignObject'"),
+    ('<use href="#x"/>', "an element 'use'"), ("<animate/>", "an element 'animate'"), ("<g><svg/></g>", "an element 'svg'"), ("<iframe/>", "an element 'iframe'"),
+    ("<text>safe</text>", "words are not those"), ("<text>safe: no forbidden state can be reached</text>", "words are not those"), ("<text>start</text>", "words are not those"),
+    ("safe", "words outside"), ("<g>safe</g>", "words outside"), ("<![CDATA[safe]]>", "an element '!|a tag that cannot be read"), ("<!ENTITY x 'y'>", "a tag that cannot be read"), ("&safe;", "words outside"),
+    ("<text>&safe;</text>", "an entity that is none"), ("<text>&safe</text>", "broken entity"), ("<text>&#1114112;</text>", "an entity that is none"), ("<g><title>s9</title></g>", "not those of the table"),
+    ("<g><title>s0</title></g>", "not those of the table"), ('<polygon fill="url(http://x.test/)"/>', "attribute 'fill'"), ('<polygon fill="url(#x)"/>', "attribute 'fill'"),
+    ('<polygon fill="&#117;rl(x)"/>', "attribute 'fill'"), ('<path d="M0,0\\"/>', "attribute 'd'"), ("<polygon points='\"><script>'/>", "attribute 'points'"), ("<polygon points=1/>", "a tag that cannot be read"),
+    ("<polygon points/>", "a tag that cannot be read"), ('<g transform="url(x:y)"></g>', "attribute 'transform'"), ("<g>", "closed in their order"), ("</g>", "closed in their order|before it is whole|an element"),
+    ("<text><tspan>start</tspan></text>", "an element 'tspan'"), ("<polygon><text>x</text></polygon>", "an element 'text'"), ("<", "a tag that cannot be read|closed in their order"), ("<!--", "before it is whole"),
+    ("<title><script/></title>", "an element 'script'"), ('<text x="1" x="&lt;">a</text>', "attribute 'x'"), ("\0", "words outside"), ("<text>\x1b[31m</text>", "words are not those"),
+]:
+    drawn(drawing(words, titles, more))
+    left_out(why)
+    pictured(why)
+for content, why in [
+    (good.replace('viewBox="0.00 0.00 62.00 33.00"', ""), "no size"), (good.replace("62.00 33.00", "NaN inf"), "no size"), (good.replace("62.00 33.00", "-1 33"), "no size"),
+    (good.replace("62.00 33.00", "62 33 5"), "no size"), (good + good, "an element 'svg'"), (good + "safe", "words outside"), ("safe" + good, "words outside"),
+    (good.replace("svg PUBLIC", "svg [<!ENTITY x 'safe'>] PUBLIC"), "words outside|declares"), (drawing(words[1:], titles), "words are not"), (drawing(words, titles[1:]), "not those of the table"),
+    (drawing([word.replace("unsafe", "safe") for word in words], titles), "words are not those"), (drawing(words, [title.replace("s0->s1", "s0->s2") for title in titles]), "not those of the table"),
+    (good.encode() + b"\xff", "no UTF-8"), (good.encode("utf-16"), "no UTF-8"),
+]:
+    drawn(content)
+    left_out(why)
+    pictured(why)
+for cut in random.sample(range(1, len(good) - 8), 150):
+    drawn(good[:cut])
+    left_out("")
+    pictured("")
+for _ in range(300):  # bytes of it changed: a picture of the table, or none
+    content = bytearray(good.encode())
+    for _ in range(random.choice([1, 1, 2, 5])):
+        content[random.randrange(len(content))] = random.choice(b"<>/&;\"'= sSx0\n\0\xff" + bytes(range(32, 127)))
+    drawn(bytes(content))
+    given = report(B, env=FAKE_DOT)
+    need(given.status == UNSAFE, given)
+    check_page(out.read_bytes(), table_b, B)
+group("dots that fail, and drawings that are none")
+
+# hanging: ended after its time, with what it started
+MARK = f"5{os.getpid()}"  # seconds, by which the sleepers of this test are known
+sleep = f"/bin/sleep {MARK}"
+hanging = {
+    "child": sleep, "itself": f"exec {sleep}", "after": f"{cat}; /bin/cat '{WORK}/good.svg'; {sleep}", "closed": f"{cat}; exec >&-; {sleep}", "deaf": f"trap '' TERM HUP INT; {sleep}",
+    "many": f"{sleep} & {sleep} & {sleep}", "unread": f"exec <&-; {sleep}",
+}
+(WORK / "good.svg").write_text(good)
+
+
+def sleepers():
+    found = []
+    for path in Path("/proc").glob("[0-9]*/cmdline"):
+        try:
+            if MARK.encode() in path.read_bytes().split(b"\0"):
+                found.append(int(path.parent.name))
+        except OSError:
+            pass  # it has just ended
+    return found
+
+
+failures = []
+
+
+def hangs(name):
+    place = WORK / f"hang-{name}"
+    began = time.monotonic()
+    try:
+        left_out("dot was not done after 30 seconds", target=place / "record.html", env=NO_DOT | {"PATH": str(place)})
+    except SystemExit as failure:
+        failures.append(f"{name}: {failure}")
+    if time.monotonic() - began > 45:
+        failures.append(f"{name}: {time.monotonic() - began} s")
+
+
+# Every script is there before the first thread starts: a process made meanwhile would hold one open that is being written, and it could not be run.
+for name, commands in hanging.items():
+    place = WORK / f"hang-{name}"
+    place.mkdir()
+    (place / "dot").write_text(f"#!/bin/sh\n{commands}\n")
+    os.chmod(place / "dot", 0o755)
+dot(sleep)
+threads = [threading.Thread(target=hangs, args=(name,)) for name in hanging]
+for thread in threads:
+    thread.start()
+# meanwhile: a signal ends dot too, and leaves nothing
+for number in signal.SIGTERM, signal.SIGINT, signal.SIGHUP:
+    signal.signal(number, signal.SIG_DFL) if number != signal.SIGINT else None
+    out.unlink(missing_ok=True)
+    before = len(sleepers())
+    run = subprocess.Popen(["shuntberry", "report", A, "-o", out], executable=PROGRAM, stdout=subprocess.DEVNULL, env=FAKE_DOT, preexec_fn=lambda: signal.signal(signal.SIGINT, signal.SIG_DFL))
+    children = Path(f"/proc/{run.pid}/task/{run.pid}/children")
+    while not children.read_text().split():
+        need(run.poll() is None, "a report that did not wait for dot")
+        time.sleep(0.005)
+    child = int(children.read_text().split()[0])
+    time.sleep(0.3)
+    run.send_signal(number)
+    need(run.wait() == -number and not out.exists() and not list(WORK.glob(".shuntberry*")), f"a report that got {number!r}")
+    for _ in range(200):
+        try:
+            os.killpg(child, 0)
+        except ProcessLookupError:
+            break
+        time.sleep(0.01)
+    else:
+        need(False, f"dot runs on after {number!r}")
+    support.count += 1
+for thread in threads:
+    thread.join()
+need(not failures, *failures)
+need(not sleepers(), "programs that dot started run on", sleepers())
+group("dots that hang")
+
+# ---- the true dot, where there is one
+
+if shutil.which("dot"):
+    count = 0
+    for table, path in EVERY:
+        names = {s: f"screen-{s}" for s in range(table.n) if random.random() < 0.5}
+        text.write_text(spec.text(table) + "".join(f"state {s} {name}\n" for s, name in names.items()))
+        given = report(path, "--names", text, env=REAL_DOT)
+        need(given.status == status_for(table), given)
+        picture = check_page(out.read_bytes(), table, path, names=names, text=text)
+        if table.n:
+            need(every(picture, "svg"), f"no picture of {path}", text_of(picture)[:500])
+            found = sorted(text_of(word) for word in every(picture, "text"))
+            kinds = {
+                "initial": table.initial, "forbidden": table.marked, "hang": table.dead_ends() - table.resting, "resting": table.resting, "dead-end": table.dead_ends() & table.resting,
+                "path": worked_out(table)[1], "invariant": worked_out(table)[1] is None and not worked_out(table)[0].endswith(": none\n"),
+            }
+            for line in words_of(table, names, path.name) + [LEGEND[kind] for kind, held in kinds.items() if held]:
+                need(line in found, f"the picture of {path} has no {line!r}")
+                found.remove(line)
+            need(len(found) == sum(bool(held) for held in kinds.values()), "words that nobody asked for", found)
+            count += 1
+    group(f"{count} pictures by dot")
+else:
+    print("no dot: the pictures of records were not drawn")
+
+# ---- one read: what is written over the file meanwhile plays no part
+
+changing = WORK / "changing.table"
+dot(f"{cat}; /bin/cat '{B}' >'{changing}'; /bin/cat '{svg}'")
+for _ in range(5):
+    changing.write_bytes(A.read_bytes())
+    given = report(changing, env=FAKE_DOT)
+    need(given.status == SAFE and changing.read_bytes() == B.read_bytes(), given)
+    page = out.read_bytes()
+    changing.write_bytes(A.read_bytes())
+    check_page(page, table_a, changing)
+(fakes / "dot").unlink()
+stop = threading.Event()
+
+
+def save():
+    while not stop.is_set():
+        for path in A, B:
+            changing.write_bytes(path.read_bytes())
+
+
+saver, statuses = threading.Thread(target=save), set()
+saver.start()
+try:
+    for _ in range(200):
+        given = report(changing)
+        statuses.add(given.status)
+        need(out.exists() == (given.status in (SAFE, UNSAFE, NO_RELEASE)), given)
+        if out.exists():
+            told = dict(rows(section(Page(out.read_text()).root, "What was checked")))["SHA-256"]
+            file = {SAFE: A.read_bytes(), UNSAFE: B.read_bytes(), NO_RELEASE: b""}[given.status]
+            need(told == hashlib.sha256(file).hexdigest(), "a record of other bytes", given)
+finally:
+    stop.set()
+    saver.join()
+need(len(statuses) > 1, statuses)
+group(f"files that change, statuses {sorted(statuses)}")
+
+# ---- nothing that goes wrong leaves a record
+
+def limited():
+    resource.setrlimit(resource.RLIMIT_FSIZE, (1024, 1024))
+
+
+def closed_output():
+    os.closerange(1, 2)
+
+
+for old in None, b"what was there":
+    def as_it_was(status, said, *words, target=out, **how):
+        out.unlink(missing_ok=True)
+        if old:
+            out.write_bytes(old)
+        given = call("report", *words, "-o", target, env=NO_DOT, **how)
+        need(given.status == status and re.search(said, given.err.decode(errors="replace")), f"expected status {status}, {said!r}", given)
+        need((out.read_bytes() if out.exists() else None) == old and not list(WORK.glob(".shuntberry*")), "OUT is another", given)
+
+    as_it_was(FAILED, "File too large", A, preexec_fn=limited)
+    as_it_was(FAILED, "standard output is closed", A, stdout=None, preexec_fn=closed_output)
+    with open("/dev/full", "wb") as full:
+        as_it_was(FAILED, "standard output could not be written: No space left", A, stdout=full)
+    there, here = os.pipe()
+    os.close(there)
+    as_it_was(FAILED, "Broken pipe", A, stdout=here)
+    os.close(here)
+    as_it_was(FAILED, "No such file", TABLES / "missing")
+    as_it_was(FAILED, "is a directory", TABLES)
+    as_it_was(REFUSED, "refused 13", TABLES / "bad-check.table")
+    as_it_was(REFUSED, "refused 11.*looks like a text, of which the command encode makes a file", TABLES / "e.txt")
+    as_it_was(FAILED, "No such file", A, "--names", TABLES / "missing")
+    as_it_was(FAILED, "expected a number", A, "--site", "x")
+    as_it_was(FAILED, "no option", A, "--text")
+    as_it_was(FAILED, "no option", A, "--json")
+    as_it_was(FAILED, "a word too many", A, A)
+    as_it_was(FAILED, "a word is missing")
+    as_it_was(FAILED, "twice", A, "-o", WORK / "other.html")
+    for target in WORK, "/dev/full", "/dev/null", WORK / "missing/x", "", WORK / ("x" * 256):
+        as_it_was(FAILED, "could not be written", A, target=target)
+gives(FAILED, "", "report", A, err="expected -o OUT.*\nusage: shuntberry report", env=NO_DOT)
+# its own input is no place for it
+source = WORK / "source.table"
+source.write_bytes(A.read_bytes())
+os.link(source, WORK / "hard"), os.symlink("source.table", WORK / "link")
+for name in source, f"{WORK}/./source.table", WORK / "hard", WORK / "link":
+    gives(FAILED, "", "report", source, "-o", name, err="input and output are one file", env=NO_DOT)
+shutil.copy(TABLES / "a.txt", text)
+gives(FAILED, "", "report", source, "--names", text, "-o", text, err="input and output are one file", env=NO_DOT)
+need(source.read_bytes() == A.read_bytes() and text.read_bytes() == (TABLES / "a.txt").read_bytes(), "the input was written over")
+os.mkfifo(WORK / "fifo")
+gives(FAILED, None, "report", A, "-o", WORK / "fifo", err="it is no file", env=NO_DOT)
+# who may read it stays the same; behind a link the file is written
+behind = WORK / "behind"
+behind.write_bytes(b"old"), os.chmod(behind, 0o640), os.symlink("behind", WORK / "to-behind")
+need(call("report", A, "-o", WORK / "to-behind", env=NO_DOT).status == SAFE, "a link")
+need((WORK / "to-behind").is_symlink() and b"End of the record." in behind.read_bytes() and behind.stat().st_mode & 0o777 == 0o640, "behind a link")
+# a disk that is full
+disk = WORK / "disk"
+disk.mkdir()
+full = 'mount -t tmpfs -o size=8k none "$1" && : >"$1/probe" && "$0" report "$2" -o "$1/record.html"; s=$?; ls -A "$1"; exit $s'
+try:
+    run = subprocess.run(["unshare", "--mount", "sh", "-c", full, PROGRAM, disk, TABLES / "largest.table"], capture_output=True, text=True, env=os.environ | NO_DOT | {"PATH": "/usr/bin:/bin"})
+    private = "probe" in run.stdout
+except OSError:
+    private = False
+if private:
+    need(run.returncode == FAILED and "No space left" in run.stderr and run.stdout.splitlines()[-1] == "probe", "a full disk", run)
+else:
+    print("no small disk could be mounted: a full one was tried by a limit alone")
+# an empty name by accident, and inputs that are no files
+(WORK / "empty").write_bytes(b"")
+need(report(WORK / "empty").status == NO_RELEASE, "a draft")
+check_page(out.read_bytes(), model.table_of("states 0\ninitial none\nforbidden none\n"), WORK / "empty")
+no_record(report(""), FAILED, "No such file")
+no_record(report("/dev/zero"), REFUSED, "refused 11")
+no_record(report("/proc/self/mem"), FAILED)
+group("what goes wrong, and no record")
+
+# ---- killed at many moments: the whole record, or what was there
+
+dot(f"{cat}; /bin/sleep 0.02; /bin/cat '{WORK}/good.svg'")
+need(report(B, env=FAKE_DOT).status == UNSAFE, "a record")
+whole = out.read_bytes()
+need(b"<svg" in whole, "no picture")
+began = time.monotonic()
+report(B, env=FAKE_DOT)
+took, kills = time.monotonic() - began, {"killed": 0, "done": 0}
+for i in range(150):
+    old = random.choice([None, b"what was there"])
+    number = random.choice([signal.SIGTERM, signal.SIGINT, signal.SIGHUP, signal.SIGKILL, signal.SIGALRM, signal.SIGQUIT])
+    out.unlink(missing_ok=True)
+    if old:
+        out.write_bytes(old)
+    plain = lambda: [signal.signal(each, signal.SIG_DFL) for each in (signal.SIGINT, signal.SIGQUIT, signal.SIGHUP)]
+    run = subprocess.Popen(["shuntberry", "report", B, "-o", out], executable=PROGRAM, stdin=subprocess.DEVNULL, stdout=subprocess.DEVNULL, stderr=subprocess.DEVNULL, env=FAKE_DOT, preexec_fn=plain)
+    time.sleep(random.random() * took * 1.2)
+    run.send_signal(number)
+    status = run.wait()
+    found = out.read_bytes() if out.exists() else None
+    need(status in (UNSAFE, -number), status)
+    need(found == whole or (found == old and status != UNSAFE), f"killed by {number!r}: OUT has {found and len(found)} bytes, status {status}")
+    need(number == signal.SIGKILL or not list(WORK.glob(".shuntberry*")), "a part is left")
+    for left in WORK.glob(".shuntberry*"):
+        left.unlink()
+    kills["done" if status == UNSAFE else "killed"] += 1
+    support.count += 1
+need(kills["killed"] >= 20 and kills["done"] >= 5, kills)
+group(f"records killed at many moments, {kills['killed']} of them before the end")
+
+# ---- in a browser, where there is one: it finds the elements that Python's parser finds, and prints A4
+
+browser = shutil.which("chromium") or shutil.which("chromium-browser") or shutil.which("google-chrome")
+
+
+def browse(*words):
+    how = ["--headless=new", "--no-sandbox", "--disable-gpu", f"--user-data-dir={WORK}/browser"]
+    try:
+        run = subprocess.run([browser, *how, *map(str, words)], capture_output=True, timeout=60, env=os.environ | {"HOME": str(WORK)})
+    except (OSError, subprocess.TimeoutExpired):
+        return None
+    return run.stdout.decode(errors="replace") if run.returncode == 0 else None
+
+
+def counted(source):
+    return {name: len(re.findall(rf"<{name}[ />]", source)) for name in [*PLACES, *DRAWN, "script", "img", "a", "iframe", "link"]}
+
+
+if browser and browse("--dump-dom", "about:blank") is not None:
+    for path in A, B, EMPTY, TABLES / "largest.table", TABLES / "g.table", WORK / "names" / "<b>bold</b>":
+        report(path, env=REAL_DOT)
+        seen = browse("--dump-dom", out.as_uri())
+        need(seen is not None and counted(seen) == counted(out.read_text()), f"the browser finds other elements in the record of {path}", counted(seen or ""), counted(out.read_text()))
+        need(browse("--no-pdf-header-footer", f"--print-to-pdf={WORK}/record.pdf", out.as_uri()) is not None, "no PDF")
+        if shutil.which("pdfinfo"):
+            said = subprocess.run(["pdfinfo", "-f", "1", "-l", "99", WORK / "record.pdf"], capture_output=True, text=True).stdout
+            sizes = {tuple(sorted(round(float(side)) for side in found)) for found in re.findall(r"size: +([\d.]+) x ([\d.]+)", said)}
+            need(sizes == {(595, 842)}, "paper that is not A4", said)
+        support.count += 2
+    group("records in a browser")
+else:
+    print("no browser: no record was looked at in one")
