@@ -10,6 +10,7 @@
 --   clear-append, append-clear                two lists joined
 --   clear-concat, concat-clear                lists joined, one for each number below a bound; numbered-concat
 --   answer-refused, answer-clear              a ground holds: its number refuses; none does: the answer is given
+--   answer-behind                             where no ground of a list holds, those behind it decide
 --   answer-none                               the same where nothing is refused by a number
 --   answered-clear, answered-is               where a call is answered no ground holds, and it is that answer
 --   refused-is                                where it is refused the number is that of the first ground that holds
@@ -152,6 +153,11 @@ module _ {A : Type 0} where
   unfolding answer
   answer-clear [] a c = refl
   answer-clear (ground ∷ gs) a c = rw (c .0) (answer-clear gs a (c .1))
+
+  pub answer-behind : (xs ys : List Ground) (a : A) → Clear xs → answer (xs ++ ys) a ≡ answer ys a
+  unfolding answer
+  answer-behind [] ys a c = refl
+  answer-behind (ground ∷ xs) ys a c = rw (c .0) (answer-behind xs ys a (c .1))
 
   pub answer-none : (gs : List Ground) (a : A) → numbered gs ≡ true → refuse gs ≡ 0 → answer gs a ≡ answered a
   answer-none gs a m e = answer-clear gs a (refuse-clear gs [] m (ap refuse (append-nil gs) ∙ e) .0)

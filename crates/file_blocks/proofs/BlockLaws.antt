@@ -1,42 +1,29 @@
 -- Laws of blocks that reading and writing share.
 --
+--   getD-joined                             contents joined in a buffer of zeros
 --   sets-fit, contents-fit, contents-le     the length of the contents fits a word, and is at most that of the largest table
---   contentsRoom                            the content bytes of the largest file, which is the room that contents are joined in
---   length-contentFrom                      how many bytes are copied; content-none, content-more: the loop of `copy_content`
 use Prim.Native.Nat.{ℕ, _+_, _*_, _^_, _≤_, _<_}
 use native.Mathlib.Nat.{mul-le-mul}
 use native.Mathlib.Omega.{arith}
-use mathlib.Core.Path.{_≡_}
-use mathlib.Core.List.{List}
-use lib.ListN.{length, getD, set}
+use mathlib.Core.Path.{_≡_, sym, _∙_}
+use mathlib.Core.Logic.{⊎-elim}
+use mathlib.Core.List.{List, []}
+use lib.ListN.{length, getD, replicate}
 use Rattle.model.specs.Sets.{WORDS, maxStates}
 use Rattle.model.specs.Stores.{headSets, maxGroups}
-use Rattle.model.specs.Blocks.{contentBytes, blocksFor}
 use Rattle.model.specs.Contents.{newForm, headerBytes, contentLength}
-use Rattle.basics.proofs.BoundLaws.{length-tabulate}
-use Rattle.file_blocks.specs.Places.{contentFrom}
-use Rattle.table.proofs.Overwriting.{Over, over-none, over-next}
+use Rattle.model.specs.Calls.{overwrite}
+use Rattle.basics.proofs.BoundLaws.{lt-or-ge}
+use Rattle.model.proofs.ListLaws.{overwrite-front, overwrite-behind, getD-past}
+use Rattle.model.proofs.BlockLaws.{getD-filled}
 
--- ---- content copied
-
-pub length-contentFrom : (bytes : List ℕ) (from count : ℕ) → length (contentFrom bytes from count) ≡ count
-unfolding contentFrom
-length-contentFrom bytes from count = length-tabulate _ count
-
-module _ (bytes : List ℕ) (from : ℕ) (old : List ℕ) where
-  pub content-none : Over (contentFrom bytes from 0) old old
-  unfolding contentFrom
-  content-none = over-none _ old
-
-  pub content-more : (out : List ℕ) (i : ℕ) {x : ℕ} → i < length old → x ≡ getD bytes (from + i) 0 → Over (contentFrom bytes from i) old out
-      → Over (contentFrom bytes from (i + 1)) old (set out i x)
-  unfolding contentFrom
-  content-more out i = over-next _ old out i
-
--- ---- lengths
-
-abbrev pub contentsRoom : ℕ
-contentsRoom = contentBytes * blocksFor (contentLength newForm maxStates maxGroups)
+-- the room is a variable, since its zeros would be written out
+pub getD-joined : (contents : List ℕ) (m i : ℕ) → getD (overwrite contents (replicate m 0)) i 0 ≡ getD contents i 0
+getD-joined contents m i =
+    ⊎-elim
+    (λ l. overwrite-front contents (replicate m 0) i 0 l)
+    (λ l. overwrite-behind contents (replicate m 0) i 0 l ∙ getD-filled [] m i ∙ sym (getD-past contents i 0 l))
+    (lt-or-ge i (length contents))
 
 -- w bytes for each of so many sets
 module _ {w count : ℕ} (width : w ≤ 8 * WORDS) (many : count ≤ headSets + maxGroups + maxStates) where

@@ -1,22 +1,19 @@
 -- Laws of rows of lanes.
 --
 --   Adding, add-none, add-more, add-all    a loop that adds a row to another in place; add-fits: what it adds fits a lane
---   getD-plus, getD-content                a lane of two rows added, and of the bytes of a chunk
---   most-content, -zero, -plus, -up        no lane has more than so much: of bytes, at first, of two rows added, or than a greater number
+--   getD-plus, getD-chunk                  a lane of two rows added, and of the bytes of a chunk
+--   most-chunk, -zero, -plus, -up          no lane has more than so much: of bytes, at first, of two rows added, or than a greater number
 use Prim.Native.Nat.{ℕ, _+_, _^_, _≤_, _<_}
-use native.Mathlib.Nat.{add-zero}
 use native.Mathlib.Omega.{arith}
-use mathlib.Core.Path.{_≡_, sym, ap, ap₂, _∙_}
+use mathlib.Core.Path.{_≡_, ap, ap₂, _∙_}
 use mathlib.Core.List.{List, _++_, append-nil}
-use lib.ListN.{length, getD, set, replicate, length-replicate, getD-replicate, drop-of-length-le}
-use lib.Seq.{getD-drop}
+use lib.ListN.{length, getD, set, take, drop, replicate, length-drop, length-replicate, getD-replicate, drop-of-length-le}
+use lib.Seq.{length-take-le, getD-take, getD-drop}
 use Rattle.basics.specs.Bounds.{tabulate}
 use Rattle.model.specs.Calls.{overwrite}
 use Rattle.basics.proofs.BoundLaws.{length-tabulate, getD-tabulate}
-use Rattle.model.proofs.ListLaws.{getD-behind}
+use Rattle.model.proofs.ListLaws.{overwrite-behind}
 use Rattle.file_blocks.specs.Lanes.{lanes, byteMost, plus, Most}
-use Rattle.file_blocks.specs.Places.{contentFrom}
-use Rattle.file_blocks.proofs.BlockLaws.{length-contentFrom}
 use Rattle.table.proofs.Overwriting.{Over, over-none, over-next, over-all}
 
 -- ---- a row added to another
@@ -34,15 +31,7 @@ add-none xs ys = record { within = omega arith; over = over-none _ xs }
 module _ {xs ys out : List ℕ} {i : ℕ} (so : Adding xs ys out i) where
   -- a lane that is not passed yet
   ahead : getD out i 0 ≡ getD xs i 0
-  unfolding overwrite
-  ahead =
-      let done = tabulate i (both xs ys) in
-      let long : length done ≡ i = length-tabulate _ i in
-      ap (λ zs. getD zs i 0) (so .over .is)
-      ∙ ap (λ (j : ℕ). getD (overwrite done xs) j 0) (sym (add-zero i))
-      ∙ getD-behind done _ i 0 0 long
-      ∙ getD-drop (length done) xs 0 0
-      ∙ ap (λ (j : ℕ). getD xs j 0) (add-zero (length done) ∙ long)
+  ahead = ap (λ zs. getD zs i 0) (so .over .is) ∙ overwrite-behind _ xs i 0 (omega (arith, length-tabulate (both xs ys) i))
 
   pub add-fits : {m n y : ℕ} → Most m xs → i < lanes → y ≤ n → m + n < 2 ^ 16 → getD out i 0 + y < 2 ^ 16
   add-fits most h l fits = omega (arith, ahead, most .each i h)
@@ -69,12 +58,15 @@ pub getD-plus : (xs ys : List ℕ) (l : ℕ) → l < lanes → getD (plus xs ys)
 unfolding plus
 getD-plus xs ys l h = getD-tabulate _ lanes l 0 h
 
-pub getD-content : (block : List ℕ) (from l : ℕ) → l < lanes → getD (contentFrom block from lanes) l 0 ≡ getD block (from + l) 0
-unfolding contentFrom
-getD-content block from l h = getD-tabulate _ lanes l 0 h
+pub getD-chunk : (block : List ℕ) (from l : ℕ) → l < lanes → getD (take lanes (drop from block)) l 0 ≡ getD block (from + l) 0
+getD-chunk block from l h = getD-take lanes (drop from block) l 0 h ∙ getD-drop from block l 0
 
-pub most-content : (block : List ℕ) (from : ℕ) → ((i : ℕ) → getD block i 0 < 2 ^ 8) → Most byteMost (contentFrom block from lanes)
-most-content block from byte = record { long = length-contentFrom block from lanes; each = λ l h. omega (arith, getD-content block from l h, byte (from + l)) }
+pub most-chunk : (block : List ℕ) (from : ℕ) → from + lanes ≤ length block → ((i : ℕ) → getD block i 0 < 2 ^ 8) → Most byteMost (take lanes (drop from block))
+most-chunk block from fits byte =
+    record {
+      long = length-take-le lanes (drop from block) (omega (arith, length-drop from block));
+      each = λ l h. omega (arith, getD-chunk block from l h, byte (from + l));
+    }
 
 pub most-zero : Most 0 (replicate lanes 0)
 most-zero = record { long = length-replicate {A = ℕ} lanes 0; each = λ l h. omega (arith, getD-replicate {A = ℕ} lanes l 0 0 h) }

@@ -2,8 +2,8 @@
 --
 --   Summing s room most end sum i    before place i the sum is s i, which grows by at most `most` at each place, from at most `room`
 --   sum-more, sum-fits, sum-end      a place more, and that its term can be added; when all places are passed
---   total-none, -next                a plain sum at first, and at the next place
---   weighted-none, -next             likewise a weighted one; term-most, term-fits: a term of it
+--   lanes-none, -next                the sum of two rows of lanes at first, and at the next lane; lanes-most, lanes-fits: a term of it
+--   weighted-none, -next             likewise the weighted sum of bytes; term-most, term-fits: a term of it
 --   check-next, sum-all              a sum that starts from the site: at the next place; of all of a block and reduced it is the check
 use Prim.Native.Nat.{ℕ, _+_, _*_, _%_, _^_, _≤_, _<_}
 use native.Mathlib.Nat.{le-antisymm, mul-le-mul, mul-le-mul-left, mul-add, mul-one}
@@ -13,7 +13,7 @@ use mathlib.Core.Path.{_≡_, refl, sym, ap, _∙_}
 use mathlib.Core.List.{List}
 use lib.ListN.{getD}
 use Rattle.model.specs.Blocks.{checkAt, modulus, weighted, checkOf}
-use Rattle.file_blocks.specs.Lanes.{total}
+use Rattle.file_blocks.specs.Lanes.{lanes, laneMost, lanesSum}
 
 pub record Summing (s : ℕ → ℕ) (room most end sum i : ℕ) : Type 0 where
   pub within : i ≤ end
@@ -33,13 +33,13 @@ module _ {s : ℕ → ℕ} {room most end sum i : ℕ} (so : Summing s room most
 pub sum-end : {s : ℕ → ℕ} {room most end sum i : ℕ} → Summing s room most end sum i → end ≤ i → sum ≡ s end
 sum-end {s} so h = so .is ∙ ap s (le-antisymm (so .within) h)
 
-pub total-none : (xs : List ℕ) → 0 ≡ total xs 0
-unfolding total
-total-none xs = refl
+pub lanes-none : (sums turns : List ℕ) → 0 ≡ lanesSum 0 sums turns 0
+unfolding lanesSum
+lanes-none sums turns = refl
 
-pub total-next : (xs : List ℕ) (i : ℕ) {x : ℕ} → x ≡ getD xs i 0 → total xs (i + 1) ≡ total xs i + x
-unfolding total
-total-next xs i e = ap (total xs) (add-one i) ∙ ap (λ (y : ℕ). total xs i + y) (sym e)
+pub lanes-next : (sums turns : List ℕ) (l : ℕ) {x y : ℕ} → x ≡ getD sums l 0 → y ≡ getD turns l 0 → lanesSum 0 sums turns (l + 1) ≡ lanesSum 0 sums turns l + (lanes * y + (l + 1) * x)
+unfolding lanesSum
+lanes-next sums turns l e f = ap (lanesSum 0 sums turns) (add-one l) ∙ omega (arith, ap (λ (z : ℕ). (l + 1) * z) e)
 
 pub weighted-none : (xs : List ℕ) → 0 ≡ weighted xs 0
 unfolding weighted
@@ -59,6 +59,14 @@ module _ (end most : ℕ) {i x : ℕ} (h : i < end) (l : x ≤ most) where
 
   pub term-fits : end * most < 2 ^ 32 → (i + 1) * x < 2 ^ 32
   term-fits fits = omega (arith, term-most)
+
+-- the term of lane i
+module _ {i x y : ℕ} (h : i < lanes) (l : x ≤ laneMost) (m : y ≤ lanes * laneMost) where
+  pub lanes-most : y + (i + 1) * x ≤ 2 * lanes * laneMost
+  lanes-most = omega (arith, term-most lanes laneMost h l)
+
+  pub lanes-fits : y + (i + 1) * x < 2 ^ 32
+  lanes-fits = omega (arith, lanes-most)
 
 pub sum-all : (site : ℕ) (block : List ℕ) {room most sum i : ℕ} → Summing (λ j. site + weighted block j) room most checkAt sum i → checkAt ≤ i
     → sum % modulus ≡ checkOf site block

@@ -2,10 +2,11 @@
 --
 --   lanes, chunks        the bytes of a chunk, one to a lane, and how many whole chunks stand before the check
 --   byteMost, laneMost   the greatest byte, and the greatest number that a lane can hold
---   total xs n           the sum of the first n numbers
+--   lanesSum at sums turns n
+--                        the weighted sum that the first n lanes of two rows stand for, where the lanes of a chunk at place `at` are summed
 --   plus xs ys           two rows of lanes added, lane by lane
 --   Most m xs            a row of lanes, none of which has more than m
-use Prim.Native.Nat.{ℕ, zero, suc, _+_, _/_, _≤_, _<_}
+use Prim.Native.Nat.{ℕ, zero, suc, _+_, _*_, _/_, _≤_, _<_}
 use mathlib.Core.Path.{_≡_}
 use mathlib.Core.List.{List}
 use lib.ListN.{length, getD}
@@ -24,9 +25,10 @@ byteMost = 255
 abbrev pub laneMost : ℕ
 laneMost = 65535
 
-unfoldable pub total : List ℕ → ℕ → ℕ
-total xs zero = 0
-total xs (suc n) = total xs n + getD xs n 0
+-- A byte that is summed once counts as at its place in that chunk, and each turn as one chunk more.
+unfoldable pub lanesSum : ℕ → List ℕ → List ℕ → ℕ → ℕ
+lanesSum at sums turns zero = 0
+lanesSum at sums turns (suc n) = lanesSum at sums turns n + (lanes * getD turns n 0 + (at + n + 1) * getD sums n 0)
 
 unfoldable pub plus : List ℕ → List ℕ → List ℕ
 plus xs ys = tabulate lanes (λ l. getD xs l 0 + getD ys l 0)

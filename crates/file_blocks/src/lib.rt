@@ -11,20 +11,20 @@
 //   MODULUS, MAX_SITE, checksum_of           the prime of the checksum; the greatest site number; the checksum of a block for a site (01: its check)
 //   whole_chunks                             the part of its sum that is taken a chunk at a time, LANES bytes side by side
 //   add_lanes, add_bytes                     a row of lanes, or a chunk of bytes, added to a row of lanes
-//   total, weighted, wide_lane               the sum of a row, and its weighted sum; a lane as a 32-bit number
+//   lanes_sum, wide_lane                     the weighted sum that two rows stand for; a lane as a 32-bit number
 //   set_width, set_count                     the bytes of a set, and how many sets there are
 //   content_length, blocks_for               the bytes of the contents (L), and the blocks that hold so many
 //   place_of                                 where a set of the file begins in the store
 ghost use Prim.Native.Nat.{_+_, _*_, _≤_, _<_};
 ghost use mathlib.Core.Path.{_≡_};
-ghost use lib.ListN.{length};
+ghost use lib.ListN.{length, take, drop};
 ghost use Rattle.model.specs.Sets.{WORDS, maxStates};
 ghost use Rattle.model.specs.Stores.{headSets, maxGroups, storeWords};
 ghost use Rattle.model.specs.Blocks.{contentBytes, checkAt, maxSite, le16At, blocksFor, weighted, checkOf};
 ghost use Rattle.model.specs.Contents.{newForm, heads, added, setWidth, contentLength};
 ghost use Rattle.model.specs.Calls.{overwrite};
-ghost use Rattle.file_blocks.specs.Lanes.{lanes, chunks, byteMost, laneMost, total, plus, Most};
-ghost use Rattle.file_blocks.specs.Places.{formOf, placeOf, contentFrom};
+ghost use Rattle.file_blocks.specs.Lanes.{lanes, chunks, byteMost, laneMost, lanesSum, plus, Most};
+ghost use Rattle.file_blocks.specs.Places.{formOf, placeOf};
 use state_set::MAX_STATES;
 use state_set::WORDS;
 use table::GROUPS_AT;
@@ -53,7 +53,7 @@ pub const JOINED_ROOM: usize = CONTENT_BYTES * (MAX_FILE / BLOCK);
 // The sets before the groups of a file of the old form: initial and marked.
 const OLD_HEAD_SETS: usize = 2;
 
-// What is added to g in the second number of a file of the new form.
+// What the new form adds to g in the second number of a file.
 const ADDED_TO_G: usize = 32768;
 
 // The prime of the check.
@@ -101,7 +101,7 @@ pub fn le16_at(bytes: &[u8], i: usize) -> usize
 // The content of a block, from byte `from` of some bytes on, to the front of what is lent.
 pub fn copy_content(bytes: &[u8], from: usize, out: &mut [u8])
     requires { ⌜ (from + contentBytes ≤ length (now bytes)) × (contentBytes ≤ length (now out)) ⌝ }
-    ensures { λ r. ⌜ now (out .exit) ≡ overwrite (contentFrom (now (bytes .entry)) from contentBytes) (now (out .entry)) ⌝ }
+    ensures { λ r. ⌜ now (out .exit) ≡ overwrite (take contentBytes (drop from (now (bytes .entry)))) (now (out .entry)) ⌝ }
 {
     for i in 0..CONTENT_BYTES {
         out[i] = bytes[from + i];
@@ -125,7 +125,7 @@ fn add_lanes(sums: &[u16; LANES], turns: &mut [u16; LANES])
 
 fn add_bytes(block: &[u8], from: usize, sums: &mut [u16; LANES])
     requires { ⌜ (from + lanes ≤ length (now block)) × Most (byteMost * chunks) (now sums) ⌝ }
-    ensures { λ r. ⌜ (now (sums .exit) ≡ plus (now (sums .entry)) (contentFrom (now (block .entry)) from lanes)) × Most byteMost (contentFrom (now (block .entry)) from lanes) ⌝ }
+    ensures { λ r. ⌜ (now (sums .exit) ≡ plus (now (sums .entry)) (take lanes (drop from (now (block .entry))))) × Most byteMost (take lanes (drop from (now (block .entry)))) ⌝ }
 {
     for l in 0..LANES {
         sums[l] += wide(block[from + l]) as u16;
@@ -138,22 +138,13 @@ fn wide_lane(x: u16) -> u32
     x as u32
 }
 
-fn total(xs: &[u16; LANES]) -> u32
-    ensures { λ r. ⌜ (r ≡ total (now (xs .entry)) lanes) × (r ≤ laneMost * lanes) ⌝ }
+// The weighted sum that two rows stand for: a byte of `sums` counts as in the first chunk, and each turn as a chunk more.
+fn lanes_sum(sums: &[u16; LANES], turns: &[u16; LANES]) -> u32
+    ensures { λ r. ⌜ (r ≡ lanesSum 0 (now (sums .entry)) (now (turns .entry)) lanes) × (r ≤ 2 * lanes * laneMost * lanes) ⌝ }
 {
     let mut sum: u32 = 0;
     for l in 0..LANES {
-        sum += wide_lane(xs[l]);
-    }
-    sum
-}
-
-fn weighted(xs: &[u16; LANES]) -> u32
-    ensures { λ r. ⌜ (r ≡ weighted (now (xs .entry)) lanes) × (r ≤ lanes * laneMost * lanes) ⌝ }
-{
-    let mut sum: u32 = 0;
-    for l in 0..LANES {
-        sum += (l as u32 + 1) * wide_lane(xs[l]);
+        sum += LANES as u32 * wide_lane(turns[l]) + (l as u32 + 1) * wide_lane(sums[l]);
     }
     sum
 }
@@ -162,7 +153,7 @@ fn weighted(xs: &[u16; LANES]) -> u32
 // before its own.
 fn whole_chunks(block: &[u8]) -> u32
     requires { ⌜ checkAt ≤ length (now block) ⌝ }
-    ensures { λ r. ⌜ (r ≡ weighted (now (block .entry)) (lanes * chunks)) × (r ≤ 2 * (lanes * laneMost * lanes)) ⌝ }
+    ensures { λ r. ⌜ (r ≡ weighted (now (block .entry)) (lanes * chunks)) × (r ≤ 2 * lanes * laneMost * lanes) ⌝ }
 {
     let mut sums = [0u16; LANES];
     let mut turns = [0u16; LANES];
@@ -170,7 +161,7 @@ fn whole_chunks(block: &[u8]) -> u32
         add_lanes(&sums, &mut turns);
         add_bytes(block, LANES * (CHUNKS - 1 - k), &mut sums);
     }
-    LANES as u32 * total(&turns) + weighted(&sums)
+    lanes_sum(&sums, &turns)
 }
 
 // The sum starts from the site and the whole chunks. It stays below 2^32, so it is reduced once, at the end.

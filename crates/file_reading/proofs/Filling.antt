@@ -1,104 +1,116 @@
--- A store that is filled with the sets of a table: cleared, and then each set put into its own words.
+-- A store that is filled with the sets of a table, part by part.
 --
---   set-put         a set put where its place was lent
---   filled          cleared and filled with all the sets it is the store that holds the table
-use Prim.Native.Nat.{ℕ, _+_, _*_, _-_, _≤_, _<_}
+--   part-set, part-unused       a turn of a loop that fills a part of the store: a set of the contents, or an unused one
+--   filled                      the three parts filled in turn: then the store holds the table
+use Prim.Native.Nat.{ℕ, _+_, _*_, _≤_, _<_}
 use native.Mathlib.Omega.{arith}
 use mathlib.Core.Path.{_≡_, refl, sym, ap, ap₂, _∙_}
-use mathlib.Core.Logic.{_⊎_, inl, inr, ⊎-elim}
-use mathlib.Core.List.{List}
-use borrow.Author.Tests.{ltb-true, ltb-false}
-use borrow.Rule.Slice.PartMut.{putMid}
+use mathlib.Core.Bool.{Bool, true, false, cond}
+use mathlib.Core.List.{List, _++_, append-assoc}
+use borrow.Author.Tests.{ltb-true, ltb-false, lt-ltb, le-ltb}
 use lib.Dec.{ltb}
-use lib.ListN.{length, take, drop}
-use Rattle.basics.specs.Bounds.{tabulate}
-use Rattle.model.specs.Sets.{WORDS, maxStates, Set, empty}
-use Rattle.model.specs.Stores.{maxGroups, markedAt, restingAt, groupAt, rowAt, storeWords, setAt, layout}
-use Rattle.model.specs.Contents.{Form, heads, setWidth, headerBytes, setIn, setNumber, dialogueIn}
+use lib.ListN.{length, getD, length-append}
+use Rattle.basics.specs.Bounds.{tabulate, concat}
+use Rattle.model.specs.Sets.{WORDS, maxStates, Set, empty, firstStates, meet}
+use Rattle.model.specs.Stores.{headSets, maxGroups, groupAt, rowAt, layout}
 use Rattle.model.specs.Calls.{overwrite}
-use Rattle.basics.proofs.BoundLaws.{by-cond, lt-or-ge, length-tabulate, getD-tabulate}
-use Rattle.model.proofs.ListLaws.{getD-past}
-use Rattle.model.proofs.ContentLaws.{heads-least, heads-most, by-resting, setIn-proper, dialogueIn-row}
-use Rattle.model.proofs.StoreLaws.{Holds}
-use Rattle.table.specs.Writing.{overwriteFrom, cleared}
-use Rattle.file_blocks.specs.Places.{placeOf}
-use Rattle.file_reading.specs.Reading.{fillSets}
-use Rattle.file_blocks.proofs.Places.{by-place, head-place, group-place, row-place, place-inside, place-rise}
-use Rattle.table.proofs.Overwriting.{lent-back}
-use Rattle.table.proofs.Filling.{cleared-long, cleared-set, cleared-drop, sets-long, sets-own, sets-apart, sets-drop, holds-overwrite}
+use Rattle.model.specs.Contents.{Form, oldForm, newForm, heads, setWidth, headerBytes, setIn, setNumber, dialogueIn}
+use Rattle.basics.proofs.BoundLaws.{by-cond, length-tabulate, getD-tabulate}
+use Rattle.model.proofs.ListLaws.{length-concat, concat-cong, getD-past}
+use Rattle.model.proofs.SetLaws.{setOf-proper}
+use Rattle.model.proofs.ContentLaws.{setIn-proper}
+use Rattle.table.specs.Writing.{overwriteFrom}
+use Rattle.table.proofs.Overwriting.{Over, lent, back, lent-back, overwrite-lent, parts-put}
+use Rattle.table.proofs.Putting.{put-long}
+use Rattle.file_reading.specs.Reading.{partSet}
+use Rattle.file_reading.proofs.Words.{set-cut}
 
-set-long : (bytes : List ℕ) (n k : ℕ) → length (setNumber bytes n k) ≡ WORDS
-unfolding setNumber
-set-long bytes n k = setIn-proper bytes _ _ .long
+-- ---- the sets of a part
 
--- set k put where its place was lent
-pub set-put : (form : Form) (bytes : List ℕ) (n g k : ℕ) (store rest : List ℕ) {w at : ℕ} → w ≡ setWidth n → at ≡ placeOf form g k
-    → rest ≡ overwrite (setIn bytes w (headerBytes + w * k)) (take (length store - at) (drop at store))
-    → putMid at (length store - at) store rest ≡ overwriteFrom (placeOf form g k) (setNumber bytes n k) store
-unfolding setNumber
-set-put form bytes n g k store rest {w} {at} e p back =
-    lent-back at store rest _ back ∙ ap₂ (λ (v a : ℕ). overwriteFrom a (setIn bytes v (headerBytes + v * k)) store) e p
+module _ (bytes : List ℕ) (n first count : ℕ) where
+  part-wide : (k : ℕ) → length (partSet bytes n first count k) ≡ WORDS
+  unfolding partSet setNumber empty
+  part-wide k = by-cond (λ (X : Set). length X ≡ WORDS) (ltb k count) _ _ (λ q. setIn-proper bytes _ _ .long) (λ q. setOf-proper _ .long)
 
-module _ (form : Form) (bytes : List ℕ) (n g : ℕ) (small : n ≤ maxStates) (few : g ≤ maxGroups) (old : List ℕ) (room : storeWords ≤ length old) where
-  abbrev whole : List ℕ
-  whole = fillSets form bytes n g (heads form + g + n) (cleared old)
+  module _ (k : ℕ) {old out next : List ℕ} (so : Over (concat k (partSet bytes n first count)) old out) (room : WORDS * k + WORDS ≤ length out) where
+    put-next : next ≡ overwriteFrom (WORDS * k) (partSet bytes n first count k) out → Over (concat (k + 1) (partSet bytes n first count)) old next
+    put-next e = parts-put _ old (λ j l. part-wide j) so e (ap length e ∙ put-long (WORDS * k) _ out (omega (arith, part-wide k)))
 
-  inside : (k : ℕ) → k < heads form + g + n → placeOf form g k + WORDS ≤ length (cleared old)
-  inside k h = omega (arith, cleared-long old room, place-inside form g few k (omega arith))
+    -- from the bytes of the contents, where its words were lent
+    pub part-set : {width : ℕ} {all : Set} {rest : List ℕ} → k < count → width ≡ setWidth n → all ≡ firstStates (8 * width)
+        → rest ≡ overwrite (meet (setIn bytes (8 * WORDS) (headerBytes + width * (first + k))) all) (lent (WORDS * k) out)
+        → next ≡ back (WORDS * k) out rest → Over (concat (k + 1) (partSet bytes n first count)) old next
+    unfolding partSet setNumber
+    part-set {width} {all} {rest} h e a f is =
+        let at = headerBytes + width * (first + k) in
+        put-next
+        (is
+        ∙ lent-back (WORDS * k) out rest _ f
+        ∙ ap (λ X. overwriteFrom (WORDS * k) X out)
+        (ap (meet (setIn bytes (8 * WORDS) at)) a
+        ∙ set-cut bytes width at
+        ∙ ap (λ (w : ℕ). setIn bytes w (headerBytes + w * (first + k))) e
+        ∙ sym (rw (lt-ltb k count h))))
 
-  whole-long : length whole ≡ length old
-  whole-long = sets-long (placeOf form g) (setNumber bytes n) (set-long bytes n) (heads form + g + n) (cleared old) inside (heads form + g + n) (omega arith) ∙ cleared-long old room
+    pub part-unused : {X : Set} → count ≤ k → X ≡ empty → next ≡ overwriteFrom (WORDS * k) X out → Over (concat (k + 1) (partSet bytes n first count)) old next
+    unfolding partSet
+    part-unused h e is = put-next (is ∙ ap (λ Y. overwriteFrom (WORDS * k) Y out) (e ∙ sym (rw (le-ltb k count h))))
 
-  own : (k at : ℕ) → k < heads form + g + n → placeOf form g k ≡ at → setAt whole at ≡ setNumber bytes n k
-  own k at h e =
-      ap (setAt whole) (sym e)
-      ∙ sets-own (placeOf form g) (setNumber bytes n) (set-long bytes n) (heads form + g + n) (cleared old) inside (place-rise form g few) (heads form + g + n) (omega arith) k h
+  part-long : (room : ℕ) → length (concat room (partSet bytes n first count)) ≡ WORDS * room
+  part-long room = length-concat _ WORDS room (λ k l. part-wide k)
 
-  unused : (at : ℕ) → at + WORDS ≤ storeWords → ((j : ℕ) → j < heads form + g + n → (at + WORDS ≤ placeOf form g j) ⊎ (placeOf form g j + WORDS ≤ at)) → setAt whole at ≡ empty
-  unused at h apart =
-      sets-apart (placeOf form g) (setNumber bytes n) (set-long bytes n) (heads form + g + n) (cleared old) inside (heads form + g + n) (omega arith) at (omega (arith, cleared-long old room)) apart
-      ∙ cleared-set old room at h
+-- ---- the three parts
 
-  whole-holds : Holds whole (dialogueIn form bytes n g)
-  unfolding dialogueIn
-  whole-holds =
+module _ (form : Form) (bytes : List ℕ) (n g : ℕ) where
+  abbrev headPart : List ℕ
+  headPart = concat headSets (partSet bytes n 0 (heads form))
+
+  abbrev groupPart : List ℕ
+  groupPart = concat maxGroups (partSet bytes n (heads form) g)
+
+  abbrev rowPart : List ℕ
+  rowPart = concat maxStates (partSet bytes n (heads form + g) n)
+
+  groups-are : (j : ℕ) → partSet bytes n (heads form) g j ≡ getD (tabulate g (λ i. setNumber bytes n (heads form + i))) j empty
+  unfolding partSet
+  groups-are j =
       let group : ℕ → Set = λ i. setNumber bytes n (heads form + i) in
-      let least = heads-least form in
-      let most = heads-most form in
-      record {
-        initial = own 0 0 (omega arith) (sym (head-place form g 0 (omega arith) refl));
-        marked = own 1 markedAt (omega arith) (sym (head-place form g 1 (omega arith) refl));
-        resting = by-resting form bytes n (λ X. setAt whole restingAt ≡ X)
-            (λ l. own 2 restingAt (omega arith) (sym (head-place form g 2 l refl)))
-            (λ l.
-            unused restingAt (omega arith)
-            (λ i m. by-place form g i (λ p. (restingAt + WORDS ≤ p) ⊎ (p + WORDS ≤ restingAt)) (λ q. inr (omega arith)) (λ q r. inl (omega arith)) (λ q. inl (omega arith))));
-        group = λ j h. ⊎-elim
-            (λ l.
-            own (heads form + j) (groupAt j) (omega arith) (sym (group-place form g (heads form + j) (omega arith) (omega arith) (omega arith)))
-            ∙ sym (getD-tabulate group g j empty l))
-            (λ l.
-            unused (groupAt j) (omega arith)
-            (λ i m. by-place form g i (λ p. (groupAt j + WORDS ≤ p) ⊎ (p + WORDS ≤ groupAt j)) (λ q. inr (omega arith)) (λ q r. inr (omega arith)) (λ q. inl (omega arith)))
-            ∙ sym (getD-past (tabulate g group) j empty (omega (arith, length-tabulate group g))))
-            (lt-or-ge j g);
-        row = λ s h. by-cond (λ (X : Set). setAt whole (rowAt s) ≡ X) (ltb s n) _ empty
-            (λ q.
-            let l = ltb-true s n q in
-            own (heads form + g + s) (rowAt s) (omega arith) (sym (row-place form g (heads form + g + s) (omega arith) (omega arith)))
-            ∙ sym (dialogueIn-row form bytes n g s l))
-            (λ q.
-            let l = ltb-false s n q in
-            unused (rowAt s) (omega arith)
-            (λ i m. by-place form g i (λ p. (rowAt s + WORDS ≤ p) ⊎ (p + WORDS ≤ rowAt s)) (λ r. inr (omega arith)) (λ r t. inr (omega arith)) (λ r. inr (omega arith))));
-      }
+      by-cond (λ X. X ≡ getD (tabulate g group) j empty) (ltb j g) (group j) empty
+      (λ q. sym (getD-tabulate group g j empty (ltb-true j g q)))
+      (λ q. sym (getD-past (tabulate g group) j empty (omega (arith, length-tabulate group g, ltb-false j g q))))
 
-  -- past the table's words the store is as it was
-  past-same : drop storeWords whole ≡ drop storeWords old
-  past-same =
-      sets-drop (placeOf form g) (setNumber bytes n) (set-long bytes n) (heads form + g + n) (cleared old) inside (heads form + g + n) (omega arith) storeWords (omega (arith, cleared-long old room))
-      (λ j l. place-inside form g few j (omega arith))
-      ∙ cleared-drop old room
+  rows-are : (s : ℕ) → partSet bytes n (heads form + g) n s ≡ cond (ltb s n) (cond (ltb s n) (setNumber bytes n (heads form + g + s)) empty) empty
+  unfolding partSet
+  rows-are s = twice (ltb s n) (setNumber bytes n (heads form + g + s))
+    where
+      twice : (b : Bool) (X : Set) → cond b X empty ≡ cond b (cond b X empty) empty
+      twice true X = refl
+      twice false X = refl
 
-  pub filled : whole ≡ overwrite (layout (dialogueIn form bytes n g)) old
-  filled = holds-overwrite (dialogueIn form bytes n g) old whole (omega (arith, whole-long)) whole-holds past-same
+heads-are : (form : Form) (bytes : List ℕ) (n g : ℕ) (rest : List ℕ) → let d = dialogueIn form bytes n g in
+    headPart form bytes n g ++ rest ≡ d .initial ++ (d .marked ++ (d .resting ++ rest))
+unfolding concat partSet dialogueIn
+heads-are oldForm bytes n g rest = simp append-assoc
+heads-are newForm bytes n g rest = simp append-assoc
+
+layout-is : (form : Form) (bytes : List ℕ) (n g : ℕ) → (headPart form bytes n g ++ groupPart form bytes n g) ++ rowPart form bytes n g ≡ layout (dialogueIn form bytes n g)
+unfolding layout dialogueIn
+layout-is form bytes n g =
+    append-assoc (headPart form bytes n g) (groupPart form bytes n g) (rowPart form bytes n g)
+    ∙ heads-are form bytes n g _
+    ∙ ap₂ (λ xs ys. setNumber bytes n 0 ++ (setNumber bytes n 1 ++ (dialogueIn form bytes n g .resting ++ (xs ++ ys))))
+    (concat-cong _ _ maxGroups (λ j h. groups-are form bytes n g j)) (concat-cong _ _ maxStates (λ s h. rows-are form bytes n g s))
+
+-- each part lent and filled in turn
+pub filled : (form : Form) {h : ℕ} → h ≡ heads form → (bytes : List ℕ) (n g : ℕ) (old : List ℕ) {out groups rows : List ℕ}
+    → out ≡ overwrite (concat headSets (partSet bytes n 0 h)) old
+    → groups ≡ overwrite (concat maxGroups (partSet bytes n h g)) (lent (groupAt 0) out)
+    → rows ≡ overwrite (concat maxStates (partSet bytes n (h + g) n)) (lent (rowAt 0) (back (groupAt 0) out groups))
+    → back (rowAt 0) (back (groupAt 0) out groups) rows ≡ overwrite (layout (dialogueIn form bytes n g)) old
+filled form {h} e bytes n g old {out} {groups} {rows} f i j =
+    let heads-long = part-long bytes n 0 h headSets in
+    let groups-long = part-long bytes n h g maxGroups in
+    overwrite-lent _ _ old (back (groupAt 0) out groups) rows (rowAt 0) (length-append (concat headSets (partSet bytes n 0 h)) _ ∙ omega (arith, heads-long, groups-long))
+    (overwrite-lent _ _ old out groups (groupAt 0) heads-long f i) j
+    ∙ ap (λ (m : ℕ). overwrite ((concat headSets (partSet bytes n 0 m) ++ concat maxGroups (partSet bytes n m g)) ++ concat maxStates (partSet bytes n (m + g) n)) old) e
+    ∙ ap (λ xs. overwrite xs old) (layout-is form bytes n g)

@@ -1,96 +1,87 @@
--- Laws of the grounds on which `read` refuses: of each return of the functions that test them.
+-- Laws of what the functions of `read` give, each of its own grounds.
 --
---   Passed input k                          no ground of the first k blocks holds
---   passed-none, passed-next                a loop over the blocks: before its first turn, and after a turn that found no ground
---   passed-stop, passed-all                 it returns the first ground that holds, or 0 when it is done
---   second-is                               the second number, from g as code works it out
---   second-low, second-high                 ground 15 holds
---   blocks-are                              ground 16, as the code works it out
---   contentRefusal                          what is wrong with the contents, or 0
---   Sized                                   none of 14 to 16 holds; size is the length of the contents
---   joined-long                             how many bytes the contents are; sized-inside: they have room for a table of that size
---   behind-size                             then 17 and 18 decide
---   part-block, long-input, whole-blocks    ground 11 holds, or does not
---   of-any, of-draft, of-file, of-blocks    the outer grounds of any input, of no bytes, of a file, and those of its blocks where none before them holds
---   outer-refuses                           a ground that it found decides
---   room-enough, draft-accepted,            where it found none: what `read_as` may do, and
---   short-input, some-block
---   content-decides                         that the grounds of the contents decide
---   refuses, draft-read, table-read         the contract of `read_as` in each case; second-least, table-inside: what it may do
+--   reads-refused, reads-first        a ground holds: that of a callee, or the one with number i in the list
+--   reads-table                       none does, and the table is in the store
+--   reads-behind, reads-past          the grounds before those that a callee looks at do not hold; by what another callee said of them
+--   part-block, long-input,           ground 11 holds, or does not
+--   whole-blocks
+--   second-is, second-low,            the second number, from g as code works it out; ground 15 holds
+--   second-high
+--   reads-contents                    the contents, with g as code works it out
+--   Same, zeros-same                  bytes that are those of contents, with 0 behind them; so are contents joined in a buffer of zeros
+--   joined-room                       they have room there
+--   reads-joined                      contents that were joined are read as the contents of the input
+--   reads-call, draft-read, file-read the contract of `read_as`; of a draft, and of a file
 use Prim.Native.Nat.{ℕ, _+_, _*_, _-_, _/_, _%_, _≤_, _<_}
-use native.Mathlib.Nat.{le-antisymm}
 use native.Mathlib.Omega.{arith}
-use mathlib.Core.Path.{_≡_, refl, sym, ap, ap₂, _∙_, subst}
-use mathlib.Core.Logic.{⊎-elim}
-use mathlib.Core.Bool.{Bool, true, false, cond, not, _||_}
+use mathlib.Core.Path.{_≡_, refl, sym, ap, ap₂, _∙_, subst, transport}
+use mathlib.Core.Bool.{true, false, cond, not, _&&_, _||_}
 use mathlib.Core.List.{List, [], _∷_, _++_, append-nil}
-use borrow.Author.Tests.{lt-ltb, le-ltb, ltb-false, eq-eqb, ne-eqb, eqb-true, not-false}
-use lib.Dec.{eqb, ltb}
-use lib.ListN.{length, take, drop}
-use Rattle.basics.specs.Bounds.{any, concat}
-use Rattle.model.specs.Sets.{maxStates}
+use borrow.Author.Tests.{lt-ltb, le-ltb, eq-eqb, ne-eqb}
+use lib.Dec.{eqb, leb, ltb}
+use lib.ListN.{length, getD, replicate, length-replicate}
+use Rattle.basics.specs.Bounds.{any, tabulate}
 use Rattle.basics.specs.Refusals.{Ground, refuse, answered}
+use Rattle.model.specs.Sets.{maxStates, bit, setOf, empty}
+use Rattle.model.specs.Tables.{Dialogue}
 use Rattle.model.specs.Stores.{maxGroups, storeWords, layout, beyond, nonZero, storeGround}
-use Rattle.model.specs.Blocks.{blockBytes, contentBytes, maxSite, siteGround, blocksFor, part, contentsOf, blockGrounds}
-use Rattle.model.specs.Contents.{Form, heads, added, contentLength, setNumber, dialogueIn}
+use Rattle.model.specs.Blocks.{blockBytes, contentBytes, maxSite, siteGround, le16At, blocksFor, contentsOf}
+use Rattle.model.specs.Contents.{Form, oldForm, newForm, heads, added, setWidth, headerBytes, contentLength, setIn, setNumber, restingIn, dialogueIn}
 use Rattle.model.specs.Files.{maxFile}
-use Rattle.model.specs.Calls.{overwrite, statesIn, secondIn, groupsIn, badLength, badSecond, blocksGrounds, contentGrounds, fileGrounds, readGroundsAs, readBufferAs}
-use Rattle.basics.proofs.BoundLaws.{or-left, or-right, or-none, or-false}
-use Rattle.basics.proofs.RefusalLaws.{refuse-append, Clear, refuse-behind, clear-refuse, refuse-clear, clear-next, refuse-stop}
-use Rattle.model.proofs.BlockLaws.{length-contentsOf}
-use Rattle.model.proofs.CallLaws.{second-pass, blocks-clear, Readable, behind-length, readable, draft-refusal, read-refused, read-answer, read-buffer, draft-says}
+use Rattle.model.specs.Calls.{overwrite, statesIn, secondIn, groupsIn, badLength, badSecond, contentGrounds, fileGrounds, readGroundsAs, readAnswerAs, readBufferAs}
+use Rattle.basics.proofs.BoundLaws.{or-left, or-right, or-none}
+use Rattle.basics.proofs.RefusalLaws.{First, numberAt, refuse-first, Clear, numbered, refuse-clear, answer-refused, answer-clear, answer-behind}
+use Rattle.model.proofs.CallLaws.{draft-says}
 use Rattle.model.proofs.Drafts.{draft-layout}
-use Rattle.file_reading.specs.declared.TableRead.the-variants.{Table, Refused}
-use Rattle.file_reading.specs.ReadAnswers.{CalledReadAs}
+use Rattle.file_blocks.specs.Places.{joinedRoom}
+use Rattle.file_blocks.proofs.BlockLaws.{getD-joined}
 use Rattle.table.specs.Writing.{cleared}
-use Rattle.file_reading.specs.Reading.{TableInside, outerGrounds}
+use Rattle.file_reading.specs.declared.TableRead.the-variants.{Table, Refused}
+use Rattle.file_reading.specs.declared.TableRead.{TableRead}
+use Rattle.file_reading.specs.ReadAnswers.{CalledReadAs}
+use Rattle.file_reading.specs.Reading.{bytesGrounds, Reads, ReadsFile, ReadsContents}
 
--- ---- the blocks
+-- ---- what a call gives
 
-module _ (input : List ℕ) (site : ℕ) where
-  -- no ground of the first k blocks holds
-  abbrev pub Passed : ℕ → Type 0
-  Passed k = Clear (concat k (λ j. blockGrounds site (part input j) j))
+module _ {d : ℕ → ℕ → Dialogue} {n g : ℕ} {before : List ℕ} where
+  pub reads-refused : (gs : List Ground) {k : ℕ} → k ≡ refuse gs → (k ≡ 0 → ⊥) → Reads gs d n g before (Refused k) before
+  reads-refused gs e f = let no = answer-refused gs _ e f in record { says = sym no; leaves = sym (rw no) }
 
-  -- the bytes that are handed on for block k, as the code takes them
-  abbrev pub handed : ℕ → List ℕ
-  handed k = take (blockBytes * k + blockBytes - blockBytes * k) (drop (blockBytes * k) input)
+  pub reads-first : (i : ℕ) (gs : List Ground) → First i gs → (numberAt i gs ≡ 0 → ⊥) → Reads gs d n g before (Refused (numberAt i gs)) before
+  reads-first i gs f = reads-refused gs (refuse-first i gs f)
 
-  handed-part : (k : ℕ) → handed k ≡ part input k
-  unfolding part
-  handed-part k =
-      let whole : blockBytes * k + blockBytes - blockBytes * k ≡ blockBytes = omega arith in
-      ap (λ (m : ℕ). take m (drop (blockBytes * k) input)) whole
+  pub reads-table : (gs : List Ground) → Clear gs → {m h : ℕ} {after : List ℕ} → m ≡ n → h ≡ g → after ≡ overwrite (layout (d m h)) before
+      → Reads gs d n g before (Table m h) after
+  reads-table gs c p q f =
+      let yes = answer-clear gs _ c in
+      record {
+        says = ap₂ (λ (a b : ℕ). answered (record { n = a; g = b })) p q ∙ sym yes;
+        leaves = f ∙ ap₂ (λ (a b : ℕ). overwrite (layout (d a b)) before) p q ∙ sym (rw yes);
+      }
 
-  pub passed-none : Passed 0
-  unfolding concat
-  passed-none = tt
+  module _ (xs ys : List Ground) {r : TableRead} {after : List ℕ} where
+    pub reads-behind : Clear xs → Reads ys d n g before r after → Reads (xs ++ ys) d n g before r after
+    reads-behind c so = record { says = rw (answer-behind xs ys _ c) (so .says); leaves = rw (answer-behind xs ys _ c) (so .leaves) }
 
-  module _ (k fault : ℕ) (e : fault ≡ refuse (blockGrounds site (handed k) k)) (so : Passed k) where
-    own : fault ≡ refuse (blockGrounds site (part input k) k)
-    own = e ∙ ap (λ block. refuse (blockGrounds site block k)) (handed-part k)
+    pub reads-past : numbered xs ≡ true → {k : ℕ} → k ≡ refuse xs → k ≡ 0 → Reads ys d n g before r after → Reads (xs ++ ys) d n g before r after
+    reads-past m e z = reads-behind (refuse-clear xs [] m (ap refuse (append-nil xs) ∙ sym e ∙ z) .0)
 
-    pub passed-next : fault ≡ 0 → Passed (k + 1)
-    unfolding blockGrounds
-    passed-next z = clear-next _ k so (refuse-clear (blockGrounds site (part input k) k) [] refl (sym own ∙ z) .0)
+-- ---- ground 11
 
-    pub passed-stop : k < length input / blockBytes → (fault ≡ 0 → ⊥) → fault ≡ refuse (blocksGrounds input site)
-    unfolding blocksGrounds
-    passed-stop h x = refuse-stop _ (length input / blockBytes) k h so own x
+module _ (input : List ℕ) where
+  pub part-block : (length input % blockBytes ≡ 0 → ⊥) → badLength input ≡ true
+  unfolding badLength
+  part-block x = or-left _ _ (ap not (ne-eqb (length input % blockBytes) 0 x))
 
-  pub passed-all : (k : ℕ) → k ≤ length input / blockBytes → length input / blockBytes ≤ k → Passed k → 0 ≡ refuse (blocksGrounds input site)
-  unfolding blocksGrounds
-  passed-all k l h so = sym (clear-refuse _ (subst Passed (le-antisymm l h) so))
+  pub long-input : maxFile < length input → badLength input ≡ true
+  unfolding badLength
+  long-input h = or-right (not (eqb (length input % blockBytes) 0)) _ (lt-ltb maxFile (length input) h)
+
+  pub whole-blocks : length input % blockBytes ≡ 0 → length input ≤ maxFile → badLength input ≡ false
+  unfolding badLength
+  whole-blocks e h = or-none _ _ (ap not (eq-eqb (length input % blockBytes) 0 e)) (le-ltb maxFile (length input) h)
 
 -- ---- the contents
-
-pub record Sized (form : Form) (input : List ℕ) (n second g size : ℕ) : Type 0 where
-  pub some : n ≡ 0 → ⊥
-  pub states : n ≤ maxStates
-  pub is-second : second ≡ added form + g
-  pub few : g ≤ maxGroups
-  pub is : size ≡ contentLength form n g
-  pub blocks : length input / blockBytes ≡ blocksFor size
 
 -- the second number, from g as code works it out with what the form adds
 pub second-is : {second least adds : ℕ} → least ≡ adds → least ≤ second → second ≡ adds + (second - least)
@@ -106,169 +97,85 @@ module _ (form : Form) {second : ℕ} where
   unfolding badSecond
   second-high e h = or-right (ltb second (added form)) _ (lt-ltb (added form + maxGroups) second (omega arith))
 
--- so many blocks do the contents take
-pub blocks-are : (form : Form) (n second g : ℕ) {size blocks : ℕ} → second ≡ added form + g → size ≡ contentLength form n g → blocks ≡ blocksFor size
-    → blocks ≡ blocksFor (contentLength form n (second - added form))
-blocks-are form n second g e is f =
-    let groups : second - added form ≡ g = omega arith in
-    f ∙ ap (λ (l : ℕ). blocksFor l) is ∙ ap (λ (m : ℕ). blocksFor (contentLength form n m)) (sym groups)
+pub reads-contents : (form : Form) (bytes : List ℕ) (blocks n second : ℕ) {least : ℕ} {before : List ℕ} {r : TableRead} {after : List ℕ} → least ≡ added form
+    → Reads (bytesGrounds form bytes blocks n second (second - least)) (dialogueIn form bytes) n (second - least) before r after
+    → ReadsContents form bytes blocks n second before r after
+reads-contents form bytes blocks n second {before = before} {r} {after} e =
+    subst (λ (l : ℕ). Reads (bytesGrounds form bytes blocks n second (second - l)) (dialogueIn form bytes) n (second - l) before r after) e
 
-abbrev pub contentRefusal : Form → List ℕ → ℕ → ℕ → ℕ
-contentRefusal form input n second = refuse (contentGrounds form input n second)
+-- ---- contents that were joined
 
--- bytes are the contents
-module _ (input : List ℕ) {bytes : List ℕ} (joined : bytes ≡ contentsOf input) where
-  pub joined-long : length bytes ≡ contentBytes * (length input / blockBytes)
-  joined-long = ap length joined ∙ length-contentsOf input
+pub record Same (bytes contents : List ℕ) : Type 0 where
+  pub at : (i : ℕ) → getD bytes i 0 ≡ getD contents i 0
 
-  module _ {form : Form} {n second g size : ℕ} (s : Sized form input n second g size) where
-    pub sized-inside : TableInside form bytes n g
-    sized-inside = record { small = s .states; few = s .few; inside = omega (arith, s .is, s .blocks, joined-long) }
+pub zeros-same : (contents : List ℕ) (m : ℕ) {bytes : List ℕ} → bytes ≡ overwrite contents (replicate m 0) → Same bytes contents
+zeros-same contents m e = record { at = λ i. ap (λ xs. getD xs i 0) e ∙ getD-joined contents m i }
 
-    module _ {b : Bool} (sets : b ≡ any (heads form + g + n) (λ k. beyond n (setNumber bytes n k))) where
-      -- only 17 and 18 are left
-      pub behind-size : {k : ℕ} → k ≡ refuse ((b, 17) ∷ (nonZero bytes size (contentBytes * (length input / blockBytes)), 18) ∷ []) → k ≡ contentRefusal form input n second
-      unfolding contentGrounds
-      behind-size e =
-          let groups : second - added form ≡ g = omega (arith, s .is-second) in
-          let early = refuse-behind ((eqb n 0 || ltb maxStates n, 14) ∷ (badSecond form second, 15) ∷ (not (eqb (length input / blockBytes) (blocksFor (contentLength form n (second - added form)))), 16) ∷ []) _ (
-            or-none _ _ (ne-eqb n 0 (s .some)) (le-ltb maxStates n (s .states)),
-            (second-pass form second g (s .is-second) (s .few), (ap not (eq-eqb _ _ (blocks-are form n second g (s .is-second) (s .is) (s .blocks))), tt)),
-          ) in
-          e
-          ∙ sym
-          (early
-          ∙ ap₂ (λ a (l : ℕ). refuse ((a, 17) ∷ (nonZero (contentsOf input) l (contentBytes * (length input / blockBytes)), 18) ∷ []))
-          (ap₂ (λ (m : ℕ) (xs : List ℕ). any (heads form + m + n) (λ k. beyond n (setNumber xs n k))) groups (sym joined) ∙ sym sets)
-          (ap (λ (m : ℕ). contentLength form n m) groups ∙ sym (s .is))
-          ∙ ap (λ (xs : List ℕ). refuse ((b, 17) ∷ (nonZero xs size (contentBytes * (length input / blockBytes)), 18) ∷ [])) (sym joined))
+pub joined-room : (m : ℕ) {l : ℕ} → joinedRoom ≤ m → l ≤ maxFile → contentBytes * (l / blockBytes) ≤ length {A = ℕ} (replicate m 0)
+joined-room m e h = omega (arith, length-replicate {A = ℕ} m 0)
 
--- ---- all grounds
+module _ {bytes contents : List ℕ} (s : Same bytes contents) where
+  set-same : (n k : ℕ) → setNumber bytes n k ≡ setNumber contents n k
+  unfolding setNumber setIn
+  set-same n k = λ i. setOf (λ t. ltb t (8 * setWidth n) && bit (s .at (headerBytes + setWidth n * k + t / 8) i) (t % 8))
 
--- ground 11 holds, or does not
-module _ (input : List ℕ) where
-  pub part-block : (length input % blockBytes ≡ 0 → ⊥) → badLength input ≡ true
-  unfolding badLength
-  part-block x = or-left _ _ (ap not (ne-eqb (length input % blockBytes) 0 x))
+  grounds-same : (form : Form) (blocks n second g : ℕ) → bytesGrounds form bytes blocks n second g ≡ bytesGrounds form contents blocks n second g
+  unfolding bytesGrounds nonZero
+  grounds-same form blocks n second g = λ i.
+      (eqb n 0 || ltb maxStates n, 14)
+      ∷ (badSecond form second, 15)
+      ∷ (not (eqb blocks (blocksFor (contentLength form n g))), 16)
+      ∷ (any (heads form + g + n) (λ k. beyond n (set-same n k i)), 17)
+      ∷ (any (contentBytes * blocks) (λ j. leb (contentLength form n g) j && not (eqb (s .at j i) 0)), 18)
+      ∷ []
 
-  pub long-input : maxFile < length input → badLength input ≡ true
-  unfolding badLength
-  long-input h = or-right (not (eqb (length input % blockBytes) 0)) _ (lt-ltb maxFile (length input) h)
+  resting-same : (form : Form) (n : ℕ) → restingIn form bytes n ≡ restingIn form contents n
+  resting-same oldForm n = refl
+  resting-same newForm n = set-same n 2
 
-  pub whole-blocks : length input % blockBytes ≡ 0 → length input ≤ maxFile → badLength input ≡ false
-  unfolding badLength
-  whole-blocks e h = or-none _ _ (ap not (eq-eqb (length input % blockBytes) 0 e)) (le-ltb maxFile (length input) h)
+  dialogue-same : (form : Form) (n g : ℕ) → dialogueIn form bytes n g ≡ dialogueIn form contents n g
+  unfolding dialogueIn
+  dialogue-same form n g = λ i.
+      record {
+        n = n;
+        initial = set-same n 0 i;
+        marked = set-same n 1 i;
+        resting = resting-same form n i;
+        groups = tabulate g (λ j. set-same n (heads form + j) i);
+        row = λ t. cond (ltb t n) (set-same n (heads form + g + t) i) empty;
+      }
 
--- the grounds of any input, of one of no bytes, and of a file
-module _ (input : List ℕ) (site room : ℕ) {k : ℕ} where
-  pub of-any : k ≡ refuse (storeGround room ∷ siteGround site ∷ cond (eqb (length input) 0) [] ((badLength input, 11) ∷ blocksGrounds input site))
-      → k ≡ refuse (outerGrounds input site room)
-  unfolding outerGrounds
-  of-any e = e
-
-  pub of-draft : length input ≡ 0 → k ≡ refuse (storeGround room ∷ siteGround site ∷ []) → k ≡ refuse (outerGrounds input site room)
-  unfolding outerGrounds
-  of-draft q e = rw (eq-eqb (length input) 0 q) e
-
-  pub of-file : (length input ≡ 0 → ⊥) → k ≡ refuse (storeGround room ∷ siteGround site ∷ (badLength input, 11) ∷ blocksGrounds input site)
-      → k ≡ refuse (outerGrounds input site room)
-  unfolding outerGrounds
-  of-file some e = rw (ne-eqb (length input) 0 some) e
-
-  pub of-blocks : (length input ≡ 0 → ⊥) → storeWords ≤ room → site ≤ maxSite → badLength input ≡ false → k ≡ refuse (blocksGrounds input site)
-      → k ≡ refuse (outerGrounds input site room)
-  of-blocks some fits known whole e =
-      of-file some
-      (e ∙ sym (refuse-behind (storeGround room ∷ siteGround site ∷ (badLength input, 11) ∷ []) _ (le-ltb room storeWords fits, (le-ltb maxSite site known, (whole, tt)))))
-
--- grounds behind a list, where the list has any but its first two
-append-more : (b : Bool) (x y z : Ground) (xs ys : List Ground) {k : ℕ} → k ≡ refuse (x ∷ y ∷ cond b [] (z ∷ xs)) → (k ≡ 0 → ⊥) → k ≡ refuse (x ∷ y ∷ cond b [] (z ∷ (xs ++ ys)))
-append-more true x y z xs ys e f = e
-append-more false x y z xs ys e f = refuse-append (x ∷ y ∷ z ∷ xs) ys e f
-
--- k is the first outer ground that holds, or 0
-module _ (input : List ℕ) (site room : ℕ) {k : ℕ} (e : k ≡ refuse (outerGrounds input site room)) where
-  pub outer-refuses : (form : Form) → (k ≡ 0 → ⊥) → k ≡ refuse (readGroundsAs form input site room)
-  unfolding outerGrounds readGroundsAs fileGrounds
-  outer-refuses form = append-more (eqb (length input) 0) _ _ _ (blocksGrounds input site) _ e
-
-  module _ (z : k ≡ 0) where
-    passed : (storeWords ≤ room) × (site ≤ maxSite) × (refuse (cond (eqb (length input) 0) [] ((badLength input, 11) ∷ blocksGrounds input site)) ≡ 0)
-    unfolding outerGrounds
-    passed =
-        let early = refuse-clear (storeGround room ∷ siteGround site ∷ []) _ refl (sym e ∙ z) in
-        (ltb-false room storeWords (early .0 .0), ltb-false maxSite site (early .0 .1 .0), early .1)
-
-    pub room-enough : storeWords ≤ room
-    room-enough = passed .0
-
-    pub draft-accepted : (form : Form) → length input ≡ 0 → 0 ≡ refuse (readGroundsAs form input site room)
-    draft-accepted form empty = sym (draft-refusal form input site room (passed .0) (passed .1) empty)
-
-    module _ (some : length input ≡ 0 → ⊥) where
-      file-passed : (badLength input ≡ false) × (refuse (blocksGrounds input site) ≡ 0)
-      file-passed =
-          let clear = refuse-clear ((badLength input, 11) ∷ []) (blocksGrounds input site) refl (rw (ne-eqb (length input) 0 some) at (passed .2)) in
-          (clear .0 .0, clear .1)
-
-      length-right : (not (eqb (length input % blockBytes) 0) ≡ false) × (ltb maxFile (length input) ≡ false)
-      unfolding badLength
-      length-right = or-false _ _ (file-passed .0)
-
-      pub short-input : length input ≤ maxFile
-      short-input = ltb-false maxFile (length input) (length-right .1)
-
-      pub some-block : blockBytes ≤ length input
-      some-block = omega (arith, some, eqb-true (length input % blockBytes) 0 (not-false _ (length-right .0)))
-
-      pub content-decides : (form : Form) {n second c : ℕ} → n ≡ statesIn input → second ≡ secondIn input → c ≡ contentRefusal form input n second
-          → c ≡ refuse (readGroundsAs form input site room)
-      content-decides form p q f =
-          let clear = blocks-clear input site [] (ap refuse (append-nil (blocksGrounds input site)) ∙ file-passed .1) .0 in
-          f
-          ∙ ap₂ (contentRefusal form input) p q
-          ∙ sym (behind-length form input site room (passed .0) (passed .1) some (file-passed .0) ∙ refuse-behind (blocksGrounds input site) _ clear)
+pub reads-joined : (form : Form) (input : List ℕ) {bytes : List ℕ} → Same bytes (contentsOf input) → {n second : ℕ} → n ≡ le16At bytes 0 → second ≡ le16At bytes 2
+    → {before : List ℕ} {r : TableRead} {after : List ℕ} → ReadsContents form bytes (length input / blockBytes) n second before r after
+    → Reads (contentGrounds form input (statesIn input) (secondIn input)) (dialogueIn form (contentsOf input)) (statesIn input) (groupsIn form input) before r after
+unfolding contentGrounds bytesGrounds
+reads-joined form input s e f {before} {r} {after} =
+    let p : _ ≡ statesIn input = e ∙ ap₂ (λ (a b : ℕ). a + 256 * b) (s .at 0) (s .at 1) in
+    let q : _ ≡ secondIn input = f ∙ ap₂ (λ (a b : ℕ). a + 256 * b) (s .at 2) (s .at 3) in
+    transport
+    (λ i. Reads (grounds-same s form (length input / blockBytes) (p i) (q i) (q i - added form) i) (λ m h. dialogue-same s form m h i) (p i) (q i - added form) before r after)
 
 -- ---- the call
 
--- no ground holds
-module _ (form : Form) (input : List ℕ) (site room : ℕ) {k : ℕ} (e : k ≡ refuse (readGroundsAs form input site room)) (z : k ≡ 0) (some : length input ≡ 0 → ⊥) where
-  file : Readable form input site room (statesIn input) (groupsIn form input)
-  file = ⊎-elim (λ q. absurd (some q)) (λ r. r) (readable form input site room (sym e ∙ z) .2)
+module _ (form : Form) (input : List ℕ) (site : ℕ) (store : List ℕ) where
+  pub reads-call : {r : TableRead} {after : List ℕ}
+      → Reads (readGroundsAs form input site (length store)) (dialogueIn form (contentsOf input)) (statesIn input) (groupsIn form input) store r after
+      → CalledReadAs form input site store r after
+  unfolding readAnswerAs readBufferAs
+  reads-call so = (so .says, so .leaves)
 
-  pub second-least : {second least : ℕ} → second ≡ secondIn input → least ≡ added form → least ≤ second
-  second-least q e = omega (arith, q, file .second)
-
-  pub table-inside : {n g : ℕ} → n ≡ statesIn input → g ≡ groupsIn form input → {bytes : List ℕ} → bytes ≡ contentsOf input → TableInside form bytes n g
-  table-inside {n} {g} p q joined =
-      let blocks : length input / blockBytes ≡ blocksFor (contentLength form n g) =
-      file .blocks ∙ ap₂ (λ (a b : ℕ). blocksFor (contentLength form a b)) (sym p) (sym q) in
-      record { small = omega (arith, file .small); few = omega (arith, file .few); inside = omega (arith, joined-long input joined) }
-
--- k is the first ground that holds, or 0
-module _ (form : Form) (input : List ℕ) (site : ℕ) (store : List ℕ) {k : ℕ} (e : k ≡ refuse (readGroundsAs form input site (length store))) where
-  pub refuses : (k ≡ 0 → ⊥) → CalledReadAs form input site store (Refused k) store
-  unfolding readBufferAs
-  refuses x = let no = read-refused form input site (length store) (sym e) x in (sym no, rw no)
-
-  module _ (z : k ≡ 0) where
-    -- n and g are what the input says
-    accepted : {n g : ℕ} {after : List ℕ} → statesIn input ≡ n → groupsIn form input ≡ g
-        → after ≡ overwrite (layout (dialogueIn form (contentsOf input) n g)) store
-        → CalledReadAs form input site store (Table n g) after
-    accepted {n} {g} p q f =
-        let none = sym e ∙ z in (
-          sym (read-answer form input site (length store) none ∙ ap₂ (λ (a b : ℕ). answered (record { n = a; g = b })) p q),
-          f ∙ sym (read-buffer form input site store none ∙ ap₂ (λ (a b : ℕ). overwrite (layout (dialogueIn form (contentsOf input) a b)) store) p q),
-        )
+  module _ (fits : storeWords ≤ length store) (known : site ≤ maxSite) where
+    clear : Clear (storeGround (length store) ∷ siteGround site ∷ [])
+    clear = (le-ltb (length store) storeWords fits, (le-ltb maxSite site known, tt))
 
     pub draft-read : length input ≡ 0 → {after : List ℕ} → after ≡ cleared store → CalledReadAs form input site store (Table 0 0) after
-    unfolding cleared
+    unfolding readGroundsAs cleared
     draft-read empty f =
         let none = draft-says form input empty in
-        accepted (none .0) (none .1) (f ∙ ap (λ (xs : List ℕ). overwrite xs store) (sym (draft-layout form (contentsOf input))))
+        reads-call {r = Table 0 0}
+        (rw (eq-eqb (length input) 0 empty)
+        (reads-table _ clear (sym (none .0)) (sym (none .1)) (f ∙ ap (λ xs. overwrite xs store) (sym (draft-layout form (contentsOf input))))))
 
-    pub table-read : {n g : ℕ} → n ≡ statesIn input → g ≡ groupsIn form input
-        → {bytes after : List ℕ} → bytes ≡ contentsOf input → after ≡ overwrite (layout (dialogueIn form bytes n g)) store → CalledReadAs form input site store (Table n g) after
-    table-read {n} {g} p q joined f =
-        accepted (sym p) (sym q) (f ∙ ap (λ (xs : List ℕ). overwrite (layout (dialogueIn form xs n g)) store) joined)
+    pub file-read : 0 < length input → {r : TableRead} {after : List ℕ} → ReadsFile form input site store r after → CalledReadAs form input site store r after
+    unfolding readGroundsAs
+    file-read some {r} so = reads-call {r = r} (rw (ne-eqb (length input) 0 (λ z. omega arith)) (reads-behind (storeGround (length store) ∷ siteGround site ∷ []) (fileGrounds form input site) clear so))

@@ -1,67 +1,79 @@
--- The contents of an input, joined.
+-- The blocks of an input, checked and joined.
 --
---   blockContent input k     the content of block k, as code copies it
---   joining-all              a loop that copies them one behind the other has joined the contents
---   joined-room, joined-fits they have room in the buffer of `read_as`
---   joined                   and are then its front; said: a number of two bytes in the first block of it
-use Prim.Native.Nat.{ℕ, _+_, _*_, _/_, _≤_, _<_}
-use native.Mathlib.Nat.{add-assoc}
+--   Joining input site k old out    the first k blocks have no fault, and their contents are joined
+--   joining-none, joining-more      before the first turn of a loop over the blocks; a turn that found no fault
+--   joining-stop, joining-all       a turn that found one; when the loop is done
+use Prim.Native.Nat.{ℕ, _+_, _*_, _-_, _/_, _≤_, _<_}
+use native.Mathlib.Nat.{le-antisymm}
 use native.Mathlib.Omega.{arith}
-use mathlib.Core.Path.{_≡_, sym, ap, ap₂, _∙_, subst}
-use mathlib.Core.List.{List}
-use lib.ListN.{length, getD, take, drop, replicate, length-append, length-drop, length-replicate}
-use lib.Seq.{ext-getD, length-take-le, getD-take, getD-drop}
+use mathlib.Core.Path.{_≡_, refl, sym, ap, _∙_, subst}
+use mathlib.Core.List.{List, []}
+use lib.ListN.{length, take, drop, take-append-drop}
+use lib.Seq.{drop-drop}
 use Rattle.basics.specs.Bounds.{concat}
-use Rattle.model.specs.Blocks.{blockBytes, contentBytes, contentAt, le16At, part, contentsOf}
-use Rattle.model.specs.Files.{maxFile}
-use Rattle.model.specs.Calls.{overwrite}
-use Rattle.basics.proofs.BoundLaws.{getD-tabulate}
-use Rattle.model.proofs.ListLaws.{concat-cong, take-overwrite, overwrite-front}
-use Rattle.model.proofs.BlockLaws.{length-part, getD-part, length-contentsOf}
-use Rattle.file_blocks.specs.Places.{contentFrom}
-use Rattle.file_blocks.proofs.BlockLaws.{length-contentFrom, contentsRoom}
-use Rattle.table.proofs.Overwriting.{Over, over-all}
+use Rattle.basics.specs.Refusals.{Ground, refuse}
+use Rattle.model.specs.Blocks.{blockBytes, contentBytes, contentAt, part, contentsOf, blockGrounds}
+use Rattle.model.specs.Calls.{overwrite, blocksGrounds}
+use Rattle.basics.proofs.RefusalLaws.{Clear, clear-refuse, refuse-clear, clear-next, refuse-stop}
+use Rattle.model.proofs.ListLaws.{part-front}
+use Rattle.model.proofs.BlockLaws.{length-part, contents-wide}
+use Rattle.file_reading.specs.Reading.{Joined}
+use Rattle.table.proofs.Overwriting.{Over, parts-none, parts-more, parts-all, lent, back}
 
-abbrev pub blockContent : List ℕ → ℕ → List ℕ
-blockContent input k = contentFrom input (blockBytes * k + contentAt) contentBytes
+abbrev blockContent : List ℕ → ℕ → List ℕ
+blockContent input k = take contentBytes (drop contentAt (part input k))
 
-content-part : (input : List ℕ) (k : ℕ) → k < length input / blockBytes → blockContent input k ≡ take contentBytes (drop contentAt (part input k))
-unfolding contentFrom
+abbrev grounds : List ℕ → ℕ → ℕ → List Ground
+grounds input site k = blockGrounds site (part input k) k
+
+pub record Joining (input : List ℕ) (site k : ℕ) (old out : List ℕ) : Type 0 where
+  pub within : k ≤ length input / blockBytes
+  pub passed : Clear (concat k (grounds input site))
+  pub over : Over (concat k (blockContent input)) old out
+
+pub joining-none : (input : List ℕ) (site : ℕ) (old : List ℕ) → Joining input site 0 old old
+unfolding concat
+joining-none input site old = record { within = omega arith; passed = tt; over = parts-none (blockContent input) old }
+
+-- the content as code copies it
+content-part : (input : List ℕ) (k : ℕ) → k < length input / blockBytes → take contentBytes (drop (blockBytes * k + contentAt) input) ≡ blockContent input k
+unfolding part
 content-part input k h =
-    let own = drop contentAt (part input k) in
-    ext-getD 0 (blockContent input k) (take contentBytes own)
-    (length-contentFrom input (blockBytes * k + contentAt) contentBytes ∙ sym (length-take-le contentBytes own (omega (arith, length-drop contentAt (part input k), length-part input k h))))
-    (λ i l.
-    let byte : i < contentBytes = subst (λ (m : ℕ). i < m) (length-contentFrom input (blockBytes * k + contentAt) contentBytes) l in
-    getD-tabulate _ contentBytes i 0 byte
-    ∙ ap (λ (j : ℕ). getD input j 0) (add-assoc (blockBytes * k) contentAt i)
-    ∙ sym (getD-take contentBytes own i 0 byte ∙ getD-drop contentAt (part input k) i 0 ∙ getD-part input k (contentAt + i) (omega arith)))
+    let rest = drop (blockBytes * k) input in
+    ap (take contentBytes) (sym (drop-drop contentAt (blockBytes * k) input) ∙ ap (drop contentAt) (sym (take-append-drop blockBytes rest)))
+    ∙ part-front (part input k) (drop blockBytes rest) contentAt contentBytes (omega (arith, length-part input k h))
 
-pub joining-all : (input old : List ℕ) {out : List ℕ} (k : ℕ) → k ≤ length input / blockBytes → length input / blockBytes ≤ k → Over (concat k (blockContent input)) old out
-    → out ≡ overwrite (contentsOf input) old
-unfolding contentsOf
-joining-all input old {out} k l h so =
-    over-all (λ m. concat m (blockContent input)) old out k (length input / blockBytes) l h so
-    ∙ ap (λ xs. overwrite xs old) (concat-cong (blockContent input) _ (length input / blockBytes) (content-part input))
+module _ {input : List ℕ} {site k : ℕ} {old out : List ℕ} (so : Joining input site k old out) where
+  module _ (h : k < length input / blockBytes) {fault : ℕ}
+      (e : fault ≡ refuse (blockGrounds site (take (blockBytes * k + blockBytes - blockBytes * k) (drop (blockBytes * k) input)) k)) where
+    -- its own bytes are handed on
+    own : fault ≡ refuse (grounds input site k)
+    unfolding part
+    own =
+        let whole : blockBytes * k + blockBytes - blockBytes * k ≡ blockBytes = omega arith in
+        e ∙ ap (λ (m : ℕ). refuse (blockGrounds site (take m (drop (blockBytes * k) input)) k)) whole
 
--- the room is a variable, since its zeros would be written out
-module _ (input : List ℕ) (m : ℕ) where
-  pub joined-room : length input ≤ maxFile → contentsRoom ≤ m → contentBytes * (length input / blockBytes) ≤ length {A = ℕ} (replicate m 0)
-  joined-room h l = omega (arith, length-replicate {A = ℕ} m 0)
+    pub joining-stop : (fault ≡ 0 → ⊥) → Joined input site fault old out
+    unfolding blocksGrounds
+    joining-stop x = record { ground = refuse-stop _ (length input / blockBytes) k h (so .passed) own x; joined = λ z. absurd (x z) }
 
-  module _ {out : List ℕ} (e : out ≡ overwrite (contentsOf input) (replicate m 0)) where
-    pub joined-fits : contentBytes * (length input / blockBytes) ≤ length out
-    unfolding overwrite
-    joined-fits = omega (arith, ap (λ (xs : List ℕ). length xs) e ∙ length-append (contentsOf input) _, length-contentsOf input)
+    pub joining-more : (rest : List ℕ) → fault ≡ 0
+        → rest ≡ overwrite (take contentBytes (drop (blockBytes * k + contentAt) input)) (lent (contentBytes * k) out)
+        → length (back (contentBytes * k) out rest) ≡ length out → Joining input site (k + 1) old (back (contentBytes * k) out rest)
+    unfolding blockGrounds
+    joining-more rest z f long =
+        record {
+          within = omega arith;
+          passed = clear-next (grounds input site) k (so .passed) (refuse-clear (grounds input site k) [] refl (sym own ∙ z) .0);
+          over =
+              parts-more (blockContent input) old (λ j l. contents-wide input j (omega (arith, so .within))) (so .over) rest
+              (f ∙ ap (λ xs. overwrite xs (lent (contentBytes * k) out)) (content-part input k h)) long;
+        }
 
-    pub joined : take (contentBytes * (length input / blockBytes)) out ≡ contentsOf input
-    joined =
-        ap (take (contentBytes * (length input / blockBytes))) e
-        ∙ take-overwrite (contentsOf input) (replicate m 0) (contentBytes * (length input / blockBytes)) (length-contentsOf input)
-
-    -- what stands among the first bytes
-    pub said : blockBytes ≤ length input → (i : ℕ) → i + 1 < contentBytes → le16At out i ≡ le16At (contentsOf input) i
-    said h i l =
-        let byte : (j : ℕ) → j < contentBytes → getD out j 0 ≡ getD (contentsOf input) j 0 =
-        λ j b. ap (λ (xs : List ℕ). getD xs j 0) e ∙ overwrite-front (contentsOf input) (replicate m 0) j 0 (omega (arith, length-contentsOf input)) in
-        ap₂ (λ (a b : ℕ). a + 256 * b) (byte i (omega arith)) (byte (i + 1) l)
+  pub joining-all : length input / blockBytes ≤ k → Joined input site 0 old out
+  unfolding blocksGrounds contentsOf
+  joining-all h =
+      record {
+        ground = sym (clear-refuse _ (subst (λ (m : ℕ). Clear (concat m (grounds input site))) (le-antisymm (so .within) h) (so .passed)));
+        joined = λ z. parts-all (blockContent input) old out k (length input / blockBytes) (so .within) h (so .over);
+      }

@@ -1,5 +1,5 @@
-pub mod Grounds
-pub mod Joining
 pub mod Words
-pub mod Filling
 pub mod LastByte
+pub mod Joining
+pub mod Filling
+pub mod Grounds

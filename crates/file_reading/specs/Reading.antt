@@ -1,37 +1,66 @@
 -- What the functions below `read` ask of the contents, and their parts of what `read` does.
 --
---   SetInside bytes w at        w bytes of a set stand in the contents from `at` on
---   TableInside form bytes n g  n and g are in bounds, and their table stands in the contents
---   outerGrounds input site room
---                               the grounds that are looked at before the contents
---   fillSets form bytes n g k store
---                               the first k sets of the contents, each put into its own words of a store
-use Prim.Native.Nat.{ℕ, _+_, _*_, _≤_}
-use mathlib.Core.Bool.{cond}
+--   TableInside bytes n g           n and g are in bounds, and contents are joined with room for those of every table
+--   PartInside bytes n first count  the same of `count` sets from set `first` on
+--   bytesGrounds form bytes blocks n second g
+--                                   the grounds of contents that so many blocks hold and that say n and a second number, which is g with what the form adds
+--   Reads gs d n g before r after   what is given by a call that looks at the grounds gs: n and g, and d n g in the store
+--   ReadsFile, ReadsContents        those of a file, and of contents
+--   Joined input site r before after
+--                                   the grounds of the blocks; and where none holds, the contents are joined
+--   partSet bytes n first count k   set k of a part of the store: one of the contents, or an unused one
+use Prim.Native.Nat.{ℕ, _+_, _*_, _-_, _≤_}
+use mathlib.Core.Path.{_≡_}
+use mathlib.Core.Bool.{cond, not, _||_}
 use mathlib.Core.List.{List, [], _∷_}
-use lib.Dec.{eqb}
+use lib.Dec.{eqb, ltb}
 use lib.ListN.{length}
-use Rattle.model.specs.Sets.{maxStates}
-use Rattle.basics.specs.Refusals.{Ground}
-use Rattle.model.specs.Stores.{maxGroups, storeGround}
-use Rattle.model.specs.Blocks.{siteGround}
-use Rattle.model.specs.Contents.{Form, contentLength, setNumber}
-use Rattle.model.specs.Calls.{badLength, blocksGrounds}
-use Rattle.table.specs.Writing.{putSets}
-use Rattle.file_blocks.specs.Places.{placeOf}
+use Rattle.basics.specs.Bounds.{any}
+use Rattle.basics.specs.Refusals.{Ground, refuse, answer, unlessRefused}
+use Rattle.model.specs.Sets.{maxStates, Set, empty}
+use Rattle.model.specs.Tables.{Dialogue}
+use Rattle.model.specs.Stores.{headSets, maxGroups, layout, beyond, nonZero}
+use Rattle.model.specs.Blocks.{contentBytes, blocksFor, contentsOf}
+use Rattle.model.specs.Contents.{Form, heads, added, contentLength, setNumber, dialogueIn}
+use Rattle.model.specs.Calls.{TableRead as ReadAnswer, overwrite, statesIn, groupsIn, badSecond, blocksGrounds, fileGrounds}
+use Rattle.file_blocks.specs.Places.{joinedRoom}
+use Rattle.file_reading.specs.declared.TableRead.{TableRead}
+use Rattle.file_reading.specs.ReadAnswers.{readOf}
 
-pub record SetInside (bytes : List ℕ) (w at : ℕ) : Type 0 where
-  pub narrow : 8 * w ≤ maxStates
-  pub inside : at + w ≤ length bytes
-
-pub record TableInside (form : Form) (bytes : List ℕ) (n g : ℕ) : Type 0 where
+pub record TableInside (bytes : List ℕ) (n g : ℕ) : Type 0 where
   pub small : n ≤ maxStates
   pub few : g ≤ maxGroups
-  pub inside : contentLength form n g ≤ length bytes
+  pub room : joinedRoom ≤ length bytes
 
--- Those of the store, the site and the length, and of the blocks.
-unfoldable pub outerGrounds : List ℕ → ℕ → ℕ → List Ground
-outerGrounds input site room = storeGround room ∷ siteGround site ∷ cond (eqb (length input) 0) [] ((badLength input, 11) ∷ blocksGrounds input site)
+pub record PartInside (bytes : List ℕ) (n first count : ℕ) : Type 0 where
+  pub small : n ≤ maxStates
+  pub many : first + count ≤ headSets + maxGroups + maxStates
+  pub room : joinedRoom ≤ length bytes
 
-abbrev pub fillSets : Form → List ℕ → ℕ → ℕ → ℕ → List ℕ → List ℕ
-fillSets form bytes n g = putSets (placeOf form g) (setNumber bytes n)
+-- The model's `contentGrounds` of an input are those of its contents and the number of its blocks.
+unfoldable pub bytesGrounds : Form → List ℕ → ℕ → ℕ → ℕ → ℕ → List Ground
+bytesGrounds form bytes blocks n second g =
+    (eqb n 0 || ltb maxStates n, 14)
+    ∷ (badSecond form second, 15)
+    ∷ (not (eqb blocks (blocksFor (contentLength form n g))), 16)
+    ∷ (any (heads form + g + n) (λ k. beyond n (setNumber bytes n k)), 17)
+    ∷ (nonZero bytes (contentLength form n g) (contentBytes * blocks), 18)
+    ∷ []
+
+-- The store before the call and after it.
+pub record Reads (gs : List Ground) (d : ℕ → ℕ → Dialogue) (n g : ℕ) (before : List ℕ) (r : TableRead) (after : List ℕ) : Type 0 where
+  pub says : readOf r ≡ answer gs (record { n = n; g = g })
+  pub leaves : after ≡ unlessRefused before (λ (a : ReadAnswer). overwrite (layout (d (a .n) (a .g))) before) (answer gs (record { n = n; g = g }))
+
+abbrev pub ReadsFile : Form → List ℕ → ℕ → List ℕ → TableRead → List ℕ → Type 0
+ReadsFile form input site = Reads (fileGrounds form input site) (dialogueIn form (contentsOf input)) (statesIn input) (groupsIn form input)
+
+abbrev pub ReadsContents : Form → List ℕ → ℕ → ℕ → ℕ → List ℕ → TableRead → List ℕ → Type 0
+ReadsContents form bytes blocks n second = let g = second - added form in Reads (bytesGrounds form bytes blocks n second g) (dialogueIn form bytes) n g
+
+pub record Joined (input : List ℕ) (site r : ℕ) (before after : List ℕ) : Type 0 where
+  pub ground : r ≡ refuse (blocksGrounds input site)
+  pub joined : r ≡ 0 → after ≡ overwrite (contentsOf input) before
+
+unfoldable pub partSet : List ℕ → ℕ → ℕ → ℕ → ℕ → Set
+partSet bytes n first count k = cond (ltb k count) (setNumber bytes n (first + k)) empty

@@ -5,28 +5,26 @@
 --   contents-written                     the contents written: the header, then the sets from their places
 --   contents-room, length-joined         contents joined in a buffer of zeros, that has room for those of every table
 --   blocks-joined                        the blocks of contents in a buffer of zeros are those of the contents
-use Prim.Native.Nat.{ℕ, zero, suc, _+_, _*_, _-_, _≤_, _<_}
+use Prim.Native.Nat.{ℕ, _+_, _*_, _-_, _≤_, _<_}
 use native.Mathlib.Nat.{mul-le-mul-left, mul-suc}
 use native.Mathlib.Omega.{arith}
 use mathlib.Core.Path.{_≡_, refl, sym, ap, ap₂, _∙_}
-use mathlib.Core.Logic.{⊎-elim}
 use mathlib.Core.List.{List, [], _++_}
-use lib.ListN.{length, getD, take, drop, replicate, length-replicate, List·getD-append}
-use lib.Seq.{getD-append-add, getD-drop}
+use lib.ListN.{length, getD, take, drop, replicate, length-replicate}
 use Rattle.model.specs.Sets.{WORDS, maxStates, Set}
 use Rattle.basics.specs.Bounds.{concat}
 use Rattle.model.specs.Stores.{headSets, maxGroups, markedAt, restingAt, setAt, dialogueOf}
 use Rattle.model.specs.Blocks.{contentBytes, le16, blockOf}
 use Rattle.model.specs.Contents.{newForm, added, setWidth, setBytes, sets, contents, contentLength}
 use Rattle.model.specs.Calls.{overwrite}
-use Rattle.basics.proofs.BoundLaws.{lt-or-ge, length-tabulate, getD-tabulate}
-use Rattle.model.proofs.ListLaws.{getD-past, concat-cong, length-overwrite}
+use Rattle.basics.proofs.BoundLaws.{length-tabulate, getD-tabulate}
+use Rattle.model.proofs.ListLaws.{concat-cong, length-overwrite}
 use Rattle.model.proofs.BlockLaws.{block-unique, blockOf-is}
 use Rattle.model.proofs.ContentLaws.{length-setBytes, heads-each, length-sets, sets-each, length-contents}
 use Rattle.model.proofs.StoreLaws.{dialogueOf-row}
 use Rattle.file_blocks.specs.Places.{placeOf}
 use Rattle.file_writing.specs.Writing.{LongEnough, placedSet}
-use Rattle.file_blocks.proofs.BlockLaws.{contents-le}
+use Rattle.file_blocks.proofs.BlockLaws.{contents-le, getD-joined}
 use Rattle.file_blocks.proofs.Places.{head-place, group-place, row-place}
 use Rattle.table.proofs.Overwriting.{Over, lent, back, parts-more, parts-all}
 
@@ -51,7 +49,7 @@ pub sets-more : (store : List ℕ) (w g : ℕ) (old out rest : List ℕ) (k : �
 unfolding placedSet setAt
 sets-more store w g old out rest k {a} p so e =
     let words : a + WORDS - a ≡ WORDS = omega arith in
-    parts-more (placedSet store w g) old w (λ j. length-setBytes w (setAt store (placeOf newForm g j))) out rest k so
+    parts-more (placedSet store w g) old (λ j h. length-setBytes w (setAt store (placeOf newForm g j))) so rest
     (e ∙ ap₂ (λ (m i : ℕ). overwrite (setBytes w (take m (drop i store))) (lent (w * k) out)) words p)
 
 pub sets-all : (store : List ℕ) (n g : ℕ) {w : ℕ} (old out : List ℕ) (k m : ℕ) → w ≡ setWidth n → k ≤ m → m ≤ k → Over (concat k (placedSet store w g)) old out
@@ -83,11 +81,6 @@ contents-written store n g old e = ap (λ xs. overwrite xs old) (contents-is sto
 abbrev none : ℕ → List ℕ
 none m = replicate m 0
 
-zeros : (m i : ℕ) → getD (none m) i 0 ≡ 0
-zeros zero i = refl
-zeros (suc m) zero = refl
-zeros (suc m) (suc i) = zeros m i
-
 -- over a variable, since the zeros would be written out
 module _ {store : List ℕ} {n g : ℕ} (held : LongEnough store n g) (m : ℕ) (most : contentLength newForm maxStates maxGroups ≤ m) where
   pub contents-room : contentLength newForm n g ≤ length (none m)
@@ -106,21 +99,6 @@ module _ {store : List ℕ} {n g : ℕ} (held : LongEnough store n g) (m : ℕ) 
 
 -- contents in a buffer of zeros
 module _ (bytes : List ℕ) (m : ℕ) where
-  getD-joined : (i : ℕ) → getD (overwrite bytes (none m)) i 0 ≡ getD bytes i 0
-  unfolding overwrite
-  getD-joined i =
-      let rest = drop (length bytes) (none m) in
-      ⊎-elim (λ l. List·getD-append bytes rest 0 i l)
-      (λ l.
-      let r = i - length bytes in
-      let place : length bytes + r ≡ i = omega arith in
-      ap (λ (j : ℕ). getD (bytes ++ rest) j 0) (sym place)
-      ∙ getD-append-add bytes rest r 0
-      ∙ getD-drop (length bytes) (none m) r 0
-      ∙ zeros m (length bytes + r)
-      ∙ sym (getD-past bytes i 0 l))
-      (lt-or-ge i (length bytes))
-
   block-joined : (site k : ℕ) → blockOf site (overwrite bytes (none m)) k ≡ blockOf site bytes k
   block-joined site k =
       let block = blockOf-is site bytes k in
@@ -128,7 +106,7 @@ module _ (bytes : List ℕ) (m : ℕ) where
       (record {
         long = block .long;
         holds-number = block .holds-number;
-        holds-content = λ i h. block .holds-content i h ∙ sym (getD-joined (contentBytes * k + i));
+        holds-content = λ i h. block .holds-content i h ∙ sym (getD-joined bytes m (contentBytes * k + i));
         holds-check = block .holds-check;
       })
 

@@ -42,7 +42,7 @@ module _ (X : Set) where
   pub words-more : (old out rest : List ℕ) (v : ℕ) → Over (concat v (wordsBytes X)) old out → rest ≡ overwrite (wordBytes (getD X v 0) 8) (lent (8 * v) out)
       → length (back (8 * v) out rest) ≡ length out → Over (concat (v + 1) (wordsBytes X)) old (back (8 * v) out rest)
   unfolding wordsBytes
-  words-more old = parts-more (wordsBytes X) old 8 length-wordsBytes
+  words-more old out rest v so = parts-more (wordsBytes X) old (λ j h. length-wordsBytes j) so rest
 
   set-byte : (v b : ℕ) → v < WORDS → b < 8 → getD X v 0 / 2 ^ (8 * b) % 256 ≡ number (member X) (8 * (8 * v + b)) 8
   set-byte v b h l =

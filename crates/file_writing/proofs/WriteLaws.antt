@@ -9,7 +9,8 @@ use native.Mathlib.Omega.{arith}
 use mathlib.Core.Path.{_≡_, refl, sym, ap, _∙_}
 use mathlib.Core.List.{List, [], _∷_, _++_}
 use borrow.Author.Tests.{lt-ltb}
-use lib.ListN.{set, length}
+use lib.ListN.{set, length, take, drop, length-drop}
+use lib.Seq.{length-take-le, getD-take, getD-drop}
 use Rattle.basics.specs.Bounds.{concat}
 use Rattle.basics.specs.Refusals.{refuse, answered}
 use Rattle.model.specs.Stores.{storeWords, dialogueOf, sharedGrounds}
@@ -17,7 +18,7 @@ use Rattle.model.specs.Blocks.{blockBytes, contentBytes, checkAt, maxSite, le16
 use Rattle.model.specs.Contents.{newForm, contents, contentLength}
 use Rattle.model.specs.Files.{blockFile, fileOf, fileLength}
 use Rattle.model.specs.Calls.{overwrite, outputGround, writeGrounds, writeBuffer}
-use Rattle.basics.proofs.BoundLaws.{length-tabulate, getD-tabulate}
+use Rattle.basics.proofs.BoundLaws.{length-tabulate}
 use Rattle.model.proofs.ListLaws.{overwrite-front, overwrite-set}
 use Rattle.basics.proofs.RefusalLaws.{refuse-first, refuse-append}
 use Rattle.model.proofs.BlockLaws.{checkOf-cong, block-unique, framed-is, blockOf-is}
@@ -27,9 +28,7 @@ use Rattle.model.proofs.CallLaws.{Writable, write-over, write-behind, write-ref
 use Rattle.model.proofs.Acceptance.{Store, accepted-store, store-accepted}
 use Rattle.file_writing.specs.declared.Written.the-variants.{File, Refused}
 use Rattle.file_writing.specs.WriteAnswers.{CalledWrite}
-use Rattle.file_blocks.specs.Places.{contentFrom}
 use Rattle.file_writing.specs.Writing.{LongEnough}
-use Rattle.file_blocks.proofs.BlockLaws.{length-contentFrom}
 
 -- ---- a buffer filled
 
@@ -42,17 +41,24 @@ le16-written old x h =
 
 -- ---- a block
 
-module _ (bytes : List ℕ) (k : ℕ) where
-  abbrev pub blockFront : List ℕ
-  blockFront = le16 k ++ contentFrom bytes (contentBytes * k) contentBytes
+module _ (bytes : List ℕ) (k : ℕ) (inside : contentBytes * k + contentBytes ≤ length bytes) where
+  abbrev rest : List ℕ
+  rest = drop (contentBytes * k) bytes
+
+  abbrev blockFront : List ℕ
+  blockFront = le16 k ++ take contentBytes rest
+
+  length-content : length (take contentBytes rest) ≡ contentBytes
+  length-content = length-take-le contentBytes rest (omega (arith, length-drop (contentBytes * k) bytes))
 
   pub length-blockFront : length blockFront ≡ checkAt
-  length-blockFront = omega (arith, length-contentFrom bytes (contentBytes * k) contentBytes)
+  length-blockFront = omega (arith, length-content)
 
   blockFront-is : (site : ℕ) → blockFront ++ le16 (checkOf site blockFront) ≡ blockOf site bytes k
-  unfolding contentFrom
   blockFront-is site =
-      block-unique (framed-is site bytes k (contentFrom bytes (contentBytes * k) contentBytes) (length-contentFrom bytes (contentBytes * k) contentBytes) (λ i h. getD-tabulate _ contentBytes i 0 h)) (blockOf-is site bytes k)
+      block-unique
+      (framed-is site bytes k (take contentBytes rest) length-content (λ i h. getD-take contentBytes rest i 0 h ∙ getD-drop (contentBytes * k) bytes i 0))
+      (blockOf-is site bytes k)
 
   -- with the check taken of the buffer
   pub block-written : (site : ℕ) (old out : List ℕ) (check : ℕ) → out ≡ overwrite blockFront old → check ≡ checkOf site out

@@ -7,8 +7,10 @@
 --   by-block                                  a place in a block, by cases
 --   block-number, block-check                 it passes read's tests
 --   is-block, blockOf-is                      what passes them is such a block; blockOf makes it
+--   getD-filled                               a list filled with zeros
 --   framed, framed-is                         so are the bytes of a content between their number and their check
 --   length-part, getD-part, part-bounded      the blocks of an input; concat-part: joined, they are the input
+--   contents-wide                             the contents of a block of it
 --   length-contentsOf, getD-contentsOf(-at)   the contents of an input, by block and by place; contentsOf-bounded
 use Prim.Native.Nat.{ℕ, zero, suc, _+_, _*_, _-_, _/_, _%_, _<_}
 use native.Mathlib.Nat.{add-zero, zero-add, div-add-mod}
@@ -121,7 +123,7 @@ is-block site bytes k block long u number check content =
     }
 
 -- a list filled with zeros
-getD-filled : (xs : List ℕ) (m i : ℕ) → getD (xs ++ replicate m 0) i 0 ≡ getD xs i 0
+pub getD-filled : (xs : List ℕ) (m i : ℕ) → getD (xs ++ replicate m 0) i 0 ≡ getD xs i 0
 getD-filled [] zero i = refl
 getD-filled [] (suc m) zero = refl
 getD-filled [] (suc m) (suc i) = getD-filled [] m i
@@ -178,7 +180,7 @@ module _ (input : List ℕ) where
       ∙ concat-parts input 0 blockBytes (length input / blockBytes)
       ∙ take-all (blockBytes * (length input / blockBytes)) input (omega arith)
 
-  contents-wide : Wide (length input / blockBytes) contentBytes (λ k. take contentBytes (drop contentAt (part input k)))
+  pub contents-wide : Wide (length input / blockBytes) contentBytes (λ k. take contentBytes (drop contentAt (part input k)))
   contents-wide k h = length-take-le contentBytes (drop contentAt (part input k)) (omega (arith, length-drop contentAt (part input k), length-part k h))
 
   pub length-contentsOf : length (contentsOf input) ≡ contentBytes * (length input / blockBytes)

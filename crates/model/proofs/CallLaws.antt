@@ -6,6 +6,7 @@
 --   write-answer, write-buffer                  the answer and the output where nothing is refused
 --   second-pass, second-passes                  ground 15 of a file: the test and the facts
 --   Readable                                    no ground of read holds of a file with a block, and n and g are those of the input
+--   blocks-numbered                             the grounds of the blocks have numbers
 --   blocks-clear                                no ground of the blocks holds, if nothing is refused
 --   clear-block, right-block                    no ground of a block holds exactly if its number and its check are right
 --   read-over                                   a site over the greatest; behind-length: the grounds of a file behind 11
@@ -133,7 +134,7 @@ module _ (site : ℕ) (block : List ℕ) (k : ℕ) where
   unfolding blockGrounds
   right-block p q = (ap not (eq-eqb (le16At block 0) k p), (ap not (eq-eqb (le16At block checkAt) (checkOf site block) q), tt))
 
-blocks-numbered : (input : List ℕ) (site : ℕ) → numbered (blocksGrounds input site) ≡ true
+pub blocks-numbered : (input : List ℕ) (site : ℕ) → numbered (blocksGrounds input site) ≡ true
 unfolding blocksGrounds blockGrounds
 blocks-numbered input site = numbered-concat (λ k. blockGrounds site (part input k) k) (λ k. refl) (length input / blockBytes)
 

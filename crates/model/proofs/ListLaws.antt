@@ -9,10 +9,10 @@
 --   tabulate-next, concat-next                one more, for a loop; concat-cong: the same lists joined
 --   concat-parts                              the parts of a list joined
 --   length-overwrite, take-overwrite          a buffer written over: its length and its front; drop-overwrite: the rest
---   overwrite-front                           its first elements
+--   overwrite-front, overwrite-behind         its first elements, and those behind them
 --   overwrite-append, overwrite-more          written over in two parts, the second where the buffer is lent from there on
 --   overwrite-set                             one element more
-use Prim.Native.Nat.{ℕ, zero, suc, _+_, _*_, _/_, _%_, _≤_, _<_}
+use Prim.Native.Nat.{ℕ, zero, suc, _+_, _*_, _-_, _/_, _%_, _≤_, _<_}
 use native.Mathlib.Nat.{not-suc-le-zero, zero-mul, mul-zero, mul-suc, mul-comm, mul-le-mul-left, le-of-eq, div-lt-iff-lt-mul, mod-lt, eq-zero-or-pos}
 use native.Mathlib.Numerals.{add-one}
 use native.Mathlib.Omega.{arith}
@@ -130,6 +130,16 @@ module _ (xs old : List ℕ) where
   pub overwrite-front : (i d : ℕ) → i < length xs → getD (overwrite xs old) i d ≡ getD xs i d
   unfolding overwrite
   overwrite-front i d h = List·getD-append xs (drop (length xs) old) d i h
+
+  pub overwrite-behind : (i d : ℕ) → length xs ≤ i → getD (overwrite xs old) i d ≡ getD old i d
+  unfolding overwrite
+  overwrite-behind i d h =
+      let r = i - length xs in
+      let place : length xs + r ≡ i = omega arith in
+      ap (λ (j : ℕ). getD (overwrite xs old) j d) (sym place)
+      ∙ getD-append-add xs (drop (length xs) old) r d
+      ∙ getD-drop (length xs) old r d
+      ∙ ap (λ (j : ℕ). getD old j d) place
 
   pub overwrite-append : (ys : List ℕ) → overwrite (xs ++ ys) old ≡ xs ++ overwrite ys (drop (length xs) old)
   unfolding overwrite

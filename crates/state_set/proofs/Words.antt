@@ -6,6 +6,7 @@
 --   Filling Z X w xs           xs is X with its first w words replaced by those of Z: the invariant of each loop that makes a set Z
 --   filling-none, filling-at, filling-more, filling-all     before the first turn; the word to come; one turn; after the last
 --   Wordwise f op              f acts on words as op does on their bits: or-wise, and-wise, and-not-wise
+--   wordwise-word              so on the words of two sets
 --   Combining op X Y w xs      xs is X with its first w words combined with those of Y, by an operation that is wordwise op
 --   combining-none, combining-more, combining-all     before the first turn; one turn; after the last, the states that pass op
 --   with-bit, with-past        the union with one state; without-bit: the difference with one
@@ -150,7 +151,7 @@ pub record Combining (op : Bool → Bool → Bool) (X Y : Set) (w : ℕ) (xs : S
 pub combining-none : (op : Bool → Bool → Bool) (X Y : Set) → Proper X → Proper Y → Combining op X Y 0 X
 combining-none op X Y x y = record { left = x; right = y; filling = filling-none _ X (setOf-proper _ .long) (x .long) }
 
-wordwise-word : {f : ℕ → ℕ → ℕ} {op : Bool → Bool → Bool} → Wordwise f op → (X Y : Set) → Proper X → Proper Y → (w : ℕ) → w < WORDS
+pub wordwise-word : {f : ℕ → ℕ → ℕ} {op : Bool → Bool → Bool} → Wordwise f op → (X Y : Set) → Proper X → Proper Y → (w : ℕ) → w < WORDS
     → f (getD X w 0) (getD Y w 0) ≡ getD (setOf (both op X Y)) w 0
 wordwise-word {f} {op} wise X Y x y w h =
     word-is (both op X Y) w h (f (getD X w 0) (getD Y w 0)) (wise .fits _ _ (x .fits w h) (y .fits w h))

@@ -7,7 +7,7 @@
 --   lent, back                       the rest of a buffer from a place on, which is lent; the buffer, with what came back in its place
 --   lent-back                        a buffer whose rest was lent and written over
 --   overwrite-lent                   so more is written behind what stands at the front
---   parts-none, parts-more, parts-all   a loop that lends the rest and writes the lists f 0, f 1, .. of w elements there, each behind those before it
+--   parts-none, parts-put, parts-all    a loop that writes the lists f 0, f 1, .. of w elements, each behind those before it; parts-more: in the rest, lent
 use Prim.Native.Nat.{ℕ, _+_, _*_, _-_, _≤_, _<_}
 use native.Mathlib.Nat.{le-antisymm}
 use native.Mathlib.Omega.{arith}
@@ -19,7 +19,7 @@ use lib.Seq.{ext-getD, take-all}
 use Rattle.basics.specs.Bounds.{tabulate, concat}
 use Rattle.model.specs.Calls.{overwrite}
 use Rattle.basics.proofs.BoundLaws.{length-tabulate, getD-tabulate}
-use Rattle.model.proofs.ListLaws.{tabulate-next, length-concat, concat-next, overwrite-more, overwrite-set}
+use Rattle.model.proofs.ListLaws.{tabulate-next, Wide, length-concat, concat-next, overwrite-more, overwrite-set}
 use Rattle.table.specs.Writing.{overwriteFrom}
 
 pub record Over (xs old out : List ℕ) : Type 0 where
@@ -85,15 +85,22 @@ module _ (f : ℕ → List ℕ) (old : List ℕ) where
   unfolding concat overwrite
   parts-none = record { long = refl; is = refl }
 
-  pub parts-more : (w : ℕ) → ((k : ℕ) → length (f k) ≡ w) → (out rest : List ℕ) (k : ℕ) → Over (concat k f) old out → rest ≡ overwrite (f k) (lent (w * k) out)
-      → length (back (w * k) out rest) ≡ length out → Over (concat (k + 1) f) old (back (w * k) out rest)
-  parts-more w wide out rest k so e long =
-      record {
-        long = long ∙ so .long;
-        is =
-            overwrite-lent (concat k f) (f k) old out rest (w * k) (length-concat f w k (λ j h. wide j)) (so .is) e
-            ∙ ap (λ xs. overwrite xs old) (sym (concat-next f k));
-      }
+  module _ {w k : ℕ} (wide : Wide k w f) {out : List ℕ} (so : Over (concat k f) old out) where
+    pub parts-put : {next : List ℕ} → next ≡ overwriteFrom (w * k) (f k) out → length next ≡ length out → Over (concat (k + 1) f) old next
+    unfolding overwriteFrom
+    parts-put e long =
+        record {
+          long = long ∙ so .long;
+          is =
+              e
+              ∙ ap (overwriteFrom (w * k) (f k)) (so .is)
+              ∙ overwrite-more (concat k f) old (f k) (w * k) (length-concat f w k wide)
+              ∙ ap (λ xs. overwrite xs old) (sym (concat-next f k));
+        }
+
+    pub parts-more : (rest : List ℕ) → rest ≡ overwrite (f k) (lent (w * k) out) → length (back (w * k) out rest) ≡ length out
+        → Over (concat (k + 1) f) old (back (w * k) out rest)
+    parts-more rest e = parts-put (lent-back (w * k) out rest (f k) e)
 
   pub parts-all : (out : List ℕ) (k m : ℕ) → k ≤ m → m ≤ k → Over (concat k f) old out → out ≡ overwrite (concat m f) old
   parts-all = over-all (λ k. concat k f) old

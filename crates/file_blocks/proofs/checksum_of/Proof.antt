@@ -10,7 +10,7 @@ use Rattle.file_blocks.proofs.checksum_of.Statement.{statement}
 use Rattle.file_blocks.proofs.checksum_of.Tie as tie
 
 abbrev Inv-loop : tie.InvT-loop
-Inv-loop block site sum₀ i₀ sum i = Summing (λ j. site + weighted block j) (maxSite + 2 * (lanes * laneMost * lanes)) (checkAt * byteMost) checkAt sum i
+Inv-loop block site sum₀ i₀ sum i = Summing (λ j. site + weighted block j) (maxSite + 2 * lanes * laneMost * lanes) (checkAt * byteMost) checkAt sum i
 
 abbrev μ-loop : tie.MeasureT-loop
 μ-loop block site sum₀ i₀ sum i = checkAt - i

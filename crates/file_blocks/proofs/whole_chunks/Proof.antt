@@ -1,9 +1,9 @@
 -- `whole_chunks`: the chunks passed are in the lanes.
-use Prim.Native.Nat.{ℕ, _+_, _*_, _-_}
+use Prim.Native.Nat.{_-_}
 use native.Mathlib.Omega.{arith}
-use mathlib.Core.Path.{ap₂, _∙_}
+use mathlib.Core.Path.{_∙_}
 use borrow.Author.Needs.{needs}
-use Rattle.file_blocks.specs.Lanes.{lanes, chunks}
+use Rattle.file_blocks.specs.Lanes.{chunks}
 use Rattle.file_blocks.proofs.Lanes.{most-up}
 use Rattle.file_blocks.proofs.Chunks.{Chunked, chunk-none, chunk-more, chunk-all}
 use Rattle.file_blocks.proofs.whole_chunks.Statement.{statement}
@@ -32,12 +32,5 @@ whole-chunks-spec =
     (λ c.
     chunk-more (c .before .before .before .before .before .before .loop .inv) (search needs) (c .before .before .add-lanes .ensures) (c .add-bytes .ensures .0)
     (c .add-bytes .ensures .1))
-    (λ c. search needs)
     (λ c κs. search needs)
-    (λ c. search needs)
-    (λ c κs. search needs)
-    (λ c. search needs)
-    (λ c. (
-      ap₂ (λ (a b : ℕ). lanes * a + b) (c .before .before .total .ensures .0) (c .weighted .ensures .0) ∙ chunk-all (c .before .before .before .before .before .loop .inv) (search needs),
-      omega (arith, c .before .before .total .ensures .1, c .weighted .ensures .1),
-    )))
+    (λ c. (c .lanes-sum .ensures .0 ∙ chunk-all (c .before .before .before .before .loop .inv) (search needs), search needs)))

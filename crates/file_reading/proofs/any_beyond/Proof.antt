@@ -26,7 +26,7 @@ any-beyond-spec =
     (λ c κs. search needs)
     (λ c κs. search needs)
     (λ c. (search needs, any-start _))
-    (λ c κs. (set-inside (c .before .before .before .before .before .pre .0) (c .before .before .before .set-width .ensures) (search needs), search needs, search needs))
+    (λ c κs. (set-inside (search needs) (c .before .before .before .set-width .ensures) (search needs) (search needs), search needs, search needs, search needs))
     (λ c.
     let turn = c .before .before in
     sym

@@ -1,7 +1,5 @@
--- `fill`: all words 0, then the sets.
-use mathlib.Core.Path.{ap, _∙_}
+-- `fill`: the three parts of the store, one behind the other.
 use borrow.Author.Needs.{needs}
-use Rattle.file_reading.specs.Reading.{fillSets}
 use Rattle.file_reading.proofs.Filling.{filled}
 use Rattle.file_reading.proofs.fill.Statement.{statement}
 use Rattle.file_reading.proofs.fill.Tie as tie
@@ -13,7 +11,17 @@ fill-spec =
     (λ c κs. search needs)
     (λ c κs. search needs)
     (λ c. search needs)
+    (λ c. search needs)
+    (λ c. search needs)
+    (λ c κs. search needs)
+    (λ c. search needs)
+    (λ c. search needs)
+    (λ c. search needs)
+    (λ c. search needs)
+    (λ c κs. search needs)
+    (λ c. search needs)
     (λ c.
-    let sets = c .before .before in
-    let zeros = sets .before .before .before .before in
-    sets .fill-sets .ensures ∙ ap (fillSets _ _ _ _ _) (zeros .clear .ensures) ∙ filled _ _ _ _ (search needs) (search needs) _ (search needs)))
+    let rows = c .before .before in
+    let groups = rows .before .before .before .before in
+    let heads = groups .before .before .before .before in
+    filled _ (heads .before .before .head-sets .ensures .0) _ _ _ _ (heads .fill-sets .ensures) (groups .fill-sets2 .ensures) (rows .fill-sets3 .ensures)))

@@ -1,20 +1,18 @@
--- `join`: the contents of the blocks passed are joined.
-use Prim.Native.Nat.{_/_, _-_, _≤_}
+-- `join`: the blocks passed have no fault, and their contents are joined.
+use Prim.Native.Nat.{_/_, _-_}
+use native.Mathlib.Omega.{arith}
 use borrow.Author.Needs.{needs}
-use lib.ListN.{length}
-use Rattle.basics.specs.Bounds.{concat}
-use Rattle.model.specs.Blocks.{blockBytes, contentBytes}
-use Rattle.file_blocks.proofs.BlockLaws.{length-contentFrom}
-use Rattle.table.proofs.Overwriting.{Over, parts-none, parts-more}
-use Rattle.file_reading.proofs.Joining.{blockContent, joining-all}
+use lib.ListN.{length, length-take, length-drop}
+use Rattle.model.specs.Blocks.{blockBytes}
+use Rattle.file_reading.proofs.Joining.{Joining, joining-none, joining-stop, joining-more, joining-all}
 use Rattle.file_reading.proofs.join.Statement.{statement}
 use Rattle.file_reading.proofs.join.Tie as tie
 
 abbrev Inv-loop : tie.InvT-loop
-Inv-loop input out₀ k₀ k-end out k = (k ≤ length input / blockBytes) × Over (concat k (blockContent input)) out₀ out
+Inv-loop input site out₀ k₀ k-end out k = Joining input site k out₀ out
 
 abbrev μ-loop : tie.MeasureT-loop
-μ-loop input out₀ k₀ k-end out k = length input / blockBytes - k
+μ-loop input site out₀ k₀ k-end out k = length input / blockBytes - k
 
 pub join-spec : {M : Type 1} → statement M
 join-spec =
@@ -22,8 +20,15 @@ join-spec =
     (tie.spec
     Inv-loop
     μ-loop
-    (λ c. (search needs, parts-none _ _))
+    (λ c. joining-none _ _ _)
     (λ c. search needs)
+    (λ c. search needs)
+    (λ c. search needs)
+    (λ c. search needs)
+    (λ c. search needs)
+    (λ c κs. simp (length-take, length-drop) (omega (arith, c .before .loop-test .taken)))
+    (λ c. search needs)
+    (λ c. joining-stop (c .before .before .before .before .loop .inv) (search needs) (c .before .block-fault .ensures) (c .if1 .taken))
     (λ c. search needs)
     (λ c. search needs)
     (λ c. search needs)
@@ -32,6 +37,8 @@ join-spec =
     (λ c κs. search needs)
     (λ c. search needs)
     (λ c. search needs)
-    (λ c. (search needs, parts-more _ _ contentBytes (λ j. length-contentFrom _ _ contentBytes) _ _ _ (c .before .before .before .before .before .loop .inv .1) (c .before .before .copy-content .ensures) (search needs)))
+    (λ c.
+    let clear = c .before .before .before .before in
+    joining-more (clear .before .before .before .before .loop .inv) (search needs) (clear .before .block-fault .ensures) _ (clear .if1 .left) (c .before .before .copy-content .ensures) (search needs))
     (λ c. search needs)
-    (λ c. joining-all _ _ _ (search needs) (search needs) (c .before .loop .inv .1)))
+    (λ c. joining-all (c .before .loop .inv) (search needs)))

@@ -28,5 +28,6 @@ write-block-spec =
     let sum = check .before .before in
     let content = sum .before .before .before .before in
     let number = content .before .before .before .before in
+    let inside = number .before .before .before .before .pre .0 in
     let front = overwrite-lent _ _ _ _ _ 2 refl (number .write-le16 .ensures) (content .copy-content .ensures) in
-    overwrite-lent _ _ _ _ _ checkAt (length-blockFront _ _) front (check .write-le162 .ensures) ∙ block-written _ _ _ _ _ _ front (sum .checksum-of .ensures)))
+    overwrite-lent _ _ _ _ _ checkAt (length-blockFront _ _ inside) front (check .write-le162 .ensures) ∙ block-written _ _ inside _ _ _ _ front (sum .checksum-of .ensures)))

@@ -2,7 +2,7 @@
 use Prim.Native.Nat.{_-_, _≤_}
 use borrow.Author.Needs.{needs}
 use Rattle.basics.specs.Bounds.{concat}
-use Rattle.model.specs.Blocks.{blockBytes, blockOf}
+use Rattle.model.specs.Blocks.{blockOf}
 use Rattle.model.proofs.BlockLaws.{blockOf-is}
 use Rattle.table.proofs.Overwriting.{Over, parts-none, parts-more, parts-all}
 use Rattle.file_writing.proofs.write_blocks.Statement.{statement}
@@ -28,6 +28,6 @@ write-blocks-spec =
     (λ c κs. search needs)
     (λ c. search needs)
     (λ c. search needs)
-    (λ c. (search needs, parts-more _ _ blockBytes (λ j. (blockOf-is _ _ j) .long) _ _ _ (c .before .before .before .before .before .loop .inv .1) (c .before .before .write-block .ensures) (search needs)))
+    (λ c. (search needs, parts-more _ _ (λ j l. (blockOf-is _ _ j) .long) (c .before .before .before .before .before .loop .inv .1) _ (c .before .before .write-block .ensures) (search needs)))
     (λ c. search needs)
     (λ c. parts-all _ _ _ _ _ (search needs) (search needs) (c .before .loop .inv .1)))

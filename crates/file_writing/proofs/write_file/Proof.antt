@@ -1,7 +1,7 @@
 -- `write_file`: the contents joined, in blocks.
 use native.Mathlib.Omega.{arith}
 use borrow.Author.Needs.{needs}
-use Rattle.file_blocks.proofs.BlockLaws.{contentsRoom}
+use Rattle.file_blocks.specs.Places.{joinedRoom}
 use Rattle.file_writing.proofs.Joining.{contents-room, length-joined, blocks-joined}
 use Rattle.file_writing.proofs.write_file.Statement.{statement}
 use Rattle.file_writing.proofs.write_file.Tie as tie
@@ -11,11 +11,11 @@ write-file-spec =
     tie.close
     (tie.spec
     (λ c. search needs)
-    (λ c κs. (c .before .before .before .pre .0, contents-room (c .before .before .before .pre .0) contentsRoom (omega arith)))
+    (λ c κs. (c .before .before .before .pre .0, contents-room (c .before .before .before .pre .0) joinedRoom (omega arith)))
     (λ c. search needs)
     (λ c κs.
     let join = c .before .before .before in
     let pre = join .before .before .before .before .pre in
-    (omega (arith, pre .2, length-joined (pre .0) contentsRoom (omega arith) (join .join .ensures)), pre .1, omega (arith, pre .2), search needs))
+    (omega (arith, pre .2, length-joined (pre .0) joinedRoom (omega arith) (join .join .ensures)), pre .1, omega (arith, pre .2), search needs))
     (λ c. search needs)
-    (λ c. blocks-joined _ contentsRoom _ _ _ _ (c .before .before .before .before .before .before .join .ensures) (c .before .before .write-blocks .ensures)))
+    (λ c. blocks-joined _ joinedRoom _ _ _ _ (c .before .before .before .before .before .before .join .ensures) (c .before .before .write-blocks .ensures)))
