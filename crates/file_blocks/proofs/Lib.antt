@@ -1,5 +1,4 @@
 pub mod BlockLaws
 mod Chunks
 mod Lanes
-pub mod Places
 mod Summing

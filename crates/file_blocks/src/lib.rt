@@ -14,23 +14,19 @@
 //   lanes_sum, wide_lane                     the weighted sum that two rows stand for; a lane as a 32-bit number
 //   set_width, set_count                     the bytes of a set, and how many sets there are
 //   content_length, blocks_for               the bytes of the contents (L), and the blocks that hold so many
-//   place_of                                 where a set of the file begins in the store
 ghost use Prim.Native.Nat.{_+_, _*_, _≤_, _<_};
 ghost use mathlib.Core.Path.{_≡_};
 ghost use lib.ListN.{length, take, drop};
-ghost use Rattle.model.specs.Sets.{WORDS, maxStates};
-ghost use Rattle.model.specs.Stores.{headSets, maxGroups, storeWords};
+ghost use Rattle.model.specs.Sets.{maxStates};
+ghost use Rattle.model.specs.Stores.{headSets, maxGroups};
 ghost use Rattle.model.specs.Blocks.{contentBytes, checkAt, maxSite, le16At, blocksFor, weighted, checkOf};
 ghost use Rattle.model.specs.Contents.{newForm, heads, added, setWidth, contentLength};
 ghost use Rattle.model.specs.Calls.{overwrite};
 ghost use Rattle.file_blocks.specs.Lanes.{lanes, chunks, byteMost, laneMost, lanesSum, plus, Most};
-ghost use Rattle.file_blocks.specs.Places.{formOf, placeOf};
+ghost use Rattle.file_blocks.specs.Forms.{formOf};
 use state_set::MAX_STATES;
-use state_set::WORDS;
-use table::GROUPS_AT;
 use table::HEAD_SETS;
 use table::MAX_GROUPS;
-use table::ROWS_AT;
 
 pub const BLOCK: usize = 512;
 
@@ -202,19 +198,4 @@ pub fn blocks_for(l: usize) -> usize
     ensures { λ r. ⌜ r ≡ blocksFor l ⌝ }
 {
     (l + CONTENT_BYTES - 1) / CONTENT_BYTES
-}
-
-// Where set k of the file begins in the store.
-pub fn place_of(form: Form, g: usize, k: usize) -> usize
-    requires { ⌜ (g ≤ maxGroups) × (k < heads (formOf form) + g + maxStates) ⌝ }
-    ensures { λ r. ⌜ (r ≡ placeOf (formOf form) g k) × (r + WORDS ≤ storeWords) ⌝ }
-{
-    let heads = head_sets(form);
-    if k < heads {
-        return WORDS * k;
-    }
-    if k < heads + g {
-        return GROUPS_AT + WORDS * (k - heads);
-    }
-    ROWS_AT + WORDS * (k - (heads + g))
 }

@@ -33,7 +33,7 @@ use Rattle.basics.proofs.BoundLaws.{or-left, or-right, or-none}
 use Rattle.basics.proofs.RefusalLaws.{First, numberAt, refuse-first, Clear, numbered, refuse-clear, answer-refused, answer-clear, answer-behind}
 use Rattle.model.proofs.CallLaws.{draft-says}
 use Rattle.model.proofs.Drafts.{draft-layout}
-use Rattle.file_blocks.specs.Places.{joinedRoom}
+use Rattle.file_blocks.specs.Forms.{joinedRoom}
 use Rattle.file_blocks.proofs.BlockLaws.{getD-joined}
 use Rattle.table.specs.Writing.{cleared}
 use Rattle.file_reading.specs.declared.TableRead.the-variants.{Table, Refused}

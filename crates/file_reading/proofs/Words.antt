@@ -21,7 +21,7 @@ use Rattle.model.specs.Stores.{headSets, maxGroups}
 use Rattle.model.specs.Contents.{setWidth, headerBytes, setIn}
 use Rattle.model.proofs.SetLaws.{number-lt, setOf-cong, member-setOf, Proper}
 use Rattle.model.proofs.ContentLaws.{number-append, word-number, number-setIn, setIn-proper}
-use Rattle.file_blocks.specs.Places.{joinedRoom}
+use Rattle.file_blocks.specs.Forms.{joinedRoom}
 use Rattle.state_set.proofs.Words.{and-wise, wordwise-word}
 
 pub set-inside : {n width k room : ℕ} → n ≤ maxStates → width ≡ setWidth n → k < headSets + maxGroups + maxStates → joinedRoom ≤ room

@@ -23,7 +23,7 @@ use Rattle.model.specs.Stores.{headSets, maxGroups, layout, beyond, nonZero}
 use Rattle.model.specs.Blocks.{contentBytes, blocksFor, contentsOf}
 use Rattle.model.specs.Contents.{Form, heads, added, contentLength, setNumber, dialogueIn}
 use Rattle.model.specs.Calls.{TableRead as ReadAnswer, overwrite, statesIn, groupsIn, badSecond, blocksGrounds, fileGrounds}
-use Rattle.file_blocks.specs.Places.{joinedRoom}
+use Rattle.file_blocks.specs.Forms.{joinedRoom}
 use Rattle.file_reading.specs.declared.TableRead.{TableRead}
 use Rattle.file_reading.specs.ReadAnswers.{readOf}
 

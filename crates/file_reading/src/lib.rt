@@ -18,7 +18,7 @@ ghost use Rattle.model.specs.Stores.{storeWords, layout, beyond, nonZero};
 ghost use Rattle.model.specs.Blocks.{blockBytes, contentBytes, maxSite, blockGrounds};
 ghost use Rattle.model.specs.Contents.{heads, setWidth, headerBytes, setIn, setNumber, dialogueIn};
 ghost use Rattle.model.specs.Calls.{overwrite};
-ghost use Rattle.file_blocks.specs.Places.{formOf, joinedRoom};
+ghost use Rattle.file_blocks.specs.Forms.{formOf, joinedRoom};
 ghost use Rattle.file_reading.specs.Reading.{TableInside, PartInside, ReadsFile, ReadsContents, Joined, partSet};
 ghost use Rattle.file_reading.specs.ReadAnswers.{CalledReadAs, CalledRead, CalledReadOld};
 use file_blocks::BLOCK;

@@ -22,34 +22,33 @@ use Rattle.model.proofs.ListLaws.{concat-cong, length-overwrite}
 use Rattle.model.proofs.BlockLaws.{block-unique, blockOf-is}
 use Rattle.model.proofs.ContentLaws.{length-setBytes, heads-each, length-sets, sets-each, length-contents}
 use Rattle.model.proofs.StoreLaws.{dialogueOf-row}
-use Rattle.file_blocks.specs.Places.{placeOf}
-use Rattle.file_writing.specs.Writing.{LongEnough, placedSet}
+use Rattle.file_writing.specs.Writing.{LongEnough, placeOf, placedSet}
 use Rattle.file_blocks.proofs.BlockLaws.{contents-le, getD-joined}
-use Rattle.file_blocks.proofs.Places.{head-place, group-place, row-place}
+use Rattle.file_writing.proofs.Places.{head-place, group-place, row-place}
 use Rattle.table.proofs.Overwriting.{Over, lent, back, parts-more, parts-all}
 
 -- ---- set k of the file, in the store
 
-set-place : (store : List ℕ) (n g k : ℕ) → k < headSets + g + n → getD (sets newForm (dialogueOf store n g)) k [] ≡ setAt store (placeOf newForm g k)
+set-place : (store : List ℕ) (n g k : ℕ) → k < headSets + g + n → getD (sets newForm (dialogueOf store n g)) k [] ≡ setAt store (placeOf g k)
 unfolding dialogueOf
 set-place store n g =
-    let At : ℕ → Set → Type 0 = λ k X. X ≡ setAt store (placeOf newForm g k) in
-    let head : (k p : ℕ) → k < headSets → WORDS * k ≡ p → At k (setAt store p) = λ k p h e. ap (setAt store) (head-place newForm g k h (sym e)) in
+    let At : ℕ → Set → Type 0 = λ k X. X ≡ setAt store (placeOf g k) in
+    let head : (k p : ℕ) → k < headSets → WORDS * k ≡ p → At k (setAt store p) = λ k p h e. ap (setAt store) (head-place g k h (sym e)) in
     sets-each newForm (dialogueOf store n g) (length-tabulate _ g) At
     (heads-each newForm (dialogueOf store n g) At (head 0 0 (omega arith) refl) (head 1 markedAt (omega arith) refl) (λ l. head 2 restingAt (omega arith) refl))
-    (λ j h. getD-tabulate _ g j [] h ∙ ap (setAt store) (group-place newForm g (headSets + j) (omega arith) (omega arith) (omega arith)))
-    (λ s h. dialogueOf-row store n g s h ∙ ap (setAt store) (row-place newForm g (headSets + g + s) (omega arith) (omega arith)))
+    (λ j h. getD-tabulate _ g j [] h ∙ ap (setAt store) (group-place g (headSets + j) (omega arith) (omega arith) (omega arith)))
+    (λ s h. dialogueOf-row store n g s h ∙ ap (setAt store) (row-place g (headSets + g + s) (omega arith) (omega arith)))
 
 -- ---- the contents
 
 -- one set more, from the part of the store that is lent for it
-pub sets-more : (store : List ℕ) (w g : ℕ) (old out rest : List ℕ) (k : ℕ) {a : ℕ} → a ≡ placeOf newForm g k → Over (concat k (placedSet store w g)) old out
+pub sets-more : (store : List ℕ) (w g : ℕ) (old out rest : List ℕ) (k : ℕ) {a : ℕ} → a ≡ placeOf g k → Over (concat k (placedSet store w g)) old out
     → rest ≡ overwrite (setBytes w (take (a + WORDS - a) (drop a store))) (lent (w * k) out)
     → length (back (w * k) out rest) ≡ length out → Over (concat (k + 1) (placedSet store w g)) old (back (w * k) out rest)
 unfolding placedSet setAt
 sets-more store w g old out rest k {a} p so e =
     let words : a + WORDS - a ≡ WORDS = omega arith in
-    parts-more (placedSet store w g) old (λ j h. length-setBytes w (setAt store (placeOf newForm g j))) so rest
+    parts-more (placedSet store w g) old (λ j h. length-setBytes w (setAt store (placeOf g j))) so rest
     (e ∙ ap₂ (λ (m i : ℕ). overwrite (setBytes w (take m (drop i store))) (lent (w * k) out)) words p)
 
 pub sets-all : (store : List ℕ) (n g : ℕ) {w : ℕ} (old out : List ℕ) (k m : ℕ) → w ≡ setWidth n → k ≤ m → m ≤ k → Over (concat k (placedSet store w g)) old out

@@ -1,3 +1,4 @@
 pub mod SetBytes
+pub mod Places
 pub mod Joining
 pub mod WriteLaws

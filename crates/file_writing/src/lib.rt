@@ -3,6 +3,7 @@
 //   Written, write                 the file at the front of the output and its length, or why it is refused
 //   write_file                     the file: the contents joined, then its blocks
 //   join, join_sets                the contents; the sets, which stand behind the header
+//   place_of                       where a set of the file begins in the store
 //   put_set, put_words, put_bytes  the bytes of a set; of its first words; the lowest of a word
 //   write_blocks, write_block      the first so many blocks; one block: its number, its content, its check
 //   write_le16                     a two-byte number, low byte first
@@ -13,12 +14,12 @@ ghost use mathlib.Core.Path.{_≡_};
 ghost use lib.ListN.{length};
 ghost use Rattle.model.specs.Sets.{WORDS, maxStates};
 ghost use Rattle.basics.specs.Bounds.{concat};
-ghost use Rattle.model.specs.Stores.{headSets, maxGroups, dialogueOf};
+ghost use Rattle.model.specs.Stores.{headSets, maxGroups, storeWords, dialogueOf};
 ghost use Rattle.model.specs.Blocks.{blockBytes, contentBytes, maxSite, le16, blocksFor, blockOf};
 ghost use Rattle.model.specs.Contents.{newForm, setWidth, setBytes, contents, contentLength};
 ghost use Rattle.model.specs.Calls.{overwrite};
 ghost use Rattle.file_writing.specs.WriteAnswers.{CalledWrite};
-ghost use Rattle.file_writing.specs.Writing.{LongEnough, wordBytes, wordsBytes, placedSet};
+ghost use Rattle.file_writing.specs.Writing.{LongEnough, wordBytes, wordsBytes, placeOf, placedSet};
 use file_blocks::BLOCK;
 use file_blocks::CHECK_AT;
 use file_blocks::CONTENT_AT;
@@ -32,10 +33,12 @@ use file_blocks::blocks_for;
 use file_blocks::checksum_of;
 use file_blocks::content_length;
 use file_blocks::copy_content;
-use file_blocks::place_of;
 use file_blocks::set_count;
 use file_blocks::set_width;
 use state_set::WORDS;
+use table::GROUPS_AT;
+use table::HEAD_SETS;
+use table::ROWS_AT;
 use table::STORE_WORDS;
 use table::refusal;
 
@@ -99,11 +102,25 @@ fn join_sets(store: &[u64], n: usize, g: usize, out: &mut [u8])
 {
     let width = set_width(n);
     for k in 0..set_count(Form::New, n, g) {
-        let a = place_of(Form::New, g, k);
+        let a = place_of(g, k);
         let e = a + WORDS;
         let at = width * k;
         put_set(&store[a..e], width, &mut out[at..]);
     }
+}
+
+// Where set k of the file begins in the store.
+fn place_of(g: usize, k: usize) -> usize
+    requires { ⌜ (g ≤ maxGroups) × (k < headSets + g + maxStates) ⌝ }
+    ensures { λ r. ⌜ (r ≡ placeOf g k) × (r + WORDS ≤ storeWords) ⌝ }
+{
+    if k < HEAD_SETS {
+        return WORDS * k;
+    }
+    if k < HEAD_SETS + g {
+        return GROUPS_AT + WORDS * (k - HEAD_SETS);
+    }
+    ROWS_AT + WORDS * (k - (HEAD_SETS + g))
 }
 
 // The first `width` bytes of a set: its whole words, and what is left of one.

@@ -12,7 +12,7 @@ use Rattle.model.specs.Blocks.{blocksFor}
 use Rattle.model.specs.Contents.{contentLength}
 use Rattle.model.specs.Calls.{badSecond}
 use Rattle.model.proofs.CallLaws.{second-pass}
-use Rattle.file_blocks.specs.Places.{formOf}
+use Rattle.file_blocks.specs.Forms.{formOf}
 use Rattle.file_reading.specs.Reading.{bytesGrounds}
 use Rattle.file_reading.proofs.Grounds.{reads-first, reads-table, second-is, second-low, second-high, reads-contents}
 use Rattle.file_reading.proofs.read_contents.Statement.{statement}

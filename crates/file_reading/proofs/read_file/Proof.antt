@@ -5,7 +5,7 @@ use borrow.Author.Needs.{needs}
 use Rattle.model.specs.Calls.{blocksGrounds, fileGrounds}
 use Rattle.basics.proofs.RefusalLaws.{refuse-append}
 use Rattle.model.proofs.CallLaws.{blocks-numbered}
-use Rattle.file_blocks.specs.Places.{joinedRoom}
+use Rattle.file_blocks.specs.Forms.{joinedRoom}
 use Rattle.file_reading.proofs.Grounds.{reads-refused, reads-first, reads-behind, reads-past, part-block, long-input, whole-blocks, zeros-same, joined-room, reads-joined}
 use Rattle.file_reading.proofs.read_file.Statement.{statement}
 use Rattle.file_reading.proofs.read_file.Tie as tie
