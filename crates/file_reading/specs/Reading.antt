@@ -1,41 +1,26 @@
--- What the functions below `read` ask of the contents, and their parts of what `read` does.
+-- Of the functions below `read`, their parts of what `read` does.
 --
---   TableInside bytes n g           n and g are in bounds, and contents are joined with room for those of every table
---   PartInside bytes n first count  the same of `count` sets from set `first` on
 --   bytesGrounds form bytes blocks n second g
 --                                   the grounds of contents that so many blocks hold and that say n and a second number, which is g with what the form adds
 --   Reads gs d n g before r after   what is given by a call that looks at the grounds gs: n and g, and d n g in the store
 --   ReadsFile, ReadsContents        those of a file, and of contents
 --   Joined input site r before after
 --                                   the grounds of the blocks; and where none holds, the contents are joined
---   partSet bytes n first count k   set k of a part of the store: one of the contents, or an unused one
-use Prim.Native.Nat.{ℕ, _+_, _*_, _-_, _≤_}
+use Prim.Native.Nat.{ℕ, _+_, _*_, _-_}
 use mathlib.Core.Path.{_≡_}
-use mathlib.Core.Bool.{cond, not, _||_}
+use mathlib.Core.Bool.{not, _||_}
 use mathlib.Core.List.{List, [], _∷_}
 use lib.Dec.{eqb, ltb}
-use lib.ListN.{length}
 use Rattle.basics.specs.Bounds.{any}
 use Rattle.basics.specs.Refusals.{Ground, refuse, answer, unlessRefused}
-use Rattle.model.specs.Sets.{maxStates, Set, empty}
+use Rattle.model.specs.Sets.{maxStates}
 use Rattle.model.specs.Tables.{Dialogue}
-use Rattle.model.specs.Stores.{headSets, maxGroups, layout, beyond, nonZero}
+use Rattle.model.specs.Stores.{layout, beyond, nonZero}
 use Rattle.model.specs.Blocks.{contentBytes, blocksFor, contentsOf}
 use Rattle.model.specs.Contents.{Form, heads, added, contentLength, setNumber, dialogueIn}
 use Rattle.model.specs.Calls.{TableRead as ReadAnswer, overwrite, statesIn, groupsIn, badSecond, blocksGrounds, fileGrounds}
-use Rattle.file_blocks.specs.Forms.{joinedRoom}
 use Rattle.file_reading.specs.declared.TableRead.{TableRead}
 use Rattle.file_reading.specs.ReadAnswers.{readOf}
-
-pub record TableInside (bytes : List ℕ) (n g : ℕ) : Type 0 where
-  pub small : n ≤ maxStates
-  pub few : g ≤ maxGroups
-  pub room : joinedRoom ≤ length bytes
-
-pub record PartInside (bytes : List ℕ) (n first count : ℕ) : Type 0 where
-  pub small : n ≤ maxStates
-  pub many : first + count ≤ headSets + maxGroups + maxStates
-  pub room : joinedRoom ≤ length bytes
 
 -- The model's `contentGrounds` of an input are those of its contents and the number of its blocks.
 unfoldable pub bytesGrounds : Form → List ℕ → ℕ → ℕ → ℕ → ℕ → List Ground
@@ -61,6 +46,3 @@ ReadsContents form bytes blocks n second = let g = second - added form in Reads 
 pub record Joined (input : List ℕ) (site r : ℕ) (before after : List ℕ) : Type 0 where
   pub ground : r ≡ refuse (blocksGrounds input site)
   pub joined : r ≡ 0 → after ≡ overwrite (contentsOf input) before
-
-unfoldable pub partSet : List ℕ → ℕ → ℕ → ℕ → ℕ → Set
-partSet bytes n first count k = cond (ltb k count) (setNumber bytes n (first + k)) empty

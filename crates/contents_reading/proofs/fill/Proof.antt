@@ -1,8 +1,8 @@
 -- `fill`: the three parts of the store, one behind the other.
 use borrow.Author.Needs.{needs}
-use Rattle.file_reading.proofs.Filling.{filled}
-use Rattle.file_reading.proofs.fill.Statement.{statement}
-use Rattle.file_reading.proofs.fill.Tie as tie
+use Rattle.contents_reading.proofs.Filling.{filled}
+use Rattle.contents_reading.proofs.fill.Statement.{statement}
+use Rattle.contents_reading.proofs.fill.Tie as tie
 
 pub fill-spec : {M : Type 1} → statement M
 fill-spec =

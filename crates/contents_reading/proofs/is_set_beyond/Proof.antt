@@ -1,8 +1,8 @@
 -- `is_set_beyond`: the set's last byte, without its bits below n.
 use borrow.Author.Needs.{needs}
-use Rattle.file_reading.proofs.LastByte.{beyond-last}
-use Rattle.file_reading.proofs.is_set_beyond.Statement.{statement}
-use Rattle.file_reading.proofs.is_set_beyond.Tie as tie
+use Rattle.contents_reading.proofs.LastByte.{beyond-last}
+use Rattle.contents_reading.proofs.is_set_beyond.Statement.{statement}
+use Rattle.contents_reading.proofs.is_set_beyond.Tie as tie
 
 pub is-set-beyond-spec : {M : Type 1} → statement M
 is-set-beyond-spec =

@@ -8,11 +8,11 @@ use lib.ListN.{length-take, length-drop}
 use Rattle.basics.specs.Bounds.{concat}
 use Rattle.file_blocks.proofs.BlockLaws.{sets-fit, contents-fit}
 use Rattle.table.proofs.Overwriting.{Over, parts-none, parts-all}
-use Rattle.file_reading.specs.Reading.{partSet}
-use Rattle.file_reading.proofs.Words.{set-inside}
-use Rattle.file_reading.proofs.Filling.{part-set, part-unused}
-use Rattle.file_reading.proofs.fill_sets.Statement.{statement}
-use Rattle.file_reading.proofs.fill_sets.Tie as tie
+use Rattle.contents_reading.specs.Parts.{partSet}
+use Rattle.contents_reading.proofs.Words.{set-inside}
+use Rattle.contents_reading.proofs.Filling.{part-set, part-unused}
+use Rattle.contents_reading.proofs.fill_sets.Statement.{statement}
+use Rattle.contents_reading.proofs.fill_sets.Tie as tie
 
 abbrev Inv-loop : tie.InvT-loop
 Inv-loop part₀ bytes n first count room width all k₀ part k = (k ≤ room) × Over (concat k (partSet bytes n first count)) part₀ part

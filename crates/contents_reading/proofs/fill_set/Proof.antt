@@ -9,9 +9,9 @@ use Rattle.model.proofs.SetLaws.{setOf-proper}
 use Rattle.model.proofs.ContentLaws.{setIn-proper}
 use Rattle.state_set.proofs.Words.{proper}
 use Rattle.table.proofs.Overwriting.{Over, over-none, over-next, over-list}
-use Rattle.file_reading.proofs.Words.{cut-word}
-use Rattle.file_reading.proofs.fill_set.Statement.{statement}
-use Rattle.file_reading.proofs.fill_set.Tie as tie
+use Rattle.contents_reading.proofs.Words.{cut-word}
+use Rattle.contents_reading.proofs.fill_set.Statement.{statement}
+use Rattle.contents_reading.proofs.fill_set.Tie as tie
 
 abbrev Inv-loop : tie.InvT-loop
 Inv-loop words₀ bytes at all v₀ words v = (v ≤ WORDS) × Over (tabulate v (λ i. getD (meet (setIn bytes (8 * WORDS) at) (all .words)) i 0)) words₀ words

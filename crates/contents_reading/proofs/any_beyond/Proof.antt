@@ -7,9 +7,9 @@ use Rattle.basics.specs.Bounds.{any}
 use Rattle.model.specs.Stores.{beyond}
 use Rattle.model.specs.Contents.{setNumber}
 use Rattle.basics.proofs.BoundLaws.{any-start, any-turn, any-intro, any-end}
-use Rattle.file_reading.proofs.Words.{set-inside}
-use Rattle.file_reading.proofs.any_beyond.Statement.{statement}
-use Rattle.file_reading.proofs.any_beyond.Tie as tie
+use Rattle.contents_reading.proofs.Words.{set-inside}
+use Rattle.contents_reading.proofs.any_beyond.Statement.{statement}
+use Rattle.contents_reading.proofs.any_beyond.Tie as tie
 
 abbrev Inv-loop : tie.InvT-loop
 Inv-loop bytes n g w k₀ k-end k = (k ≤ k-end) × (any k (λ i. beyond n (setNumber bytes n i)) ≡ false)

@@ -22,8 +22,8 @@ use Rattle.model.proofs.ContentLaws.{setIn-proper}
 use Rattle.table.specs.Writing.{overwriteFrom}
 use Rattle.table.proofs.Overwriting.{Over, lent, back, lent-back, overwrite-lent, parts-put}
 use Rattle.table.proofs.Putting.{put-long}
-use Rattle.file_reading.specs.Reading.{partSet}
-use Rattle.file_reading.proofs.Words.{set-cut}
+use Rattle.contents_reading.specs.Parts.{partSet}
+use Rattle.contents_reading.proofs.Words.{set-cut}
 
 -- ---- the sets of a part
 

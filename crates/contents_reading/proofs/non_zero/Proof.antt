@@ -6,8 +6,8 @@ use lib.Dec.{eqb}
 use borrow.Author.Needs.{needs}
 use Rattle.model.specs.Stores.{nonZero}
 use Rattle.table.proofs.Laws.{non-zero-start, non-zero-turn, non-zero-end}
-use Rattle.file_reading.proofs.non_zero.Statement.{statement}
-use Rattle.file_reading.proofs.non_zero.Tie as tie
+use Rattle.contents_reading.proofs.non_zero.Statement.{statement}
+use Rattle.contents_reading.proofs.non_zero.Tie as tie
 
 abbrev Inv-loop : tie.InvT-loop
 Inv-loop bytes from to joined₀ i₀ joined i = (from ≤ i) × (i ≤ to) × (nonZero bytes from i ≡ not (eqb joined 0))

@@ -2,9 +2,9 @@
 use Prim.Native.Nat.{_-_, _≤_}
 use mathlib.Core.Path.{_≡_}
 use borrow.Author.Needs.{needs}
-use Rattle.file_reading.proofs.Words.{lowBytes, word-none, word-more, word-all}
-use Rattle.file_reading.proofs.word_in.Statement.{statement}
-use Rattle.file_reading.proofs.word_in.Tie as tie
+use Rattle.contents_reading.proofs.Words.{lowBytes, word-none, word-more, word-all}
+use Rattle.contents_reading.proofs.word_in.Statement.{statement}
+use Rattle.contents_reading.proofs.word_in.Tie as tie
 
 abbrev Inv-loop : tie.InvT-loop
 Inv-loop bytes at v word₀ b₀ word b = (b ≤ 8) × (word ≡ lowBytes bytes at v b)

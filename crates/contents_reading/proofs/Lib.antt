@@ -1,0 +1,3 @@
+pub mod Words
+pub mod LastByte
+pub mod Filling
