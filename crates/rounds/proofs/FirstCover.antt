@@ -3,7 +3,7 @@
 --   Meeting, meeting-*       `first_cover_of`: the cover of a state for the groups added so far
 --   order-is                 the order that `forward` gives is that of the table
 --   order-refused, order-listed      the answer of `first_order`
-use Prim.Native.Nat.{ℕ, _+_, _-_, _*_, _≤_, _<_}
+use Prim.Native.Nat.{ℕ, _-_, _*_, _≤_, _<_}
 use native.Mathlib.Nat.{le-refl}
 use native.Mathlib.Omega.{arith}
 use mathlib.Core.Path.{_≡_, refl, sym, ap, ap₂, _∙_}
@@ -23,13 +23,14 @@ use Rattle.model.proofs.SetLaws.{_⊆_, meet-in, difference-in}
 use Rattle.model.proofs.CoverLaws.{notForbidden-within}
 use Rattle.table.specs.Rows.{rowsOf, groupsOf, groupsIn}
 use Rattle.table.proofs.Parts.{HasRows, store-rows, groups-of}
-use Rattle.rounds.specs.Steps.{covers, coverBy, forwardBy, IsCover}
-use Rattle.rounds.specs.Order.{Pass, passAt, orderOf, firstPass, laterPass, forwardOrder, firstPassBy, laterPassBy, orderBy, padded}
+use Rattle.fixpoints.specs.Steps.{covers, coverBy, forwardBy, IsCover}
+use Rattle.fixpoints.specs.Order.{Pass, passAt, orderOf, firstPass, laterPass, forwardOrder, firstPassBy, laterPassBy, orderBy, padded}
+use Rattle.fixpoints.proofs.Bridge.{coverBy-is, successorsBy-is, coverBy-within, forwardBy-proper, forward-least}
+use Rattle.fixpoints.proofs.Passes.{pass-before, fixed-done, order-still, passAt-cong}
+use Rattle.fixpoints.proofs.Expanding.{forward-none, forward-more}
 use Rattle.rounds.specs.declared.Expansion.the-variants.{Listed, Refused as ExpansionRefused}
 use Rattle.rounds.specs.OrderAnswers.{OrderAnswer, orderAnswer, Ordered}
-use Rattle.rounds.proofs.Bridge.{groups-last, coverBy-is, successorsBy-is, coverBy-within, forwardBy-proper, forward-least}
-use Rattle.rounds.proofs.Passes.{pass-before, fixed-done, order-still, passAt-cong}
-use Rattle.rounds.proofs.Expanding.{forward-none, forward-more}
+use Rattle.rounds.proofs.Adding.{groups-last}
 
 -- ---- the cover of a state
 

@@ -1,0 +1,6 @@
+pub mod Bridge
+pub mod Lists
+pub mod Passes
+pub mod Expanding
+pub mod Leaving
+pub mod Staying
