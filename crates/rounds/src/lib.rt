@@ -1,7 +1,7 @@
 // The rounds (the specification, "Rounds") and the call `decide`.
 //
-//   next_added                          the set that is added to the list next
 //   not_forbidden                       Z of the first round
+//   next_added                          the set that is added to the list next
 //   conclude                            what a round comes to
 //   run                                 the rounds, and the cover: a row of words for each state, narrowed as a set is added to the list
 //   met_with, first_cover_of            the cover of a state after one set is added; for the list of the first round
@@ -45,17 +45,6 @@ use table::set_at;
 
 // ---- the rounds
 
-// The set that is added to the list next: the last of the j groups that are still to be added, or z where there is none.
-fn next_added(groups: &[u64], j: usize, z: StateSet) -> StateSet
-    requires { ⌜ (j ≤ maxGroups) × (groupsWords ≤ length (now groups)) ⌝ }
-    ensures { λ r. ⌜ r .words ≡ nextAdded (now (groups .entry)) j (z .words) ⌝ }
-{
-    if j == 0 {
-        return z;
-    }
-    set_at(groups, WORDS * (j - 1))
-}
-
 // How the rounds end, with the count of refinements.
 pub enum Ending {
     Safe(usize),
@@ -74,6 +63,17 @@ fn not_forbidden(n: usize, forbidden: StateSet) -> StateSet
     ensures { λ r. ⌜ r .words ≡ notForbidden n (forbidden .words) ⌝ }
 {
     StateSet::first_states(n).difference(forbidden)
+}
+
+// The set that is added to the list next: the last of the j groups that are still to be added, or z where there is none.
+fn next_added(groups: &[u64], j: usize, z: StateSet) -> StateSet
+    requires { ⌜ (j ≤ maxGroups) × (groupsWords ≤ length (now groups)) ⌝ }
+    ensures { λ r. ⌜ r .words ≡ nextAdded (now (groups .entry)) j (z .words) ⌝ }
+{
+    if j == 0 {
+        return z;
+    }
+    set_at(groups, WORDS * (j - 1))
 }
 
 // What a round comes to: safe (step 2), unsafe (step 4), or neither.
