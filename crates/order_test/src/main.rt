@@ -4,8 +4,8 @@
 ghost use Prim.Native.Nat.{_/_, _<_};
 ghost use Rattle.model.specs.Sets.{maxStates};
 ghost use Rattle.model.specs.Stores.{maxGroups};
+use fixpoints::Order;
 use rounds::Expansion;
-use rounds::Order;
 use rounds::first_order;
 use state_set::MAX_STATES;
 use table::MAX_GROUPS;

@@ -1,9 +1,8 @@
 -- The cover for the list of the first round, and the order of that round.
 --
 --   Meeting, meeting-*       `first_cover_of`: the cover of a state for the groups added so far
---   order-is                 the order that `forward` gives is that of the table
 --   order-refused, order-listed      the answer of `first_order`
-use Prim.Native.Nat.{ℕ, _+_, _-_, _*_, _≤_, _<_}
+use Prim.Native.Nat.{ℕ, _-_, _*_, _≤_, _<_}
 use native.Mathlib.Nat.{le-refl}
 use native.Mathlib.Omega.{arith}
 use mathlib.Core.Path.{_≡_, refl, sym, ap, ap₂, _∙_}
@@ -11,25 +10,22 @@ use mathlib.Core.Bool.{cond}
 use mathlib.Core.List.{List, [], _∷_, _++_, append-assoc, append-nil}
 use lib.ListN.{length, replicate}
 use Rattle.basics.specs.Bounds.{tabulate}
-use Rattle.model.specs.Sets.{WORDS, maxStates, Set, member, meet, members, firstStates}
-use Rattle.model.specs.Tables.{Table, coverOf, notForbidden}
+use Rattle.model.specs.Sets.{WORDS, maxStates, Set, member, meet, firstStates}
+use Rattle.model.specs.Tables.{coverOf, notForbidden}
 use Rattle.model.specs.Rounds.{roundOf, firstRound}
 use Rattle.basics.specs.Refusals.{refuse, Answered, answered, unlessRefused}
 use Rattle.model.specs.Stores.{setAt, tableOf, sharedGrounds}
 use Rattle.model.specs.Calls.{overwrite}
 use Rattle.basics.proofs.RefusalLaws.{answer-refused, answer-none}
-use Rattle.model.proofs.ListLaws.{concat-cong}
-use Rattle.model.proofs.SetLaws.{_⊆_, meet-in, difference-in}
 use Rattle.model.proofs.CoverLaws.{notForbidden-within}
 use Rattle.table.specs.Rows.{rowsOf, groupsOf, groupsIn}
-use Rattle.table.proofs.Parts.{HasRows, store-rows, groups-of}
-use Rattle.rounds.specs.Steps.{covers, coverBy, forwardBy, IsCover}
-use Rattle.rounds.specs.Order.{Pass, passAt, orderOf, firstPass, laterPass, forwardOrder, firstPassBy, laterPassBy, orderBy, padded}
+use Rattle.table.proofs.Parts.{store-rows, groups-of}
+use Rattle.fixpoints.specs.Steps.{covers}
+use Rattle.fixpoints.specs.Order.{forwardOrder, orderBy, padded}
+use Rattle.fixpoints.proofs.TableOrder.{order-is}
 use Rattle.rounds.specs.declared.Expansion.the-variants.{Listed, Refused as ExpansionRefused}
 use Rattle.rounds.specs.OrderAnswers.{OrderAnswer, orderAnswer, Ordered}
-use Rattle.rounds.proofs.Bridge.{groups-last, coverBy-is, successorsBy-is, coverBy-within, forwardBy-proper, forward-least}
-use Rattle.rounds.proofs.Passes.{pass-before, fixed-done, order-still, passAt-cong}
-use Rattle.rounds.proofs.Expanding.{forward-none, forward-more}
+use Rattle.rounds.proofs.Adding.{groups-last}
 
 -- ---- the cover of a state
 
@@ -65,46 +61,6 @@ module _ (groups : List ℕ) (g n s : ℕ) where
     meeting-end Z none e =
         let z : j ≡ 0 = omega arith in
         e ∙ ap (λ (Y : Set). cond (member Z s) (meet Y Z) Y) (so .met-is ∙ ap (λ (L : List Set). coverOf n L s) (rw z at (so .whole)))
-
--- ---- the order
-
-module _ (t : Table) (rows : List ℕ) (has : HasRows t rows) (few : t .n ≤ maxStates) (L : List Set) (Z : Set) (within : Z ⊆ firstStates (t .n)) where
-  abbrev cover : List Set
-  cover = covers (t .n) L
-
-  abbrev is-cover : IsCover cover
-  is-cover = record { n = t .n; list = L; is = refl }
-
-  -- the first pass, what joins by a pass, and R's step
-  abbrev first : Set
-  first = firstPassBy cover (t .initial) Z
-
-  abbrev joined : Set → Set
-  joined = laterPassBy rows cover Z
-
-  abbrev step : Set → Set
-  step = forwardBy rows cover (t .initial) Z
-
-  agree : (k : ℕ) → (passAt first joined k ≡ passAt (firstPass t L Z) (laterPass t L Z) k) × ((passAt first joined k) .frontier ⊆ firstStates (t .n))
-  unfolding firstPass laterPass
-  agree =
-      passAt-cong (λ X. X ⊆ firstStates (t .n)) first _ joined _
-      (coverBy-is (t .n) L _ (λ s h. within s (meet-in h .0))) (coverBy-within cover is-cover _)
-      (λ X j. ap (λ (Y : Set). coverBy cover (meet Z Y)) (successorsBy-is t rows has X j) ∙ coverBy-is (t .n) L _ (λ s h. within s (meet-in h .0)))
-      (λ X Y s h. coverBy-within cover is-cover _ s (difference-in h .0))
-
-  pub order-is : orderBy rows cover (t .initial) Z ≡ forwardOrder t L Z
-  unfolding orderBy forwardOrder orderOf
-  order-is =
-      let proper = forwardBy-proper rows cover (t .initial) Z in
-      let none = forward-none rows cover (t .initial) Z in
-      let more = forward-more rows cover (t .initial) Z in
-      let at-n = pass-before first joined step proper none more (t .n) in
-      order-still first joined step proper none more (t .n)
-      (fixed-done first joined step proper none more (t .n)
-      (ap step at-n ∙ sym (forward-least rows cover is-cover (t .initial) Z .solves) ∙ sym at-n))
-      maxStates few
-      ∙ concat-cong _ _ (t .n) (λ k h. ap (λ (l : Pass). members (l .frontier)) (agree k .0))
 
 -- ---- the answer
 

@@ -1,10 +1,5 @@
-pub mod Bridge
-pub mod Lists
-pub mod Passes
-pub mod Expanding
+pub mod Adding
 pub mod FirstCover
-pub mod Leaving
-pub mod Staying
 pub mod Running
 pub mod Deciding
 pub mod DemandsKept

@@ -15,12 +15,12 @@ use Rattle.model.proofs.SetLaws.{subset-in}
 use Rattle.model.proofs.FirstWords.{same-call}
 use Rattle.table.specs.Rows.{tableOn}
 use Rattle.table.proofs.Parts.{on-rows}
-use Rattle.rounds.specs.Order.{forwardOrder, padded, InOrder}
+use Rattle.fixpoints.specs.Order.{forwardOrder, padded, InOrder}
+use Rattle.fixpoints.proofs.Bridge.{least-is}
+use Rattle.fixpoints.proofs.Passes.{in-order}
+use Rattle.fixpoints.proofs.TableOrder.{order-is}
 use Rattle.rounds.specs.OrderAnswers.{OrderAnswer, orderAnswer}
 use Rattle.rounds.specs.OrderPromises.{OrderPromises}
-use Rattle.rounds.proofs.Bridge.{least-is}
-use Rattle.rounds.proofs.Passes.{in-order}
-use Rattle.rounds.proofs.FirstCover.{order-is}
 
 -- the order of the first round of a table
 abbrev firstOrder : Table → List ℕ

@@ -1,7 +1,6 @@
 -- The loop of `run`: what its calls compute are the sets and the tests of the model's round.
 --
 --   forward-within, backward-within     R and S hold states of the table only
---   group-added, Z-added                the set that is added next, where a group is left and where none is
 --   Running                             the invariant of the loop: some sets are still to be added to the list that the cover is for, and then it is
 --                                       that of round i
 --   run-start, run-add                  it holds at the start, with Z and all groups left; the last set left is added
@@ -9,7 +8,7 @@
 --   conclude-safe, -unsafe, -open       what `conclude` concludes, by the tests of steps 2 and 4
 --   run-safe, run-unsafe, run-undecided     where the rounds end
 --   run-turn                            the invariant holds again after a round that goes on
-use Prim.Native.Nat.{ℕ, suc, _+_, _-_, _≤_, _<_, zero-le}
+use Prim.Native.Nat.{ℕ, suc, _+_, _≤_, _<_, zero-le}
 use native.Mathlib.Nat.{not-suc-le-zero}
 use native.Mathlib.Numerals.{add-one}
 use native.Mathlib.Omega.{arith}
@@ -17,7 +16,7 @@ use mathlib.Core.Path.{_≡_, refl, sym, ap, ap₂, _∙_, subst}
 use mathlib.Core.Logic.{⊎-elim}
 use mathlib.Core.Bool.{Bool, true, false, not}
 use mathlib.Core.List.{List, [], _∷_, _++_, append-assoc, append-nil}
-use borrow.Author.Tests.{not-false, ne-eqb}
+use borrow.Author.Tests.{not-false}
 use Rattle.basics.specs.Bounds.{tabulate}
 use Rattle.model.specs.Sets.{Set, empty, union, meet, subset, firstStates}
 use Rattle.model.specs.Tables.{Table, hold, notForbidden}
@@ -30,11 +29,13 @@ use Rattle.model.proofs.CoverLaws.{hold-within, notForbidden-within, forwardSte
 use Rattle.model.proofs.RoundLaws.{first-stop}
 use Rattle.table.specs.Rows.{groupsIn, successorsBy, meetHold}
 use Rattle.table.proofs.Parts.{HasRows}
-use Rattle.rounds.specs.Steps.{covers, narrowed, nextAdded, forwardBy, backwardBy, IsCover}
+use Rattle.fixpoints.specs.Steps.{covers, forwardBy, backwardBy, IsCover}
+use Rattle.fixpoints.proofs.Bridge.{successorsBy-is, meetHold-is, backwardBy-proper, backward-greatest, least-is, backward-is}
+use Rattle.rounds.specs.Adding.{narrowed}
 use Rattle.rounds.specs.declared.Conclusion.the-variants.{Safe as ConcludesSafe, Unsafe as ConcludesUnsafe, Open}
 use Rattle.rounds.specs.declared.Concluded.{Concluded}
 use Rattle.rounds.specs.DecideAnswers.{concludes, setBeside, Concludes}
-use Rattle.rounds.proofs.Bridge.{groups-last, covers-add, successorsBy-is, meetHold-is, backwardBy-proper, backward-greatest, least-is, backward-is}
+use Rattle.rounds.proofs.Adding.{covers-add}
 
 -- ---- sets of the table's states
 
@@ -48,17 +49,6 @@ module _ (t : Table) (L : List Set) where
   unfolding backward
   backward-within R =
       iterate-has (λ X. X ⊆ firstStates (t .n)) (backwardStep t L R) (firstStates (t .n)) (λ s h. h) (λ X h. backwardStep-within t L R X) (t .n)
-
--- ---- the sets that are added
-
-module _ (groups : List ℕ) (Z : Set) (j : ℕ) where
-  pub group-added : 0 < j → Z ∷ groupsIn groups j ≡ (Z ∷ groupsIn groups (j - 1)) ++ (nextAdded groups j Z ∷ [])
-  unfolding nextAdded
-  group-added some = rw (ne-eqb j 0 (λ z. omega arith)) (ap (λ (L : List Set). Z ∷ L) (groups-last groups j some))
-
-  pub Z-added : j ≤ 0 → Z ∷ groupsIn groups j ≡ nextAdded groups j Z ∷ []
-  unfolding nextAdded groupsIn tabulate
-  Z-added none = let z : j ≡ 0 = omega arith in rw z
 
 -- ---- the invariant
 

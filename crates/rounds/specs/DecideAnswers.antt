@@ -18,7 +18,7 @@ use Rattle.model.specs.Promises.{IsLeast, IsGreatest}
 use Rattle.table.specs.Rows.{successorsBy, meetHold}
 use Rattle.paths.specs.declared.Found.{Found}
 use Rattle.paths.specs.declared.Found.the-variants.{Steps, Nothing}
-use Rattle.rounds.specs.Steps.{forwardBy, backwardBy}
+use Rattle.fixpoints.specs.Steps.{forwardBy, backwardBy}
 use Rattle.rounds.specs.declared.Conclusion.{Conclusion}
 use Rattle.rounds.specs.declared.Conclusion.the-variants.{Safe as ConcludesSafe, Unsafe as ConcludesUnsafe, Open}
 use Rattle.rounds.specs.declared.Concluded.{Concluded}

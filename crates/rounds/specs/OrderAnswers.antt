@@ -10,7 +10,7 @@ use lib.ListN.{length}
 use Rattle.model.specs.Rounds.{firstRound}
 use Rattle.basics.specs.Refusals.{Answered, refused, answered, answer, unlessRefused}
 use Rattle.model.specs.Stores.{tableOf, sharedGrounds}
-use Rattle.rounds.specs.Order.{forwardOrder, padded}
+use Rattle.fixpoints.specs.Order.{forwardOrder, padded}
 use Rattle.rounds.specs.declared.Expansion.{Expansion}
 use Rattle.rounds.specs.declared.Expansion.the-variants.{Listed, Refused}
 use Rattle.rounds.specs.declared.FirstOrder.{FirstOrder}

@@ -12,8 +12,8 @@ use Rattle.model.specs.Rounds.{forward as forwardSet, firstRound}
 use Rattle.model.specs.Promises.{IsLeast}
 use Rattle.model.specs.Stores.{storeWords, tableOf, sharedGrounds}
 use Rattle.table.specs.Rows.{tableOn}
-use Rattle.rounds.specs.Steps.{covers, forwardBy}
-use Rattle.rounds.specs.Order.{orderBy, padded, InOrder}
+use Rattle.fixpoints.specs.Steps.{covers, forwardBy}
+use Rattle.fixpoints.specs.Order.{orderBy, padded, InOrder}
 use Rattle.rounds.specs.OrderAnswers.{OrderAnswer, orderAnswer, orderedOf, Ordered}
 use Rattle.rounds.specs.declared.FirstOrder.{FirstOrder}
 

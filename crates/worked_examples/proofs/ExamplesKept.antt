@@ -13,7 +13,7 @@ use Rattle.model.specs.Resting.{rested}
 use Rattle.table.specs.Writing.{overwriteFrom}
 use Rattle.reach.specs.Reached.{reachStep, reachable}
 use Rattle.paths.specs.Within.{canReach, isWithin}
-use Rattle.rounds.specs.Order.{passAt, orderOf, firstPass, laterPass, forwardOrder}
+use Rattle.fixpoints.specs.Order.{passAt, orderOf, firstPass, laterPass, forwardOrder}
 use Rattle.replay.specs.Logs.{entry, mayHold, followed, seen, percentOf, remainderOf, walkThrough}
 use Rattle.edit_session.specs.Edits.{rowAfter, edited, opened, reachableAfter}
 use Rattle.modal.specs.Modal.{tableWith, modalForbidden, releaseCheck, modalOf}

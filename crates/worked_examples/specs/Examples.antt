@@ -18,7 +18,7 @@ use Rattle.model.specs.Resting.{rested}
 use Rattle.worked_tables.specs.Tables.{set, table, A, B, D, E}
 use Rattle.worked_tables.specs.Worked.{stored}
 use Rattle.paths.specs.Within.{isWithin}
-use Rattle.rounds.specs.Order.{forwardOrder}
+use Rattle.fixpoints.specs.Order.{forwardOrder}
 use Rattle.replay.specs.Logs.{walkThrough}
 use Rattle.edit_session.specs.Edits.{add, remove, edited, opened, reachableAfter}
 use Rattle.modal.specs.Modal.{certainTable, possibleTable, releaseCheck, ModalAnswer, modalOf}

@@ -11,8 +11,8 @@ use Rattle.model.specs.Stores.{sharedGrounds}
 use Rattle.model.proofs.Acceptance.{Store, accepted-store}
 use Rattle.table.specs.Rows.{groupsOf, groupsIn}
 use Rattle.table.proofs.Parts.{rows-long, groups-long}
-use Rattle.rounds.specs.Steps.{covers}
-use Rattle.rounds.proofs.Lists.{Stored, stored-start, stored-turn, stored-all}
+use Rattle.fixpoints.specs.Steps.{covers}
+use Rattle.fixpoints.proofs.Lists.{Stored, stored-start, stored-turn, stored-all}
 use Rattle.rounds.proofs.FirstCover.{order-refused, order-listed}
 use Rattle.rounds.proofs.first_order.Statement.{statement}
 use Rattle.rounds.proofs.first_order.Tie as tie

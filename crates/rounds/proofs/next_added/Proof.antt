@@ -1,7 +1,7 @@
 -- `next_added`: Z where no group is left, and the last group that is left where there is one.
 use borrow.Author.Needs.{needs}
 use borrow.Author.Tests.{eq-eqb, ne-eqb}
-use Rattle.rounds.specs.Steps.{nextAdded}
+use Rattle.rounds.specs.Adding.{nextAdded}
 use Rattle.rounds.proofs.next_added.Statement.{statement}
 use Rattle.rounds.proofs.next_added.Tie as tie
 

@@ -2,7 +2,7 @@
 use mathlib.Core.Path.{refl, ap₂, _∙_}
 use borrow.Author.Needs.{needs}
 use Rattle.model.specs.Sets.{difference}
-use Rattle.rounds.proofs.Bridge.{notForbidden-is}
+use Rattle.rounds.proofs.Adding.{notForbidden-is}
 use Rattle.rounds.proofs.not_forbidden.Statement.{statement}
 use Rattle.rounds.proofs.not_forbidden.Tie as tie
 

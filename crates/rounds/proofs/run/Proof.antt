@@ -17,9 +17,10 @@ use Rattle.state_set.proofs.WordSets.{word-lowest, word-less}
 use Rattle.table.specs.Rows.{groupsIn, tableOn, mapAt}
 use Rattle.table.proofs.Parts.{on-rows}
 use Rattle.table.proofs.MapAt.{Mapping, mapping-turn, mapping-end, map-start, map-word, map-all}
-use Rattle.rounds.specs.Steps.{narrowed, nextAdded, stepsByWord}
-use Rattle.rounds.proofs.Bridge.{covers-none}
-use Rattle.rounds.proofs.Running.{group-added, Z-added, Running, run-start, run-add, is-cover, run-safe, run-unsafe, run-undecided, run-turn}
+use Rattle.fixpoints.specs.Steps.{stepsByWord}
+use Rattle.rounds.specs.Adding.{narrowed, nextAdded}
+use Rattle.rounds.proofs.Adding.{covers-none, group-added, Z-added}
+use Rattle.rounds.proofs.Running.{Running, run-start, run-add, is-cover, run-safe, run-unsafe, run-undecided, run-turn}
 use Rattle.rounds.proofs.run.Statement.{statement}
 use Rattle.rounds.proofs.run.Tie as tie
 

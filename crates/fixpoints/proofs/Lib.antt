@@ -1,0 +1,7 @@
+pub mod Bridge
+pub mod Lists
+pub mod Passes
+pub mod Expanding
+pub mod TableOrder
+pub mod Leaving
+pub mod Staying
