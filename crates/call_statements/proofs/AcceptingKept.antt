@@ -19,8 +19,8 @@ use Rattle.model.specs.Calls.{overwrite, TableRead as ReadAnswer, statesIn, gro
 use Rattle.model.proofs.Acceptance.{Store, accepted-store, store-accepted}
 use Rattle.model.proofs.CallLaws.{readable, read-none, read-buffer}
 use Rattle.model.proofs.RoundTrips.{taken, filled-held}
-use Rattle.paths.specs.Distances.{distancesGrounds, distancesAnswer, distancesBuffer}
 use Rattle.paths.specs.Within.{withinAnswer}
+use Rattle.distances.specs.Distances.{distancesGrounds, distancesAnswer, distancesBuffer}
 use Rattle.rounds.specs.OrderAnswers.{orderAnswer}
 use Rattle.generator.proofs.LoadsKept.{accepts, loads}
 use Rattle.replay.specs.Logs.{entryBytes, maxLog, logGrounds, replayGrounds, replayAnswer}

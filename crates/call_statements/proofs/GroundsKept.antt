@@ -8,8 +8,8 @@ use Rattle.model.specs.Stores.{malformed, badStates, storeGround, sharedGrounds
 use Rattle.model.specs.Blocks.{siteGround, blockGrounds}
 use Rattle.model.specs.Calls.{decideGrounds, decideAnswer, shortestGrounds, shortestAnswer, badLength, badSecond, blocksGrounds, contentGrounds, fileGrounds, readGroundsAs, readAnswerAs, writeGrounds, writeAnswer}
 use Rattle.model.proofs.StoreLaws.{beyond-below, below-beyond, nonZero-zero, zero-nonZero}
-use Rattle.paths.specs.Distances.{distancesGrounds, distancesAnswer}
 use Rattle.paths.specs.Within.{withinAnswer}
+use Rattle.distances.specs.Distances.{distancesGrounds, distancesAnswer}
 use Rattle.rounds.specs.OrderAnswers.{orderAnswer}
 use Rattle.generator.specs.Load.{generateGrounds, generateAnswer}
 use Rattle.replay.specs.Logs.{replayGrounds, replayAnswer}

@@ -15,9 +15,9 @@ use Rattle.model.specs.Sets.{maxStates, Set}
 use Rattle.model.specs.Paths.{distance}
 use Rattle.model.specs.Stores.{tableOf, AcceptedStore}
 use Rattle.model.specs.Calls.{TableRead as ReadAnswer}
-use Rattle.paths.specs.declared.DistancesAnswer.{DistancesAnswer}
-use Rattle.paths.specs.Distances.{distancesAnswer, distancesOf, CalledDistances}
 use Rattle.paths.specs.Within.{withinAnswer}
+use Rattle.distances.specs.declared.DistancesAnswer.{DistancesAnswer}
+use Rattle.distances.specs.Distances.{distancesAnswer, distancesOf, CalledDistances}
 use Rattle.rounds.specs.OrderAnswers.{OrderAnswer, orderAnswer}
 use Rattle.file_reading.specs.declared.TableRead.{TableRead}
 use Rattle.file_reading.specs.ReadAnswers.{readOf, CalledRead}

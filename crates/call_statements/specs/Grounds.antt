@@ -20,8 +20,8 @@ use Rattle.model.specs.Blocks.{le16At, checkOf, blocksFor, part, contentsOf}
 use Rattle.model.specs.Contents.{Form, oldForm, newForm, heads, added, contentLength, setNumber}
 use Rattle.model.specs.Files.{fileLength}
 use Rattle.model.specs.Calls.{decideGrounds, decideAnswer, shortestGrounds, shortestAnswer, statesIn, secondIn, blocksGrounds, readGroundsAs, readAnswerAs, writeGrounds, writeAnswer}
-use Rattle.paths.specs.Distances.{distancesGrounds, distancesAnswer}
 use Rattle.paths.specs.Within.{withinAnswer}
+use Rattle.distances.specs.Distances.{distancesGrounds, distancesAnswer}
 use Rattle.rounds.specs.OrderAnswers.{orderAnswer}
 use Rattle.generator.specs.Load.{generateGrounds, generateAnswer}
 use Rattle.replay.specs.Logs.{replayGrounds, replayAnswer}

@@ -1,10 +1,9 @@
--- Laws of the calls shortest path, distances and within: the answer, and the buffer, in each case.
+-- Laws of the calls shortest path and within: the answer, and the buffer, in each case.
 --
 --   accepted                                      none of the shared grounds holds, so the store holds a table
 --   Gives                                         what a call gives that has the shared grounds, one of its own, and a buffer
 --   call-refused, call-short, call-answered       one of the shared grounds holds; its own ground does; neither
---   shortest-refused, shortest-short, shortest-found              so of shortest path
---   distances-refused, distances-short, distances-written         and of distances
+--   shortest-refused, shortest-short, shortest-found     so of shortest path
 --   within-refused, within-answered               within has no ground of its own, and no buffer
 use Prim.Native.Nat.{ℕ, _≤_, _<_}
 use native.Mathlib.Omega.{arith}
@@ -13,28 +12,22 @@ use mathlib.Core.Bool.{Bool, true, false, cond}
 use mathlib.Core.List.{List, [], _∷_, _++_}
 use borrow.Author.Tests.{lt-ltb, le-ltb}
 use lib.Dec.{eqb}
-use lib.ListN.{length, getD}
-use Rattle.basics.specs.Bounds.{tabulate}
+use lib.ListN.{length}
 use Rattle.basics.specs.Refusals.{Ground, refuse, Answered, refused, answered, answer, unlessRefused}
-use Rattle.basics.proofs.BoundLaws.{getD-tabulate, tabulate-cong}
 use Rattle.basics.proofs.RefusalLaws.{refuse-first, refuse-append, clear-refuse, numbered, numbered-append, answer-refused, answer-none}
-use Rattle.model.specs.Sets.{maxStates, Set, empty}
+use Rattle.model.specs.Sets.{maxStates}
 use Rattle.model.specs.Tables.{Table}
-use Rattle.model.specs.Paths.{distance, shortest, hasPath, smallestPath}
+use Rattle.model.specs.Paths.{shortest, hasPath, smallestPath}
 use Rattle.model.specs.Stores.{tableOf, sharedGrounds}
 use Rattle.model.specs.Calls.{overwrite, pathFound, shortestGrounds, shortestAnswer, shortestBuffer}
 use Rattle.model.proofs.Acceptance.{Store, accepted-store, store-accepted}
-use Rattle.table.specs.Rows.{rowsOf, tableOn}
 use Rattle.paths.specs.PathAnswers.{foundIn, pathWritten, shortestOf, CalledShortest}
-use Rattle.paths.specs.Distances.{distancesGrounds, distancesAnswer, distancesBuffer, CalledDistances}
 use Rattle.paths.specs.Within.{isWithin, withinAnswer, CalledWithin}
 use Rattle.paths.specs.declared.Found.{Found}
 use Rattle.paths.specs.declared.Found.the-variants.{Steps, Nothing}
 use Rattle.paths.specs.declared.Shortest.{Shortest}
 use Rattle.paths.specs.declared.Shortest.the-variants.{Path as PathOf, NoPath, Refused as RefusedPath}
-use Rattle.paths.specs.declared.DistancesAnswer.the-variants.{Written, Refused as RefusedDistances}
 use Rattle.paths.specs.declared.WithinAnswer.the-variants.{Refused as RefusedWithin}
-use Rattle.paths.proofs.Groups.{store-distance}
 
 pub accepted : {store : List ℕ} {n g k : ℕ} → k ≡ refuse (sharedGrounds store n g) → k ≡ 0 → Store store n g
 accepted {store} {n} {g} e z = accepted-store store n g [] (sym e ∙ z) .0
@@ -42,23 +35,23 @@ accepted {store} {n} {g} e z = accepted-store store n g [] (sym e ∙ z) .0
 -- ---- a call with a ground of its own and a buffer
 
 module _ {A : Type 0} (store : List ℕ) (n g : ℕ) (own : Ground) (value : A) (old : List ℕ) (new : A → List ℕ) where
-  abbrev grounds : List Ground
+  abbrev pub grounds : List Ground
   grounds = sharedGrounds store n g ++ (own ∷ [])
 
-  abbrev Gives : Answered A → List ℕ → Type 0
+  abbrev pub Gives : Answered A → List ℕ → Type 0
   Gives r after = (r ≡ answer grounds value) × (after ≡ unlessRefused old new (answer grounds value))
 
   refused-by : {k : ℕ} → k ≡ refuse grounds → (k ≡ 0 → ⊥) → Gives (refused k) old
   refused-by e f = let r = sym (answer-refused grounds value e f) in (r, ap (unlessRefused old new) r)
 
-  call-refused : {k : ℕ} → k ≡ refuse (sharedGrounds store n g) → (k ≡ 0 → ⊥) → Gives (refused k) old
+  pub call-refused : {k : ℕ} → k ≡ refuse (sharedGrounds store n g) → (k ≡ 0 → ⊥) → Gives (refused k) old
   call-refused e f = refused-by (refuse-append (sharedGrounds store n g) _ e f) f
 
   module _ (s : Store store n g) where
-    call-short : own .0 ≡ true → (own .1 ≡ 0 → ⊥) → Gives (refused (own .1)) old
+    pub call-short : own .0 ≡ true → (own .1 ≡ 0 → ⊥) → Gives (refused (own .1)) old
     call-short h f = refused-by (refuse-first 0 (own ∷ []) h ∙ sym (store-accepted store n g (own ∷ []) s)) f
 
-    call-answered : numbered (own ∷ []) ≡ true → own .0 ≡ false → Gives (answered value) (new value)
+    pub call-answered : numbered (own ∷ []) ≡ true → own .0 ≡ false → Gives (answered value) (new value)
     call-answered m h =
         let clear = store-accepted store n g (own ∷ []) s ∙ clear-refuse (own ∷ []) (h, tt) in
         let r = sym (answer-none grounds value (numbered-append (sharedGrounds store n g) (own ∷ []) refl m) clear) in
@@ -95,29 +88,6 @@ module _ (store : List ℕ) (n g : ℕ) (path : List ℕ) where
         let told = cases (tableOf store n g) path (hasPath (tableOf store n g)) in
         let gives = call-answered store n g _ _ path _ s refl (le-ltb (length path) maxStates l) in
         (ap (λ (f : Found). shortestOf (withinOf f)) (sym q ∙ p .0) ∙ told .0 ∙ gives .0, p .1 ∙ told .1 ∙ gives .1)
-
--- ---- distances
-
-module _ (store : List ℕ) (n g : ℕ) (before : List ℕ) where
-  pub distances-refused : {k : ℕ} → k ≡ refuse (sharedGrounds store n g) → (k ≡ 0 → ⊥) → CalledDistances store n g before (RefusedDistances k) before
-  unfolding distancesGrounds distancesAnswer distancesBuffer
-  distances-refused = call-refused store n g _ tt before _
-
-  module _ (s : Store store n g) where
-    pub distances-short : length before < n → CalledDistances store n g before (RefusedDistances 23) before
-    unfolding distancesGrounds distancesAnswer distancesBuffer
-    distances-short l = call-short store n g _ tt before _ s (lt-ltb (length before) n l) (λ e. omega arith)
-
-    pub distances-written : {distances after : List ℕ} {F : Set} → n ≤ length before → F ≡ (tableOf store n 0) .forbidden
-        → distances ≡ tabulate maxStates (distance (tableOn n empty F [] (rowsOf store)))
-        → after ≡ overwrite (tabulate n (λ i. getD distances i 0)) before → CalledDistances store n g before Written after
-    unfolding distancesGrounds distancesAnswer distancesBuffer
-    distances-written {distances} l f d a =
-        let gives = call-answered store n g _ tt before _ s refl (le-ltb (length before) n l) in
-        let known =
-        tabulate-cong (λ i. getD distances i 0) (distance (tableOf store n g)) n
-        (λ i h. rw d (getD-tabulate _ maxStates i 0 (omega (arith, s .small)) ∙ store-distance store n g f i)) in
-        (gives .0, a ∙ ap (λ (xs : List ℕ). overwrite xs before) known ∙ gives .1)
 
 -- ---- within
 

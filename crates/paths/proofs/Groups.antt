@@ -1,20 +1,20 @@
--- Paths do not read the groups, and distances not even the initial states: what the functions say of a table without them is so of the store's table.
+-- Paths do not read the groups: what the functions say of a table without them is so of the store's table.
 --
---   reaching-alike, distance-alike      of tables that differ in groups and initial states alone
+--   reaching-alike                      what is near a forbidden state, of tables that differ in groups and initial states alone
 --   shortest-groups, walk-groups        of tables that differ in their groups alone
 --   foundIn-groups, pathWritten-groups  so with what find_path is stated by
 --   store-table                         the table of a store, by what the functions are lent of it
---   holds-states, holds-table           what a call that is answered gives to all_distances and to find_path
---   store-distance, store-path          what it takes from them
+--   holds-states, holds-table           the rows of an accepted store are a table with any initial states, and with its own: what find_path asks
+--   store-path                          what a call takes from find_path
 use Prim.Native.Nat.{ℕ, zero, suc}
 use mathlib.Core.Path.{_≡_, refl, sym, ap, ap₂, _∙_, subst, fun-ext}
 use mathlib.Core.Bool.{cond}
 use mathlib.Core.List.{List, []}
 use lib.Dec.{ltb}
 use Rattle.basics.specs.Bounds.{first}
-use Rattle.model.specs.Sets.{Set, member, empty, union, meets, states, firstStates}
+use Rattle.model.specs.Sets.{Set, union, meets, states, firstStates}
 use Rattle.model.specs.Tables.{Table}
-use Rattle.model.specs.Paths.{reaching, unreachable, distance, shortest, hasPath, walk, smallestPath}
+use Rattle.model.specs.Paths.{reaching, shortest, hasPath, walk, smallestPath}
 use Rattle.model.specs.Stores.{setAt, tableOf}
 use Rattle.model.specs.Calls.{overwrite}
 use Rattle.model.specs.WellFormed.{WellFormed, _⊆_}
@@ -27,15 +27,10 @@ use Rattle.paths.specs.declared.Found.{Found}
 use Rattle.paths.specs.declared.Found.the-variants.{Steps, Nothing}
 
 module _ (n : ℕ) (I J F : Set) (G H : List Set) (rows : List ℕ) where
-  reaching-alike : (k : ℕ) → reaching (tableOn n I F G rows) k ≡ reaching (tableOn n J F H rows) k
+  pub reaching-alike : (k : ℕ) → reaching (tableOn n I F G rows) k ≡ reaching (tableOn n J F H rows) k
   unfolding reaching tableOn
   reaching-alike zero = refl
   reaching-alike (suc k) = ap (λ (X : Set). union X (states n (λ s. meets (rowsIn rows n s) X))) (reaching-alike k)
-
-  distance-alike : (s : ℕ) → distance (tableOn n I F G rows) s ≡ distance (tableOn n J F H rows) s
-  unfolding distance tableOn
-  distance-alike s =
-      ap (λ (d : ℕ). cond (ltb d n) d unreachable) (ap (first n) (fun-ext (λ k. ap (λ (X : Set). member X s) (reaching-alike k))))
 
 module _ (n : ℕ) (I F : Set) (G : List Set) (rows : List ℕ) where
   abbrev t : Table
@@ -100,7 +95,3 @@ module _ (store : List ℕ) (n g : ℕ) where
         found .0 ∙ foundIn-groups n I F groups (rowsOf store) ∙ ap foundIn store-table,
         found .1 ∙ pathWritten-groups n I F groups (rowsOf store) path ∙ ap (λ (t : Table). pathWritten t path) store-table,
       )
-
-    pub store-distance : (s : ℕ) → distance (tableOn n empty F [] (rowsOf store)) s ≡ distance (tableOf store n g) s
-    store-distance s =
-        distance-alike n empty (setAt store 0) F [] groups (rowsOf store) s ∙ ap (λ (t : Table). distance t s) (store-table refl)

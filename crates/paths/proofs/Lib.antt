@@ -1,5 +1,4 @@
-pub mod Transposed
-pub mod Layers
+pub mod Stepping
 pub mod Walks
 pub mod Nearness
 pub mod Groups
@@ -8,5 +7,4 @@ pub mod Outward
 pub mod Duality
 pub mod Narrowing
 pub mod Find
-pub mod DistancesKept
 pub mod DemandsKept

@@ -26,7 +26,7 @@ use Rattle.table.specs.Rows.{successorsBy}
 use Rattle.table.proofs.Parts.{HasRows}
 use Rattle.reach.specs.Reached.{reachBy}
 use Rattle.paths.specs.Search.{layerOf, steppingInto, narrowedBack, smallestIn, walkBy}
-use Rattle.paths.proofs.Transposed.{in-stepping, stepping-in}
+use Rattle.paths.proofs.Stepping.{in-stepping, stepping-in}
 use Rattle.paths.proofs.Duality.{outward, out-within, out-step, crossing}
 
 -- ---- row by row

@@ -1,8 +1,6 @@
 -- The searches as the code does them: over the rows that are lent, with an array of layers.
 --
 --   HoldsTable rows n initial forbidden     the rows, with those sets, are a well-formed table of n states; its groups play no part
---   withBit s words                the words with the bit of state s
---   predecessorsIn rows n u        the states below n that step to u; predecessorRows rows n: those of each state, which are the rows transposed
 --   layerOf rows X k               what k steps lead to from X and no fewer
 --   metWithin rows X F k           at most k steps lead from X to a state of F
 --   firstLayer rows X F            the number of the first layer outward from X that holds a state of F: how many steps lead from X to one
@@ -15,15 +13,14 @@
 --   walkBy rows layers at d s      the walk of d steps from s, which is in layer `at`, to the smallest successor in the next layer each time: where those
 --                                  are the layers of the shortest paths, the model's walk (proofs/Find.antt)
 --   Writable                       a walk that can be written: each state of it is one, and the buffer has room for all from `at` on
-use Prim.Native.Nat.{ℕ, zero, suc, _+_, _*_, _/_, _%_, _^_, _≤_, _<_}
+use Prim.Native.Nat.{ℕ, zero, suc, _+_, _≤_, _<_}
 use mathlib.Core.Path.{_≡_}
 use mathlib.Core.Bool.{Bool, false, cond, _&&_}
 use mathlib.Core.List.{List, [], _∷_}
-use lib.Bits.{bitOr}
 use lib.Dec.{leb, ltb}
 use lib.ListN.{length, getD, set as replaced}
-use Rattle.basics.specs.Bounds.{first, tabulate}
-use Rattle.model.specs.Sets.{maxStates, Set, member, setOf, empty, meet, difference, meets, states, smallest}
+use Rattle.basics.specs.Bounds.{first}
+use Rattle.model.specs.Sets.{maxStates, Set, member, setOf, empty, meet, difference, meets, smallest}
 use Rattle.model.specs.Rounds.{iterate}
 use Rattle.model.specs.WellFormed.{WellFormed}
 use Rattle.table.specs.Rows.{rowsWords, rowIn, tableOn}
@@ -35,15 +32,6 @@ pub record HoldsTable (rows : List ℕ) (n : ℕ) (initial forbidden : Set) : Ty
   pub long : rowsWords ≤ length rows
   pub small : n ≤ maxStates
   pub formed : WellFormed (tableOn n initial forbidden [] rows)
-
-abbrev pub withBit : ℕ → Set → Set
-withBit s words = replaced words (s / 64) (bitOr (getD words (s / 64) 0) (1 * 2 ^ (s % 64) % 2 ^ 64))
-
-unfoldable pub predecessorsIn : List ℕ → ℕ → ℕ → Set
-predecessorsIn rows n u = states n (λ s. member (rowIn rows s) u)
-
-unfoldable pub predecessorRows : List ℕ → ℕ → List Set
-predecessorRows rows n = tabulate maxStates (predecessorsIn rows n)
 
 -- Layer k is what k steps lead to and no fewer, so layer k is the first with a state of F where k steps are the first to lead to one.
 unfoldable pub layerOf : List ℕ → Set → ℕ → Set

@@ -1,10 +1,10 @@
 // Runs the call shortest path on tables built here and prints what it answers, the states at the front of the path buffer, and whether the
 // rest of the buffer is as before; then the calls distances and within, with every place of the distance buffer. The stored output was
 // written by tests/expected/paths.py, a breadth-first search from the initial states made from the specification's text alone.
-use paths::DistancesAnswer;
+use distances::DistancesAnswer;
+use distances::distances;
 use paths::Shortest;
 use paths::WithinAnswer;
-use paths::distances;
 use paths::shortest_path;
 use paths::within;
 use state_set::MAX_STATES;

@@ -16,8 +16,8 @@ use Rattle.model.specs.Contents.{oldForm}
 use Rattle.model.specs.Calls.{decideGrounds, decideAnswer, shortestGrounds, shortestAnswer, readAnswerAs, readGroundsAs, writeGrounds, writeAnswer}
 use Rattle.model.proofs.CallLaws.{read-numbered}
 use Rattle.model.proofs.Ranges.{read-range}
-use Rattle.paths.specs.Distances.{distancesGrounds, distancesAnswer}
 use Rattle.paths.specs.Within.{withinAnswer}
+use Rattle.distances.specs.Distances.{distancesGrounds, distancesAnswer}
 use Rattle.rounds.specs.OrderAnswers.{orderAnswer}
 use Rattle.generator.specs.Load.{generateGrounds, generateAnswer}
 use Rattle.replay.specs.Logs.{replayGrounds, replayAnswer}

@@ -18,8 +18,8 @@ use Rattle.model.specs.Stores.{storeWords}
 use Rattle.model.specs.Blocks.{maxSite}
 use Rattle.model.specs.Contents.{Form}
 use Rattle.model.specs.Calls.{decideAnswer, shortestAnswer, TableRead, readAnswerAs, readAnswer, writeAnswer}
-use Rattle.paths.specs.Distances.{distancesAnswer}
 use Rattle.paths.specs.Within.{withinAnswer}
+use Rattle.distances.specs.Distances.{distancesAnswer}
 use Rattle.rounds.specs.OrderAnswers.{orderAnswer}
 use Rattle.generator.specs.Load.{generateAnswer}
 use Rattle.replay.specs.Logs.{replayAnswer}

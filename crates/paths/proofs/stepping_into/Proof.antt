@@ -3,7 +3,7 @@ use mathlib.Core.Path.{refl, ap₂, _∙_}
 use borrow.Author.Needs.{needs}
 use Rattle.model.specs.Sets.{difference}
 use Rattle.table.specs.Rows.{meetHold}
-use Rattle.paths.proofs.Transposed.{stepping-is}
+use Rattle.paths.proofs.Stepping.{stepping-is}
 use Rattle.paths.proofs.stepping_into.Statement.{statement}
 use Rattle.paths.proofs.stepping_into.Tie as tie
 

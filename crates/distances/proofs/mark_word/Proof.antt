@@ -8,8 +8,8 @@ use Rattle.state_set.proofs.Counts.{bits-fit, states-fit}
 use Rattle.state_set.proofs.WordSets.{word-less}
 use Rattle.table.specs.Rows.{mapAt}
 use Rattle.table.proofs.MapAt.{Mapping, mapping-bound, mapping-turn, mapping-end}
-use Rattle.paths.proofs.mark_word.Statement.{statement}
-use Rattle.paths.proofs.mark_word.Tie as tie
+use Rattle.distances.proofs.mark_word.Statement.{statement}
+use Rattle.distances.proofs.mark_word.Tie as tie
 
 abbrev Inv-loop : tie.InvT-loop
 Inv-loop distances₀ w bits d rest₀ distances rest = Mapping (λ _. d) 0 (mapAt (wordSet w bits) (λ _. d) 0 distances₀) w rest distances

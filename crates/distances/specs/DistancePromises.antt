@@ -16,10 +16,10 @@ use Rattle.model.specs.Tables.{Table}
 use Rattle.model.specs.Paths.{leads, isPath, unreachable}
 use Rattle.basics.specs.Refusals.{refuse, refused, answered}
 use Rattle.model.specs.Stores.{storeWords, tableOf, sharedGrounds}
-use Rattle.paths.specs.Distances.{distancesGrounds, distancesAnswer, distancesBuffer, distancesOf, CalledDistances}
+use Rattle.distances.specs.Distances.{distancesGrounds, distancesAnswer, distancesBuffer, distancesOf, CalledDistances}
 use Rattle.paths.specs.Within.{withinAnswer, withinOf, CalledWithin}
-use Rattle.paths.specs.declared.DistancesAnswer.{DistancesAnswer}
+use Rattle.distances.specs.declared.DistancesAnswer.{DistancesAnswer}
 use Rattle.paths.specs.declared.WithinAnswer.{WithinAnswer}
 
 pub record DistanceIs (t : Table) (s d : ℕ) : Type 0 where
   -- from s so many steps lead to a forbidden state

@@ -3,10 +3,10 @@ use Prim.Native.Nat.{_-_, _≤_}
 use native.Mathlib.Nat.{le-antisymm}
 use mathlib.Core.Path.{_≡_, ap, _∙_}
 use borrow.Author.Needs.{needs}
-use Rattle.paths.specs.Search.{predecessorRows}
-use Rattle.paths.proofs.Transposed.{transposed-turn}
-use Rattle.paths.proofs.join_predecessors.Statement.{statement}
-use Rattle.paths.proofs.join_predecessors.Tie as tie
+use Rattle.distances.specs.Transposing.{predecessorRows}
+use Rattle.distances.proofs.Transposed.{transposed-turn}
+use Rattle.distances.proofs.join_predecessors.Statement.{statement}
+use Rattle.distances.proofs.join_predecessors.Tie as tie
 
 abbrev Inv-loop : tie.InvT-loop
 Inv-loop before₀ rows n s₀ before s = (s ≤ n) × (before ≡ predecessorRows rows s)

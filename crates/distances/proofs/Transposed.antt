@@ -1,8 +1,6 @@
--- Laws of what steps into a set, by the rows that are lent and by the rows transposed.
+-- Laws of the rows transposed (specs/Transposing), and of what steps into a set by them.
 --
---   in-stepping, stepping-in          the states that step into a set, by their members
---   stepping-is                       as the code gathers them: those not in hold of all other states
---   stepping-new                      those not found yet, as the rows transposed give them
+--   stepping-new                      the states not found yet that step into a set, as the rows transposed give them
 --   states-suc                        one place more adds that state, if it passes
 --   transposed-start, -turn           the loop that joins each state to the predecessors of its successors: no row joined, and one more
 --   transposed-image                  what the rows transposed hold of a set
@@ -16,40 +14,15 @@ use mathlib.Core.List.{List, []}
 use lib.ListN.{getD, replicate}
 use Rattle.basics.specs.Bounds.{tabulate}
 use Rattle.model.specs.Sets.{WORDS, maxStates, Set, number, setOf, member, single, union, difference, states, firstStates, image}
-use Rattle.basics.proofs.BoundLaws.{and-true, and-intro, is-false, clash, by-cond, below-suc, getD-tabulate, tabulate-cong}
-use Rattle.model.proofs.SetLaws.{setOf-proper, In, in-bound, in-or-out, in-setOf, setOf-in, in-single, single-in, in-union, union-in, in-difference, difference-in, in-states, states-in, in-firstStates, firstStates-in, subset-in, subset-not, same-set, in-image, image-in, in-meets, meets-in}
+use Rattle.basics.proofs.BoundLaws.{clash, by-cond, below-suc, getD-tabulate, tabulate-cong}
+use Rattle.model.proofs.SetLaws.{setOf-proper, In, in-bound, in-single, single-in, in-union, union-in, in-difference, difference-in, in-states, states-in, in-firstStates, firstStates-in, same-set, in-image, image-in}
 use Rattle.model.proofs.ImageLaws.{image-cong}
 use Rattle.state_set.proofs.Words.{with-bit}
-use Rattle.table.specs.Rows.{rowIn, meetHold, mapAt}
+use Rattle.table.specs.Rows.{rowIn, mapAt}
 use Rattle.table.proofs.MapAt.{mapAt-tabulate}
-use Rattle.paths.specs.Search.{withBit, predecessorsIn, predecessorRows, steppingInto}
-
--- ---- the states that step into a set
-
-module _ (rows : List ℕ) {X Y : Set} {s : ℕ} where
-  pub in-stepping : {u : ℕ} → In X s → In (rowIn rows s) u → In Y u → In (steppingInto rows X Y) s
-  unfolding steppingInto
-  in-stepping h r y = in-setOf _ (in-bound h) (and-intro (member X s) _ (h .is) (in-meets r y))
-
-  pub stepping-in : In (steppingInto rows X Y) s → In X s × (u : ℕ) × In (rowIn rows s) u × In Y u
-  unfolding steppingInto
-  stepping-in h = let both = and-true (member X s) _ (setOf-in _ h) in let w = meets-in (both .1) in (record { is = both .0 }, w .0, w .1, w .2)
-
--- those that do not are in hold of all other states
-pub stepping-is : (rows : List ℕ) (X Y : Set)
-    → difference X (meetHold rows X (difference (firstStates maxStates) Y)) ≡ steppingInto rows X Y
-unfolding difference meetHold steppingInto
-stepping-is rows X Y =
-    same-set _ _ (setOf-proper _) (setOf-proper _)
-    (λ s h.
-    let both = difference-in h in
-    let out = subset-not (rowIn rows s) _ (is-false _ (λ e. both .1 (in-setOf _ (in-bound h) (and-intro (member X s) _ (both .0 .is) e)))) in
-    let u = in-bound (out .1) in
-    in-stepping rows (both .0) (out .1) (⊎-elim (λ y. y) (λ o. absurd (out .2 (in-difference (in-firstStates u u) o))) (in-or-out Y (out .0))))
-    (λ s h.
-    let w = stepping-in rows h in
-    in-difference (w .0)
-    (λ i. difference-in {X = firstStates maxStates} {Y = Y} (subset-in (and-true (member X s) _ (setOf-in _ i) .1) (w .1) (w .2)) .1 (w .3)))
+use Rattle.paths.specs.Search.{steppingInto}
+use Rattle.paths.proofs.Stepping.{in-stepping, stepping-in}
+use Rattle.distances.specs.Transposing.{withBit, predecessorsIn, predecessorRows}
 
 pub stepping-new : (rows : List ℕ) (n : ℕ) (layer found : Set)
     → steppingInto rows (difference (firstStates n) found) layer ≡ difference (image maxStates (predecessorsIn rows n) layer) found

@@ -1,26 +1,23 @@
--- `join_predecessor`: s is joined to the rows of the states in the words passed.
+-- `mark`: the states in the words passed are marked.
 use Prim.Native.Nat.{_-_, _≤_}
 use mathlib.Core.Path.{_≡_, _∙_}
-use mathlib.Core.List.{[]}
 use borrow.Author.Needs.{needs}
 use Rattle.model.specs.Sets.{WORDS}
 use Rattle.state_set.specs.WordSets.{wordsBelow}
 use Rattle.state_set.proofs.Words.{proper}
 use Rattle.table.specs.Rows.{mapAt}
 use Rattle.table.proofs.MapAt.{map-start, map-word, map-all}
-use Rattle.paths.specs.Search.{withBit}
-use Rattle.paths.proofs.join_predecessor.Statement.{statement}
-use Rattle.paths.proofs.join_predecessor.Tie as tie
+use Rattle.distances.proofs.mark.Statement.{statement}
+use Rattle.distances.proofs.mark.Tie as tie
 
 abbrev Inv-loop : tie.InvT-loop
-Inv-loop before₀ s successors w₀ before w =
-    (w ≤ WORDS) × (before ≡ mapAt (wordsBelow w (successors .words)) (withBit s) [] before₀)
+Inv-loop distances₀ d layer w₀ distances w = (w ≤ WORDS) × (distances ≡ mapAt (wordsBelow w (layer .words)) (λ _. d) 0 distances₀)
 
 abbrev μ-loop : tie.MeasureT-loop
-μ-loop before₀ s successors w₀ before w = WORDS - w
+μ-loop distances₀ d layer w₀ distances w = WORDS - w
 
-pub join-predecessor-spec : {M : Type 1} → statement M
-join-predecessor-spec =
+pub mark-spec : {M : Type 1} → statement M
+mark-spec =
     tie.close
     (tie.spec
     Inv-loop
@@ -31,5 +28,5 @@ join-predecessor-spec =
     (λ c κs. search needs)
     (λ c. search needs)
     (λ c. search needs)
-    (λ c. (search needs, map-word _ _ _ _ _ (search needs) (c .before .before .before .before .loop .inv .1) (c .join-word .ensures)))
+    (λ c. (search needs, map-word _ _ _ _ _ (search needs) (c .before .before .before .before .loop .inv .1) (c .mark-word .ensures)))
     (λ c. c .before .loop .inv .1 ∙ map-all _ _ _ _ _ (proper (search needs) (λ w. search needs)) (search needs)))

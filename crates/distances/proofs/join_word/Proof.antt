@@ -9,9 +9,9 @@ use Rattle.state_set.proofs.Counts.{bits-fit, states-fit}
 use Rattle.state_set.proofs.WordSets.{word-less}
 use Rattle.table.specs.Rows.{mapAt}
 use Rattle.table.proofs.MapAt.{Mapping, mapping-bound, mapping-turn, mapping-end}
-use Rattle.paths.specs.Search.{withBit}
-use Rattle.paths.proofs.join_word.Statement.{statement}
-use Rattle.paths.proofs.join_word.Tie as tie
+use Rattle.distances.specs.Transposing.{withBit}
+use Rattle.distances.proofs.join_word.Statement.{statement}
+use Rattle.distances.proofs.join_word.Tie as tie
 
 abbrev Inv-loop : tie.InvT-loop
 Inv-loop before₀ s w bits rest₀ before rest =

@@ -15,8 +15,8 @@ use Rattle.basics.specs.Refusals.{Ground, Answered, refused, answered, answer, 
 use Rattle.model.specs.Paths.{distance}
 use Rattle.model.specs.Stores.{tableOf, sharedGrounds}
 use Rattle.model.specs.Calls.{overwrite}
-use Rattle.paths.specs.declared.DistancesAnswer.{DistancesAnswer}
-use Rattle.paths.specs.declared.DistancesAnswer.the-variants.{Written, Refused}
+use Rattle.distances.specs.declared.DistancesAnswer.{DistancesAnswer}
+use Rattle.distances.specs.declared.DistancesAnswer.the-variants.{Written, Refused}
 
 unfoldable pub distancesGrounds : List ℕ → ℕ → ℕ → ℕ → List Ground
 distancesGrounds store n g room = sharedGrounds store n g ++ ((ltb room n, 23) ∷ [])

@@ -24,7 +24,7 @@ use Rattle.table.specs.Rows.{mapAt}
 use Rattle.table.proofs.Parts.{HasRows}
 use Rattle.table.proofs.MapAt.{mapAt-tabulate}
 use Rattle.reach.proofs.Layers.{before, before-grows, before-mono, Layered, layered-start, layered-turn, layered-still}
-use Rattle.paths.specs.Search.{predecessorsIn}
+use Rattle.distances.specs.Transposing.{predecessorsIn}
 
 -- the states that fewer than d steps back lead to from the forbidden ones
 abbrev pub nearer : List ℕ → Table → ℕ → Set

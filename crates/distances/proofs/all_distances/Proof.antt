@@ -9,11 +9,11 @@ use Rattle.basics.proofs.BoundLaws.{not-true}
 use Rattle.state_set.proofs.Words.{proper}
 use Rattle.table.specs.Rows.{tableOn}
 use Rattle.table.proofs.Parts.{row-in}
 use Rattle.paths.specs.Search.{steppingInto}
-use Rattle.paths.proofs.Transposed.{stepping-new}
-use Rattle.paths.proofs.Layers.{Swept, swept-start, swept-turn, swept-end}
-use Rattle.paths.proofs.all_distances.Statement.{statement}
-use Rattle.paths.proofs.all_distances.Tie as tie
+use Rattle.distances.proofs.Transposed.{stepping-new}
+use Rattle.distances.proofs.Layers.{Swept, swept-start, swept-turn, swept-end}
+use Rattle.distances.proofs.all_distances.Statement.{statement}
+use Rattle.distances.proofs.all_distances.Tie as tie
 
 abbrev Inv-loop : tie.InvT-loop
 Inv-loop rows n forbidden distances₀ found₀ layer₀ d₀ distances found layer d =

@@ -3,10 +3,11 @@ use native.Mathlib.Omega.{arith}
 use borrow.Author.Needs.{needs}
 use Rattle.model.proofs.SetLaws.{empty-in}
 use Rattle.model.proofs.Acceptance.{Store}
 use Rattle.paths.proofs.Groups.{holds-states}
-use Rattle.paths.proofs.Answers.{accepted, distances-refused, distances-short, distances-written}
-use Rattle.paths.proofs.distances.Statement.{statement}
-use Rattle.paths.proofs.distances.Tie as tie
+use Rattle.paths.proofs.Answers.{accepted}
+use Rattle.distances.proofs.Answers.{distances-refused, distances-short, distances-written}
+use Rattle.distances.proofs.distances.Statement.{statement}
+use Rattle.distances.proofs.distances.Tie as tie
 
 held : (c : tie.Else1)
     → Store (c .before .before .before .before .args .store .now) (c .before .before .before .before .args .n) (c .before .before .before .before .args .g)

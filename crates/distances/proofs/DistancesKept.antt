@@ -30,11 +30,11 @@ use Rattle.model.proofs.PathLaws.{reaching-leads, leads-reaching, length-smalle
 use Rattle.basics.proofs.RefusalLaws.{clear-refuse, refuse-clear, answer-none, answered-clear, answered-is, answered-value, refused-is}
 use Rattle.model.proofs.Acceptance.{Store, accepted-store, store-accepted, well-formed}
 use Rattle.model.proofs.FirstWords.{same-call, same-buffer}
-use Rattle.paths.specs.Distances.{distancesGrounds, distancesAnswer, distancesBuffer, distancesOf, CalledDistances}
+use Rattle.distances.specs.Distances.{distancesGrounds, distancesAnswer, distancesBuffer, distancesOf, CalledDistances}
 use Rattle.paths.specs.Within.{isWithin, withinAnswer}
-use Rattle.paths.specs.DistancePromises.{DistanceIs, Measured, WithinIs, DistancePromises}
-use Rattle.paths.specs.declared.DistancesAnswer.{DistancesAnswer}
+use Rattle.distances.specs.DistancePromises.{DistanceIs, Measured, WithinIs, DistancePromises}
+use Rattle.distances.specs.declared.DistancesAnswer.{DistancesAnswer}
 use Rattle.paths.proofs.Nearness.{within-some, some-within, reach-near, near-distance, within-reaching, within-shortest}
 
 -- ---- one table
 

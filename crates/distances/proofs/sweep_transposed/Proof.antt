@@ -9,10 +9,10 @@ use Rattle.basics.proofs.BoundLaws.{not-true}
 use Rattle.state_set.proofs.Words.{proper}
 use Rattle.table.specs.Rows.{tableOn}
 use Rattle.table.proofs.Parts.{row-in}
-use Rattle.paths.proofs.Transposed.{transposed-start, transposed-image}
-use Rattle.paths.proofs.Layers.{Swept, swept-start, swept-turn, swept-end}
-use Rattle.paths.proofs.sweep_transposed.Statement.{statement}
-use Rattle.paths.proofs.sweep_transposed.Tie as tie
+use Rattle.distances.proofs.Transposed.{transposed-start, transposed-image}
+use Rattle.distances.proofs.Layers.{Swept, swept-start, swept-turn, swept-end}
+use Rattle.distances.proofs.sweep_transposed.Statement.{statement}
+use Rattle.distances.proofs.sweep_transposed.Tie as tie
 
 abbrev Inv-loop : tie.InvT-loop
 Inv-loop rows n before distances₀ found₀ layer₀ d₀ distances found layer d =

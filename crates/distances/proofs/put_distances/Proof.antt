@@ -5,8 +5,8 @@ use borrow.Author.Needs.{needs}
 use lib.ListN.{getD}
 use Rattle.basics.specs.Bounds.{tabulate}
 use Rattle.table.proofs.Overwriting.{Over, over-none, over-next, over-all}
-use Rattle.paths.proofs.put_distances.Statement.{statement}
-use Rattle.paths.proofs.put_distances.Tie as tie
+use Rattle.distances.proofs.put_distances.Statement.{statement}
+use Rattle.distances.proofs.put_distances.Tie as tie
 
 abbrev Inv-loop : tie.InvT-loop
 Inv-loop distances n out₀ s₀ out s = (s ≤ n) × Over (tabulate s (λ i. getD distances i 0)) out₀ out

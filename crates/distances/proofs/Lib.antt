@@ -1,0 +1,4 @@
+pub mod Transposed
+pub mod Layers
+pub mod Answers
+pub mod DistancesKept

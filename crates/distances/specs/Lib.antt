@@ -1,0 +1,3 @@
+pub mod Transposing
+pub mod Distances
+pub mod DistancePromises
