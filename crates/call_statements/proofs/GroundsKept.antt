@@ -19,7 +19,7 @@ use Rattle.release_windows.specs.Windows.{outside}
 use Rattle.release_windows.specs.WindowAnswers.{grounds, nextOpenAnswer}
 use Rattle.file_check.specs.CheckAnswers.{checkGrounds, checkAnswer}
 use Rattle.file_rewrite.specs.RewriteAnswers.{rewriteGrounds, rewriteAnswer}
-use Rattle.shuntberry.specs.Fields.{refusalNumber}
+use Rattle.c_fields.specs.Fields.{refusalNumber}
 use Rattle.call_statements.specs.Grounds.{Listed, Refuses, Grounds}
 
 listed : Listed

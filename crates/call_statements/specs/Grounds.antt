@@ -32,7 +32,7 @@ use Rattle.release_windows.specs.WindowAnswers.{grounds, nextOpenAnswer}
 use Rattle.file_check.specs.CheckAnswers.{checkGrounds, checkAnswer}
 use Rattle.rewriting.specs.Rewriting.{newFile}
 use Rattle.file_rewrite.specs.RewriteAnswers.{rewriteGrounds, rewriteAnswer}
-use Rattle.shuntberry.specs.Fields.{refusalNumber}
+use Rattle.c_fields.specs.Fields.{refusalNumber}
 
 -- A table without states has no groups.
 abbrev pub storeTable : List ℕ → ℕ → ℕ → List Ground

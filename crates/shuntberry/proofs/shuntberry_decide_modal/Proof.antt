@@ -2,8 +2,8 @@
 use mathlib.Core.Path.{ap, _∙_}
 use borrow.Author.Needs.{needs}
 use Rattle.modal.proofs.Ranges.{ModalRange, modal-range}
-use Rattle.shuntberry.specs.Fields.{modalFields}
-use Rattle.shuntberry.proofs.Answering.{where-answered}
+use Rattle.c_fields.specs.Fields.{modalFields}
+use Rattle.c_fields.proofs.Answering.{where-answered}
 use Rattle.shuntberry.proofs.shuntberry_decide_modal.Statement.{statement}
 use Rattle.shuntberry.proofs.shuntberry_decide_modal.Tie as tie
 

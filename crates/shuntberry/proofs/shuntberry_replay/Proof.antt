@@ -2,8 +2,8 @@
 use mathlib.Core.Path.{ap, _∙_}
 use borrow.Author.Needs.{needs}
 use Rattle.replay.proofs.Ranges.{ReplayRange, replay-range}
-use Rattle.shuntberry.specs.Fields.{replayFields}
-use Rattle.shuntberry.proofs.Answering.{where-answered}
+use Rattle.c_fields.specs.Fields.{replayFields}
+use Rattle.c_fields.proofs.Answering.{where-answered}
 use Rattle.shuntberry.proofs.shuntberry_replay.Statement.{statement}
 use Rattle.shuntberry.proofs.shuntberry_replay.Tie as tie
 
