@@ -198,13 +198,17 @@ module _ (input : List ℕ) (site : ℕ) (before : List ℕ) (r : Checked) (afte
   call-verdict : f .verdict ≡ fileVerdict input site
   call-verdict = ap (λ (x : CheckedFile). x .verdict) call-says
 
-  call-past : (take (f .textLength) after ≡ checkText input site) × (drop (f .textLength) after ≡ drop (f .textLength) before)
+  call-past : (length (checkText input site) ≡ f .textLength) × (take (f .textLength) after ≡ checkText input site)
+      × (drop (f .textLength) after ≡ drop (f .textLength) before)
   unfolding checkBuffer
   call-past =
       let text = checkText input site in
       let long : length text ≡ f .textLength = sym (ap (λ (x : CheckedFile). x .textLength) call-says) in
-      let left = called .1 ∙ ap (unlessRefused before (λ (x : CheckedFile). overwrite text before)) (sym (called .0) ∙ e) in
-      (ap (take (f .textLength)) left ∙ take-overwrite text before (f .textLength) long, ap (drop (f .textLength)) left ∙ drop-overwrite text before (f .textLength) long)
+      let left = called .1 ∙ ap (unlessRefused before (λ (x : CheckedFile). overwrite text before)) (sym (called .0) ∙ e) in (
+        long,
+        ap (take (f .textLength)) left ∙ take-overwrite text before (f .textLength) long,
+        ap (drop (f .textLength)) left ∙ drop-overwrite text before (f .textLength) long,
+      )
 
 -- ---- the three lines of a draft, and a file that is too long
 

@@ -81,10 +81,11 @@ pub record Reported : Type 0 where
   pub refused-file-call : (input : List ℕ) (site : ℕ) (before : List ℕ) (r : Checked) (after : List ℕ) (l k : ℕ)
       → CalledCheck input site before r after → checkedOf r ≡ answered (record { textLength = l; verdict = refusedFile k })
       → readAnswer input site storeWords ≡ refused k
-  -- the text stands at the front of the output, and no byte past it is touched
+  -- the text stands at the front of the output, as long as the answer says, and no byte past it is touched
   pub past : (input : List ℕ) (site : ℕ) (before : List ℕ) (r : Checked) (after : List ℕ) (f : CheckedFile)
       → CalledCheck input site before r after → checkedOf r ≡ answered f
-      → (take (f .textLength) after ≡ checkText input site) × (drop (f .textLength) after ≡ drop (f .textLength) before)
+      → (length (checkText input site) ≡ f .textLength) × (take (f .textLength) after ≡ checkText input site)
+      × (drop (f .textLength) after ≡ drop (f .textLength) before)
   -- a call that is refused is so for its site or its output, and leaves the output as it was
   pub refused-call : (input : List ℕ) (site : ℕ) (before : List ℕ) (r : Checked) (after : List ℕ) (k : ℕ)
       → CalledCheck input site before r after → checkedOf r ≡ refused k

@@ -124,6 +124,5 @@ modal-promises =
           );
       draft = λ store possible before e long roomy zero. draft-safe store possible before e long roomy zero;
       draft-17 = λ store possible before e long i h f. draft-17 store possible before e long i h f;
-      figure = refl;
       first-words = first-words;
     }

@@ -113,8 +113,6 @@ pub record ModalPromises : Type 0 where
       → modalAnswer store 0 0 possible (length before) ≡ answered (record { verdict = 0; invariant = empty; size = 0; steps = 0 })
   pub draft-17 : (store possible before : List ℕ) → refuse (sharedGrounds store 0 0) ≡ 0 → possibleWords ≤ length possible
       → (i : ℕ) → i < possibleWords → (getD possible i 0 ≡ 0 → ⊥) → modalAnswer store 0 0 possible (length before) ≡ refused 17
-  -- the words of possible steps, in figures
-  pub figure : possibleWords ≡ 4096
   -- none but the first words of the store and of the possible steps is read
   pub first-words : (store store′ possible possible′ : List ℕ) (n g : ℕ) (path : List ℕ)
       → storeWords ≤ length store → storeWords ≤ length store′ → take storeWords store ≡ take storeWords store′

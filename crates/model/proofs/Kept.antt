@@ -316,6 +316,7 @@ sizes =
       just-enough = λ l blocks. (λ h. omega arith, λ h. omega arith);
       one-byte-more = (refl, refl);
       most-blocks = refl;
+      longest-contents = refl;
       most-blocks-old = refl;
       largest-file = refl;
       most-read = refl;

@@ -37,6 +37,7 @@ pub record Sizes : Type 0 where
   -- so many blocks hold l bytes of content, and no fewer do
   pub just-enough : (l blocks : ℕ) → (blocksFor l ≤ blocks) ↔ (l ≤ 508 * blocks)
   pub one-byte-more : (blocksFor 508 ≡ 1) × (blocksFor 509 ≡ 2)
+  pub longest-contents : contentLength newForm maxStates maxGroups ≡ 37060
   pub most-blocks : blocksFor (contentLength newForm maxStates maxGroups) ≡ 73
   pub most-blocks-old : blocksFor (contentLength oldForm maxStates maxGroups) ≡ 73
   pub largest-file : maxFile ≡ 37376

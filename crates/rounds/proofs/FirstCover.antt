@@ -24,7 +24,7 @@ use Rattle.fixpoints.specs.Steps.{covers}
 use Rattle.fixpoints.specs.Order.{forwardOrder, orderBy, padded}
 use Rattle.fixpoints.proofs.TableOrder.{order-is}
 use Rattle.rounds.specs.declared.Expansion.the-variants.{Listed, Refused as ExpansionRefused}
-use Rattle.rounds.specs.OrderAnswers.{OrderAnswer, orderAnswer, Ordered}
+use Rattle.rounds.specs.OrderAnswers.{OrderAnswer, orderAnswer, CalledFirstOrder}
 use Rattle.rounds.proofs.Adding.{groups-last}
 
 -- ---- the cover of a state
@@ -66,7 +66,7 @@ module _ (groups : List ℕ) (g n s : ℕ) where
 
 module _ (store : List ℕ) (n g : ℕ) where
   pub order-refused : {k : ℕ} → k ≡ refuse (sharedGrounds store n g) → (k ≡ 0 → ⊥)
-      → Ordered store n g (record { expansion = ExpansionRefused k; states = replicate maxStates 0 })
+      → CalledFirstOrder store n g (record { expansion = ExpansionRefused k; states = replicate maxStates 0 })
   unfolding orderAnswer padded overwrite
   order-refused {k} e f =
       let gives = answer-refused (sharedGrounds store n g) _ e f in
@@ -76,7 +76,7 @@ module _ (store : List ℕ) (n g : ℕ) where
     pub order-listed : {Z initial : Set} {cover : List Set} {order : List ℕ} {count : ℕ} → Z ≡ notForbidden n ((tableOf store n 0) .forbidden)
         → cover ≡ covers n (Z ∷ groupsIn (groupsOf store) g) → initial ≡ setAt store 0
         → order ≡ padded (orderBy (rowsOf store) cover initial Z) → count ≡ length (orderBy (rowsOf store) cover initial Z)
-        → Ordered store n g (record { expansion = Listed count; states = order })
+        → CalledFirstOrder store n g (record { expansion = Listed count; states = order })
     unfolding orderAnswer firstRound roundOf tableOf
     order-listed {Z} {initial} {cover} z c i o m =
         let t = tableOf store n g in

@@ -2,7 +2,7 @@
 --
 --   OrderAnswer, orderAnswer    the call's answer in numbers; the grounds are those that every call shares, in their order
 --   orderedOf                   the numbers for each case of the answer
---   Ordered                     a call and what it gave: the contract of first_order
+--   CalledFirstOrder            a call and what it gave: the contract of first_order
 use Prim.Native.Nat.{ℕ}
 use mathlib.Core.Path.{_≡_}
 use mathlib.Core.List.{List, []}
@@ -33,6 +33,6 @@ abbrev pub orderedOf : FirstOrder → Answered OrderAnswer
 orderedOf r = orderedWith (r .expansion) (r .states)
 
 -- Its answer, and the places that stand beside it: all 0 where the call is refused.
-abbrev pub Ordered : List ℕ → ℕ → ℕ → FirstOrder → Type 0
-Ordered store n g r =
+abbrev pub CalledFirstOrder : List ℕ → ℕ → ℕ → FirstOrder → Type 0
+CalledFirstOrder store n g r =
     (orderedOf r ≡ orderAnswer store n g) × (r .states ≡ unlessRefused (padded []) (λ a. a .states) (orderAnswer store n g))

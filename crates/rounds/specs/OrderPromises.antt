@@ -14,7 +14,7 @@ use Rattle.model.specs.Stores.{storeWords, tableOf, sharedGrounds}
 use Rattle.table.specs.Rows.{tableOn}
 use Rattle.fixpoints.specs.Steps.{covers, forwardBy}
 use Rattle.fixpoints.specs.Order.{orderBy, padded, InOrder}
-use Rattle.rounds.specs.OrderAnswers.{OrderAnswer, orderAnswer, orderedOf, Ordered}
+use Rattle.rounds.specs.OrderAnswers.{OrderAnswer, orderAnswer, orderedOf, CalledFirstOrder}
 use Rattle.rounds.specs.declared.FirstOrder.{FirstOrder}
 
 pub record OrderPromises : Type 0 where
@@ -25,10 +25,10 @@ pub record OrderPromises : Type 0 where
   pub forward-R : (n : ℕ) (initial forbidden : Set) (groups : List Set) (rows : List ℕ) (L : List Set) (Z R : Set) → subset Z (firstStates n) ≡ true
       → IsLeast (forwardBy rows (covers n L) initial Z) R → R ≡ forwardSet (tableOn n initial forbidden groups rows) L Z
   -- what first_order returns is the order of the first round
-  pub first-order : (store : List ℕ) (n g : ℕ) (r : FirstOrder) (a : OrderAnswer) → Ordered store n g r → orderedOf r ≡ answered a
+  pub first-order : (store : List ℕ) (n g : ℕ) (r : FirstOrder) (a : OrderAnswer) → CalledFirstOrder store n g r → orderedOf r ≡ answered a
       → InOrder (tableOf store n g) ((firstRound (tableOf store n g)) .list) ((firstRound (tableOf store n g)) .Z) (take (a .count) (a .states))
   -- a refused call gives the number of the first ground that holds, and no state
-  pub refusal : (store : List ℕ) (n g : ℕ) (r : FirstOrder) (k : ℕ) → Ordered store n g r → orderedOf r ≡ refused k
+  pub refusal : (store : List ℕ) (n g : ℕ) (r : FirstOrder) (k : ℕ) → CalledFirstOrder store n g r → orderedOf r ≡ refused k
       → (k ≡ refuse (sharedGrounds store n g)) × (r .states ≡ padded [])
   -- on two stores that are alike in their first words: none after them is read
   pub first-words : (store other : List ℕ) → storeWords ≤ length store → storeWords ≤ length other → take storeWords store ≡ take storeWords other

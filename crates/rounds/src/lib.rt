@@ -23,7 +23,7 @@ ghost use Rattle.table.specs.Rows.{rowsWords, groupsWords, groupsIn, tableOn};
 ghost use Rattle.fixpoints.specs.Steps.{Prepared};
 ghost use Rattle.rounds.specs.Adding.{nextAdded};
 ghost use Rattle.rounds.specs.DecideAnswers.{Concludes, outcomeOf, invariantOf, stepsIn, CalledDecide};
-ghost use Rattle.rounds.specs.OrderAnswers.{Ordered};
+ghost use Rattle.rounds.specs.OrderAnswers.{CalledFirstOrder};
 use fixpoints::Order;
 use fixpoints::WordSteps;
 use fixpoints::backward;
@@ -230,7 +230,7 @@ fn first_cover_of(groups: &[u64], g: usize, n: usize, z: StateSet, s: usize) -> 
 
 // The order in which the first round of a table expands the states of R, for programs and tests.
 pub fn first_order(store: &[u64], n: usize, g: usize) -> FirstOrder
-    ensures { λ r. ⌜ Ordered (now (store .entry)) n g r ⌝ }
+    ensures { λ r. ⌜ CalledFirstOrder (now (store .entry)) n g r ⌝ }
 {
     let refused = refusal(store, n, g);
     if refused != 0 {
