@@ -1,10 +1,10 @@
 // Decide beside a graph search that has nothing in common with it: forward from the initial states, one state at a time, by a queue.
 // Printed is how many generated tables of each verdict there were, and in how many the two agree in verdict and in the length of the path;
 // at last a digest of decide's answers, whole. tests/expected/programs.py makes the same tables anew and works out what this must print.
-use rounds::Decision;
+use decide::Decision;
+use decide::Verdict;
+use decide::decide;
 use rounds::MAX_ALLOWANCE;
-use rounds::Verdict;
-use rounds::decide;
 use state_set::MAX_STATES;
 use state_set::StateSet;
 use state_set::WORD_BITS;

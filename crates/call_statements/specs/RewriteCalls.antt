@@ -19,8 +19,8 @@ use Rattle.model.specs.Paths.{smallestPath}
 use Rattle.model.specs.Stores.{storeWords}
 use Rattle.model.specs.Contents.{oldForm}
 use Rattle.model.specs.Calls.{overwrite, maxAllowance, release, Decision as Answer, decisionOf, statesIn, groupsIn}
-use Rattle.rounds.specs.declared.Decision.{Decision}
-use Rattle.rounds.specs.DecideAnswers.{decidedOf, CalledDecide}
+use Rattle.decide.specs.declared.Decision.{Decision}
+use Rattle.decide.specs.DecideAnswers.{decidedOf, CalledDecide}
 use Rattle.file_writing.specs.declared.Written.{Written}
 use Rattle.file_writing.specs.WriteAnswers.{writtenOf}
 use Rattle.file_reading.specs.declared.TableRead.{TableRead}

@@ -1,10 +1,10 @@
 // Tables A to H of the specification, some of them with states resting or no longer marked, and a ninth (which tells a list that is replaced from
 // one that is added to) through the call decide, with allowances 0, 1, 2, 3 and the greatest; then refusals, their order and their edges.
 // tests/expected/programs.py works out what this must print, from its text.
-use rounds::Decision;
+use decide::Decision;
+use decide::Verdict;
+use decide::decide;
 use rounds::MAX_ALLOWANCE;
-use rounds::Verdict;
-use rounds::decide;
 use state_set::MAX_STATES;
 use table::MAX_GROUPS;
 use table::STORE_WORDS;

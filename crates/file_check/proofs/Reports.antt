@@ -26,10 +26,10 @@ use Rattle.model.proofs.RoundLaws.{unsafe-path}
 use Rattle.model.proofs.PathLaws.{has-path}
 use Rattle.model.proofs.Acceptance.{well-formed, check-of}
 use Rattle.model.proofs.Ranges.{decide-range}
-use Rattle.rounds.specs.declared.Verdict.{Verdict}
-use Rattle.rounds.specs.declared.Verdict.the-variants as verdict
-use Rattle.rounds.specs.declared.Decision.{Decision as Decision·code}
-use Rattle.rounds.specs.DecideAnswers.{decidedWith, decidedOf}
+use Rattle.decide.specs.declared.Verdict.{Verdict}
+use Rattle.decide.specs.declared.Verdict.the-variants as verdict
+use Rattle.decide.specs.declared.Decision.{Decision as Decision·code}
+use Rattle.decide.specs.DecideAnswers.{decidedWith, decidedOf}
 use Rattle.report.specs.Text.{safeText, unsafeText, undecidedText, reportText, refusedText}
 use Rattle.report.specs.Put.{textRoom, Front}
 use Rattle.file_check.specs.declared.Checked.the-variants.{Safe, Unsafe, RefusedFile, Refused}

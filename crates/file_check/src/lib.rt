@@ -7,6 +7,8 @@ ghost use lib.ListN.{length};
 ghost use Rattle.report.specs.Put.{textRoom};
 ghost use Rattle.file_check.specs.CheckText.{checkTable};
 ghost use Rattle.file_check.specs.CheckAnswers.{checkedOf, Reports, CalledCheck};
+use decide::Verdict;
+use decide::decide;
 use file_blocks::MAX_SITE;
 use file_reading::TableRead;
 use file_reading::read;
@@ -16,8 +18,6 @@ use report::write_safe;
 use report::write_undecided;
 use report::write_unsafe;
 use rounds::MAX_ALLOWANCE;
-use rounds::Verdict;
-use rounds::decide;
 use state_set::MAX_STATES;
 use table::STORE_WORDS;
 

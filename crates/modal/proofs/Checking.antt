@@ -16,9 +16,9 @@ use Rattle.model.specs.Calls.{release, decisionOf}
 use Rattle.table.specs.Rows.{groupsOf, rowsIn, groupsIn, tableOn}
 use Rattle.table.proofs.Parts.{groups-of}
 use Rattle.paths.specs.Search.{HoldsTable}
-use Rattle.paths.specs.PathAnswers.{foundIn, pathWritten}
+use Rattle.paths.specs.PathAnswers.{foundIn, pathWritten, stepsIn}
 use Rattle.paths.specs.declared.Found.{Found}
-use Rattle.rounds.specs.DecideAnswers.{endsWith, outcomeOf, invariantOf, stepsIn}
+use Rattle.rounds.specs.RunAnswers.{endsWith, outcomeOf, invariantOf}
 use Rattle.rounds.specs.declared.Ending.{Ending}
 use Rattle.rounds.specs.declared.Ending.the-variants.{Safe, Unsafe, Undecided}
 use Rattle.rounds.specs.declared.Ended.{Ended}

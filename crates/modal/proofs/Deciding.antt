@@ -22,9 +22,8 @@ use Rattle.model.specs.WellFormed.{WellFormed}
 use Rattle.table.specs.Rows.{rowsWords, rowsOf, rowsIn, forbiddenBy, tableOn}
 use Rattle.table.proofs.Parts.{rows-of}
 use Rattle.paths.specs.Search.{HoldsTable}
-use Rattle.paths.specs.PathAnswers.{foundIn, pathWritten}
+use Rattle.paths.specs.PathAnswers.{foundIn, pathWritten, stepsIn}
 use Rattle.paths.proofs.Groups.{foundIn-groups, pathWritten-groups}
-use Rattle.rounds.specs.DecideAnswers.{stepsIn}
 use Rattle.modal.specs.Modal.{certainRow, possibleRow, tableWith, modalForbidden, modalTable, certainTable, possibleTable, releaseCheck, modalGrounds, ModalAnswer, modalOf, modalAnswer, modalWritten, modalBuffer}
 use Rattle.modal.specs.declared.Checked.{Checked}
 use Rattle.modal.specs.declared.ModalVerdict.{ModalVerdict}

@@ -1,6 +1,7 @@
 -- What find_path and the call shortest path answer.
 --
 --   foundIn t, pathWritten t path     find_path: the steps of a shortest path, and the buffer with the path at its front
+--   stepsIn                           those steps, or 0
 --   shortestOf                        each case of the call's answer, in the specification's numbers
 --   CalledShortest                    a call of shortest_path and what it gave: its contract
 use Prim.Native.Nat.{ℕ}
@@ -19,6 +20,11 @@ use Rattle.paths.specs.declared.Shortest.the-variants.{Path as PathOf, N
 
 unfoldable pub foundIn : Table → Found
 foundIn t = cond (hasPath t) (Steps (shortest t)) Nothing
+
+-- the steps of the path that find_path found, or 0
+abbrev pub stepsIn : Found → ℕ
+stepsIn (Steps d) = d
+stepsIn Nothing = 0
 
 unfoldable pub pathWritten : Table → List ℕ → List ℕ
 pathWritten t path = cond (hasPath t) (overwrite (smallestPath t) path) path

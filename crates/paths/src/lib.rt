@@ -4,7 +4,7 @@
 //   first_layer                       outward from a set, layer by layer: how many steps lead to a forbidden state; put_row: a layer in its row
 //   narrow_back                       the layers back from the last, with what leads on alone
 //   smallest_in_layer, write_path     a state of the path; the path, state by state
-//   find_path                         whether there is a path, and the path at the front of a buffer
+//   find_path                         whether there is a path, and the path at the front of a buffer; steps_of: its steps
 //   is_within                         whether what was found is at most k steps away
 //   shortest_path, within             the calls
 //
@@ -18,7 +18,7 @@ ghost use mathlib.Core.List.{[]};
 ghost use Rattle.model.specs.Sets.{maxStates};
 ghost use Rattle.table.specs.Rows.{rowsWords, tableOn};
 ghost use Rattle.paths.specs.Search.{HoldsTable, firstLayer, stepsWithin, LayersUpTo, steppingInto, narrowedBack, smallestIn, walkBy, Writable};
-ghost use Rattle.paths.specs.PathAnswers.{foundIn, pathWritten, CalledShortest};
+ghost use Rattle.paths.specs.PathAnswers.{foundIn, pathWritten, stepsIn, CalledShortest};
 ghost use Rattle.paths.specs.Within.{CalledWithin};
 use reach::newly_reached;
 use state_set::MAX_STATES;
@@ -145,6 +145,16 @@ pub fn find_path(
             Found::Steps(d)
         }
         Found::Nothing => Found::Nothing,
+    }
+}
+
+// The steps of the path that was found, or 0.
+pub fn steps_of(found: Found) -> usize
+    ensures { λ d. ⌜ d ≡ stepsIn found ⌝ }
+{
+    match found {
+        Found::Steps(steps) => steps,
+        Found::Nothing => 0,
     }
 }
 

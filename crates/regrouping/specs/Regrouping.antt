@@ -20,8 +20,8 @@ use Rattle.model.specs.Tables.{Table, coverOf, notForbidden}
 use Rattle.model.specs.Stores.{tableOf, AcceptedStore}
 use Rattle.model.specs.Calls.{Decision as Answer, decideAnswer, decideBuffer}
 use Rattle.model.specs.Promises.{SameAnswer}
-use Rattle.rounds.specs.declared.Decision.{Decision}
-use Rattle.rounds.specs.DecideAnswers.{decidedOf, CalledDecide}
+use Rattle.decide.specs.declared.Decision.{Decision}
+use Rattle.decide.specs.DecideAnswers.{decidedOf, CalledDecide}
 
 pub record Alike (t u : Table) : Type 0 where
   pub n : t .n ≡ u .n

@@ -23,7 +23,7 @@ use Rattle.model.specs.Stores.{tableOf}
 use Rattle.model.specs.Promises.{IsInvariant}
 use Rattle.model.proofs.Acceptance.{well-formed}
 use Rattle.model.proofs.FirstWords.{same-call}
-use Rattle.rounds.proofs.DemandsKept.{demands}
+use Rattle.decide.proofs.DemandsKept.{demands}
 use Rattle.replay.specs.Logs.{entryBytes, maxLog, entry, reachableCount, logGrounds, replayGrounds, Replay, walkThrough, replayAnswer}
 use Rattle.replay.specs.ReplayPromises.{WalkIs, ReplayPromises}
 use Rattle.replay.proofs.Walking.{Closed, followed-closed}

@@ -20,8 +20,8 @@ use Rattle.model.specs.Tables.{Table}
 use Rattle.model.specs.Stores.{storeWords, tableOf, sharedGrounds}
 use Rattle.model.specs.Calls.{Decision as Answer}
 use Rattle.reach.specs.Reached.{reachable, walks, ReachableIs}
-use Rattle.rounds.specs.declared.Decision.{Decision}
-use Rattle.rounds.specs.DecideAnswers.{decidedOf, CalledDecide}
+use Rattle.decide.specs.declared.Decision.{Decision}
+use Rattle.decide.specs.DecideAnswers.{decidedOf, CalledDecide}
 use Rattle.replay.specs.Logs.{entryBytes, maxLog, entryCount, entry, seen, reachableCount, replayGrounds, Replay, replayAnswer}
 use Rattle.replay.specs.ReplayAnswers.{replayedOf, CalledReplay}
 use Rattle.replay.specs.declared.Replayed.{Replayed}

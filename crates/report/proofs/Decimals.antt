@@ -13,8 +13,7 @@ use mathlib.Core.Logic.{⊎-elim}
 use mathlib.Core.List.{List, [], _∷_, _++_}
 use borrow.Author.Tests.{ltb-true, ltb-false, lt-ltb}
 use lib.Dec.{ltb}
-use Rattle.io.specs.Digits.{glyph, Fewest}
-use Rattle.io.specs.Digits.{digits as digitsIn}
+use Rattle.io.specs.Digits.{glyph, Fewest, digits as digitsIn}
 use Rattle.basics.proofs.BoundLaws.{by-cond, lt-or-ge}
 use Rattle.report.specs.Text.{digits, decimal}
 

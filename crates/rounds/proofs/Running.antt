@@ -34,7 +34,7 @@ use Rattle.fixpoints.proofs.Bridge.{successorsBy-is, meetHold-is, backwardBy-pr
 use Rattle.rounds.specs.Adding.{narrowed}
 use Rattle.rounds.specs.declared.Conclusion.the-variants.{Safe as ConcludesSafe, Unsafe as ConcludesUnsafe, Open}
 use Rattle.rounds.specs.declared.Concluded.{Concluded}
-use Rattle.rounds.specs.DecideAnswers.{concludes, setBeside, Concludes}
+use Rattle.rounds.specs.RunAnswers.{concludes, setBeside, Concludes}
 use Rattle.rounds.proofs.Adding.{covers-add}
 
 -- ---- sets of the table's states

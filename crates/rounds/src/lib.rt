@@ -1,4 +1,4 @@
-// The rounds (the specification, "Rounds") and the call `decide`.
+// The rounds (the specification, "Rounds"), and the order in which the first of them expands states.
 //
 //   not_forbidden                       Z of the first round
 //   next_added                          the set that is added to the list next
@@ -6,8 +6,6 @@
 //   run                                 the rounds, and the cover: a row of words for each state, narrowed as a set is added to the list
 //   met_with, first_cover_of            the cover of a state after one set is added; for the list of the first round
 //   first_order                         the order in which the first round expands the states of R
-//   decide_refusal                      why a check is refused
-//   steps_of, decide                    the steps of a path that was found; the call
 ghost use mathlib.Core.Path.{_≡_};
 ghost use mathlib.Core.Bool.{cond};
 ghost use mathlib.Core.List.{_∷_};
@@ -16,21 +14,17 @@ ghost use lib.ListN.{length};
 ghost use Rattle.model.specs.Sets.{member, meet};
 ghost use Rattle.model.specs.Tables.{coverOf, notForbidden};
 ghost use Rattle.model.specs.Rounds.{run as run·model};
-ghost use Rattle.basics.specs.Refusals.{refuse};
 ghost use Rattle.model.specs.Stores.{maxGroups};
-ghost use Rattle.model.specs.Calls.{decideGrounds};
 ghost use Rattle.table.specs.Rows.{rowsWords, groupsWords, groupsIn, tableOn};
 ghost use Rattle.fixpoints.specs.Steps.{Prepared};
 ghost use Rattle.rounds.specs.Adding.{nextAdded};
-ghost use Rattle.rounds.specs.DecideAnswers.{Concludes, outcomeOf, invariantOf, stepsIn, CalledDecide};
+ghost use Rattle.rounds.specs.RunAnswers.{Concludes, outcomeOf, invariantOf};
 ghost use Rattle.rounds.specs.OrderAnswers.{CalledFirstOrder};
 use fixpoints::Order;
 use fixpoints::WordSteps;
 use fixpoints::backward;
 use fixpoints::forward;
 use fixpoints::steps_by_word;
-use paths::Found;
-use paths::find_path;
 use state_set::MAX_STATES;
 use state_set::StateSet;
 use state_set::WORD_BITS;
@@ -44,6 +38,9 @@ use table::row_of;
 use table::set_at;
 
 // ---- the rounds
+
+// As many refinements as there can be states.
+pub const MAX_ALLOWANCE: usize = MAX_STATES;
 
 // How the rounds end, with the count of refinements.
 pub enum Ending {
@@ -252,97 +249,5 @@ pub fn first_order(store: &[u64], n: usize, g: usize) -> FirstOrder
     FirstOrder {
         expansion: Expansion::Listed(count),
         states,
-    }
-}
-
-// ---- the call
-
-// As many refinements as there can be states.
-pub const MAX_ALLOWANCE: usize = MAX_STATES;
-
-// Why a check is refused, or 0.
-fn decide_refusal(store: &[u64], n: usize, g: usize, allowance: usize, room: usize) -> u8
-    ensures { λ r. ⌜ r ≡ refuse (decideGrounds (now (store .entry)) n g allowance room) ⌝ }
-{
-    let shared = refusal(store, n, g);
-    if shared != 0 {
-        return shared;
-    }
-    if MAX_ALLOWANCE < allowance {
-        return 20;
-    }
-    if room < MAX_STATES {
-        return 21;
-    }
-    0
-}
-
-// The verdicts, each with its count of refinements: safe with the number of states of the invariant, unsafe with the steps of the path.
-// `Refused` has the number of the ground on which the call is refused.
-pub enum Verdict {
-    Safe { count: usize, size: usize },
-    Unsafe { count: usize, steps: usize },
-    Undecided { count: usize },
-    Refused(u8),
-}
-
-// The verdict, with the invariant beside it where that is safe and the empty set where it is not.
-pub struct Decision {
-    pub verdict: Verdict,
-    pub invariant: StateSet,
-}
-
-// The steps of the path that was found, or 0.
-pub fn steps_of(found: Found) -> usize
-    ensures { λ d. ⌜ d ≡ stepsIn found ⌝ }
-{
-    match found {
-        Found::Steps(steps) => steps,
-        Found::Nothing => 0,
-    }
-}
-
-pub fn decide(store: &[u64], n: usize, g: usize, allowance: usize, path: &mut [u16]) -> Decision
-    ensures { λ r. ⌜ CalledDecide (now (store .entry)) n g allowance (now (path .entry)) r (now (path .exit)) ⌝ }
-{
-    let refused = decide_refusal(store, n, g, allowance, path.len());
-    if refused != 0 {
-        return Decision {
-            verdict: Verdict::Refused(refused),
-            invariant: StateSet::empty(),
-        };
-    }
-    let initial = set_at(store, 0);
-    let forbidden = forbidden(store, n);
-    let ended = run(
-        &store[ROWS_AT..],
-        &store[GROUPS_AT..],
-        g,
-        n,
-        initial,
-        forbidden,
-        allowance,
-    );
-    let ending = ended.ending;
-    let invariant = ended.invariant;
-    match ending {
-        Ending::Safe(count) => Decision {
-            verdict: Verdict::Safe {
-                count,
-                size: invariant.count(),
-            },
-            invariant,
-        },
-        Ending::Unsafe(count) => Decision {
-            verdict: Verdict::Unsafe {
-                count,
-                steps: steps_of(find_path(&store[ROWS_AT..], n, initial, forbidden, path)),
-            },
-            invariant,
-        },
-        Ending::Undecided(count) => Decision {
-            verdict: Verdict::Undecided { count },
-            invariant,
-        },
     }
 }

@@ -36,6 +36,7 @@ use c_fields::lay_out_shortest;
 use c_fields::lay_out_table;
 use c_fields::lay_out_within;
 use c_fields::refusal_number;
+use decide::decide;
 use distances::distances;
 use edit_session::add_step;
 use edit_session::open;
@@ -50,7 +51,6 @@ use paths::shortest_path;
 use paths::within;
 use release_windows::next_open;
 use replay::replay;
-use rounds::decide;
 use state_set::StateSet;
 
 // ---- decide

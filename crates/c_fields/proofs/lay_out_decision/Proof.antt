@@ -4,8 +4,8 @@ use native.Mathlib.Omega.{arith}
 use borrow.Author.Needs.{needs}
 use Rattle.model.specs.Sets.{Set}
 use Rattle.model.proofs.Ranges.{DecisionRange}
-use Rattle.rounds.specs.declared.Verdict.{Verdict}
-use Rattle.rounds.specs.DecideAnswers.{decidedWith}
+use Rattle.decide.specs.declared.Verdict.{Verdict}
+use Rattle.decide.specs.DecideAnswers.{decidedWith}
 use Rattle.c_fields.specs.Small.{WhereAnswered}
 use Rattle.c_fields.proofs.lay_out_decision.Statement.{statement}
 use Rattle.c_fields.proofs.lay_out_decision.Tie as tie

@@ -5,7 +5,7 @@ use Rattle.model.specs.Sets.{Set, union, subset}
 use Rattle.table.specs.Rows.{successorsBy}
 use Rattle.fixpoints.proofs.Bridge.{forward-closed, backward-greatest}
 use Rattle.fixpoints.proofs.Leaving.{leads-start}
-use Rattle.rounds.specs.DecideAnswers.{setBeside}
+use Rattle.rounds.specs.RunAnswers.{setBeside}
 use Rattle.rounds.proofs.Running.{conclude-safe, conclude-unsafe, conclude-open}
 use Rattle.rounds.proofs.conclude.Statement.{statement}
 use Rattle.rounds.proofs.conclude.Tie as tie

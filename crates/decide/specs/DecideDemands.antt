@@ -14,8 +14,8 @@ use Rattle.model.specs.Stores.{storeWords, tableOf}
 use Rattle.model.specs.Rounds.{run}
 use Rattle.model.specs.Calls.{Decision as Answer, release, decideGrounds, decisionOf}
 use Rattle.model.specs.Promises.{StopsFirst, Carries, Demand2, Demand3, SameAnswer}
-use Rattle.rounds.specs.declared.Decision.{Decision}
-use Rattle.rounds.specs.DecideAnswers.{decidedOf, CalledDecide}
+use Rattle.decide.specs.declared.Decision.{Decision}
+use Rattle.decide.specs.DecideAnswers.{decidedOf, CalledDecide}
 
 pub record DecideDemands : Type 0 where
   -- a refused call: the number is that of the first ground that holds, the set beside it is empty, and the buffer is as it was

@@ -8,10 +8,10 @@ use Rattle.model.specs.Sets.{maxStates}
 use Rattle.model.proofs.Acceptance.{Store}
 use Rattle.table.proofs.Parts.{rows-long, groups-long}
 use Rattle.paths.proofs.Groups.{holds-table, store-path}
 use Rattle.rounds.specs.declared.Ending.the-variants.{Safe, Unsafe, Undecided}
-use Rattle.rounds.proofs.Deciding.{ended-is, refused-answer, accepted, safe-answer, unsafe-answer, undecided-answer}
-use Rattle.rounds.proofs.decide.Statement.{statement}
-use Rattle.rounds.proofs.decide.Tie as tie
+use Rattle.decide.proofs.Deciding.{ended-is, refused-answer, accepted, safe-answer, unsafe-answer, undecided-answer}
+use Rattle.decide.proofs.decide.Statement.{statement}
+use Rattle.decide.proofs.decide.Tie as tie
 
 abbrev start : tie.Else1 → tie.Start
 start c = c .before .before .before .before

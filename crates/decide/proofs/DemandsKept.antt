@@ -6,7 +6,7 @@ use Rattle.model.specs.Calls.{Decision}
 use Rattle.model.specs.Stores.{tableOf}
 use Rattle.model.specs.Promises.{Carries, Demand2, Demand3, SameAnswer}
 use Rattle.model.proofs.Kept.{promises, untouched}
-use Rattle.rounds.specs.DecideDemands.{DecideDemands}
+use Rattle.decide.specs.DecideDemands.{DecideDemands}
 
 pub demands : DecideDemands
 demands =

@@ -21,13 +21,14 @@ use Rattle.model.proofs.RoundLaws.{unsafe-path}
 use Rattle.model.proofs.PathLaws.{has-path}
 use Rattle.table.specs.Rows.{rowsOf, groupsOf, groupsIn, tableOn}
 use Rattle.paths.specs.declared.Found.{Found}
-use Rattle.paths.specs.PathAnswers.{foundIn, pathWritten}
+use Rattle.paths.specs.PathAnswers.{foundIn, pathWritten, stepsIn}
 use Rattle.paths.proofs.Groups.{store-table}
 use Rattle.rounds.specs.declared.Ending.{Ending}
 use Rattle.rounds.specs.declared.Ended.{Ended}
-use Rattle.rounds.specs.declared.Verdict.{Verdict}
-use Rattle.rounds.specs.declared.Verdict.the-variants.{Safe, Unsafe, Undecided, Refused}
-use Rattle.rounds.specs.DecideAnswers.{endsWith, outcomeOf, invariantOf, stepsIn, decidedWith, CalledDecide}
+use Rattle.decide.specs.declared.Verdict.{Verdict}
+use Rattle.decide.specs.declared.Verdict.the-variants.{Safe, Unsafe, Undecided, Refused}
+use Rattle.rounds.specs.RunAnswers.{endsWith, outcomeOf, invariantOf}
+use Rattle.decide.specs.DecideAnswers.{decidedWith, CalledDecide}
 
 -- ---- refusals
 

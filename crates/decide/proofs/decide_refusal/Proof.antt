@@ -2,9 +2,9 @@
 use borrow.Author.Needs.{needs}
 use borrow.Author.Tests.{lt-ltb, le-ltb}
 use Rattle.basics.proofs.RefusalLaws.{refuse-first}
-use Rattle.rounds.proofs.Deciding.{refuse-shared, behind-shared}
-use Rattle.rounds.proofs.decide_refusal.Statement.{statement}
-use Rattle.rounds.proofs.decide_refusal.Tie as tie
+use Rattle.decide.proofs.Deciding.{refuse-shared, behind-shared}
+use Rattle.decide.proofs.decide_refusal.Statement.{statement}
+use Rattle.decide.proofs.decide_refusal.Tie as tie
 
 pub decide-refusal-spec : {M : Type 1} → statement M
 decide-refusal-spec =

@@ -1,0 +1,2 @@
+pub mod DecideAnswers
+pub mod DecideDemands
