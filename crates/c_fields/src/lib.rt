@@ -1,12 +1,12 @@
 // What C reads of an answer and of a refusal: the structs of include/shuntberry.h, and the answer of each call laid out in its struct. specs/Fields says the
 // numbers, for an answer and for a refusal; specs/FailsSafe, that no field that answers has a number of an answer where the call is refused.
 //
-//   lay_out_CALL, refused_decision, refused_modal, refusal_number     the fields of an answer; of a refusal; the refusal of a call that returns nothing else
+//   lay_out_CALL                          the fields of an answer or a refusal; of distances and generate the refusal alone, or 0
+//   refused_decision, refused_modal       those of a refusal
 ghost use mathlib.Core.Path.{_≡_};
 ghost use Prim.Native.Nat.{_≤_};
-ghost use lib.ListN.{length};
 ghost use Rattle.basics.specs.Refusals.{refused};
-ghost use Rattle.model.specs.Sets.{empty, maxStates};
+ghost use Rattle.model.specs.Sets.{maxStates};
 ghost use Rattle.model.specs.Files.{maxFile};
 ghost use Rattle.model.proofs.Ranges.{DecisionRange, ReadRange};
 ghost use Rattle.decide.specs.DecideAnswers.{decidedOf};
@@ -206,7 +206,7 @@ pub fn lay_out_shortest(answer: Shortest) -> ShortestFields
 // ---- distances
 
 // The refusal, or 0.
-pub fn refusal_number(answer: DistancesAnswer) -> u32
+pub fn lay_out_distances(answer: DistancesAnswer) -> u32
     ensures { λ r. ⌜ r ≡ refusalNumber (distancesOf answer) ⌝ }
 {
     match answer {

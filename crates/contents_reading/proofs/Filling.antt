@@ -37,11 +37,11 @@ module _ (bytes : List ℕ) (n first count : ℕ) where
     put-next e = parts-put _ old (λ j l. part-wide j) so e (ap length e ∙ put-long (WORDS * k) _ out (omega (arith, part-wide k)))
 
     -- from the bytes of the contents, where its words were lent
-    pub part-set : {width : ℕ} {all : Set} {rest : List ℕ} → k < count → width ≡ setWidth n → all ≡ firstStates (8 * width)
-        → rest ≡ overwrite (meet (setIn bytes (8 * WORDS) (headerBytes + width * (first + k))) all) (lent (WORDS * k) out)
+    pub part-set : {width : ℕ} {own : Set} {rest : List ℕ} → k < count → width ≡ setWidth n → own ≡ firstStates (8 * width)
+        → rest ≡ overwrite (meet (setIn bytes (8 * WORDS) (headerBytes + width * (first + k))) own) (lent (WORDS * k) out)
         → next ≡ back (WORDS * k) out rest → Over (concat (k + 1) (partSet bytes n first count)) old next
     unfolding partSet setNumber
-    part-set {width} {all} {rest} h e a f is =
+    part-set {width} {own} {rest} h e a f is =
         let at = headerBytes + width * (first + k) in
         put-next
         (is

@@ -1,8 +1,8 @@
 -- What the functions that read contents ask of them, and the sets of a part of the store.
 --
---   TableInside bytes n g           n and g are in bounds, and contents are joined with room for those of every table
+--   TableInside bytes n g           n and g are in bounds, and the bytes are as many as contents are joined in, which is enough for every table
 --   PartInside bytes n first count  the same of `count` sets from set `first` on
---   partSet bytes n first count k   set k of a part of the store: one of the contents, or an unused one
+--   partSet bytes n first count k   set k of a part of the store: one of the contents, or an unused one, which is empty
 use Prim.Native.Nat.{ℕ, _+_, _≤_}
 use mathlib.Core.Bool.{cond}
 use mathlib.Core.List.{List}

@@ -79,18 +79,18 @@ pub fn fill(form: Form, bytes: &[u8], n: usize, g: usize, store: &mut [u64])
     fill_sets(&mut store[ROWS_AT..], bytes, n, heads + g, n, MAX_STATES);
 }
 
-// A part of the store that has room for `room` sets: `count` of them are those of the contents from set `first` on. Each is put into its own
-// words: the part of the store from there on is lent, from ROWS_AT + WORDS * s on for the row of state s, to be filled from the set's bytes.
+// A part of the store that has room for `room` sets: the first `count` are those of the contents from set `first` on, and the others are empty. Each of
+// the first is put into its own words: the part of the store from there on is lent, from ROWS_AT + WORDS * s on for the row of state s, to be filled from the set's bytes.
 fn fill_sets(part: &mut [u64], bytes: &[u8], n: usize, first: usize, count: usize, room: usize)
     requires { ⌜ PartInside (now bytes) n first count × (WORDS * room ≤ length (now part)) ⌝ }
     ensures { λ r. ⌜ now (part .exit) ≡ overwrite (concat room (partSet (now (bytes .entry)) n first count)) (now (part .entry)) ⌝ }
 {
     let width = set_width(n);
-    let all = StateSet::first_states(8 * width);
+    let own = StateSet::first_states(8 * width); // what the bytes of one set can have
     for k in 0..room {
         let at = WORDS * k;
         if k < count {
-            fill_set(&mut part[at..], bytes, HEADER + width * (first + k), all);
+            fill_set(&mut part[at..], bytes, HEADER + width * (first + k), own);
         } else {
             put_set(part, at, StateSet::empty());
         }
@@ -98,13 +98,13 @@ fn fill_sets(part: &mut [u64], bytes: &[u8], n: usize, first: usize, count: usiz
 }
 
 // The set that begins at `at` in the contents, put into the first words of what is lent. As many bytes as a set can have are taken, and of their states
-// those that `all` has: so no word is a case of its own, and the compiler makes one load of eight bytes.
-fn fill_set(words: &mut [u64], bytes: &[u8], at: usize, all: StateSet)
+// those that `own` has: so no word is a case of its own, and the compiler makes one load of eight bytes.
+fn fill_set(words: &mut [u64], bytes: &[u8], at: usize, own: StateSet)
     requires { ⌜ (at + 8 * WORDS ≤ length (now bytes)) × (WORDS ≤ length (now words)) ⌝ }
-    ensures { λ r. ⌜ now (words .exit) ≡ overwrite (meet (setIn (now (bytes .entry)) (8 * WORDS) at) (all .words)) (now (words .entry)) ⌝ }
+    ensures { λ r. ⌜ now (words .exit) ≡ overwrite (meet (setIn (now (bytes .entry)) (8 * WORDS) at) (own .words)) (now (words .entry)) ⌝ }
 {
     for v in 0..WORDS {
-        words[v] = word_in(bytes, at, v) & all.words[v];
+        words[v] = word_in(bytes, at, v) & own.words[v];
     }
 }
 

@@ -3,7 +3,8 @@
 --   lanes, chunks        the bytes of a chunk, one to a lane, and how many whole chunks stand before the check
 --   byteMost, laneMost   the greatest byte, and the greatest number that a lane can hold
 --   lanesSum at sums turns n
---                        the weighted sum that the first n lanes of two rows stand for, where the lanes of a chunk at place `at` are summed
+--                        the weighted sum that the first n lanes of two rows stand for: what is in `sums` counts as at its place in the chunk that begins at
+--                        `at`, and each of `turns` as one chunk more
 --   plus xs ys           two rows of lanes added, lane by lane
 --   Most m xs            a row of lanes, none of which has more than m
 use Prim.Native.Nat.{ℕ, zero, suc, _+_, _*_, _/_, _≤_, _<_}

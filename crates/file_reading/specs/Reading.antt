@@ -1,7 +1,7 @@
 -- Of the functions below `read`, their parts of what `read` does.
 --
 --   bytesGrounds form bytes blocks n second g
---                                   the grounds of contents that so many blocks hold and that say n and a second number, which is g with what the form adds
+--                                   the grounds of contents that so many blocks hold and that say n and a second number; g is that number less what the form adds
 --   Reads gs d n g before r after   what is given by a call that looks at the grounds gs: n and g, and d n g in the store
 --   ReadsFile, ReadsContents        those of a file, and of contents
 --   Joined input site r before after
@@ -22,7 +22,7 @@ use Rattle.model.specs.Calls.{TableRead as ReadAnswer, overwrite, statesIn, gro
 use Rattle.file_reading.specs.declared.TableRead.{TableRead}
 use Rattle.file_reading.specs.ReadAnswers.{readOf}
 
--- The model's `contentGrounds` of an input are those of its contents and the number of its blocks.
+-- The model's `contentGrounds`, of bytes and a number of blocks in place of the input that has them.
 unfoldable pub bytesGrounds : Form → List ℕ → ℕ → ℕ → ℕ → ℕ → List Ground
 bytesGrounds form bytes blocks n second g =
     (eqb n 0 || ltb maxStates n, 14)

@@ -5,7 +5,7 @@
 //   read_file, read_contents         the same of an input that has bytes, and of contents: each looks at its own grounds
 //   join, block_fault                the contents of the blocks joined, each once it is checked; the grounds of one block, on its own 512 bytes
 ghost use mathlib.Core.Path.{_≡_};
-ghost use Prim.Native.Nat.{_+_, _*_, _/_, _≤_, _<_};
+ghost use Prim.Native.Nat.{_*_, _/_, _≤_, _<_};
 ghost use lib.ListN.{length};
 ghost use Rattle.basics.specs.Refusals.{refuse};
 ghost use Rattle.model.specs.Stores.{storeWords};

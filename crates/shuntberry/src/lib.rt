@@ -1,4 +1,4 @@
-// The calls for C (include/shuntberry.h). Each only calls the call of the same name and lays its answer out in a struct (`c_fields`).
+// The calls for C (include/shuntberry.h). Each only calls the call of the same name and lays its answer out as C reads it (`c_fields`).
 ghost use mathlib.Core.Path.{_≡_};
 ghost use lib.ListN.{length};
 ghost use Rattle.model.specs.Sets.{empty};
@@ -26,6 +26,7 @@ use c_fields::TableFields;
 use c_fields::WithinFields;
 use c_fields::lay_out_check;
 use c_fields::lay_out_decision;
+use c_fields::lay_out_distances;
 use c_fields::lay_out_file;
 use c_fields::lay_out_generated;
 use c_fields::lay_out_minute;
@@ -35,7 +36,6 @@ use c_fields::lay_out_session;
 use c_fields::lay_out_shortest;
 use c_fields::lay_out_table;
 use c_fields::lay_out_within;
-use c_fields::refusal_number;
 use decide::decide;
 use distances::distances;
 use edit_session::add_step;
@@ -101,7 +101,7 @@ pub extern "C" fn shuntberry_distances(store: &[u64], n: usize, g: usize, out: &
     ensures { λ r. ⌜ (r ≡ refusalNumber (distancesAnswer (now (store .entry)) n g (length (now (out .entry)))))
         × (now (out .exit) ≡ distancesBuffer (now (store .entry)) n g (now (out .entry))) ⌝ }
 {
-    refusal_number(distances(store, n, g, out))
+    lay_out_distances(distances(store, n, g, out))
 }
 
 // ---- within

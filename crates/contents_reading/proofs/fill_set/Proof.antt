@@ -1,4 +1,4 @@
--- `fill_set`: the words passed are those of the set, without the states that `all` has not.
+-- `fill_set`: the words passed are those of the set, without the states that `own` has not.
 use Prim.Native.Nat.{_*_, _-_, _≤_}
 use borrow.Author.Needs.{needs}
 use lib.ListN.{getD}
@@ -14,10 +14,10 @@ use Rattle.contents_reading.proofs.fill_set.Statement.{statement}
 use Rattle.contents_reading.proofs.fill_set.Tie as tie
 
 abbrev Inv-loop : tie.InvT-loop
-Inv-loop words₀ bytes at all v₀ words v = (v ≤ WORDS) × Over (tabulate v (λ i. getD (meet (setIn bytes (8 * WORDS) at) (all .words)) i 0)) words₀ words
+Inv-loop words₀ bytes at own v₀ words v = (v ≤ WORDS) × Over (tabulate v (λ i. getD (meet (setIn bytes (8 * WORDS) at) (own .words)) i 0)) words₀ words
 
 abbrev μ-loop : tie.MeasureT-loop
-μ-loop words₀ bytes at all v₀ words v = WORDS - v
+μ-loop words₀ bytes at own v₀ words v = WORDS - v
 
 pub fill-set-spec : {M : Type 1} → statement M
 unfolding meet

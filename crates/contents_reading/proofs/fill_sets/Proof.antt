@@ -15,10 +15,10 @@ use Rattle.contents_reading.proofs.fill_sets.Statement.{statement}
 use Rattle.contents_reading.proofs.fill_sets.Tie as tie
 
 abbrev Inv-loop : tie.InvT-loop
-Inv-loop part₀ bytes n first count room width all k₀ part k = (k ≤ room) × Over (concat k (partSet bytes n first count)) part₀ part
+Inv-loop part₀ bytes n first count room width own k₀ part k = (k ≤ room) × Over (concat k (partSet bytes n first count)) part₀ part
 
 abbrev μ-loop : tie.MeasureT-loop
-μ-loop part₀ bytes n first count room width all k₀ part k = room - k
+μ-loop part₀ bytes n first count room width own k₀ part k = room - k
 
 pub fill-sets-spec : {M : Type 1} → statement M
 fill-sets-spec =

@@ -12,4 +12,4 @@ shuntberry-distances-spec =
     (λ c κs. search needs)
     (λ c κs. search needs)
     (λ c. search needs)
-    (λ c. let found = c .before .before .before .distances .ensures in (c .refusal-number .ensures ∙ ap refusalNumber (found .0), found .1)))
+    (λ c. let found = c .before .before .before .distances .ensures in (c .lay-out-distances .ensures ∙ ap refusalNumber (found .0), found .1)))
