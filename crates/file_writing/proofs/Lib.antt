@@ -1,4 +1,2 @@
-pub mod SetBytes
-pub mod Places
-pub mod Joining
+pub mod Joined
 pub mod WriteLaws

@@ -1,15 +1,14 @@
--- Laws that the functions of `writing` cite.
+-- Laws that the functions of `write` cite.
 --
---   le16-written                         two bytes stored
 --   blockFront, block-written            a block up to its check, and with it
 --   held                                 where no shared ground holds, the store is long enough and n and g are in bounds
 --   refused-short, refused-site, refused-shared, draft-written, refused-room, written       the contract of `write` in each case
-use Prim.Native.Nat.{ℕ, _+_, _*_, _/_, _%_, _≤_, _<_}
+use Prim.Native.Nat.{ℕ, _+_, _*_, _≤_, _<_}
 use native.Mathlib.Omega.{arith}
-use mathlib.Core.Path.{_≡_, refl, sym, ap, _∙_}
+use mathlib.Core.Path.{_≡_, sym, ap, _∙_}
 use mathlib.Core.List.{List, [], _∷_, _++_}
 use borrow.Author.Tests.{lt-ltb}
-use lib.ListN.{set, length, take, drop, length-drop}
+use lib.ListN.{length, take, drop, length-drop}
 use lib.Seq.{length-take-le, getD-take, getD-drop}
 use Rattle.basics.specs.Bounds.{concat}
 use Rattle.basics.specs.Refusals.{refuse, answered}
@@ -19,7 +18,7 @@ use Rattle.model.specs.Contents.{newForm, contents, contentLength}
 use Rattle.model.specs.Files.{blockFile, fileOf, fileLength}
 use Rattle.model.specs.Calls.{overwrite, outputGround, writeGrounds, writeBuffer}
 use Rattle.basics.proofs.BoundLaws.{length-tabulate}
-use Rattle.model.proofs.ListLaws.{overwrite-front, overwrite-set}
+use Rattle.model.proofs.ListLaws.{overwrite-front}
 use Rattle.basics.proofs.RefusalLaws.{refuse-first, refuse-append}
 use Rattle.model.proofs.BlockLaws.{checkOf-cong, block-unique, framed-is, blockOf-is}
 use Rattle.model.proofs.ContentLaws.{length-contents}
@@ -28,16 +27,7 @@ use Rattle.model.proofs.CallLaws.{Writable, write-over, write-behind, write-ref
 use Rattle.model.proofs.Acceptance.{Store, accepted-store, store-accepted}
 use Rattle.file_writing.specs.declared.Written.the-variants.{File, Refused}
 use Rattle.file_writing.specs.WriteAnswers.{CalledWrite}
-use Rattle.file_writing.specs.Writing.{LongEnough}
-
--- ---- a buffer filled
-
--- the two bytes of a number
-pub le16-written : (old : List ℕ) (x : ℕ) → 2 ≤ length old → set (set old 0 (x % 256)) 1 (x / 256 % 256) ≡ overwrite (le16 x) old
-unfolding overwrite
-le16-written old x h =
-    ap (λ ys. set ys 1 (x / 256 % 256)) (overwrite-set [] old (x % 256) 0 refl (omega arith))
-    ∙ overwrite-set (x % 256 ∷ []) old (x / 256 % 256) 1 refl h
+use Rattle.contents_writing.specs.Placed.{LongEnough}
 
 -- ---- a block
 

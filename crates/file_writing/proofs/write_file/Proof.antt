@@ -2,7 +2,7 @@
 use native.Mathlib.Omega.{arith}
 use borrow.Author.Needs.{needs}
 use Rattle.file_blocks.specs.Forms.{joinedRoom}
-use Rattle.file_writing.proofs.Joining.{contents-room, length-joined, blocks-joined}
+use Rattle.file_writing.proofs.Joined.{contents-room, length-joined, blocks-joined}
 use Rattle.file_writing.proofs.write_file.Statement.{statement}
 use Rattle.file_writing.proofs.write_file.Tie as tie
 

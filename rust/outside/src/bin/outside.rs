@@ -23,7 +23,7 @@ use shuntberry_outside::rewriting;
 use shuntberry_outside::windows::{self, NextOpen};
 
 const SEED: u64 = 20_260_401;
-const COUNT: u64 = 40_000;
+const COUNT: u64 = 25_000;
 /// One question for the next open minute to so many tables and files.
 const CASES_PER_QUESTION: u64 = 4;
 const THREADS: usize = 2;

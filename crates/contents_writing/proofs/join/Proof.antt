@@ -3,9 +3,9 @@ use mathlib.Core.Path.{refl, _∙_}
 use borrow.Author.Needs.{needs}
 use Rattle.model.specs.Contents.{headerBytes}
 use Rattle.table.proofs.Overwriting.{overwrite-lent}
-use Rattle.file_writing.proofs.Joining.{contents-written}
-use Rattle.file_writing.proofs.join.Statement.{statement}
-use Rattle.file_writing.proofs.join.Tie as tie
+use Rattle.contents_writing.proofs.Joining.{contents-written}
+use Rattle.contents_writing.proofs.join.Statement.{statement}
+use Rattle.contents_writing.proofs.join.Tie as tie
 
 pub join-spec : {M : Type 1} → statement M
 join-spec =

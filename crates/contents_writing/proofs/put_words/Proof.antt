@@ -2,11 +2,11 @@
 use Prim.Native.Nat.{_-_, _≤_}
 use borrow.Author.Needs.{needs}
 use Rattle.basics.specs.Bounds.{concat}
-use Rattle.file_writing.specs.Writing.{wordsBytes}
+use Rattle.contents_writing.specs.Placed.{wordsBytes}
 use Rattle.table.proofs.Overwriting.{Over, parts-none, parts-all}
-use Rattle.file_writing.proofs.SetBytes.{words-more}
-use Rattle.file_writing.proofs.put_words.Statement.{statement}
-use Rattle.file_writing.proofs.put_words.Tie as tie
+use Rattle.contents_writing.proofs.SetBytes.{words-more}
+use Rattle.contents_writing.proofs.put_words.Statement.{statement}
+use Rattle.contents_writing.proofs.put_words.Tie as tie
 
 abbrev Inv-loop : tie.InvT-loop
 Inv-loop set count out₀ v₀ out v = (v ≤ count) × Over (concat v (wordsBytes set)) out₀ out

@@ -2,11 +2,11 @@
 use Prim.Native.Nat.{_-_, _≤_}
 use mathlib.Core.Path.{refl}
 use borrow.Author.Needs.{needs}
-use Rattle.file_writing.specs.Writing.{wordBytes}
+use Rattle.contents_writing.specs.Placed.{wordBytes}
 use Rattle.table.proofs.Overwriting.{Over, over-all}
-use Rattle.file_writing.proofs.SetBytes.{bytes-none, bytes-more}
-use Rattle.file_writing.proofs.put_bytes.Statement.{statement}
-use Rattle.file_writing.proofs.put_bytes.Tie as tie
+use Rattle.contents_writing.proofs.SetBytes.{bytes-none, bytes-more}
+use Rattle.contents_writing.proofs.put_bytes.Statement.{statement}
+use Rattle.contents_writing.proofs.put_bytes.Tie as tie
 
 abbrev Inv-loop : tie.InvT-loop
 Inv-loop x count out₀ b₀ out b = (b ≤ count) × Over (wordBytes x b) out₀ out

@@ -10,7 +10,7 @@ use lib.Dec.{ltb}
 use Rattle.model.specs.Sets.{WORDS}
 use Rattle.model.specs.Stores.{headSets, groupAt, rowAt}
 use Rattle.basics.proofs.BoundLaws.{by-cond}
-use Rattle.file_writing.specs.Writing.{placeOf}
+use Rattle.contents_writing.specs.Placed.{placeOf}
 
 module _ (g k : ℕ) where
   pub by-place : (P : ℕ → Type 0) → (k < headSets → P (WORDS * k)) → (headSets ≤ k → k < headSets + g → P (groupAt (k - headSets)))

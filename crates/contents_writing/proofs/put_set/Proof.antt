@@ -1,8 +1,8 @@
 -- `put_set`: whole words, and what is left.
 use borrow.Author.Needs.{needs}
-use Rattle.file_writing.proofs.SetBytes.{set-whole, set-rest}
-use Rattle.file_writing.proofs.put_set.Statement.{statement}
-use Rattle.file_writing.proofs.put_set.Tie as tie
+use Rattle.contents_writing.proofs.SetBytes.{set-whole, set-rest}
+use Rattle.contents_writing.proofs.put_set.Statement.{statement}
+use Rattle.contents_writing.proofs.put_set.Tie as tie
 
 pub put-set-spec : {M : Type 1} → statement M
 put-set-spec =

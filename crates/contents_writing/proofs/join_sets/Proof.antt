@@ -5,12 +5,12 @@ use borrow.Author.Needs.{needs}
 use lib.ListN.{length-take, length-drop}
 use Rattle.basics.specs.Bounds.{concat}
 use Rattle.model.specs.Stores.{headSets}
-use Rattle.file_writing.specs.Writing.{placedSet}
+use Rattle.contents_writing.specs.Placed.{placedSet}
 use Rattle.table.proofs.Overwriting.{Over, parts-none}
 use Rattle.file_blocks.proofs.BlockLaws.{sets-fit}
-use Rattle.file_writing.proofs.Joining.{sets-more, sets-all, set-room}
-use Rattle.file_writing.proofs.join_sets.Statement.{statement}
-use Rattle.file_writing.proofs.join_sets.Tie as tie
+use Rattle.contents_writing.proofs.Joining.{sets-more, sets-all, set-room}
+use Rattle.contents_writing.proofs.join_sets.Statement.{statement}
+use Rattle.contents_writing.proofs.join_sets.Tie as tie
 
 abbrev Inv-loop : tie.InvT-loop
 Inv-loop store n g out₀ w k₀ k-end out k = (k ≤ headSets + g + n) × Over (concat k (placedSet store w g)) out₀ out

@@ -1,8 +1,8 @@
 -- `place_of`: before the groups, among them, or among the rows.
 use borrow.Author.Needs.{needs}
-use Rattle.file_writing.proofs.Places.{head-place, group-place, row-place}
-use Rattle.file_writing.proofs.place_of.Statement.{statement}
-use Rattle.file_writing.proofs.place_of.Tie as tie
+use Rattle.contents_writing.proofs.Places.{head-place, group-place, row-place}
+use Rattle.contents_writing.proofs.place_of.Statement.{statement}
+use Rattle.contents_writing.proofs.place_of.Tie as tie
 
 pub place-of-spec : {M : Type 1} → statement M
 place-of-spec =

@@ -1,8 +1,8 @@
 -- `write_le16`: both bytes.
 use borrow.Author.Needs.{needs}
-use Rattle.file_writing.proofs.WriteLaws.{le16-written}
-use Rattle.file_writing.proofs.write_le16.Statement.{statement}
-use Rattle.file_writing.proofs.write_le16.Tie as tie
+use Rattle.contents_writing.proofs.Joining.{le16-written}
+use Rattle.contents_writing.proofs.write_le16.Statement.{statement}
+use Rattle.contents_writing.proofs.write_le16.Tie as tie
 
 pub write-le16-spec : {M : Type 1} → statement M
 write-le16-spec =

@@ -1,4 +1,4 @@
--- What the functions below `write` ask, and their parts of the file.
+-- What the functions that write contents ask, and their parts of the contents.
 --
 --   LongEnough store n g         a store long enough, with n and g in bounds
 --   wordBytes x count            the lowest so many bytes of a word, lowest first; wordsBytes words v: all eight of word v

@@ -1,30 +1,27 @@
--- The contents of a table joined, and the blocks of what is joined.
+-- The contents of a table joined.
 --
 --   set-place                            set k of the file stands at its place in the store
 --   sets-more, sets-all, set-room        a loop that joins the sets from their places; each has room behind those before it
 --   contents-written                     the contents written: the header, then the sets from their places
---   contents-room, length-joined         contents joined in a buffer of zeros, that has room for those of every table
---   blocks-joined                        the blocks of contents in a buffer of zeros are those of the contents
-use Prim.Native.Nat.{ℕ, _+_, _*_, _-_, _≤_, _<_}
+--   le16-written                         two bytes stored
+use Prim.Native.Nat.{ℕ, _+_, _*_, _-_, _≤_, _<_, _/_, _%_}
 use native.Mathlib.Nat.{mul-le-mul-left, mul-suc}
 use native.Mathlib.Omega.{arith}
 use mathlib.Core.Path.{_≡_, refl, sym, ap, ap₂, _∙_}
-use mathlib.Core.List.{List, [], _++_}
-use lib.ListN.{length, getD, take, drop, replicate, length-replicate}
-use Rattle.model.specs.Sets.{WORDS, maxStates, Set}
+use mathlib.Core.List.{List, [], _++_, _∷_}
+use lib.ListN.{length, getD, take, drop, set}
+use Rattle.model.specs.Sets.{WORDS, Set}
 use Rattle.basics.specs.Bounds.{concat}
-use Rattle.model.specs.Stores.{headSets, maxGroups, markedAt, restingAt, setAt, dialogueOf}
-use Rattle.model.specs.Blocks.{contentBytes, le16, blockOf}
-use Rattle.model.specs.Contents.{newForm, added, setWidth, setBytes, sets, contents, contentLength}
+use Rattle.model.specs.Stores.{headSets, markedAt, restingAt, setAt, dialogueOf}
+use Rattle.model.specs.Blocks.{le16}
+use Rattle.model.specs.Contents.{newForm, added, setWidth, setBytes, sets, contents}
 use Rattle.model.specs.Calls.{overwrite}
 use Rattle.basics.proofs.BoundLaws.{length-tabulate, getD-tabulate}
-use Rattle.model.proofs.ListLaws.{concat-cong, length-overwrite}
-use Rattle.model.proofs.BlockLaws.{block-unique, blockOf-is}
-use Rattle.model.proofs.ContentLaws.{length-setBytes, heads-each, length-sets, sets-each, length-contents}
+use Rattle.model.proofs.ListLaws.{concat-cong, overwrite-set}
+use Rattle.model.proofs.ContentLaws.{length-setBytes, heads-each, length-sets, sets-each}
 use Rattle.model.proofs.StoreLaws.{dialogueOf-row}
-use Rattle.file_writing.specs.Writing.{LongEnough, placeOf, placedSet}
-use Rattle.file_blocks.proofs.BlockLaws.{contents-le, getD-joined}
-use Rattle.file_writing.proofs.Places.{head-place, group-place, row-place}
+use Rattle.contents_writing.specs.Placed.{placeOf, placedSet}
+use Rattle.contents_writing.proofs.Places.{head-place, group-place, row-place}
 use Rattle.table.proofs.Overwriting.{Over, lent, back, parts-more, parts-all}
 
 -- ---- set k of the file, in the store
@@ -75,43 +72,11 @@ pub contents-written : (store : List ℕ) (n g : ℕ) {more : ℕ} (old : List �
     → overwrite ((le16 n ++ le16 (more + g)) ++ concat (headSets + g + n) (placedSet store (setWidth n) g)) old ≡ overwrite (contents newForm (dialogueOf store n g)) old
 contents-written store n g old e = ap (λ xs. overwrite xs old) (contents-is store n g (ap (λ (x : ℕ). x + g) e))
 
--- ---- the blocks
+-- ---- a number
 
-abbrev none : ℕ → List ℕ
-none m = replicate m 0
-
--- over a variable, since the zeros would be written out
-module _ {store : List ℕ} {n g : ℕ} (held : LongEnough store n g) (m : ℕ) (most : contentLength newForm maxStates maxGroups ≤ m) where
-  pub contents-room : contentLength newForm n g ≤ length (none m)
-  contents-room =
-      let wide : setWidth n ≤ 8 * WORDS = omega (arith, held .small) in
-      let many : headSets + g + n ≤ headSets + maxGroups + maxStates = omega (arith, held .small, held .few) in
-      omega (arith, contents-le wide many, length-replicate {A = ℕ} m 0)
-
-  pub length-joined : {joined : List ℕ} → joined ≡ overwrite (contents newForm (dialogueOf store n g)) (none m) → length joined ≡ m
-  unfolding dialogueOf
-  length-joined e =
-      let bytes = contents newForm (dialogueOf store n g) in
-      ap (λ (xs : List ℕ). length xs) e
-      ∙ length-overwrite bytes (none m) (omega (arith, length-contents newForm (dialogueOf store n g) (length-tabulate _ g), contents-room))
-      ∙ length-replicate {A = ℕ} m 0
-
--- contents in a buffer of zeros
-module _ (bytes : List ℕ) (m : ℕ) where
-  block-joined : (site k : ℕ) → blockOf site (overwrite bytes (none m)) k ≡ blockOf site bytes k
-  block-joined site k =
-      let block = blockOf-is site bytes k in
-      block-unique (blockOf-is site (overwrite bytes (none m)) k)
-      (record {
-        long = block .long;
-        holds-number = block .holds-number;
-        holds-content = λ i h. block .holds-content i h ∙ sym (getD-joined bytes m (contentBytes * k + i));
-        holds-check = block .holds-check;
-      })
-
-  pub blocks-joined : (site blocks : ℕ) {joined : List ℕ} (old out : List ℕ) → joined ≡ overwrite bytes (none m) → out ≡ overwrite (concat blocks (blockOf site joined)) old
-      → out ≡ overwrite (concat blocks (blockOf site bytes)) old
-  blocks-joined site blocks old out e f =
-      f
-      ∙ ap (λ xs. overwrite xs old)
-      (ap (λ ys. concat blocks (blockOf site ys)) e ∙ concat-cong _ (blockOf site bytes) blocks (λ k h. block-joined site k))
+-- the two bytes of a number
+pub le16-written : (old : List ℕ) (x : ℕ) → 2 ≤ length old → set (set old 0 (x % 256)) 1 (x / 256 % 256) ≡ overwrite (le16 x) old
+unfolding overwrite
+le16-written old x h =
+    ap (λ ys. set ys 1 (x / 256 % 256)) (overwrite-set [] old (x % 256) 0 refl (omega arith))
+    ∙ overwrite-set (x % 256 ∷ []) old (x / 256 % 256) 1 refl h

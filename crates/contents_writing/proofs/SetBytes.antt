@@ -18,7 +18,7 @@ use Rattle.model.specs.Calls.{overwrite}
 use Rattle.basics.proofs.BoundLaws.{lt-or-ge, length-tabulate}
 use Rattle.model.proofs.ListLaws.{length-concat}
 use Rattle.model.proofs.ContentLaws.{byte-number}
-use Rattle.file_writing.specs.Writing.{wordBytes, wordsBytes}
+use Rattle.contents_writing.specs.Placed.{wordBytes, wordsBytes}
 use Rattle.table.proofs.Overwriting.{Over, over-none, over-next, lent, back, overwrite-lent, parts-more}
 
 pub length-wordBytes : (x count : ℕ) → length (wordBytes x count) ≡ count

@@ -1,0 +1,3 @@
+pub mod SetBytes
+pub mod Places
+pub mod Joining
