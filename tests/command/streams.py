@@ -362,7 +362,7 @@ group(f"a file that is saved meanwhile, statuses {sorted(statuses)}")
 
 fakes = WORK / "fakes"
 fakes.mkdir()
-for tool in "head cat tail readlink dirname find stat touch mv flock bash sh env mktemp check shuntberry check_file".split():
+for tool in "head cat tail readlink dirname find stat touch mv flock bash sh env mktemp check shuntberry program_check".split():
     (fakes / tool).write_text("#!/bin/sh\nexit 0\n")
     os.chmod(fakes / tool, 0o755)
 (WORK / "exits").write_text("exit 0\n")

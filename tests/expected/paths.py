@@ -1,5 +1,5 @@
 #!/usr/bin/env python3
-"""What paths_test must print: crates/paths_test/stdout.
+"""What test_paths must print: crates/test_paths/stdout.
 
 Made from the specification alone and not from the code under test. The code goes forward by layers of words, back through them with what leads on, and
 forward again for the path; this goes forward once, over Python sets, with the smallest path to each state in hand.
@@ -164,4 +164,4 @@ measure("B, n and g too great", GREATEST_N + 1, GREATEST_G + 1, B, room=5)
 measure("B, n 6, g too great", 6, GREATEST_G + 1, B, room=5)
 measure("store one word short, n 0", 0, 0, sets(set(), set(), [], set()), room=5, words=STORE_WORDS - 1)
 
-keep({TOP / "crates" / "paths_test" / "stdout": "".join(LINES).encode()})
+keep({TOP / "crates" / "test_paths" / "stdout": "".join(LINES).encode()})

@@ -1,5 +1,5 @@
 #!/usr/bin/env python3
-"""What the test programs must print: crates/NAME/stdout of each in PROGRAMS, worked out by spec.py. Those of paths_test and windows_test have makers of
+"""What the test programs must print: crates/NAME/stdout of each in PROGRAMS, worked out by spec.py. Those of test_paths and test_windows have makers of
 their own."""
 
 import spec
@@ -31,7 +31,7 @@ def answer(table, allowance):
     return f"undecided {count}"
 
 
-def decide_test():
+def test_decide():
     lines = []
     for name, table in [
         ("A", A), ("A, all resting", rests(A, 0, 1, 2)), ("B", B), ("D", D), ("B, 3 resting", rests(B, 3)), ("B, 3 not marked", HANG),
@@ -65,7 +65,7 @@ def decide_test():
     return "".join(line + "\n" for line in lines)
 
 
-# ---- modal_test: every choice between certain and possible steps (docs/SPECIFICATION.md, Possible steps)
+# ---- test_modal: every choice between certain and possible steps (docs/SPECIFICATION.md, Possible steps)
 
 def choices(table, possible):
     """Every choice, the certain steps alone first and all possible steps last."""
@@ -97,7 +97,7 @@ def modal_answer(table, possible):
     return f"depends {invariant(least)} {path(most)}"
 
 
-def modal_test():
+def test_modal():
     def steps(text):
         return {(int(pair[0]), int(pair[1])) for pair in text.split()}
 
@@ -130,7 +130,7 @@ def modal_test():
     return "".join(line + "\n" for line in lines)
 
 
-# ---- order_test: the looks of the first round (docs/SPECIFICATION.md, Rounds)
+# ---- test_order: the looks of the first round (docs/SPECIFICATION.md, Rounds)
 
 def order(table):
     z = table.states() - table.forbidden()
@@ -144,7 +144,7 @@ def order(table):
     return expanded
 
 
-def order_test():
+def test_order():
     alone = lambda n: [{s} for s in range(n)]
     steps = lambda text: {(int(pair[0]), int(pair[1])) for pair in text.split()}
     digits = [
@@ -229,9 +229,9 @@ def halves(states):
     return [sum(1 << s % 32 for s in states if s // 32 == half) for half in range(2 * WORDS)]
 
 
-# ---- agreement_test
+# ---- test_agreement
 
-def agreement_test():
+def test_agreement():
     spec.ALLOWANCE = MAX_STATES
     tables, safe, unsafe, taken = 4000, 0, 0, 0
     for t in range(tables):
@@ -252,7 +252,7 @@ def agreement_test():
     )
 
 
-# ---- files_test: read and write on Python's bytes, and on a store as the list of its sets
+# ---- test_files: read and write on Python's bytes, and on a store as the list of its sets
 
 def store_of(table):
     rows = [set() for _ in range(MAX_STATES)]
@@ -424,7 +424,7 @@ def sites(e):
         yield f" made for {made} site {site}" + what_is_read(file[:length], words, site)
 
 
-def files_test():
+def test_files():
     e, most = store_of(E), largest()
     more, resting = store_of(Table(4, {0}, {2}, E.steps | {(3, 0)}, [{0}])), store_of(rests(DRAFT, 1, 2))
     full = store_of(Table(60, {0, 8}, {59}, {(0, 59), (31, 32), (59, 59)}, [], {9, 32}))
@@ -478,7 +478,7 @@ def files_test():
     return "".join(line + "\n" for line in lines)
 
 
-PROGRAMS = {"decide_test": decide_test, "modal_test": modal_test, "order_test": order_test, "agreement_test": agreement_test, "files_test": files_test}
+PROGRAMS = {"test_decide": test_decide, "test_modal": test_modal, "test_order": test_order, "test_agreement": test_agreement, "test_files": test_files}
 
 if __name__ == "__main__":
     keep({TOP / "crates" / name / "stdout": text().encode() for name, text in PROGRAMS.items()})

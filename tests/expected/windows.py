@@ -1,5 +1,5 @@
 #!/usr/bin/env python3
-"""What windows_test must print: crates/windows_test/stdout.
+"""What test_windows must print: crates/test_windows/stdout.
 
 Made from the request's text and not from the code under test. The code jumps; this goes from minute to minute on Python's calendar, whose
 weekdays tell where a week begins.
@@ -85,4 +85,4 @@ ask("33 windows", 10, [(7, 2)] * 33)
 ask("33 windows outside", 10, [(0, 0)] * 33)
 ask("33 windows outside, time 2^31", 2**31, [(0, 0)] * 33)
 
-keep({TOP / "crates" / "windows_test" / "stdout": "".join(LINES).encode()})
+keep({TOP / "crates" / "test_windows" / "stdout": "".join(LINES).encode()})

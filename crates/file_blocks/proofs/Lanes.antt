@@ -14,7 +14,7 @@ use Rattle.model.specs.Calls.{overwrite}
 use Rattle.basics.proofs.BoundLaws.{length-tabulate, getD-tabulate}
 use Rattle.model.proofs.ListLaws.{overwrite-behind}
 use Rattle.file_blocks.specs.Lanes.{lanes, byteMost, plus, Most}
-use Rattle.table.proofs.Overwriting.{Over, over-none, over-next, over-all}
+use Rattle.core_table.proofs.Overwriting.{Over, over-none, over-next, over-all}
 
 -- ---- a row added to another
 

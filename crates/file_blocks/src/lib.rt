@@ -24,9 +24,9 @@ ghost use Rattle.model.specs.Contents.{newForm, heads, added, setWidth, content
 ghost use Rattle.model.specs.Calls.{overwrite};
 ghost use Rattle.file_blocks.specs.Lanes.{lanes, chunks, byteMost, laneMost, lanesSum, plus, Most};
 ghost use Rattle.file_blocks.specs.Forms.{formOf};
-use state_set::MAX_STATES;
-use table::HEAD_SETS;
-use table::MAX_GROUPS;
+use core_state_set::MAX_STATES;
+use core_table::HEAD_SETS;
+use core_table::MAX_GROUPS;
 
 pub const BLOCK: usize = 512;
 

@@ -35,7 +35,7 @@ use Rattle.model.proofs.CallLaws.{draft-says}
 use Rattle.model.proofs.Drafts.{draft-layout}
 use Rattle.file_blocks.specs.Forms.{joinedRoom}
 use Rattle.file_blocks.proofs.BlockLaws.{getD-joined}
-use Rattle.table.specs.Writing.{cleared}
+use Rattle.core_table.specs.Writing.{cleared}
 use Rattle.file_reading.specs.declared.TableRead.the-variants.{Table, Refused}
 use Rattle.file_reading.specs.declared.TableRead.{TableRead}
 use Rattle.file_reading.specs.ReadAnswers.{CalledReadAs}

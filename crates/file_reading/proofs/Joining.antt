@@ -18,7 +18,7 @@ use Rattle.basics.proofs.RefusalLaws.{Clear, clear-refuse, refuse-clear, clear-
 use Rattle.model.proofs.ListLaws.{part-front}
 use Rattle.model.proofs.BlockLaws.{length-part, contents-wide}
 use Rattle.file_reading.specs.Reading.{Joined}
-use Rattle.table.proofs.Overwriting.{Over, parts-none, parts-more, parts-all, lent, back}
+use Rattle.core_table.proofs.Overwriting.{Over, parts-none, parts-more, parts-all, lent, back}
 
 abbrev blockContent : List ℕ → ℕ → List ℕ
 blockContent input k = take contentBytes (drop contentAt (part input k))

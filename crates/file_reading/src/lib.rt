@@ -1,4 +1,4 @@
-// The call `read`: a file is looked at whole, ground after ground in their order, and only then put into the lent store (`contents_reading`).
+// The call `read`: a file is looked at whole, ground after ground in their order, and only then put into the lent store (`file_contents_reading`).
 //
 //   TableRead, read                  n and g of the table that is now in the store, or why the file is refused
 //   read_old, read_as                the same of a file of the old form, and of either
@@ -13,9 +13,10 @@ ghost use Rattle.model.specs.Blocks.{blockBytes, contentBytes, maxSite, blockGr
 ghost use Rattle.file_blocks.specs.Forms.{formOf, joinedRoom};
 ghost use Rattle.file_reading.specs.Reading.{ReadsFile, ReadsContents, Joined};
 ghost use Rattle.file_reading.specs.ReadAnswers.{CalledReadAs, CalledRead, CalledReadOld};
-use contents_reading::any_beyond;
-use contents_reading::fill;
-use contents_reading::non_zero;
+use core_state_set::MAX_STATES;
+use core_table::MAX_GROUPS;
+use core_table::STORE_WORDS;
+use core_table::clear;
 use file_blocks::BLOCK;
 use file_blocks::CHECK_AT;
 use file_blocks::CONTENT_AT;
@@ -30,10 +31,9 @@ use file_blocks::checksum_of;
 use file_blocks::content_length;
 use file_blocks::copy_content;
 use file_blocks::le16_at;
-use state_set::MAX_STATES;
-use table::MAX_GROUPS;
-use table::STORE_WORDS;
-use table::clear;
+use file_contents_reading::any_beyond;
+use file_contents_reading::fill;
+use file_contents_reading::non_zero;
 
 pub enum TableRead {
     // n and g of the table.

@@ -17,7 +17,7 @@ use Rattle.basics.proofs.BoundLaws.{length-tabulate}
 use Rattle.model.proofs.ListLaws.{concat-cong, length-overwrite}
 use Rattle.model.proofs.BlockLaws.{block-unique, blockOf-is}
 use Rattle.model.proofs.ContentLaws.{length-contents}
-use Rattle.contents_writing.specs.Placed.{LongEnough}
+use Rattle.file_contents_writing.specs.Placed.{LongEnough}
 use Rattle.file_blocks.proofs.BlockLaws.{contents-le, getD-joined}
 
 abbrev none : ℕ → List ℕ

@@ -27,7 +27,7 @@ use Rattle.model.proofs.CallLaws.{Writable, write-over, write-behind, write-ref
 use Rattle.model.proofs.Acceptance.{Store, accepted-store, store-accepted}
 use Rattle.file_writing.specs.declared.Written.the-variants.{File, Refused}
 use Rattle.file_writing.specs.WriteAnswers.{CalledWrite}
-use Rattle.contents_writing.specs.Placed.{LongEnough}
+use Rattle.file_contents_writing.specs.Placed.{LongEnough}
 
 -- ---- a block
 

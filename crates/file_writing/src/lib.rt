@@ -1,7 +1,7 @@
 // The call `write`: the file of a table, from the store to the lent output.
 //
 //   Written, write                 the file at the front of the output and its length, or why it is refused
-//   write_file                     the file: the contents joined (`contents_writing`), then its blocks
+//   write_file                     the file: the contents joined (`file_contents_writing`), then its blocks
 //   write_blocks, write_block      the first so many blocks; one block: its number, its content, its check
 //
 // What is written is said with the model's `overwrite`: at the front of what was lent, the rest of it untouched.
@@ -15,9 +15,9 @@ ghost use Rattle.model.specs.Blocks.{blockBytes, contentBytes, maxSite, blocksF
 ghost use Rattle.model.specs.Contents.{newForm, contents, contentLength};
 ghost use Rattle.model.specs.Calls.{overwrite};
 ghost use Rattle.file_writing.specs.WriteAnswers.{CalledWrite};
-ghost use Rattle.contents_writing.specs.Placed.{LongEnough};
-use contents_writing::join;
-use contents_writing::write_le16;
+ghost use Rattle.file_contents_writing.specs.Placed.{LongEnough};
+use core_table::STORE_WORDS;
+use core_table::refusal;
 use file_blocks::BLOCK;
 use file_blocks::CHECK_AT;
 use file_blocks::CONTENT_AT;
@@ -29,8 +29,8 @@ use file_blocks::blocks_for;
 use file_blocks::checksum_of;
 use file_blocks::content_length;
 use file_blocks::copy_content;
-use table::STORE_WORDS;
-use table::refusal;
+use file_contents_writing::join;
+use file_contents_writing::write_le16;
 
 pub enum Written {
     // The length of the file.

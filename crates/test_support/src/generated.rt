@@ -21,10 +21,10 @@ use crate::add;
 use crate::group;
 use crate::left_out;
 use crate::step;
-use state_set::MAX_STATES;
-use table::MARKED_AT;
-use table::RESTING_AT;
-use table::STORE_WORDS;
+use core_state_set::MAX_STATES;
+use core_table::MARKED_AT;
+use core_table::RESTING_AT;
+use core_table::STORE_WORDS;
 
 // More than the places of any table.
 const PLACES: usize = 32 * MAX_STATES;

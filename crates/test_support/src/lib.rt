@@ -20,21 +20,21 @@
 mod generated;
 
 ghost use Prim.Native.Nat.{_<_};
+use core_state_set::MAX_STATES;
+use core_state_set::StateSet;
+use core_state_set::WORD_BITS;
+use core_state_set::WORDS;
+use core_table::GROUPS_AT;
+use core_table::MARKED_AT;
+use core_table::MAX_GROUPS;
+use core_table::RESTING_AT;
+use core_table::ROWS_AT;
 pub use generated::generate;
 pub use generated::generate_largest;
 pub use generated::groups_of;
 use generated::noise;
 pub use generated::states_of;
 use libc::STDOUT_FILENO;
-use state_set::MAX_STATES;
-use state_set::StateSet;
-use state_set::WORD_BITS;
-use state_set::WORDS;
-use table::GROUPS_AT;
-use table::MARKED_AT;
-use table::MAX_GROUPS;
-use table::RESTING_AT;
-use table::ROWS_AT;
 
 // ---- what does not fit
 

@@ -1,7 +1,7 @@
 -- `shuntberry_check`: the answer of `check`, laid out.
 use mathlib.Core.Path.{ap, _∙_}
 use borrow.Author.Needs.{needs}
-use Rattle.c_fields.specs.Fields.{checkFields}
+use Rattle.shuntberry_fields.specs.Fields.{checkFields}
 use Rattle.shuntberry.proofs.shuntberry_check.Statement.{statement}
 use Rattle.shuntberry.proofs.shuntberry_check.Tie as tie
 

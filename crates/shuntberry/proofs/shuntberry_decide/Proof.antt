@@ -2,8 +2,8 @@
 use mathlib.Core.Path.{ap, _∙_}
 use borrow.Author.Needs.{needs}
 use Rattle.model.proofs.Ranges.{DecisionRange, decide-range}
-use Rattle.c_fields.specs.Fields.{decisionFields}
-use Rattle.c_fields.proofs.Answering.{where-answered}
+use Rattle.shuntberry_fields.specs.Fields.{decisionFields}
+use Rattle.shuntberry_fields.proofs.Answering.{where-answered}
 use Rattle.shuntberry.proofs.shuntberry_decide.Statement.{statement}
 use Rattle.shuntberry.proofs.shuntberry_decide.Tie as tie
 

@@ -1,7 +1,7 @@
 -- `shuntberry_distances`: the answer of `distances` as a number.
 use mathlib.Core.Path.{ap, _∙_}
 use borrow.Author.Needs.{needs}
-use Rattle.c_fields.specs.Fields.{refusalNumber}
+use Rattle.shuntberry_fields.specs.Fields.{refusalNumber}
 use Rattle.shuntberry.proofs.shuntberry_distances.Statement.{statement}
 use Rattle.shuntberry.proofs.shuntberry_distances.Tie as tie
 

@@ -1,7 +1,7 @@
 -- `shuntberry_generate`: the answer of `generate`, laid out.
 use mathlib.Core.Path.{ap, _∙_}
 use borrow.Author.Needs.{needs}
-use Rattle.c_fields.specs.Fields.{refusalNumber}
+use Rattle.shuntberry_fields.specs.Fields.{refusalNumber}
 use Rattle.shuntberry.proofs.shuntberry_generate.Statement.{statement}
 use Rattle.shuntberry.proofs.shuntberry_generate.Tie as tie
 

@@ -1,7 +1,7 @@
 -- `shuntberry_next_open`: the answer of `next_open`, laid out.
 use mathlib.Core.Path.{ap, _∙_}
 use borrow.Author.Needs.{needs}
-use Rattle.c_fields.specs.Fields.{minuteFields}
+use Rattle.shuntberry_fields.specs.Fields.{minuteFields}
 use Rattle.shuntberry.proofs.shuntberry_next_open.Statement.{statement}
 use Rattle.shuntberry.proofs.shuntberry_next_open.Tie as tie
 

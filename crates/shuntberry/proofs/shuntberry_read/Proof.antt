@@ -2,8 +2,8 @@
 use mathlib.Core.Path.{ap, _∙_}
 use borrow.Author.Needs.{needs}
 use Rattle.model.proofs.Ranges.{ReadRange, read-range}
-use Rattle.c_fields.specs.Fields.{tableFields}
-use Rattle.c_fields.proofs.Answering.{where-answered}
+use Rattle.shuntberry_fields.specs.Fields.{tableFields}
+use Rattle.shuntberry_fields.proofs.Answering.{where-answered}
 use Rattle.shuntberry.proofs.shuntberry_read.Statement.{statement}
 use Rattle.shuntberry.proofs.shuntberry_read.Tie as tie
 

@@ -1,7 +1,7 @@
 -- `shuntberry_within`: the answer of `within`, laid out.
 use mathlib.Core.Path.{ap, _∙_}
 use borrow.Author.Needs.{needs}
-use Rattle.c_fields.specs.Fields.{withinFields}
+use Rattle.shuntberry_fields.specs.Fields.{withinFields}
 use Rattle.shuntberry.proofs.shuntberry_within.Statement.{statement}
 use Rattle.shuntberry.proofs.shuntberry_within.Tie as tie
 

@@ -4,8 +4,8 @@ use borrow.Author.Needs.{needs}
 use Prim.Native.Nat.{ℕ, _≤_}
 use Rattle.model.specs.Files.{maxFile}
 use Rattle.model.proofs.Ranges.{write-range}
-use Rattle.c_fields.specs.Fields.{fileFields}
-use Rattle.c_fields.proofs.Answering.{where-answered}
+use Rattle.shuntberry_fields.specs.Fields.{fileFields}
+use Rattle.shuntberry_fields.proofs.Answering.{where-answered}
 use Rattle.shuntberry.proofs.shuntberry_write.Statement.{statement}
 use Rattle.shuntberry.proofs.shuntberry_write.Tie as tie
 
