@@ -67,9 +67,16 @@ def group(what):
     count = 0
 
 
+def some(folder, pattern):
+    """The files that match, of which there must be some: a loop over none tries nothing."""
+    found = sorted(folder.glob(pattern))
+    need(found, f"no {pattern} in {folder}")
+    return found
+
+
 def tables():
     """The files of tests/files, with what check prints of each."""
-    for path in sorted(TABLES.glob("*.table")):
+    for path in some(TABLES, "*.table"):
         yield path, path.with_suffix(".expected").read_text()
 
 

@@ -10,7 +10,7 @@ import sys
 from pathlib import Path
 
 import support
-from support import FAILED, PROGRAM, REFUSED, SAFE, TABLES, TOP, WORK, call, gives, group, need, status_of, tables
+from support import FAILED, PROGRAM, REFUSED, SAFE, TABLES, TOP, WORK, call, gives, group, need, some, status_of, tables
 import load
 import model
 import old_files
@@ -31,7 +31,7 @@ drafts = WORK / "drafts"
 drafts.mkdir()
 python(HERE / "drafts.py", drafts, SEED, 100)
 accepted = []
-for text in [*sorted(TABLES.glob("*.txt")), *sorted(drafts.glob("*.txt"))]:
+for text in [*some(TABLES, "*.txt"), *some(drafts, "*.txt")]:
     table, out = text.with_suffix(".table"), WORK / "out"
     accepted.append(table)
     gives(SAFE, text.read_bytes(), "decode", table)
@@ -44,7 +44,7 @@ for text in [*sorted(TABLES.glob("*.txt")), *sorted(drafts.glob("*.txt"))]:
     need(out.read_bytes() == table.read_bytes(), f"encode -o of {text}")
     gives(SAFE, "", "decode", table, "-o", out)
     need(out.read_bytes() == text.read_bytes(), f"decode -o of {table}")
-for draft in drafts.glob("*.draft"):
+for draft in some(drafts, "*.draft"):
     gives(SAFE, draft.with_suffix(".table").read_bytes(), "encode", draft)
     # with its names a text is one of the same table
     named = call("decode", "--names", draft, draft.with_suffix(".table"))
@@ -95,7 +95,7 @@ group("generate")
 
 # ---- rewrite
 
-for path in TABLES.glob("old-*.table"):
+for path in some(TABLES, "old-*.table"):
     name = path.name.removeprefix("old-")
     new = TABLES / f"rewritten-{name}"
     if new.exists():
@@ -114,7 +114,7 @@ for path in olds:
     expected = path.with_suffix(".expected").read_text()
     gives(status_of(expected), expected, "check", WORK / "new", err="no states" if "states 0 " in expected else None)
 python(HERE / "old_files.py", drawn, SEED, 200)
-for path in drawn.glob("*.old"):
+for path in some(drawn, "*.old"):
     gives(SAFE, path.with_suffix(".new").read_bytes(), "rewrite", path)
     gives(REFUSED, "refused 15\n", "rewrite", path.with_suffix(".new"), err="refused 15")
 old = (drawn / "0.old").read_bytes()
