@@ -4,9 +4,10 @@
 //! window monday 22:00 for 6h     # each week; it may run into the next day, and over the week's end
 //! window saturday 00:00 for 1d12h30m
 //! closed 2026-12-25              # all day
+//! end
 //! ```
 //!
-//! At least one window must be said, or `window none`: a text that was cut or emptied is found.
+//! At least one window must be said, or `window none`: a text that was emptied is found.
 
 use crate::calendar;
 use crate::lines::{Mistake, Mistakes, number, quoted, said};
@@ -39,7 +40,7 @@ pub struct House {
 /// What a text says, or its mistakes.
 pub fn parse(text: &[u8]) -> Result<House, Mistakes> {
     let mut reader = Reader::default();
-    for (number, words) in said(text) {
+    for (number, words) in said(text)? {
         reader.at = number;
         let done = words
             .map_err(str::to_string)

@@ -8,9 +8,10 @@
 //! resting none
 //! group 0 1
 //! step 0 -> 1 2
+//! end
 //! ```
 //!
-//! Lines stand in any order; those of one set add to it, and each `group` is a group more. `initial` and `forbidden` must not be
+//! Lines but the last stand in any order; those of one set add to it, and each `group` is a group more. `initial` and `forbidden` must not be
 //! forgotten, since for want of one a table could be safe that should not be: it has to say `none`. [`print`] writes the one text of
 //! a table that has each fact in its place, by numbers; a file holds no names.
 //!
@@ -19,7 +20,8 @@
 //! mistakes: a text of any length takes little room.
 
 use crate::lines::{
-    MAX_NAME, Mistake, Mistakes, Names, alphabet, cut, number, quoted, said, strange,
+    END, MAX_NAME, Mistake, Mistakes, Names, Words, alphabet, cut, first_word, number, quoted,
+    said, strange,
 };
 use crate::table::{Set, Table};
 use shuntberry::{MAX_GROUPS, MAX_STATES, StateSet};
@@ -45,9 +47,14 @@ pub struct Text {
 /// The text of a table, with names for the states that have one.
 pub fn print(table: &Table, names: &Names) -> String {
     let mut text = format!("states {}\n", table.n());
-    if table.n() == 0 {
-        return text;
+    if table.n() > 0 {
+        text += &facts(table, names);
     }
+    text + END + "\n"
+}
+
+fn facts(table: &Table, names: &Names) -> String {
+    let mut text = String::new();
     for (state, name) in names {
         text += &format!("state {state} {name}\n");
     }
@@ -104,11 +111,7 @@ const FACTS: [&str; 8] = [
 
 /// Whether bytes that are no file may be a text: the first word that they say is a fact.
 pub fn looks_like_text(bytes: &[u8]) -> bool {
-    let first = said(bytes).find_map(|(_, line)| match line {
-        Ok(words) => words.first().map(|fact| FACTS.contains(fact)),
-        Err(_) => Some(false),
-    });
-    first == Some(true)
+    first_word(bytes).is_some_and(|word| FACTS.contains(&word))
 }
 
 /// A line that says something: its first word and the others.
@@ -152,7 +155,8 @@ struct Reader {
 impl Reader {
     fn read(mut self, text: &[u8]) -> Result<Text, Mistakes> {
         // The number of states and the names first: a line may stand before the one that says them.
-        for (number, line) in said(text) {
+        let lines = said(text)?;
+        for (number, line) in lines.clone() {
             self.at = number;
             match line {
                 Err(reason) => self.mistake(reason),
@@ -160,8 +164,8 @@ impl Reader {
             }
         }
         let last = self.at;
-        self.each(text, Reader::name);
-        self.each(text, Reader::fact);
+        self.each(lines.clone(), Reader::name);
+        self.each(lines, Reader::fact);
         self.at = last;
         self.finish()
     }
@@ -177,8 +181,12 @@ impl Reader {
     }
 
     /// Goes through the lines that say something.
-    fn each(&mut self, text: &[u8], take: fn(&mut Reader, &Line)) {
-        for (number, line) in said(text) {
+    fn each<'t>(
+        &mut self,
+        lines: impl Iterator<Item = (usize, Words<'t>)>,
+        take: fn(&mut Reader, &Line),
+    ) {
+        for (number, line) in lines {
             if let Ok(words) = line
                 && let [fact, words @ ..] = &words[..]
             {
@@ -247,9 +255,9 @@ impl Reader {
 
     /// Whether a name is one, in the alphabet of those before it.
     fn alphabet_of(&mut self, name: &str) -> Result<(), String> {
-        let Some(letters) = alphabet(name).filter(|_| name != NONE) else {
+        let Some(letters) = alphabet(name).filter(|_| ![NONE, END].contains(&name)) else {
             return Err(format!(
-                "{} is no name: it has letters of one alphabet (Latin, Greek or Cyrillic), digits, - _ and ., begins with a letter, has {MAX_NAME} characters at most, and is not {NONE}{}",
+                "{} is no name: it has letters of one alphabet (Latin, Greek or Cyrillic), digits, - _ and ., begins with a letter, has {MAX_NAME} characters at most, and is neither {NONE} nor {END}{}",
                 quoted(name),
                 strange(name)
             ));

@@ -1,8 +1,9 @@
 //! Texts: encode and decode are inverse over the files of `tests/files` and over random tables; a text may be written in many ways; each mistake has its
-//! line and its reason.
+//! line and its reason; no text that was cut is one.
 
 use shuntberry::{MAX_GROUPS, MAX_SITE, MAX_STATES};
-use shuntberry_command::lines::{MAX_NAME, Names, SHOWN_MISTAKES};
+use shuntberry_command::house;
+use shuntberry_command::lines::{MAX_NAME, Mistake, Mistakes, Names, SHOWN_MISTAKES, said};
 use shuntberry_command::table::{Set, Table};
 use shuntberry_command::text::{self, parse, parse_with_possible};
 use std::fs;
@@ -117,25 +118,25 @@ fn random_tables() {
 /// Names, comments, order, spaces, line ends: the same table.
 #[test]
 fn ways_to_write_it() {
-    let plain = "states 4\ninitial 0\nforbidden 2 3\nresting none\ngroup 0 1\ngroup none\nstep 0 -> 1 2\nstep 1 -> 0\n";
+    let plain = "states 4\ninitial 0\nforbidden 2 3\nresting none\ngroup 0 1\ngroup none\nstep 0 -> 1 2\nstep 1 -> 0\nend\n";
     let table = parse(plain.as_bytes()).unwrap().table;
     assert_eq!(print(&table), plain);
     for same in [
-        "# a comment\n\nstates 4 # and one more\n\tinitial   0\nforbidden 3 2\ngroup 1 0\ngroup none\nstep 0->2 1\nstep 1->0",
-        "step 0 -> 2\nstep 1 -> 0\nstep 0 -> 1\ngroup 0 1\nforbidden 3\ngroup none\nforbidden 2\nresting none\ninitial 00\nstates 4\n",
-        "step home -> menu Über.1\nstate 0 home\ninitial home\nforbidden Über.1 3\nstate 2 Über.1\nstep 1 -> home\nstates 4\nstate 1 menu\ngroup menu 0\ngroup none",
-        "\u{feff}states 4\r\ninitial 0\r\nforbidden 2 3\r\ngroup 0 1\r\ngroup none\r\nstep 0 -> 1 2\r\nstep 1 -> 0\r\n",
+        "# a comment\n\nstates 4 # and one more\n\tinitial   0\nforbidden 3 2\ngroup 1 0\ngroup none\nstep 0->2 1\nstep 1->0\n  end\t# of it\n",
+        "step 0 -> 2\nstep 1 -> 0\nstep 0 -> 1\ngroup 0 1\nforbidden 3\ngroup none\nforbidden 2\nresting none\ninitial 00\nstates 4\nend\n",
+        "step home -> menu Über.1\nstate 0 home\ninitial home\nforbidden Über.1 3\nstate 2 Über.1\nstep 1 -> home\nstates 4\nstate 1 menu\ngroup menu 0\ngroup none\n# end\nend\n",
+        "\u{feff}states 4\r\ninitial 0\r\nforbidden 2 3\r\ngroup 0 1\r\ngroup none\r\nstep 0 -> 1 2\r\nstep 1 -> 0\r\nend\r\n",
     ] {
         assert_eq!(parse(same.as_bytes()).unwrap().table, table, "{same}");
     }
-    let named = parse(b"states 2\nstate 1 end-1\ninitial none\nforbidden none\n").unwrap();
+    let named = parse(b"states 2\nstate 1 end-1\ninitial none\nforbidden none\nend\n").unwrap();
     assert_eq!(
         named.names.into_iter().collect::<Vec<_>>(),
         [(1, "end-1".to_string())]
     );
-    assert_eq!(parse(b"states 0").unwrap().table, Table::new(0, 0));
+    assert_eq!(parse(b"states 0\nend\n").unwrap().table, Table::new(0, 0));
     assert_eq!(
-        parse(b"initial none\nforbidden none\nstates 0\nresting none\n")
+        parse(b"initial none\nforbidden none\nstates 0\nresting none\nend\n")
             .unwrap()
             .table,
         Table::new(0, 0)
@@ -202,6 +203,14 @@ fn mistakes() {
             &[(6, "the step 1 -> 3 stands on line 4 already")],
         ),
         ("state 1 none", &[(4, "'none' is no name")]),
+        ("state 1 end", &[(4, "'end' is no name")]),
+        ("state 1 a-name-/", &[(4, "is neither none nor end")]),
+        (
+            "resting end",
+            &[(4, "'end' is no number, and no line gives")],
+        ),
+        ("end 1", &[(4, "'end' stands alone, on the last line")]),
+        ("End", &[(4, "not with 'End'")]),
         ("state 1 2nd", &[(4, "'2nd' is no name")]),
         ("state 1 a/b", &[(4, "'a/b' is no name")]),
         ("state 1 hard limit", &[(4, "a name of one word")]),
@@ -266,13 +275,13 @@ fn missing_facts() {
     );
     let cases: &[(&[u8], &Said)] = &[
         (b"", &[(1, states), (1, initial), (1, forbidden)]),
-        (b"\n", &[(1, states), (1, initial), (1, forbidden)]),
-        (b"states 3\nstep 0 -> 1\n", &[(2, initial), (2, forbidden)]),
-        (b"states 3\ninitial 0\nstep 0 -> 1", &[(3, forbidden)]),
-        (b"states 3\nforbidden 1\n\n\n", &[(4, initial)]),
+        (b"\n", &[(2, states), (2, initial), (2, forbidden)]),
+        (b"states 3\nstep 0 -> 1\n", &[(3, initial), (3, forbidden)]),
+        (b"states 3\ninitial 0\n", &[(3, forbidden)]),
+        (b"states 3\nforbidden 1\n\n\n", &[(5, initial)]),
         (
             b"initial 0\nforbidden 700\n",
-            &[(2, "no state 700: a table has at most 512"), (2, states)],
+            &[(2, "no state 700: a table has at most 512"), (3, states)],
         ),
         (
             b"states\ninitial 0\nforbidden 1\n",
@@ -304,7 +313,7 @@ fn missing_facts() {
         ),
         (
             b"states 1\ninitial \xff\nforbidden none\n",
-            &[(2, "not UTF-8"), (3, initial)],
+            &[(2, "not UTF-8"), (4, initial)],
         ),
     ];
     for (text, expected) in cases {
@@ -356,7 +365,7 @@ fn hidden_characters() {
         holds(said.as_bytes(), &[(4, "control character")]);
     }
     // What can be seen may stand in a comment, in every writing.
-    let said = "states 5\ninitial 0\nforbidden none\n# é ж λ 文 ✓ → \u{301}\n";
+    let said = "states 5\ninitial 0\nforbidden none\n# é ж λ 文 ✓ → \u{301}\nend\n";
     assert!(parse(said.as_bytes()).is_ok());
 }
 
@@ -370,7 +379,7 @@ fn alphabets() {
         "state 1 предел\nstate 2 Ёлка-1",
     ] {
         assert!(
-            parse(format!("{head}{good}\n").as_bytes()).is_ok(),
+            parse(format!("{head}{good}\nend\n").as_bytes()).is_ok(),
             "{good}"
         );
     }
@@ -399,7 +408,7 @@ fn alphabets() {
         ],
     );
     let long = "x".repeat(MAX_NAME);
-    assert!(parse(format!("{head}state 1 {long}\n").as_bytes()).is_ok());
+    assert!(parse(format!("{head}state 1 {long}\nend\n").as_bytes()).is_ok());
     holds(
         format!("{head}state 1 {long}x\n").as_bytes(),
         &[(4, "64 characters at most")],
@@ -410,7 +419,7 @@ fn alphabets() {
 #[test]
 fn possible_steps() {
     let text = "states 3\ninitial 0\nforbidden 2\nstep 0 -> 0\npossible 0 -> 1 2\npossible 1->2\n";
-    let parsed = parse_with_possible(text.as_bytes()).unwrap();
+    let parsed = parse_with_possible(&ended(text.as_bytes())).unwrap();
     assert!(parsed.possible.into_iter().eq([(0, 1), (0, 2), (1, 2)]));
     assert_eq!(
         parsed
@@ -438,7 +447,7 @@ fn possible_steps() {
         ("possible 0 -> 3", "no state 3"),
     ] {
         let text = format!("states 3\ninitial 0\nforbidden 2\nstep 0 -> 0\n{line}\n");
-        let mistakes = parse_with_possible(text.as_bytes()).unwrap_err();
+        let mistakes = parse_with_possible(&ended(text.as_bytes())).unwrap_err();
         assert_eq!(mistakes.count, 1, "{mistakes:?}");
         assert!(mistakes.first()[0].reason.contains(reason), "{mistakes:?}");
     }
@@ -448,7 +457,7 @@ fn possible_steps() {
 #[test]
 fn long_texts() {
     let bad = "x\n".repeat(1_000_000);
-    let mistakes = parse(bad.as_bytes()).unwrap_err();
+    let mistakes = parse(&ended(bad.as_bytes())).unwrap_err();
     assert_eq!(mistakes.count, 1_000_003);
     assert_eq!(mistakes.first().len(), SHOWN_MISTAKES);
     assert!(
@@ -460,29 +469,219 @@ fn long_texts() {
     );
     // The mistakes of a later look at the text stand before those of an earlier one.
     let late = format!("group x\n{}", "states 1\n".repeat(200));
-    let mistakes = parse(late.as_bytes()).unwrap_err();
+    let mistakes = parse(&ended(late.as_bytes())).unwrap_err();
     assert_eq!((mistakes.count, mistakes.first()[0].line), (202, 1));
     let numbers: String = (0..400_000).map(|i| format!(" {i}")).collect();
     holds(
         format!("initial{numbers}\nforbidden none\n").as_bytes(),
         &[
             (1, "more words"),
-            (2, "how many states"),
-            (2, "which states are initial"),
+            (3, "how many states"),
+            (3, "which states are initial"),
         ],
     );
     // As many words as a line can have.
     let all: String = (0..MAX_STATES).map(|s| format!(" {s}")).collect();
     let text = format!("states {MAX_STATES}\ninitial none\nforbidden none\nstep 0 ->{all}\n");
-    assert!(parse(text.as_bytes()).is_ok());
+    assert!(parse(&ended(text.as_bytes())).is_ok());
     holds(
         format!("states {MAX_STATES}\ninitial none\nforbidden none\nstep 0 ->{all} 0\n").as_bytes(),
         &[(4, "more words")],
     );
 }
 
-/// The mistakes of a text are these and no others, in the order of their lines.
+/// A text that was cut says so, and what to add; behind its end there is nothing.
+#[test]
+fn ends() {
+    let whole = "states 2\ninitial 0\nforbidden 1\nend\n";
+    assert!(parse(whole.as_bytes()).is_ok());
+    let (cut, add) = ("the text may be cut", "if nothing is missing, add");
+    for (text, line) in [
+        ("states 2\ninitial 0\nforbidden 1\n", 3),
+        ("states 2\ninitial 0\nforbidden 1", 3),
+        ("states 2\ninitial 0\nforbidden 1\n\n", 4),
+        ("states 2\ninitial 0\nforbidden 1\n# end\n", 4),
+        ("states 2\ninitial 0\nforbidden 1 # end\n", 3),
+        ("states 2\ninitial 0\nforbidden 1\nend", 4),
+        ("states 2\ninitial 0\nforbidden 1\r\nend\r", 4),
+        ("states 2\ninitial 0\nforbidden 1\nend # of", 4),
+    ] {
+        mistaken(text.as_bytes(), &[(line, cut)]);
+        mistaken(text.as_bytes(), &[(line, add)]);
+    }
+    mistaken(
+        b"states 2\ninitial 0\nforbidden 1\nend of it\n",
+        &[(4, "'end' stands alone"), (4, cut)],
+    );
+    mistaken(b"", &[(1, cut)]);
+    // What comes of a cut is not said; what is no text at all, is.
+    mistaken(b"states 2\ninitial home\nstate 0 ho", &[(3, cut)]);
+    mistaken(
+        b"states 2\n\xff\0\nend\nend\n",
+        &[(2, "not UTF-8"), (4, "goes on behind its 'end'")],
+    );
+    for behind in [
+        "\n",
+        "\r\n",
+        " ",
+        "\t",
+        "#",
+        "# a comment\n",
+        "end\n",
+        "end",
+        whole,
+    ] {
+        mistaken(
+            format!("{whole}{behind}").as_bytes(),
+            &[(5, "goes on behind its 'end'")],
+        );
+    }
+}
+
+/// The texts that the tests of cuts are about, by who reads them.
+enum Kind {
+    Table,
+    House,
+    Log,
+}
+
+impl Kind {
+    fn parse(&self, text: &[u8]) -> Result<(), Mistakes> {
+        match self {
+            Kind::Table => parse(text).map(|_| ()),
+            Kind::House => house::parse(text).map(|_| ()),
+            Kind::Log => logged(text),
+        }
+    }
+}
+
+/// A log is any words.
+fn logged(text: &[u8]) -> Result<(), Mistakes> {
+    let mut mistakes = Mistakes::default();
+    for (line, words) in said(text)? {
+        if let Err(reason) = words {
+            let reason = reason.to_string();
+            mistakes.push(Mistake { line, reason });
+        }
+    }
+    match mistakes.is_empty() {
+        true => Ok(()),
+        false => Err(mistakes),
+    }
+}
+
+impl Numbers {
+    fn one_of<T: Copy>(&mut self, all: &[T]) -> T {
+        all[self.below(all.len())]
+    }
+
+    /// A table as `decode` prints it, with names.
+    fn table_text(&mut self) -> String {
+        let n = self.below(14);
+        let g = if n > 0 { self.below(3) } else { 0 };
+        let table = self.table(n, g);
+        let endings = ["end-", "the-end", "bend", "e"];
+        let names = (0..n)
+            .filter(|state| state % 3 == 1)
+            .map(|state| (state, format!("{}{state}", self.one_of(&endings))))
+            .collect();
+        text::print(&table, &names)
+    }
+
+    fn house_text(&mut self) -> String {
+        let mut lines = vec!["window none".to_string()];
+        let windows = self.below(4);
+        if windows > 0 {
+            lines = (1..=windows)
+                .map(|k| format!("window friday {:02}:30 for {k}h", self.below(24)))
+                .collect();
+        }
+        for day in 0..self.below(5) {
+            lines.push(format!("closed 2026-1{}-0{}", self.below(3), day + 1));
+        }
+        lines.push("end\n".to_string());
+        lines.join("\n")
+    }
+
+    fn log_text(&mut self) -> String {
+        let mut text = String::new();
+        for _ in 0..self.below(40) {
+            let words = ["0", "12", "home", "end-1", "bend"];
+            text += self.one_of(&words);
+            text += self.one_of(&[" ", "\n", "\n\n"]);
+        }
+        text + "\nend\n"
+    }
+
+    /// The same text in another dress.
+    fn dressed(&mut self, text: &str) -> String {
+        match self.below(5) {
+            0 => text.replace('\n', "\r\n"),
+            1 => format!("\u{feff}# end\n{text}"),
+            2 => text.replace('\n', " # größer: end\n"),
+            3 => text
+                .replace('\n', "\n# end\n\n")
+                .replace("end\n# end\n\n", "end\n"),
+            _ => text.to_string(),
+        }
+    }
+}
+
+/// 200 texts of tables, houses and logs: each is read, and none of what is left where it is cut, wherever that is.
+#[test]
+fn cuts() {
+    let mut numbers = Numbers(0x2545_f491_4f6c_dd1d);
+    let mut cuts = 0;
+    for i in 0..200 {
+        let (kind, plain) = match i % 5 {
+            0..=2 => (Kind::Table, numbers.table_text()),
+            3 => (Kind::House, numbers.house_text()),
+            _ => (Kind::Log, numbers.log_text()),
+        };
+        let text = numbers.dressed(&plain).into_bytes();
+        let shown = String::from_utf8_lossy(&text);
+        if let Err(mistakes) = kind.parse(&text) {
+            panic!("{mistakes:?} in {shown}");
+        }
+        for length in 0..text.len() {
+            let left = &text[..length];
+            let mistakes = match kind.parse(left) {
+                Ok(()) => panic!("{length} bytes are enough of {shown}"),
+                Err(mistakes) => mistakes,
+            };
+            let says_so = |mistake: &Mistake| mistake.reason.contains("may be cut");
+            assert!(
+                mistakes.first().iter().any(says_so) && mistakes.count <= 2,
+                "{mistakes:?} at {length} of {shown}"
+            );
+            cuts += 1;
+        }
+    }
+    assert!(cuts > 20_000, "only {cuts} cuts");
+}
+
+/// The text of which the last two bytes once made another table, and a safe one.
+#[test]
+fn the_cut_that_was_safe() {
+    let resting: String = (1..13).map(|state| format!(" {state}")).collect();
+    let text = format!("states 13\ninitial 0\nstep 0 -> 12\nresting{resting}\nforbidden 12\n");
+    assert!(parse(&ended(text.as_bytes())).is_ok());
+    for length in [text.len(), text.len() - 1, text.len() - 2] {
+        mistaken(&text.as_bytes()[..length], &[(5, "the text may be cut")]);
+    }
+}
+
+/// A text with its last line.
+fn ended(text: &[u8]) -> Vec<u8> {
+    [text, b"end\n"].concat()
+}
+
+/// The mistakes of a text, which has its end behind it, are these and no others, in the order of their lines.
 fn holds(text: &[u8], expected: &Said) {
+    mistaken(&ended(text), expected);
+}
+
+fn mistaken(text: &[u8], expected: &Said) {
     let shown = String::from_utf8_lossy(text);
     let mistakes = parse(text)
         .err()

@@ -21,7 +21,7 @@ pub const NEXT_OPEN: Command = Command {
     words: "HOUSE",
     counts: (1, 1),
     about: "when a release may be loaded next",
-    more: "HOUSE is a text with lines window monday 22:00 for 6h, and closed 2026-12-25.",
+    more: "HOUSE is a text with lines window monday 22:00 for 6h, and closed 2026-12-25, and a last line end.",
     options: &[&AT, &JSON],
     needs: &[&AT],
     output: Output::Answer,
