@@ -1,6 +1,9 @@
 //! The lines of a text and their words, the letters of names, and mistakes: what the texts of tables and of houses have alike.
 
-use std::collections::BTreeMap;
+use alloc::collections::BTreeMap;
+use alloc::format;
+use alloc::string::{String, ToString};
+use alloc::vec::Vec;
 
 /// The names of states, by their numbers.
 pub type Names = BTreeMap<usize, String>;
@@ -52,7 +55,7 @@ impl Mistakes {
 // ---- Lines and words
 
 /// A line has fewer words than this, or it says something twice: its first one, a state, an arrow, and each state of the largest table.
-const MAX_WORDS: usize = shuntberry::MAX_STATES + 4;
+const MAX_WORDS: usize = crate::MAX_STATES + 4;
 
 const ARROW: &str = "->";
 
@@ -78,7 +81,7 @@ pub fn said(
     match end_of(text) {
         Ok(end) => {
             let before = lines(text).take(end - 1);
-            let last = std::iter::once((end, Ok(Vec::new())));
+            let last = core::iter::once((end, Ok(Vec::new())));
             Ok(before.map(|(at, line)| (at, words(line))).chain(last))
         }
         Err(mistake) => {
@@ -127,14 +130,14 @@ pub fn first_word(bytes: &[u8]) -> Option<&str> {
 }
 
 /// The lines with their ends, by their numbers.
-fn lines(text: &[u8]) -> impl Iterator<Item = (usize, &[u8])> + Clone {
+fn lines(text: &[u8]) -> impl Iterator<Item = (usize, &[u8])> + Clone + '_ {
     let text = text.strip_prefix("\u{feff}".as_bytes()).unwrap_or(text);
     (1..).zip(text.split_inclusive(|&byte| byte == b'\n'))
 }
 
 fn words(line: &[u8]) -> Words<'_> {
     let line = line.strip_suffix(b"\n").unwrap_or(line);
-    let line = std::str::from_utf8(line.strip_suffix(b"\r").unwrap_or(line))
+    let line = core::str::from_utf8(line.strip_suffix(b"\r").unwrap_or(line))
         .map_err(|_| "this is no text: there are bytes that are not UTF-8")?;
     if line.contains(|c: char| c.is_control() && c != '\t') {
         return Err("this is no text: there is a control character");
@@ -146,7 +149,7 @@ fn words(line: &[u8]) -> Words<'_> {
     }
     let before = line.split('#').next().unwrap_or_default();
     let words: Vec<&str> = before
-        .split([' ', '\t'])
+        .split(&[' ', '\t'][..])
         .flat_map(by_arrows)
         .filter(|word| !word.is_empty())
         .take(MAX_WORDS)
@@ -163,7 +166,7 @@ fn words(line: &[u8]) -> Words<'_> {
 /// The parts of a word before, between and behind its arrows, and these.
 fn by_arrows(word: &str) -> impl Iterator<Item = &str> {
     let mut rest = word;
-    std::iter::from_fn(move || {
+    core::iter::from_fn(move || {
         let end = match rest.find(ARROW) {
             Some(0) => ARROW.len(),
             Some(at) => at,
@@ -205,11 +208,7 @@ pub const MAX_NAME: usize = 64;
 /// The alphabet that the letters of a name are of; none where it is no name.
 pub fn alphabet(name: &str) -> Option<&'static str> {
     let first = name.chars().next().and_then(alphabet_of)?;
-    let fits = |c: char| {
-        c.is_ascii_digit()
-            || "-_.".contains(c)
-            || alphabet_of(c).is_some_and(|other| other == first)
-    };
+    let fits = |c: char| c.is_ascii_digit() || "-_.".contains(c) || alphabet_of(c) == Some(first);
     (name.chars().all(fits) && name.chars().count() <= MAX_NAME).then_some(first)
 }
 
