@@ -121,7 +121,8 @@ class Table:
     @classmethod
     def from_text(cls, text: str, command: Union[None, str, os.PathLike[str]] = None) -> Table:
         """The table of a text, which is given itself and not by its name, with its names, by the command shuntberry: the one that stands with this module, else that in PATH, or `command`.
-        Mistakes in the text are raised as `Mistakes`, with their lines; FileNotFoundError where there is no such command.
+        Mistakes in the text are raised as `Mistakes`, with their lines, also that it was cut: nothing stands behind the line `end`. FileNotFoundError
+        where there is no such command.
 
         >>> pump = Table.from_text('''
         ...     states 3
@@ -131,6 +132,7 @@ class Table:
         ...     forbidden over-hard-limit
         ...     step home -> home
         ...     step 1 -> over-hard-limit
+        ...     end
         ... ''')
         >>> pump.names[2], pump.marked
         ('over-hard-limit', frozenset({2}))
@@ -139,11 +141,11 @@ class Table:
             raise TypeError(f"a text is a str, not of type {type(text).__name__}")
         program = the_command() if command is None else os.fspath(command)
         file = answer_of([program, "encode"], text)
-        count, *facts = answer_of([program, "decode", "--text"], text).decode().split("\n")
+        facts = answer_of([program, "decode", "--text"], text).decode().split("\n")
         named = (fact.split() for fact in facts if fact.startswith("state "))
         table = cls.from_bytes(file, 0, {int(number): name for _, number, name in named})
-        if count != f"states {table.n}":  # as of a program of that name that prints nothing, and ends well
-            raise OSError(f"{program} is not the command shuntberry: its file has {table.n} states, and its text begins {count!r}")
+        if [facts[0], *facts[-2:]] != [f"states {table.n}", "end", ""]:  # as of a program of that name that prints nothing, and ends well
+            raise OSError(f"{program} is not the command shuntberry: its file has {table.n} states, and its text begins {facts[0]!r} and ends {facts[-2:]}")
         return table
 
     @classmethod

@@ -27,7 +27,7 @@ def table():
     return spec.Table(n, some(n, 0.2), some(n, 0.1), steps, groups, some(n, 0.3))
 
 
-NAMES = ["home", "Set-Rate", "hard_limit", "a.b", "x1", "Größe", "initial", "step", "states", "-"]
+NAMES = ["home", "Set-Rate", "hard_limit", "a.b", "x1", "Größe", "initial", "step", "states", "end", "-"]
 
 
 def pieces(states):
@@ -54,7 +54,8 @@ def draft(table):
         lines.insert(place, f"group {words(group) or 'none'}")
     end = random.choice(["\n", "\r\n"])
     comment = lambda: random.choice(["", "", " # why: step 0 -> 1", "\t#", "   "])
-    return end.join(f"{random.choice(['', ' '])}{line}{comment()}" for line in lines) + random.choice(["", end, end + "# the end"])
+    lines += [*random.choice([[], [""], ["# end"]]), "end"]
+    return "".join(f"{random.choice(['', ' '])}{line}{comment()}{end}" for line in lines)
 
 
 def main():

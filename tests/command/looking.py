@@ -35,7 +35,7 @@ def joined(numbers):
 def named(table):
     """A text of the table with names for some states, and these."""
     names = {s: f"screen-{s}" for s in range(table.n) if random.random() < 0.7}
-    text = spec.text(table) + "".join(f"state {s} {name}\n" for s, name in names.items())
+    text = spec.longer(spec.text(table), "".join(f"state {s} {name}\n" for s, name in names.items()))
     path = WORK / "named.txt"
     path.write_text(text)
     return path, names
@@ -85,7 +85,7 @@ for table, path in EVERY:
 # the examples of the manual page
 page = (TOP / "man/shuntberry.1").read_text().replace("\\-", "-").replace("\\(aq", "'")
 example = WORK / "example.txt"
-example.write_text((TABLES / "e.txt").read_text() + "state 0 home\nstate 2 over-limit\n")
+example.write_text(spec.longer((TABLES / "e.txt").read_text(), "state 0 home\nstate 2 over-limit\n"))
 log = WORK / "log"
 log.write_bytes(b"\0\0\1\0\4\0")
 for words in ("inspect", "--text", example), ("replay", TABLES / "b.table", log), ("check", E), ("check", TABLES / "b.table"), ("check", TABLES / "bad-check.table"):
@@ -165,7 +165,7 @@ for table, path in EVERY:
         gives(SAFE, said, "replay", "--text", text, log)
         need(json.loads(gives(SAFE, None, "replay", "--json", "--names", text, path, log).out) == found, found)
         words = " ".join(names.get(s, str(s)) if random.random() < 0.8 else str(s) for s in entries)
-        log.write_text(words.replace(" ", "\n", 1) + " # as the nurse said\n")
+        log.write_text(words.replace(" ", "\n", 1) + " # as the nurse said\nend\n")
         gives(SAFE, said, "replay", "--text", "--text-log", text, log)
 log.write_bytes(b"\0\0\1")
 gives(REFUSED, "", "replay", E, log, err=f"{log}: refused 25")
@@ -175,14 +175,22 @@ for words in "0 1 #\n", "größe 1\r\n", "größe 12\r\n", "\ufeff0 1\n", "0\t1"
     log.write_bytes(words.encode())
     odd = log.stat().st_size % 2
     gives(REFUSED if odd else SAFE, "" if odd else None, "replay", E, log, err="looks like a text, which --text-log reads")
-log.write_text("0 70000\n")
+log.write_text("0 70000\nend\n")
 gives(REFUSED, "", "replay", "--text-log", E, log, err="'70000' is too large")
 for length, number in (32768, None), (32769, 25), (32770, 26), (40001, 25):
     log.write_bytes(bytes(length))
     gives(REFUSED if number else SAFE, "" if number else None, "replay", E, log, err=f"refused {number}" if number else None)
-log.write_text("0 nowhere\n-1\n")
-given = gives(REFUSED, "", "replay", "--text-log", E, log, err="2 of its words are no screens")
-need(f"{log}:1: 'nowhere'".encode() in given.err and f"{log}:2: '-1'".encode() in given.err, given)
+log.write_text("0 nowhere\n-1 end\nend\n")
+given = gives(REFUSED, "", "replay", "--text-log", E, log, err="3 of its words are no screens")
+need(all(f"{log}:{said}".encode() in given.err for said in ("1: 'nowhere'", "2: '-1'", "2: 'end'")), given)
+for whole in "0\nend\n", "0 0 0\r\nend\r\n", "# end\n0 # end\n end # of it\n":
+    log.write_text(whole, newline="")
+    gives(SAFE, None, "replay", "--text-log", E, log)
+    for cut in range(len(whole)):
+        log.write_text(whole[:cut], newline="")
+        gives(REFUSED, "", "replay", "--text-log", E, log, err=f"(?m)^{log}:[0-9]+: the text may be cut: ")
+    log.write_text(whole + "0\n", newline="")
+    gives(REFUSED, "", "replay", "--text-log", E, log, err="goes on behind its 'end'")
 for words in (), (E,), (E, log, log):
     gives(FAILED, "", "replay", *words, err="usage: shuntberry replay")
 gives(FAILED, "", "replay", E, WORK / "missing", err="No such file")
@@ -225,8 +233,7 @@ for table, path in EVERY:
         text, names = named(table)
         status, said, found = modal_said(table, possible, names)
         gives(status, said, "options", path, "--names", text, f"--possible={other}")
-        with open(text, "a") as out:
-            out.write("".join(f"possible {a} -> {b}\n" for a, b in possible - table.steps))
+        text.write_text(spec.longer(text.read_text(), "".join(f"possible {a} -> {b}\n" for a, b in possible - table.steps)))
         gives(status, said, "options", "--text", text)
         seen.add(found["verdict"])
         missing = sorted(table.steps)
@@ -241,7 +248,7 @@ gives(REFUSED, "", "options", E, "--possible", TABLES / "bad-check.table", err="
 for words in (E,), ("--text", "--possible", E, E), ("--possible", E, E, E), ("--text", "--site", "0", E):
     gives(FAILED, "", "options", *words, err="usage: shuntberry options")
 text = WORK / "possible.txt"
-text.write_text("states 3\ninitial 0\nforbidden 2\nstep 0 -> 0\nstep 1 -> 2\npossible 0 -> 1\n")
+text.write_text("states 3\ninitial 0\nforbidden 2\nstep 0 -> 0\nstep 1 -> 2\npossible 0 -> 1\nend\n")
 gives(NO_RELEASE, "states 3 groups 0\ndepends\ninvariant 1: 0\npath 0 1 2\n", "options", "--text", text)
 for command in "check", "inspect", "decode":
     gives(REFUSED, None, command, "--text", text, err="possible steps are for the command options alone")
@@ -267,7 +274,7 @@ for _ in range(150):
     lines = [f"window {model.DAYS[day]} {hour:02}:{minute:02} for {length_of(length)}" for day, hour, minute, length in windows] or ["window none"]
     lines += [f"closed {day}" for day in closed]
     random.shuffle(lines)
-    house.write_text("\n".join(lines) + "\n")
+    house.write_text("\n".join([*lines, "end\n"]))
     found = model.next_open(windows, closed, moment)
     said = "never\n" if found is None else f"open {found:%Y-%m-%d %H:%M} {model.DAYS[found.weekday()]}\n"
     gives(SAFE, said, "next-open", house, "--at", at(moment))
@@ -277,7 +284,7 @@ for _ in range(150):
         minute = (found - datetime(2000, 1, 1)) // timedelta(minutes=1)
         object |= {"open": at(found), "weekday": model.DAYS[found.weekday()], "minute": minute}
     need(json.loads(call("next-open", "--json", "--at", at(moment), house).out) == object, object)
-house.write_text("window monday 22:00 for 6h\nclosed 2026-12-28\n")
+house.write_text("window monday 22:00 for 6h\nclosed 2026-12-28\nend\n")
 gives(SAFE, "open 2026-12-29 00:00 tuesday\n", "next-open", house, "--at", "2026-12-28T13:05")
 gives(SAFE, "open 2000-01-03 22:00 monday\n", "next-open", house, "--at", "2000-01-01T00:00")
 gives(REFUSED, "", "next-open", house, "--at", "9999-12-31T23:59", err="refused 31")
@@ -286,7 +293,7 @@ for word in "2026-12-24", "13:05", "1999-12-31T23:59", "2026-02-29T00:00", "2100
     "2026-12-24T13:60", "2026-12-24T13:05Z", "2026-12-24T13:05+01:00", "26-12-24T13:05", "2026-12-24T1:05", "", "now", "2026-12-24t13:05":
     gives(FAILED, "", "next-open", house, "--at", word, err="is no time: expected")
 for text, line, reason in [
-    ("", 1, "window none"), ("closed 2026-12-25\n", 1, "no line says when it is open"), ("window none\nwindow monday 22:00 for 6h\n", 2, "goes with no other window, and line 1 says none"),
+    ("", 1, "window none"), ("closed 2026-12-25\n", 2, "no line says when it is open"), ("window none\nwindow monday 22:00 for 6h\n", 2, "goes with no other window, and line 1 says none"),
     ("window monday 22:00 for 6h\nwindow none\n", 2, "goes with no other window, and line 1 is one"), ("window monday 22:00\n", 1, "a window is written"),
     ("window Monday 22:00 for 6h\n", 1, "no day of the week"), ("window monday 24:00 for 6h\n", 1, "no time"), ("window monday 22:00 for 0h\n", 1, "no length"),
     ("window monday 22:00 for 169h\n", 1, "no length"), ("window monday 22:00 for 6\n", 1, "no length"), ("window monday 22:00 for 30m6h\n", 1, "no length"),
@@ -295,8 +302,15 @@ for text, line, reason in [
     ("window none\n# \u202e\n", 2, "cannot be seen"), ("".join(f"window monday 22:00 for {m}m\n" for m in range(1, 34)), 33, "at most 32"),
     ("window none\n" + "".join(f"closed {date(2026, 1, 1) + timedelta(days=d)}\n" for d in range(65)), 66, "at most 64"),
 ]:
-    house.write_text(text)
+    house.write_text(text + "end\n")
     given = gives(REFUSED, "", "next-open", house, "--at", "2026-12-24T13:05", err=reason)
     need(f"{house}:{line}: ".encode() in given.err and given.err.count(b"\n") == 2, given)
-gives(SAFE, "never\n", "next-open", "/dev/stdin", "--at", "2026-12-24T13:05", input=b"window none\n")
+gives(SAFE, "never\n", "next-open", "/dev/stdin", "--at", "2026-12-24T13:05", input=b"window none\nend\n")
+# a cut behind the first line once opened a closed day
+whole = "window monday 22:00 for 6h\nclosed 2026-12-28\nend\n"
+for cut in range(len(whole)):
+    house.write_text(whole[:cut])
+    gives(REFUSED, "", "next-open", house, "--at", "2026-12-28T13:05", err=f"(?m)^{house}:[0-9]+: the text may be cut: ")
+house.write_text(whole + "closed 2026-12-29\n")
+gives(REFUSED, "", "next-open", house, "--at", "2026-12-28T13:05", err=f"^{house}:4: the text goes on behind its 'end'")
 group("next-open")

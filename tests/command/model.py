@@ -11,7 +11,7 @@ def numbers(words):
 
 def table_of(text):
     """The table of a text as `decode` prints it."""
-    lines = [line.split() for line in text.splitlines()]
+    lines = [line.split() for line in spec.before_end(text).splitlines()]
     of = lambda fact: set().union(*(numbers(words[1:]) for words in lines if words[0] == fact))
     groups = [numbers(words[1:]) for words in lines if words[0] == "group"]
     steps = {(int(words[1]), int(b)) for words in lines if words[0] == "step" for b in words[3:]}

@@ -261,7 +261,7 @@ group(f"records of tables, seed {SEED}")
 text = WORK / "named.txt"
 for table, path in EVERY:
     names = {s: f"screen-{s}" for s in range(table.n) if random.random() < 0.7}
-    text.write_text(spec.text(table) + "".join(f"state {s} {name}\n" for s, name in names.items()))
+    text.write_text(spec.longer(spec.text(table), "".join(f"state {s} {name}\n" for s, name in names.items())))
     given = report(path, "--names", text)
     need(given.status == status_for(table), given)
     check_page(out.read_bytes(), table, path, names=names, text=text)
@@ -559,7 +559,7 @@ if shutil.which("dot"):
     count = 0
     for table, path in EVERY:
         names = {s: f"screen-{s}" for s in range(table.n) if random.random() < 0.5}
-        text.write_text(spec.text(table) + "".join(f"state {s} {name}\n" for s, name in names.items()))
+        text.write_text(spec.longer(spec.text(table), "".join(f"state {s} {name}\n" for s, name in names.items())))
         given = report(path, "--names", text, env=REAL_DOT)
         need(given.status == status_for(table), given)
         picture = check_page(out.read_bytes(), table, path, names=names, text=text)
@@ -690,7 +690,7 @@ else:
 # an empty name by accident, and inputs that are no files
 (WORK / "empty").write_bytes(b"")
 need(report(WORK / "empty").status == NO_RELEASE, "a draft")
-check_page(out.read_bytes(), model.table_of("states 0\ninitial none\nforbidden none\n"), WORK / "empty")
+check_page(out.read_bytes(), model.table_of("states 0\ninitial none\nforbidden none\nend\n"), WORK / "empty")
 no_record(report(""), FAILED, "No such file")
 no_record(report("/dev/zero"), REFUSED, "refused 11")
 no_record(report("/proc/self/mem"), FAILED)

@@ -22,7 +22,7 @@ A, B, E, H1 = (TABLES / f"{name}.table" for name in "a b e h1".split())
 LARGEST = TABLES / "largest.table"
 log, house = WORK / "log", WORK / "house"
 log.write_bytes(b"\0\0")
-house.write_text("window none\n")
+house.write_text("window none\nend\n")
 # every command that ends with 0 where it prints, and one that has much to print
 PRINTING = [
     ["check", A], ["check", "--json", A], ["check", "--text", TABLES / "a.txt"], ["check", LARGEST], ["check-all", A, E], ["check-all", *[A] * 3000], ["inspect", A],

@@ -10,7 +10,7 @@ import sys
 from pathlib import Path
 
 import support
-from support import FAILED, PROGRAM, REFUSED, SAFE, TABLES, TOP, WORK, call, gives, group, need, some, status_of, tables
+from support import FAILED, PROGRAM, REFUSED, SAFE, TABLES, TOP, UNSAFE, WORK, call, gives, group, need, some, status_of, tables
 import load
 import model
 import old_files
@@ -131,7 +131,7 @@ group("rewrite")
 # ---- mistakes: each has its line, standard output has a line that is no file, and what was there stays
 
 bad = WORK / "bad.txt"
-bad.write_text("states 3\ninitial 0 7\nforbidden 2\nstep 0 -> up\n")
+bad.write_text("states 3\ninitial 0 7\nforbidden 2\nstep 0 -> up\nend\n")
 given = gives(REFUSED, "failed\n", "encode", bad, err="")
 need(given.err.decode() == f"{bad}:2: there is no state 7: with states 3 they are 0 to 2\n"
      f"{bad}:4: 'up' is no number, and no line gives a state this name\nencode: {bad}: 2 mistakes\n", given)
@@ -141,7 +141,9 @@ gives(REFUSED, "", "encode", "-o", there, bad, err="2 mistakes")
 need(there.read_bytes() == E.read_bytes(), "mistakes took away what was there")
 gives(REFUSED, "failed\n", "encode", input=bad.read_bytes(), err="standard input:2: ")
 gives(REFUSED, "failed\n", "encode", E, err="UTF-8|control")
-gives(REFUSED, "failed\n", "encode", WORK / "empty", err="how many states")
+gives(REFUSED, "failed\n", "encode", WORK / "empty", err="the text may be cut")
+(WORK / "emptied").write_text("end\n")
+gives(REFUSED, "failed\n", "encode", WORK / "emptied", err="how many states")
 gives(FAILED, "failed\n", "encode", "/dev/zero", err="is longer than")
 gives(REFUSED, "refused 11\n", "decode", "/dev/zero", err="refused 11")
 for command in "encode", "decode", "picture", "rewrite":
@@ -158,9 +160,9 @@ need(not (WORK / "x").exists() and not (WORK / "y").exists(), "a call that was w
 for option in "--site", "--allowance", "--svg":
     gives(FAILED, "failed\n", "rewrite", option, "1", err="no option")
 
-# texts without end take little time and room: in 400 MB, and in ten seconds of the processor's time, whatever else the machine does
+# texts of any length take little time and room: in 400 MB, and in ten seconds of the processor's time, whatever else the machine does
 def bounded(text, *words):
-    run = subprocess.run(["bash", "-c", 'ulimit -v 400000 -t 10; exec "$@"', "-", PROGRAM, "encode"], input=text, capture_output=True)
+    run = subprocess.run(["bash", "-c", 'ulimit -v 400000 -t 10; exec "$@"', "-", PROGRAM, "encode"], input=text + b"\nend\n", capture_output=True)
     need(run.returncode == REFUSED and run.stdout == b"failed\n" and len(run.stderr) < 50_000, run.returncode, run.stderr[:500])
     return run.stderr
 
@@ -171,6 +173,38 @@ bounded(b"group x y z\n" * 1_300_000)
 bounded(b"step 0 -> 1\n" * 1_300_000)
 bounded(b"states 5\n" + b"state 1 a\n" * 1_500_000)
 group("mistakes and long texts")
+
+# ---- texts that were cut: what is left is no text, by whomever it is read
+
+def is_cut(*words, out="failed\n", line="[0-9]+", **how):
+    """A call is refused, and standard error says why, and what to add."""
+    gives(REFUSED, out, *words, err=rf"\A.*:{line}: the text may be cut: .*; if nothing is missing, add .*\n.*: 1 mistake\n\Z", **how)
+
+
+# without its last two bytes, or the last one where the line has no end, this was a safe table
+thirteen = "states 13\ninitial 0\nstep 0 -> 12\nresting " + " ".join(map(str, range(1, 13))) + "\nforbidden 12\n"
+whole, cut = WORK / "whole.txt", WORK / "cut.txt"
+whole.write_text(thirteen + "end\n")
+gives(UNSAFE, None, "check", "--text", whole)
+for length in range(1, len(thirteen) + 4):
+    cut.write_text(whole.read_text()[:length])
+    is_cut("check", "--text", cut, out="")
+for length in len(thirteen), len(thirteen) - 1, len(thirteen) - 2:
+    cut.write_text(thirteen[:length])
+    for words in ("encode", cut), ("decode", "--text", cut), ("picture", "--text", cut), ("decode", "--names", cut, E):
+        is_cut(*words, line=5)
+    for words in ("check", "--text", cut), ("inspect", "--text", cut), ("within", "3", "--text", cut), ("options", "--text", cut), ("check", "--names", cut, E):
+        is_cut(*words, out="", line=5)
+    is_cut("encode", "-o", there, cut, out="")
+    need(there.read_bytes() == E.read_bytes(), "a text that was cut took away what was there")
+# the example, with a way round in its last line
+drawn = spec.longer((TOP / "examples/pump.txt").read_text(), "step running -> over-hard-limit\n").encode()
+gives(UNSAFE, None, "check", "--text", input=drawn)
+for length in range(1, len(drawn)):
+    is_cut("check", "--text", out="", input=drawn[:length])
+for behind in b"\n", b" ", b"#", b"end\n", b"step 0 -> 0\n", drawn:
+    gives(REFUSED, "", "check", "--text", err="goes on behind its 'end'", input=drawn + behind)
+group("texts that were cut")
 
 # ---- pictures: names, titles, and dot, which need not be there
 
@@ -208,13 +242,13 @@ for commands in "exit 1", 'echo "<svg/>"; kill -9 $$', "true":
     dot(f"/bin/cat >/dev/null; {commands}")
     drawn_by(FAILED, "failed\n", "dot could not draw")
 tangled = lambda n, steps: b"layout=sfdp" in call("picture", "--text", input=(
-    f"states {n}\ninitial 0\nforbidden none\n" + "".join(f"step {a} -> {b}\n" for a, b in steps)).encode()).out
+    f"states {n}\ninitial 0\nforbidden none\n" + "".join(f"step {a} -> {b}\n" for a, b in steps) + "end\n").encode()).out
 chain = [(s, s + 1) for s in range(511)]
 need(not tangled(512, chain), "a corridor is drawn by layers")
 need(tangled(512, chain + [(2 * s, s) for s in range(256)]), "767 steps of 512 states are drawn by forces")
 # a table of which there is nothing to explain has no legend, which dot could not draw
 bland = WORK / "bland.txt"
-bland.write_text("states 2\ninitial none\nforbidden none\nstep 0 -> 1\nstep 1 -> 0\n")
+bland.write_text("states 2\ninitial none\nforbidden none\nstep 0 -> 1\nstep 1 -> 0\nend\n")
 need(b'label=""' in call("picture", "--text", bland).out, "the legend of no kinds")
 if shutil.which("dot"):
     need(b"</svg>" in call("picture", "--svg", "--text", bland).out, "a picture without a legend")

@@ -127,7 +127,7 @@ def checked_text():
     """A text typed by hand: the ninth table."""
     assert text(TYPED["ninth"][0]) == (
         "states 4\ninitial 0\nforbidden 2\nresting none\ngroup 0\n"
-        "step 0 -> 0 1\nstep 1 -> 3\nstep 2 -> 3\nstep 3 -> 0 2\n"
+        "step 0 -> 0 1\nstep 1 -> 3\nstep 2 -> 3\nstep 3 -> 0 2\nend\n"
     )
 
 

@@ -168,21 +168,35 @@ def with_byte(data, at, value):
 
 # ---- Texts
 
+END = "end\n"
+
+
 def listing(states):
     return " ".join(map(str, states)) or "none"
 
 
 def text(table):
-    """One fact a line, in the one order that `shuntberry decode` has. The draft has one line; a state without successors has none."""
+    """One fact a line, in the one order that `shuntberry decode` has, and the end. The draft has one fact; a state without successors has none."""
     head = [("initial", table.initial), ("forbidden", table.marked), ("resting", table.resting)]
     rows = [(f"step {s} ->", table.row(s)) for s in sorted({a for a, _ in table.steps})]
     facts = [*head, *(("group", group) for group in table.groups), *rows] if table.n else []
-    return f"states {table.n}\n" + "".join(f"{fact} {listing(sorted(states))}\n" for fact, states in facts)
+    return f"states {table.n}\n" + "".join(f"{fact} {listing(sorted(states))}\n" for fact, states in facts) + END
+
+
+def before_end(text):
+    """A text without its last line, which it must have: else it was cut."""
+    assert text.endswith("\n" + END), f"the text may be cut: {text[-40:]!r}"
+    return text[:-len(END)]
+
+
+def longer(text, lines):
+    """A text with more lines."""
+    return before_end(text) + lines + END
 
 
 def read_text(text):
     """The table of a text, and the names of its states. Only what examples/pump.txt has is read: no groups, and each state by its name."""
-    facts = [line.split("#")[0].replace("->", " ").split() for line in text.splitlines()]
+    facts = [line.split("#")[0].replace("->", " ").split() for line in before_end(text).splitlines()]
     names = {words[2]: int(words[1]) for words in facts if words[:1] == ["state"]}
     of = lambda fact: {names[word] for words in facts if words[:1] == [fact] for word in words[1:]}
     steps = {(names[words[1]], names[word]) for words in facts if words[:1] == ["step"] for word in words[2:]}

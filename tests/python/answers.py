@@ -159,6 +159,18 @@ def texts(table, ours):
     same(sets(Table.from_text(spec.text(table))), sets_of(table), "decode's text")
 
 
+def cuts(table):
+    """A text that was cut is no text, wherever that was."""
+    written = random.choice([drafts.draft, spec.text])(table)
+    for length in {random.randrange(1, len(written)), len(written) - random.randrange(1, 9), len(written) - 1}:
+        try:
+            Table.from_text(written[:length])
+        except shuntberry.Mistakes as mistakes:
+            need("the text may be cut" in str(mistakes), mistakes)
+        else:
+            need(False, f"{length} characters are enough of {written!r}")
+
+
 for i in range(COUNT):
     drawn = drafts.table()
     mine = of(drawn)
@@ -167,6 +179,8 @@ for i in range(COUNT):
         ask(drawn, mine)
     if drawn.n:
         options(drawn, mine)
+    if i % 2 == 0:
+        cuts(drawn)
     if i % 10 == 0:
         texts(drawn, mine)
         for copied in (pickle.loads(pickle.dumps(mine)), copy.copy(mine), copy.deepcopy(mine)):

@@ -7,7 +7,7 @@ import tempfile
 from array import array
 from pathlib import Path
 
-from support import group, need, raises, refused, same, shuntberry
+from support import PREFIX, group, need, raises, refused, same, shuntberry
 from shuntberry import Refusal, Refused, Session, Table, Verdict, Window
 
 SIZE, WORD = 2**64, 2**32
@@ -178,16 +178,23 @@ with tempfile.TemporaryDirectory() as work:
         path.chmod(0o755)
         return path
 
-    TEXT = "states 1\ninitial 0\nforbidden none\nstep 0 -> 0\n"
+    TEXT = "states 1\nstate 0 home\ninitial 0\nforbidden none\nstep 0 -> 0\nend\n"
     need(shuntberry.decide(Table.from_text(TEXT)).is_safe, "a text")
-    error = raises(shuntberry.Mistakes, ":2: ", Table.from_text, "states 1\ninitial 1\nforbidden none\n")
+    error = raises(shuntberry.Mistakes, ":2: ", Table.from_text, "states 1\ninitial 1\nforbidden none\nend\n")
     need(isinstance(error, ValueError), "mistakes")
     raises(OSError, "empty", Table.from_text, "")
+    for length in range(1, len(TEXT)):
+        raises(shuntberry.Mistakes, "the text may be cut", Table.from_text, TEXT[:length])
+    for behind in ("\n", " ", "#", "end\n", TEXT):
+        raises(shuntberry.Mistakes, "goes on behind its 'end'", Table.from_text, TEXT + behind)
     raises(UnicodeEncodeError, "", Table.from_text, "\ud800")
     for none in (None, b"states 0", 0):
         raises(TypeError, "a text is a str", Table.from_text, none)
     raises(FileNotFoundError, "", Table.from_text, TEXT, command=Path(work, "no command"))
-    for wrong in ("exit 0", "cat", "exit 1", "exit 3", "exit 4", "exit 127", "kill -9 $$", "kill -15 $$", "cat >/dev/null; echo safe"):
+    # the command itself, but that not all of the names arrive
+    real = f"'{PREFIX}/bin/shuntberry' \"$@\""
+    cuts = [f'if [ "$1" = encode ]; then {real}; else {real} | head -c -{count}; fi' for count in (1, 4, 5, 56)]
+    for wrong in ("exit 0", "cat", "exit 1", "exit 3", "exit 4", "exit 127", "kill -9 $$", "kill -15 $$", "cat >/dev/null; echo safe", *cuts):
         try:
             given = Table.from_text(TEXT, command=command(wrong))
         except (OSError, Refused):

@@ -25,7 +25,7 @@ MANY = "pump.table: safe\nreleased.table: safe\n2 files: 2 safe, 0 unsafe, 0 ref
 # What each command must print; one that is not among them prints nothing. All end with 0, but for the table that is unsafe.
 WORKED_OUT = [
     (r"shuntberry check --text examples/pump\.txt \| head -n 3", REPORT),
-    (rf"\{{ cat examples/pump\.txt; echo '{re.escape(DRAW)}'; \}} \| shuntberry check --text \| head -n 3", spec.printed(EDITED)),
+    (rf"sed '\$i {re.escape(DRAW)}' examples/pump\.txt \| shuntberry check --text \| head -n 3", spec.printed(EDITED)),
     (r"shuntberry check pump\.table", REPORT),
     (r"cat release\.txt", RELEASED),
     (re.escape(CHAIN), CONFIRMED),

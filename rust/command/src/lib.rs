@@ -11,10 +11,8 @@ pub mod commands;
 pub mod drawing;
 pub mod failure;
 pub mod files;
-pub mod house;
 pub mod html;
 pub mod json;
-pub mod lines;
 pub mod picture;
 pub mod record;
 pub mod refusals;
@@ -32,6 +30,7 @@ use crate::failure::{Done, Failure, status};
 use crate::shown::shown;
 use crate::sys::Streams;
 use crate::words::{Call, Command, Output, did_you_mean};
+pub use shuntberry_text::{house, lines};
 use std::ffi::{OsStr, OsString};
 use std::path::Path;
 

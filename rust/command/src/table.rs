@@ -97,6 +97,11 @@ impl Table {
         StateSet(words)
     }
 
+    /// Puts states into the place of a set of the table.
+    pub fn put(&mut self, set: Set, states: [u64; SET_WORDS]) {
+        self.store[set.at()..][..SET_WORDS].copy_from_slice(&states);
+    }
+
     /// Puts a state, one that a set can hold, into a set of the table.
     pub fn insert(&mut self, set: Set, state: usize) {
         self.store[set.at() + state / 64] |= 1 << (state % 64);

@@ -1,33 +1,21 @@
-//! The text of a table: one fact a line, for people and for tests.
-//!
-//! ```text
-//! states 5                    # how many there are; they are numbered from 0
-//! state 3 hard-limit          # a name, which may stand for the number wherever a state is meant
-//! initial 0
-//! forbidden hard-limit
-//! resting none
-//! group 0 1
-//! step 0 -> 1 2
-//! ```
-//!
-//! Lines stand in any order; those of one set add to it, and each `group` is a group more. `initial` and `forbidden` must not be
-//! forgotten, since for want of one a table could be safe that should not be: it has to say `none`. [`print`] writes the one text of
-//! a table that has each fact in its place, by numbers; a file holds no names.
-//!
-//! A text must be what it looks like: there are no characters in it that cannot be seen or move others, and the letters of its names are of
-//! one alphabet. The text is gone through once for each sort of fact, and nothing is kept of it but what a table can hold and the first
-//! mistakes: a text of any length takes little room.
+//! The texts of tables, as the package `shuntberry-text` reads and prints them, for the tables of this one.
 
-use crate::lines::{
-    MAX_NAME, Mistake, Mistakes, Names, alphabet, cut, number, quoted, said, strange,
-};
+use crate::lines::{Mistakes, Names};
 use crate::table::{Set, Table};
-use shuntberry::{MAX_GROUPS, MAX_STATES, StateSet};
-use std::collections::{BTreeMap, BTreeSet, HashMap};
+use shuntberry::{MAX_DAYS, MAX_GROUPS, MAX_STATES, MAX_WINDOWS, SET_WORDS, StateSet};
+use shuntberry_text::table as plain;
+use std::collections::BTreeSet;
 
-/// The word for an empty set.
-const NONE: &str = "none";
-const ARROW: &str = "->";
+pub use shuntberry_text::table::looks_like_text;
+
+// The package knows no library: what it takes for the most is what the library does.
+const _: () = assert!(
+    shuntberry_text::MAX_STATES == MAX_STATES
+        && shuntberry_text::MAX_GROUPS == MAX_GROUPS
+        && shuntberry_text::SET_WORDS == SET_WORDS
+        && shuntberry_text::MAX_WINDOWS == MAX_WINDOWS
+        && shuntberry_text::MAX_DAYS == MAX_DAYS
+);
 
 /// What a text says.
 #[derive(Clone, Debug, PartialEq, Eq)]
@@ -40,454 +28,56 @@ pub struct Text {
     pub possible: BTreeSet<(usize, usize)>,
 }
 
-// ---- From a table
-
 /// The text of a table, with names for the states that have one.
 pub fn print(table: &Table, names: &Names) -> String {
-    let mut text = format!("states {}\n", table.n());
-    if table.n() == 0 {
-        return text;
-    }
-    for (state, name) in names {
-        text += &format!("state {state} {name}\n");
-    }
-    let mut say = |fact: &str, states: StateSet| text += &format!("{fact} {}\n", listing(states));
-    say("initial", table.set(Set::Initial));
-    say("forbidden", table.set(Set::Marked));
-    say("resting", table.set(Set::Resting));
-    for j in 0..table.g() {
-        say("group", table.set(Set::Group(j)));
-    }
-    for s in (0..table.n()).filter(|&s| !table.is_dead_end(s)) {
-        say(&format!("step {s} {ARROW}"), table.set(Set::Successors(s)));
-    }
-    text
+    let set = |set| table.set(set).0;
+    let table = plain::Table {
+        initial: set(Set::Initial),
+        marked: set(Set::Marked),
+        resting: set(Set::Resting),
+        groups: (0..table.g()).map(|j| set(Set::Group(j))).collect(),
+        rows: (0..table.n()).map(|s| set(Set::Successors(s))).collect(),
+    };
+    plain::print(&table, names)
 }
 
 /// The states of a set, or `none`.
 pub fn listing(states: StateSet) -> String {
-    let numbers: Vec<String> = states.states().map(|s| s.to_string()).collect();
-    if numbers.is_empty() {
-        NONE.to_string()
-    } else {
-        numbers.join(" ")
-    }
+    plain::listing(&states.0)
 }
-
-// ---- To a table
 
 /// What a text says, or its mistakes, by their lines.
 pub fn parse(text: &[u8]) -> Result<Text, Mistakes> {
-    Reader::default().read(text)
+    plain::parse(text).map(stored)
 }
 
 /// The same of a text that may have lines `possible STATE -> STATE..` too.
 pub fn parse_with_possible(text: &[u8]) -> Result<Text, Mistakes> {
-    let reader = Reader {
-        takes_possible: true,
-        ..Reader::default()
-    };
-    reader.read(text)
+    plain::parse_with_possible(text).map(stored)
 }
 
-/// The words that a line begins with.
-const FACTS: [&str; 8] = [
-    "states",
-    "state",
-    "initial",
-    "forbidden",
-    "resting",
-    "group",
-    "step",
-    "possible",
-];
-
-/// Whether bytes that are no file may be a text: the first word that they say is a fact.
-pub fn looks_like_text(bytes: &[u8]) -> bool {
-    let first = said(bytes).find_map(|(_, line)| match line {
-        Ok(words) => words.first().map(|fact| FACTS.contains(fact)),
-        Err(_) => Some(false),
-    });
-    first == Some(true)
-}
-
-/// A line that says something: its first word and the others.
-struct Line<'t> {
-    number: usize,
-    fact: &'t str,
-    words: &'t [&'t str],
-}
-
-/// The set `initial`, `forbidden` or `resting` as far as it was said.
-struct Said {
-    /// The first line about it, and whether that says `none`.
-    first: (usize, bool),
-    /// Its states, and the line of each.
-    states: BTreeMap<usize, usize>,
-}
-
-/// A pair of states, and the line of the step between them.
-type Steps = BTreeMap<(usize, usize), usize>;
-
-/// What was read so far.
-#[derive(Default)]
-struct Reader {
-    takes_possible: bool,
-    /// The line that is read.
-    at: usize,
-    mistakes: Mistakes,
-    /// The number of states, where a line gives a good one, and the first line that was to give it.
-    n: Option<usize>,
-    n_line: Option<usize>,
-    /// What a name stands for, and the line that says so; the name of a state; the alphabet of the first one.
-    named: HashMap<String, (usize, usize)>,
-    names: Names,
-    alphabet: Option<(&'static str, usize)>,
-    sets: HashMap<String, Said>,
-    groups: Vec<Vec<usize>>,
-    steps: Steps,
-    possible: Steps,
-}
-
-impl Reader {
-    fn read(mut self, text: &[u8]) -> Result<Text, Mistakes> {
-        // The number of states and the names first: a line may stand before the one that says them.
-        for (number, line) in said(text) {
-            self.at = number;
-            match line {
-                Err(reason) => self.mistake(reason),
-                Ok(words) => self.first(number, &words),
-            }
-        }
-        let last = self.at;
-        self.each(text, Reader::name);
-        self.each(text, Reader::fact);
-        self.at = last;
-        self.finish()
+/// What a text says, its table in a store.
+fn stored(text: plain::Text) -> Text {
+    let plain::Table {
+        initial,
+        marked,
+        resting,
+        groups,
+        rows,
+    } = text.table;
+    let mut table = Table::new(rows.len(), groups.len());
+    table.put(Set::Initial, initial);
+    table.put(Set::Marked, marked);
+    table.put(Set::Resting, resting);
+    for (j, group) in groups.into_iter().enumerate() {
+        table.put(Set::Group(j), group);
     }
-
-    fn first(&mut self, number: usize, words: &[&str]) {
-        if let ["states", words @ ..] = words {
-            self.states(&Line {
-                number,
-                fact: "states",
-                words,
-            });
-        }
+    for (s, row) in rows.into_iter().enumerate() {
+        table.put(Set::Successors(s), row);
     }
-
-    /// Goes through the lines that say something.
-    fn each(&mut self, text: &[u8], take: fn(&mut Reader, &Line)) {
-        for (number, line) in said(text) {
-            if let Ok(words) = line
-                && let [fact, words @ ..] = &words[..]
-            {
-                self.at = number;
-                take(
-                    self,
-                    &Line {
-                        number,
-                        fact,
-                        words,
-                    },
-                );
-            }
-        }
-    }
-
-    /// There is a mistake on the line that is read.
-    fn mistake(&mut self, reason: impl Into<String>) {
-        self.mistakes.push(Mistake {
-            line: self.at,
-            reason: reason.into(),
-        });
-    }
-
-    /// `states N`
-    fn states(&mut self, line: &Line) {
-        if let Some(first) = self.n_line {
-            return self.mistake(format!(
-                "the number of states stands on line {first} already"
-            ));
-        }
-        self.n_line = Some(line.number);
-        let [word] = line.words else {
-            return self.mistake("this line is written states N, with one number");
-        };
-        match number(word) {
-            Some(n) if n <= MAX_STATES => self.n = Some(n),
-            Some(_) => self.mistake(format!(
-                "{} states are too many: a table has at most {MAX_STATES}",
-                cut(word)
-            )),
-            None => self.mistake(format!("{} is no number of states", quoted(word))),
-        }
-    }
-
-    /// `state N NAME`
-    fn name(&mut self, line: &Line) {
-        if line.fact != "state" {
-            return;
-        }
-        let &[word, name] = line.words else {
-            return self.mistake("a name is given by state N NAME, with a name of one word");
-        };
-        let state = self.alphabet_of(name).and_then(|()| match number(word) {
-            Some(state) => self.in_range(state, word),
-            None => Err(format!("{} is no number", quoted(word))),
-        });
-        match state.and_then(|state| self.nameless(state, name)) {
-            Ok(state) => {
-                self.named.insert(name.to_string(), (state, self.at));
-                self.names.insert(state, name.to_string());
-            }
-            Err(reason) => self.mistake(reason),
-        }
-    }
-
-    /// Whether a name is one, in the alphabet of those before it.
-    fn alphabet_of(&mut self, name: &str) -> Result<(), String> {
-        let Some(letters) = alphabet(name).filter(|_| name != NONE) else {
-            return Err(format!(
-                "{} is no name: it has letters of one alphabet (Latin, Greek or Cyrillic), digits, - _ and ., begins with a letter, has {MAX_NAME} characters at most, and is not {NONE}{}",
-                quoted(name),
-                strange(name)
-            ));
-        };
-        let &mut (first, line) = self.alphabet.get_or_insert((letters, self.at));
-        if first != letters {
-            return Err(format!(
-                "{} has {letters} letters, and line {line} a name of {first} ones: letters of two alphabets may look alike",
-                quoted(name)
-            ));
-        }
-        Ok(())
-    }
-
-    /// A state that has no name yet, for a name that no state has.
-    fn nameless(&self, state: usize, name: &str) -> Result<usize, String> {
-        match (self.named.get(name), self.names.get(&state)) {
-            (Some((other, first)), _) => Err(format!(
-                "state {other} has the name {name}, by line {first} already"
-            )),
-            (None, Some(other)) => Err(format!(
-                "state {state} has the name {other}, by line {} already",
-                self.named[other].1
-            )),
-            (None, None) => Ok(state),
-        }
-    }
-
-    /// Every other line.
-    fn fact(&mut self, line: &Line) {
-        match line.fact {
-            "states" | "state" => {}
-            "initial" | "forbidden" | "resting" => self.set(line),
-            "group" => self.group(line),
-            "step" => self.step(line),
-            "possible" if self.takes_possible => self.step(line),
-            "possible" => self.mistake("possible steps are for the command options alone: write two texts without such lines, one with these steps as step lines, and encode both"),
-            word => self.mistake(format!(
-                "a line begins with states, state, initial, forbidden, resting, group{}, and not with {}",
-                if self.takes_possible {
-                    ", step or possible"
-                } else {
-                    " or step"
-                },
-                quoted(word)
-            )),
-        }
-    }
-
-    /// `initial STATE..`, and `forbidden` and `resting` likewise
-    fn set(&mut self, line: &Line) {
-        let (at, fact) = (self.at, line.fact);
-        let none = line.words == [NONE];
-        let states = self.states_or_none(line);
-        let said = self.sets.entry(fact.to_string()).or_insert(Said {
-            first: (at, none),
-            states: BTreeMap::new(),
-        });
-        let (first, first_none) = said.first;
-        let twice: Vec<(usize, usize)> = states
-            .iter()
-            .filter_map(|&state| Some((state, said.states.insert(state, at)?)))
-            .collect();
-        if first != at && (none || first_none) {
-            self.mistake(format!(
-                "{fact} {NONE} goes with no other line of {fact}, and line {first} is one"
-            ));
-        }
-        for (state, other) in twice {
-            self.mistake(format!("state {state} is {fact} by line {other} already"));
-        }
-    }
-
-    /// `group STATE..`
-    fn group(&mut self, line: &Line) {
-        let room = self.groups.len() < MAX_GROUPS;
-        if !room {
-            self.mistake(format!(
-                "this group is one too many: a table has at most {MAX_GROUPS}"
-            ));
-        } else if self.n == Some(0) {
-            self.mistake("a table without states has no groups");
-        }
-        let states = self.states_or_none(line);
-        if room {
-            self.groups.push(states);
-        }
-    }
-
-    /// `step STATE -> STATE..`, and `possible` likewise
-    fn step(&mut self, line: &Line) {
-        let fact = line.fact;
-        let (from, to) = match line.words {
-            [from, ARROW, to @ ..] if !to.is_empty() && !to.contains(&ARROW) => (from, to),
-            _ => {
-                return self.mistake(format!(
-                    "a step is written {fact} STATE -> STATE.., with one state before the arrow"
-                ));
-            }
-        };
-        let from = self.listed(&[from]);
-        let to = self.listed(to);
-        for a in from {
-            for &b in &to {
-                self.add_step(fact, (a, b));
-            }
-        }
-    }
-
-    fn add_step(&mut self, fact: &str, step: (usize, usize)) {
-        let known = self.steps.get(&step).or(self.possible.get(&step));
-        if let Some(&other) = known {
-            let (a, b) = step;
-            return self.mistake(format!(
-                "the step {a} {ARROW} {b} stands on line {other} already"
-            ));
-        }
-        match fact {
-            "possible" => self.possible.insert(step, self.at),
-            _ => self.steps.insert(step, self.at),
-        };
-    }
-
-    /// The states of a line that may say `none`, and must say something.
-    fn states_or_none(&mut self, line: &Line) -> Vec<usize> {
-        if line.words.is_empty() {
-            self.mistake(format!(
-                "no state stands behind {0}: an empty one is written {0} {NONE}",
-                line.fact
-            ));
-        }
-        if line.words == [NONE] {
-            Vec::new()
-        } else {
-            self.listed(line.words)
-        }
-    }
-
-    /// The states that words stand for; a mistake for each word that stands for none, or for one once more.
-    fn listed(&mut self, words: &[&str]) -> Vec<usize> {
-        let mut states = Vec::new();
-        let mut seen = BTreeSet::new();
-        for word in words {
-            match self.state(word) {
-                Ok(state) if !seen.insert(state) => {
-                    self.mistake(format!("state {state} stands on this line already"))
-                }
-                Ok(state) => states.push(state),
-                Err(reason) => self.mistake(reason),
-            }
-        }
-        states
-    }
-
-    /// The state that a word stands for.
-    fn state(&self, word: &str) -> Result<usize, String> {
-        match (number(word), self.named.get(word)) {
-            (Some(state), _) => self.in_range(state, word),
-            (None, Some(&(state, _))) => Ok(state),
-            (None, None) if word == NONE => Err(format!(
-                "{NONE} stands alone behind initial, forbidden, resting or group"
-            )),
-            (None, None) => Err(format!(
-                "{} is no number, and no line gives a state this name{}",
-                quoted(word),
-                strange(word)
-            )),
-        }
-    }
-
-    /// A state that the table has; where it is not known how many it has, one that some table has.
-    fn in_range(&self, state: usize, word: &str) -> Result<usize, String> {
-        let n = self.n.unwrap_or(MAX_STATES);
-        if state < n {
-            return Ok(state);
-        }
-        let why = match self.n {
-            Some(n) => range(n),
-            None => format!("a table has at most {MAX_STATES}"),
-        };
-        Err(format!("there is no state {}: {why}", cut(word)))
-    }
-
-    /// What the text says, if there is no mistake: then each state is one that the table has.
-    fn finish(mut self) -> Result<Text, Mistakes> {
-        if self.n_line.is_none() {
-            self.mistake("the text ends, and no line says how many states there are: states N");
-        }
-        for fact in ["initial", "forbidden"] {
-            if self.n != Some(0) && !self.sets.contains_key(fact) {
-                self.mistake(format!(
-                    "the text ends, and no line says which states are {fact}: {fact} {NONE} if there is none"
-                ));
-            }
-        }
-        match self.n {
-            Some(n) if self.mistakes.is_empty() => Ok(self.text(n)),
-            _ => Err(self.mistakes),
-        }
-    }
-
-    fn text(self, n: usize) -> Text {
-        let mut table = Table::new(n, self.groups.len());
-        for (fact, set) in [
-            ("initial", Set::Initial),
-            ("forbidden", Set::Marked),
-            ("resting", Set::Resting),
-        ] {
-            for &state in self
-                .sets
-                .get(fact)
-                .iter()
-                .flat_map(|said| said.states.keys())
-            {
-                table.insert(set, state);
-            }
-        }
-        for (j, states) in self.groups.iter().enumerate() {
-            for &state in states {
-                table.insert(Set::Group(j), state);
-            }
-        }
-        for &(a, b) in self.steps.keys() {
-            table.insert(Set::Successors(a), b);
-        }
-        Text {
-            table,
-            names: self.names,
-            possible: self.possible.into_keys().collect(),
-        }
-    }
-}
-
-/// Which states a table of n has, in words.
-fn range(n: usize) -> String {
-    match n.checked_sub(1) {
-        None => "with states 0 there is none".to_string(),
-        Some(0) => "with states 1 there is 0 alone".to_string(),
-        Some(most) => format!("with states {n} they are 0 to {most}"),
+    Text {
+        table,
+        names: text.names,
+        possible: text.possible,
     }
 }

@@ -7,7 +7,7 @@ use crate::json::Object;
 use crate::shown::shown;
 use crate::source::{JSON, parsed};
 use crate::words::{Call, Command, Opt, Output};
-use shuntberry::{Refused, next_open};
+use shuntberry::{Refused, Window, next_open};
 
 const AT: Opt = Opt {
     name: "--at",
@@ -21,7 +21,7 @@ pub const NEXT_OPEN: Command = Command {
     words: "HOUSE",
     counts: (1, 1),
     about: "when a release may be loaded next",
-    more: "HOUSE is a text with lines window monday 22:00 for 6h, and closed 2026-12-25.",
+    more: "HOUSE is a text with lines window monday 22:00 for 6h, and closed 2026-12-25, and a last line end.",
     options: &[&AT, &JSON],
     needs: &[&AT],
     output: Output::Answer,
@@ -42,7 +42,9 @@ fn run(call: &Call) -> Done {
     })?;
     let input = Input::of(call, call.name(0));
     let house = parsed(input, house::parse)?;
-    let found = next_open(at.minute(), &house.windows, &house.closed).map_err(|refused| {
+    let window = |window: &house::Window| Window::new(window.start as u64, window.length as u64);
+    let windows: Vec<Window> = house.windows.iter().map(window).collect();
+    let found = next_open(at.minute(), &windows, &house.closed).map_err(|refused| {
         let about = match refused {
             Refused::TIME => format!("{} {}", AT.name, shown(word)),
             _ => input.shown(),

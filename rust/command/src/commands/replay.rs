@@ -12,7 +12,7 @@ use shuntberry::{Refused, StateSet, open, replay};
 const TEXT_LOG: Opt = Opt {
     name: "--text-log",
     value: None,
-    about: "LOG is a text of numbers and names of screens, and no list of two-byte numbers",
+    about: "LOG is a text of numbers and names of screens with a last line end, and no list of two-byte numbers",
 };
 
 /// The command.
@@ -110,7 +110,7 @@ fn text_log(input: Input, names: &Names) -> Result<Vec<u8>, Failure> {
 fn words_of(text: &[u8]) -> Result<Vec<(usize, String)>, Mistakes> {
     let mut mistakes = Mistakes::default();
     let mut words = Vec::new();
-    for (line, found) in said(text) {
+    for (line, found) in said(text)? {
         match found {
             Ok(found) => words.extend(found.into_iter().map(|word| (line, word.to_string()))),
             Err(reason) => mistakes.push(Mistake {

@@ -1,6 +1,9 @@
 //! The lines of a text and their words, the letters of names, and mistakes: what the texts of tables and of houses have alike.
 
-use std::collections::BTreeMap;
+use alloc::collections::BTreeMap;
+use alloc::format;
+use alloc::string::{String, ToString};
+use alloc::vec::Vec;
 
 /// The names of states, by their numbers.
 pub type Names = BTreeMap<usize, String>;
@@ -52,22 +55,89 @@ impl Mistakes {
 // ---- Lines and words
 
 /// A line has fewer words than this, or it says something twice: its first one, a state, an arrow, and each state of the largest table.
-const MAX_WORDS: usize = shuntberry::MAX_STATES + 4;
+const MAX_WORDS: usize = crate::MAX_STATES + 4;
 
 const ARROW: &str = "->";
 
 /// The words of a line, or what is wrong with it.
-type Words<'t> = Result<Vec<&'t str>, &'static str>;
+pub type Words<'t> = Result<Vec<&'t str>, &'static str>;
 
-/// Each line by its number, from 1 on, with its words before a comment: none where it says nothing.
-pub fn said(text: &[u8]) -> impl Iterator<Item = (usize, Words<'_>)> {
+/// The last line of a text: one that was cut has none.
+pub const END: &str = "end";
+
+const CUT: &str =
+    "the text may be cut: its last line is not 'end'; if nothing is missing, add that line";
+const NO_FEED: &str =
+    "the text may be cut: no line feed stands behind its 'end'; if nothing is missing, add one";
+const MORE: &str =
+    "the text goes on behind its 'end': not even an empty line or a comment may stand there";
+const NOT_ALONE: &str = "'end' stands alone, on the last line";
+
+/// Each line of a text by its number, from 1 on, with its words before a comment: none where it says nothing, as the last one. Of a text without
+/// its end only that is said, and what is no line at all: other mistakes may come of what is missing.
+pub fn said(
+    text: &[u8],
+) -> Result<impl Iterator<Item = (usize, Words<'_>)> + Clone + '_, Mistakes> {
+    match end_of(text) {
+        Ok(end) => {
+            let before = lines(text).take(end - 1);
+            let last = core::iter::once((end, Ok(Vec::new())));
+            Ok(before.map(|(at, line)| (at, words(line))).chain(last))
+        }
+        Err(mistake) => {
+            let mut mistakes = Mistakes::default();
+            for (line, bytes) in lines(text) {
+                if let Err(reason) = words(bytes) {
+                    let reason = reason.to_string();
+                    mistakes.push(Mistake { line, reason });
+                }
+            }
+            mistakes.push(mistake);
+            Err(mistakes)
+        }
+    }
+}
+
+/// The number of the line `end`, or what is wrong with the end of the text.
+fn end_of(text: &[u8]) -> Result<usize, Mistake> {
+    let is_end = |line| matches!(words(line), Ok(words) if words == [END]);
+    let wrong = |line, reason: &str| {
+        let reason = reason.to_string();
+        Err(Mistake { line, reason })
+    };
+    let mut last = 1;
+    let mut lines = lines(text);
+    while let Some((number, line)) = lines.next() {
+        last = number;
+        if is_end(line) {
+            return match lines.next() {
+                Some((more, _)) => wrong(more, MORE),
+                None if line.ends_with(b"\n") => Ok(number),
+                None => wrong(number, NO_FEED),
+            };
+        }
+    }
+    wrong(last, CUT)
+}
+
+/// The first word of what may be a text.
+pub fn first_word(bytes: &[u8]) -> Option<&str> {
+    let first = |(_, line)| match words(line) {
+        Ok(words) => words.first().map(|word| Some(*word)),
+        Err(_) => Some(None),
+    };
+    lines(bytes).find_map(first).flatten()
+}
+
+/// The lines with their ends, by their numbers.
+fn lines(text: &[u8]) -> impl Iterator<Item = (usize, &[u8])> + Clone + '_ {
     let text = text.strip_prefix("\u{feff}".as_bytes()).unwrap_or(text);
-    let text = text.strip_suffix(b"\n").unwrap_or(text);
-    (1..).zip(text.split(|&byte| byte == b'\n').map(words))
+    (1..).zip(text.split_inclusive(|&byte| byte == b'\n'))
 }
 
 fn words(line: &[u8]) -> Words<'_> {
-    let line = std::str::from_utf8(line.strip_suffix(b"\r").unwrap_or(line))
+    let line = line.strip_suffix(b"\n").unwrap_or(line);
+    let line = core::str::from_utf8(line.strip_suffix(b"\r").unwrap_or(line))
         .map_err(|_| "this is no text: there are bytes that are not UTF-8")?;
     if line.contains(|c: char| c.is_control() && c != '\t') {
         return Err("this is no text: there is a control character");
@@ -79,13 +149,16 @@ fn words(line: &[u8]) -> Words<'_> {
     }
     let before = line.split('#').next().unwrap_or_default();
     let words: Vec<&str> = before
-        .split([' ', '\t'])
+        .split(&[' ', '\t'][..])
         .flat_map(by_arrows)
         .filter(|word| !word.is_empty())
         .take(MAX_WORDS)
         .collect();
-    match words.len() {
-        MAX_WORDS => Err("there are more words on this line than a table has states"),
+    match words[..] {
+        [END, _, ..] => Err(NOT_ALONE),
+        _ if words.len() == MAX_WORDS => {
+            Err("there are more words on this line than a table has states")
+        }
         _ => Ok(words),
     }
 }
@@ -93,7 +166,7 @@ fn words(line: &[u8]) -> Words<'_> {
 /// The parts of a word before, between and behind its arrows, and these.
 fn by_arrows(word: &str) -> impl Iterator<Item = &str> {
     let mut rest = word;
-    std::iter::from_fn(move || {
+    core::iter::from_fn(move || {
         let end = match rest.find(ARROW) {
             Some(0) => ARROW.len(),
             Some(at) => at,
@@ -135,11 +208,7 @@ pub const MAX_NAME: usize = 64;
 /// The alphabet that the letters of a name are of; none where it is no name.
 pub fn alphabet(name: &str) -> Option<&'static str> {
     let first = name.chars().next().and_then(alphabet_of)?;
-    let fits = |c: char| {
-        c.is_ascii_digit()
-            || "-_.".contains(c)
-            || alphabet_of(c).is_some_and(|other| other == first)
-    };
+    let fits = |c: char| c.is_ascii_digit() || "-_.".contains(c) || alphabet_of(c) == Some(first);
     (name.chars().all(fits) && name.chars().count() <= MAX_NAME).then_some(first)
 }
 

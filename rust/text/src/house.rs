@@ -4,14 +4,18 @@
 //! window monday 22:00 for 6h     # each week; it may run into the next day, and over the week's end
 //! window saturday 00:00 for 1d12h30m
 //! closed 2026-12-25              # all day
+//! end
 //! ```
 //!
-//! At least one window must be said, or `window none`: a text that was cut or emptied is found.
+//! At least one window must be said, or `window none`: a text that was emptied is found.
 
 use crate::calendar;
-use crate::lines::{Mistake, Mistakes, number, quoted, said};
-use shuntberry::{MAX_DAYS, MAX_WINDOWS, Window};
-use std::collections::HashMap;
+use crate::lines::{number, quoted, said, Mistake, Mistakes};
+use crate::{MAX_DAYS, MAX_WINDOWS};
+use alloc::collections::BTreeMap;
+use alloc::format;
+use alloc::string::{String, ToString};
+use alloc::vec::Vec;
 
 /// From Saturday on, as the weeks of the library are.
 const WEEKDAYS: [&str; 7] = [
@@ -27,6 +31,15 @@ const WEEKDAYS: [&str; 7] = [
 const DAY: usize = 1_440;
 const WEEK: usize = 7 * DAY;
 
+/// A window of every week.
+#[derive(Clone, Copy, Debug, PartialEq, Eq)]
+pub struct Window {
+    /// Its first minute, from the beginning of Saturday on.
+    pub start: usize,
+    /// Its minutes, a week's at most.
+    pub length: usize,
+}
+
 /// What a text says.
 #[derive(Debug, Default)]
 pub struct House {
@@ -39,7 +52,7 @@ pub struct House {
 /// What a text says, or its mistakes.
 pub fn parse(text: &[u8]) -> Result<House, Mistakes> {
     let mut reader = Reader::default();
-    for (number, words) in said(text) {
+    for (number, words) in said(text)? {
         reader.at = number;
         let done = words
             .map_err(str::to_string)
@@ -77,7 +90,7 @@ struct Reader {
     /// The first line about windows, and whether it says none.
     first: Option<(usize, bool)>,
     /// What was said, and on which line.
-    lines: HashMap<(usize, usize), usize>,
+    lines: BTreeMap<(usize, usize), usize>,
 }
 
 impl Reader {
@@ -110,8 +123,9 @@ impl Reader {
     /// `window WEEKDAY HH:MM for LENGTH`
     fn window(&mut self, words: &[&str]) -> Result<(), String> {
         self.first(false)?;
-        let &[day, time, "for", length] = words else {
-            return Err("a window is written window WEEKDAY HH:MM for LENGTH, as window monday 22:00 for 6h".to_string());
+        let (day, time, length) = match *words {
+            [day, time, "for", length] => (day, time, length),
+            _ => return Err("a window is written window WEEKDAY HH:MM for LENGTH, as window monday 22:00 for 6h".to_string()),
         };
         let day = WEEKDAYS
             .iter()
@@ -135,16 +149,17 @@ impl Reader {
             })?;
         let start = day * DAY + time;
         self.once((start, length), MAX_WINDOWS, self.house.windows.len())?;
-        self.house
-            .windows
-            .push(Window::new(start as u64, length as u64));
+        self.house.windows.push(Window { start, length });
         Ok(())
     }
 
     /// `closed DATE`
     fn closed(&mut self, words: &[&str]) -> Result<(), String> {
-        let &[word] = words else {
-            return Err("a closed day is written closed DATE, as closed 2026-12-25".to_string());
+        let word = match *words {
+            [word] => word,
+            _ => {
+                return Err("a closed day is written closed DATE, as closed 2026-12-25".to_string())
+            }
         };
         let day = day_of(word).ok_or_else(|| {
             format!(
@@ -214,7 +229,7 @@ pub struct Moment(usize);
 impl Moment {
     /// `2026-12-24T13:05`, or with a space.
     pub fn of(word: &str) -> Option<Moment> {
-        let (date, time) = word.split_once(['T', ' '])?;
+        let (date, time) = word.split_once(&['T', ' '][..])?;
         Some(Moment(day_of(date)? * DAY + minute_of_day(time)?))
     }
 

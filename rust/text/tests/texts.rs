@@ -1,0 +1,623 @@
+//! A text may be written in many ways; each mistake has its line and its reason; no text that was cut is one.
+
+use shuntberry_text::house;
+use shuntberry_text::lines::{said, Mistake, Mistakes, Names, MAX_NAME, SHOWN_MISTAKES};
+use shuntberry_text::table::{listing, parse, parse_with_possible, print, Set, Table};
+use shuntberry_text::{MAX_GROUPS, MAX_STATES};
+use std::fs;
+
+/// The texts of `tests/files` are worked out by Python, in the one form that is printed.
+#[test]
+fn texts_of_files() {
+    let mut count = 0;
+    for entry in fs::read_dir("../../tests/files").unwrap() {
+        let path = entry.unwrap().path();
+        if path.extension().map_or(false, |kind| kind == "txt") {
+            let text = fs::read_to_string(&path).unwrap();
+            let parsed = parse(text.as_bytes()).unwrap();
+            assert_eq!(
+                print(&parsed.table, &parsed.names),
+                text,
+                "{}",
+                path.display()
+            );
+            count += 1;
+        }
+    }
+    assert!(count >= 30, "only {count} texts in tests/files");
+}
+
+/// Names, comments, order, spaces, line ends: the same table.
+#[test]
+fn ways_to_write_it() {
+    let plain = "states 4\ninitial 0\nforbidden 2 3\nresting none\ngroup 0 1\ngroup none\nstep 0 -> 1 2\nstep 1 -> 0\nend\n";
+    let table = parse(plain.as_bytes()).unwrap().table;
+    assert_eq!(print(&table, &Names::new()), plain);
+    for same in [
+        "# a comment\n\nstates 4 # and one more\n\tinitial   0\nforbidden 3 2\ngroup 1 0\ngroup none\nstep 0->2 1\nstep 1->0\n  end\t# of it\n",
+        "step 0 -> 2\nstep 1 -> 0\nstep 0 -> 1\ngroup 0 1\nforbidden 3\ngroup none\nforbidden 2\nresting none\ninitial 00\nstates 4\nend\n",
+        "step home -> menu Über.1\nstate 0 home\ninitial home\nforbidden Über.1 3\nstate 2 Über.1\nstep 1 -> home\nstates 4\nstate 1 menu\ngroup menu 0\ngroup none\n# end\nend\n",
+        "\u{feff}states 4\r\ninitial 0\r\nforbidden 2 3\r\ngroup 0 1\r\ngroup none\r\nstep 0 -> 1 2\r\nstep 1 -> 0\r\nend\r\n",
+    ] {
+        assert_eq!(parse(same.as_bytes()).unwrap().table, table, "{same}");
+    }
+    let named = parse(b"states 2\nstate 1 end-1\ninitial none\nforbidden none\nend\n").unwrap();
+    assert_eq!(
+        named.names.into_iter().collect::<Vec<_>>(),
+        [(1, "end-1".to_string())]
+    );
+    assert_eq!(parse(b"states 0\nend\n").unwrap().table, Table::default());
+    assert_eq!(
+        parse(b"initial none\nforbidden none\nstates 0\nresting none\nend\n")
+            .unwrap()
+            .table,
+        Table::default()
+    );
+}
+
+/// Lines with what must be said of them.
+type Said = [(usize, &'static str)];
+
+/// A text with a mistake on each line but the first three; what is said of a line is typed here from what a reader should be told.
+#[test]
+fn mistakes() {
+    let head = "states 5\ninitial 0\nforbidden none\n";
+    let cases: &[(&str, &Said)] = &[
+        ("initail 1", &[(4, "not with 'initail'")]),
+        ("0 -> 1", &[(4, "not with '0'")]),
+        ("INITIAL 1", &[(4, "not with 'INITIAL'")]),
+        ("states 5", &[(4, "stands on line 1 already")]),
+        (
+            "initial 1 5",
+            &[(4, "no state 5: with states 5 they are 0 to 4")],
+        ),
+        ("initial 1 1", &[(4, "state 1 stands on this line already")]),
+        (
+            "initial 1\ninitial 2 1 0",
+            &[
+                (5, "state 1 is initial by line 4 already"),
+                (5, "state 0 is initial by line 2 already"),
+            ],
+        ),
+        ("initial none", &[(4, "line 2 is one")]),
+        (
+            "forbidden 1",
+            &[(
+                4,
+                "forbidden none goes with no other line of forbidden, and line 3 is one",
+            )],
+        ),
+        ("resting 1 none", &[(4, "none stands alone")]),
+        ("resting", &[(4, "an empty one is written resting none")]),
+        ("group", &[(4, "an empty one is written group none")]),
+        ("group 1 2 1", &[(4, "state 1 stands on this line already")]),
+        (
+            "group -1",
+            &[(4, "'-1' is no number, and no line gives a state this name")],
+        ),
+        ("group 1,2", &[(4, "'1,2' is no number")]),
+        ("group 1.5", &[(4, "'1.5' is no number")]),
+        (
+            "group 99999999999999999999999",
+            &[(4, "no state 99999999999999999999999")],
+        ),
+        ("step 1", &[(4, "a step is written")]),
+        ("step 1 2", &[(4, "a step is written")]),
+        ("step 1 ->", &[(4, "a step is written")]),
+        ("step -> 1", &[(4, "a step is written")]),
+        ("step 1 2 -> 3", &[(4, "with one state before the arrow")]),
+        ("step 1 -> 2 -> 3", &[(4, "a step is written")]),
+        ("step 1 => 2", &[(4, "a step is written")]),
+        ("step 5 -> 6", &[(4, "no state 5"), (4, "no state 6")]),
+        ("step 1 -> none", &[(4, "none stands alone")]),
+        (
+            "step 1 -> 2 3\nstep 2 -> 1\nstep 1 -> 3",
+            &[(6, "the step 1 -> 3 stands on line 4 already")],
+        ),
+        ("state 1 none", &[(4, "'none' is no name")]),
+        ("state 1 end", &[(4, "'end' is no name")]),
+        ("state 1 a-name-/", &[(4, "is neither none nor end")]),
+        (
+            "resting end",
+            &[(4, "'end' is no number, and no line gives")],
+        ),
+        ("end 1", &[(4, "'end' stands alone, on the last line")]),
+        ("End", &[(4, "not with 'End'")]),
+        ("state 1 2nd", &[(4, "'2nd' is no name")]),
+        ("state 1 a/b", &[(4, "'a/b' is no name")]),
+        ("state 1 hard limit", &[(4, "a name of one word")]),
+        ("state 1", &[(4, "state N NAME")]),
+        ("state one first", &[(4, "'one' is no number")]),
+        ("state 5 late", &[(4, "no state 5")]),
+        (
+            "state 1 a\nstate 2 a",
+            &[(5, "state 1 has the name a, by line 4 already")],
+        ),
+        (
+            "state 1 a\nstate 1 b",
+            &[(5, "state 1 has the name a, by line 4 already")],
+        ),
+        (
+            "state 1 a\ngroup b",
+            &[(5, "'b' is no number, and no line gives a state this name")],
+        ),
+        (
+            "state 1 a\ngroup a 1",
+            &[(5, "state 1 stands on this line already")],
+        ),
+        ("group \u{1}", &[(4, "control character")]),
+        (
+            "initial 9\nstate 5 late\nstates 5\nup",
+            &[
+                (4, "no state 9"),
+                (5, "no state 5"),
+                (6, "stands on line 1 already"),
+                (7, "not with 'up'"),
+            ],
+        ),
+        (
+            "resting a\n\n# a comment\nresting b",
+            &[(4, "'a' is no number"), (7, "'b' is no number")],
+        ),
+    ];
+    for (tail, expected) in cases {
+        holds(format!("{head}{tail}\n").as_bytes(), expected);
+    }
+    let groups = "group 1\n".repeat(MAX_GROUPS + 1);
+    holds(
+        format!("{head}{groups}").as_bytes(),
+        &[(MAX_GROUPS + 4, "at most 64")],
+    );
+    holds(
+        format!("{head}group {}\n", "x".repeat(5000)).as_bytes(),
+        &[(
+            4,
+            "'xxxxxxxxxxxxxxxxxxxxxxxxxxxxxxxxxxxxxxxx..' is no number",
+        )],
+    );
+}
+
+/// What a text must not leave out: without it the table would be safe, or none.
+#[test]
+fn missing_facts() {
+    let (states, initial, forbidden) = (
+        "how many states there are",
+        "which states are initial",
+        "which states are forbidden",
+    );
+    let cases: &[(&[u8], &Said)] = &[
+        (b"", &[(1, states), (1, initial), (1, forbidden)]),
+        (b"\n", &[(2, states), (2, initial), (2, forbidden)]),
+        (b"states 3\nstep 0 -> 1\n", &[(3, initial), (3, forbidden)]),
+        (b"states 3\ninitial 0\n", &[(3, forbidden)]),
+        (b"states 3\nforbidden 1\n\n\n", &[(5, initial)]),
+        (
+            b"initial 0\nforbidden 700\n",
+            &[(2, "no state 700: a table has at most 512"), (3, states)],
+        ),
+        (
+            b"states\ninitial 0\nforbidden 1\n",
+            &[(1, "states N, with one number")],
+        ),
+        (
+            b"states 3 4\ninitial 0\nforbidden 1\n",
+            &[(1, "states N, with one number")],
+        ),
+        (
+            b"states three\ninitial 0\nforbidden 1\n",
+            &[(1, "'three' is no number of states")],
+        ),
+        (
+            b"states 513\ninitial 0\nforbidden 1\n",
+            &[(1, "513 states are too many: a table has at most 512")],
+        ),
+        (
+            b"states 0\ninitial 0\n",
+            &[(2, "no state 0: with states 0 there is none")],
+        ),
+        (
+            b"states 0\ngroup none\n",
+            &[(2, "a table without states has no groups")],
+        ),
+        (
+            b"states 1\ninitial 1\nforbidden none\n",
+            &[(2, "with states 1 there is 0 alone")],
+        ),
+        (
+            b"states 1\ninitial \xff\nforbidden none\n",
+            &[(2, "not UTF-8"), (4, initial)],
+        ),
+    ];
+    for (text, expected) in cases {
+        holds(text, expected);
+    }
+}
+
+/// A text is what it looks like: what a reader cannot see, or what moves other letters, is refused, also in a comment.
+#[test]
+fn hidden_characters() {
+    let hidden = [
+        '\u{a0}',
+        '\u{ad}',
+        '\u{34f}',
+        '\u{61c}',
+        '\u{115f}',
+        '\u{1680}',
+        '\u{180e}',
+        '\u{2003}',
+        '\u{200b}',
+        '\u{200d}',
+        '\u{200e}',
+        '\u{2028}',
+        '\u{2029}',
+        '\u{202a}',
+        '\u{202e}',
+        '\u{202f}',
+        '\u{2060}',
+        '\u{2066}',
+        '\u{2069}',
+        '\u{2800}',
+        '\u{3000}',
+        '\u{3164}',
+        '\u{fe0f}',
+        '\u{feff}',
+        '\u{ffa0}',
+        '\u{e0001}',
+        '\u{e0041}',
+    ];
+    for c in hidden {
+        for place in ["# a", "group 1 # why", "group 1"] {
+            let (front, back) = place.split_at(place.len() - 1);
+            let said = format!("states 5\ninitial 0\nforbidden none\n{front}{c}{back}\n");
+            holds(said.as_bytes(), &[(4, "cannot be seen")]);
+        }
+    }
+    for c in ['\u{1}', '\u{1b}', '\u{7f}', '\u{85}', '\r'] {
+        let said = format!("states 5\ninitial 0\nforbidden none\n# a{c}b\n");
+        holds(said.as_bytes(), &[(4, "control character")]);
+    }
+    // What can be seen may stand in a comment, in every writing.
+    let said = "states 5\ninitial 0\nforbidden none\n# é ж λ 文 ✓ → \u{301}\nend\n";
+    assert!(parse(said.as_bytes()).is_ok());
+}
+
+/// The letters of names are of one alphabet.
+#[test]
+fn alphabets() {
+    let head = "states 5\ninitial 0\nforbidden none\n";
+    for good in [
+        "state 1 Größe-2\nstate 2 señal_x\nstate 3 Ɏ",
+        "state 1 όριο\nstate 2 Αρχή.2",
+        "state 1 предел\nstate 2 Ёлка-1",
+    ] {
+        assert!(
+            parse(format!("{head}{good}\nend\n").as_bytes()).is_ok(),
+            "{good}"
+        );
+    }
+    for bad in [
+        "state 1 \u{430}b",
+        "state 1 a\u{3bf}",
+        "state 1 文",
+        "state 1 a\u{660}",
+        "state 1 \u{2167}",
+        "state 1 ×",
+        "state 1 µ",
+        "state 1 ʹ",
+        "state 1 \u{250}",
+        "state 1 ａ",
+        "state 1 e\u{301}",
+        "state 1 _a",
+        "state 1 ϣ",
+    ] {
+        holds(format!("{head}{bad}\n").as_bytes(), &[(4, "is no name")]);
+    }
+    holds(
+        format!("{head}state 1 limit\nstate 2 лимит\nstate 3 όριο\n").as_bytes(),
+        &[
+            (5, "has Cyrillic letters, and line 4 a name of Latin ones"),
+            (6, "has Greek letters, and line 4 a name of Latin ones"),
+        ],
+    );
+    let long = "x".repeat(MAX_NAME);
+    assert!(parse(format!("{head}state 1 {long}\nend\n").as_bytes()).is_ok());
+    holds(
+        format!("{head}state 1 {long}x\n").as_bytes(),
+        &[(4, "64 characters at most")],
+    );
+}
+
+/// Steps that are only possible: for the command options alone.
+#[test]
+fn possible_steps() {
+    let text = "states 3\ninitial 0\nforbidden 2\nstep 0 -> 0\npossible 0 -> 1 2\npossible 1->2\n";
+    let parsed = parse_with_possible(&ended(text.as_bytes())).unwrap();
+    assert!(parsed.possible.into_iter().eq([(0, 1), (0, 2), (1, 2)]));
+    assert_eq!(listing(&parsed.table.rows[0]), "0");
+    holds(
+        text.as_bytes(),
+        &[(5, "the command options"), (6, "the command options")],
+    );
+    for (line, reason) in [
+        ("possible 0 -> 0", "stands on line 4 already"),
+        (
+            "possible 0 -> 1\npossible 0 -> 1",
+            "stands on line 5 already",
+        ),
+        ("possible 0 -> 1\nstep 0 -> 1", "stands on line 5 already"),
+        (
+            "possible 0 1",
+            "a step is written possible STATE -> STATE..",
+        ),
+        ("possible 0 -> 3", "no state 3"),
+    ] {
+        let text = format!("states 3\ninitial 0\nforbidden 2\nstep 0 -> 0\n{line}\n");
+        let mistakes = parse_with_possible(&ended(text.as_bytes())).unwrap_err();
+        assert_eq!(mistakes.count, 1, "{mistakes:?}");
+        assert!(mistakes.first()[0].reason.contains(reason), "{mistakes:?}");
+    }
+}
+
+/// Texts of any length take little time and room: the first mistakes are kept, in the order of their lines, and the others counted.
+#[test]
+fn long_texts() {
+    let bad = "x\n".repeat(1_000_000);
+    let mistakes = parse(&ended(bad.as_bytes())).unwrap_err();
+    assert_eq!(mistakes.count, 1_000_003);
+    assert_eq!(mistakes.first().len(), SHOWN_MISTAKES);
+    assert!(mistakes
+        .first()
+        .iter()
+        .map(|mistake| mistake.line)
+        .eq(1..=SHOWN_MISTAKES));
+    // The mistakes of a later look at the text stand before those of an earlier one.
+    let late = format!("group x\n{}", "states 1\n".repeat(200));
+    let mistakes = parse(&ended(late.as_bytes())).unwrap_err();
+    assert_eq!((mistakes.count, mistakes.first()[0].line), (202, 1));
+    let numbers: String = (0..400_000).map(|i| format!(" {i}")).collect();
+    holds(
+        format!("initial{numbers}\nforbidden none\n").as_bytes(),
+        &[
+            (1, "more words"),
+            (3, "how many states"),
+            (3, "which states are initial"),
+        ],
+    );
+    // As many words as a line can have.
+    let all: String = (0..MAX_STATES).map(|s| format!(" {s}")).collect();
+    let text = format!("states {MAX_STATES}\ninitial none\nforbidden none\nstep 0 ->{all}\n");
+    assert!(parse(&ended(text.as_bytes())).is_ok());
+    holds(
+        format!("states {MAX_STATES}\ninitial none\nforbidden none\nstep 0 ->{all} 0\n").as_bytes(),
+        &[(4, "more words")],
+    );
+}
+
+/// A text that was cut says so, and what to add; behind its end there is nothing.
+#[test]
+fn ends() {
+    let whole = "states 2\ninitial 0\nforbidden 1\nend\n";
+    assert!(parse(whole.as_bytes()).is_ok());
+    let (cut, add) = ("the text may be cut", "if nothing is missing, add");
+    for (text, line) in [
+        ("states 2\ninitial 0\nforbidden 1\n", 3),
+        ("states 2\ninitial 0\nforbidden 1", 3),
+        ("states 2\ninitial 0\nforbidden 1\n\n", 4),
+        ("states 2\ninitial 0\nforbidden 1\n# end\n", 4),
+        ("states 2\ninitial 0\nforbidden 1 # end\n", 3),
+        ("states 2\ninitial 0\nforbidden 1\nend", 4),
+        ("states 2\ninitial 0\nforbidden 1\r\nend\r", 4),
+        ("states 2\ninitial 0\nforbidden 1\nend # of", 4),
+    ] {
+        mistaken(text.as_bytes(), &[(line, cut)]);
+        mistaken(text.as_bytes(), &[(line, add)]);
+    }
+    mistaken(
+        b"states 2\ninitial 0\nforbidden 1\nend of it\n",
+        &[(4, "'end' stands alone"), (4, cut)],
+    );
+    mistaken(b"", &[(1, cut)]);
+    // What comes of a cut is not said; what is no text at all, is.
+    mistaken(b"states 2\ninitial home\nstate 0 ho", &[(3, cut)]);
+    mistaken(
+        b"states 2\n\xff\0\nend\nend\n",
+        &[(2, "not UTF-8"), (4, "goes on behind its 'end'")],
+    );
+    for behind in [
+        "\n",
+        "\r\n",
+        " ",
+        "\t",
+        "#",
+        "# a comment\n",
+        "end\n",
+        "end",
+        whole,
+    ] {
+        mistaken(
+            format!("{whole}{behind}").as_bytes(),
+            &[(5, "goes on behind its 'end'")],
+        );
+    }
+}
+
+/// The texts that the tests of cuts are about, by who reads them.
+enum Kind {
+    Table,
+    House,
+    Log,
+}
+
+impl Kind {
+    fn parse(&self, text: &[u8]) -> Result<(), Mistakes> {
+        match self {
+            Kind::Table => parse(text).map(|_| ()),
+            Kind::House => house::parse(text).map(|_| ()),
+            Kind::Log => logged(text),
+        }
+    }
+}
+
+/// A log is any words.
+fn logged(text: &[u8]) -> Result<(), Mistakes> {
+    let mut mistakes = Mistakes::default();
+    for (line, words) in said(text)? {
+        if let Err(reason) = words {
+            let reason = reason.to_string();
+            mistakes.push(Mistake { line, reason });
+        }
+    }
+    match mistakes.is_empty() {
+        true => Ok(()),
+        false => Err(mistakes),
+    }
+}
+
+/// Numbers by xorshift: any text may come of them.
+struct Numbers(u64);
+
+impl Numbers {
+    fn below(&mut self, limit: usize) -> usize {
+        self.0 ^= self.0 << 13;
+        self.0 ^= self.0 >> 7;
+        self.0 ^= self.0 << 17;
+        (self.0 % limit as u64) as usize
+    }
+
+    /// Some of the first states.
+    fn set(&mut self, n: usize) -> Set {
+        let mut set = Set::default();
+        set[0] = self.below(1 << n) as u64;
+        set
+    }
+
+    fn one_of<T: Copy>(&mut self, all: &[T]) -> T {
+        all[self.below(all.len())]
+    }
+
+    /// A table as `decode` prints it, with names.
+    fn table_text(&mut self) -> String {
+        let n = self.below(14);
+        let mut table = Table::default();
+        if n > 0 {
+            table.initial = self.set(n);
+            table.marked = self.set(n);
+            table.resting = self.set(n);
+            table.groups = (0..self.below(3)).map(|_| self.set(n)).collect();
+            table.rows = (0..n).map(|_| self.set(n)).collect();
+        }
+        let endings = ["end-", "the-end", "bend", "e"];
+        let names = (0..n)
+            .filter(|state| state % 3 == 1)
+            .map(|state| (state, format!("{}{state}", self.one_of(&endings))))
+            .collect();
+        print(&table, &names)
+    }
+
+    fn house_text(&mut self) -> String {
+        let mut lines = vec!["window none".to_string()];
+        let windows = self.below(4);
+        if windows > 0 {
+            lines = (1..=windows)
+                .map(|k| format!("window friday {:02}:30 for {k}h", self.below(24)))
+                .collect();
+        }
+        for day in 0..self.below(5) {
+            lines.push(format!("closed 2026-1{}-0{}", self.below(3), day + 1));
+        }
+        lines.push("end\n".to_string());
+        lines.join("\n")
+    }
+
+    fn log_text(&mut self) -> String {
+        let mut text = String::new();
+        for _ in 0..self.below(40) {
+            let words = ["0", "12", "home", "end-1", "bend"];
+            text += self.one_of(&words);
+            text += self.one_of(&[" ", "\n", "\n\n"]);
+        }
+        text + "\nend\n"
+    }
+
+    /// The same text in another dress.
+    fn dressed(&mut self, text: &str) -> String {
+        match self.below(5) {
+            0 => text.replace('\n', "\r\n"),
+            1 => format!("\u{feff}# end\n{text}"),
+            2 => text.replace('\n', " # größer: end\n"),
+            3 => text
+                .replace('\n', "\n# end\n\n")
+                .replace("end\n# end\n\n", "end\n"),
+            _ => text.to_string(),
+        }
+    }
+}
+
+/// 200 texts of tables, houses and logs: each is read, and none of what is left where it is cut, wherever that is.
+#[test]
+fn cuts() {
+    let mut numbers = Numbers(0x2545_f491_4f6c_dd1d);
+    let mut cuts = 0;
+    for i in 0..200 {
+        let (kind, plain) = match i % 5 {
+            0..=2 => (Kind::Table, numbers.table_text()),
+            3 => (Kind::House, numbers.house_text()),
+            _ => (Kind::Log, numbers.log_text()),
+        };
+        let text = numbers.dressed(&plain).into_bytes();
+        let shown = String::from_utf8_lossy(&text);
+        if let Err(mistakes) = kind.parse(&text) {
+            panic!("{mistakes:?} in {shown}");
+        }
+        for length in 0..text.len() {
+            let left = &text[..length];
+            let mistakes = match kind.parse(left) {
+                Ok(()) => panic!("{length} bytes are enough of {shown}"),
+                Err(mistakes) => mistakes,
+            };
+            let says_so = |mistake: &Mistake| mistake.reason.contains("may be cut");
+            assert!(
+                mistakes.first().iter().any(says_so) && mistakes.count <= 2,
+                "{mistakes:?} at {length} of {shown}"
+            );
+            cuts += 1;
+        }
+    }
+    assert!(cuts > 20_000, "only {cuts} cuts");
+}
+
+/// The text of which the last two bytes once made another table, and a safe one.
+#[test]
+fn the_cut_that_was_safe() {
+    let resting: String = (1..13).map(|state| format!(" {state}")).collect();
+    let text = format!("states 13\ninitial 0\nstep 0 -> 12\nresting{resting}\nforbidden 12\n");
+    assert!(parse(&ended(text.as_bytes())).is_ok());
+    for length in [text.len(), text.len() - 1, text.len() - 2] {
+        mistaken(&text.as_bytes()[..length], &[(5, "the text may be cut")]);
+    }
+}
+
+/// A text with its last line.
+fn ended(text: &[u8]) -> Vec<u8> {
+    [text, b"end\n"].concat()
+}
+
+/// The mistakes of a text, which has its end behind it, are these and no others, in the order of their lines.
+fn holds(text: &[u8], expected: &Said) {
+    mistaken(&ended(text), expected);
+}
+
+fn mistaken(text: &[u8], expected: &Said) {
+    let shown = String::from_utf8_lossy(text);
+    let mistakes = parse(text)
+        .err()
+        .unwrap_or_else(|| panic!("no mistake in {shown}"));
+    assert_eq!(mistakes.count, expected.len(), "{mistakes:?} in {shown}");
+    for (mistake, (line, reason)) in mistakes.first().iter().zip(expected) {
+        assert_eq!(mistake.line, *line, "{mistakes:?} in {shown}");
+        assert!(
+            mistake.reason.contains(reason),
+            "{mistakes:?} in {shown}, not {reason}"
+        );
+    }
+}
