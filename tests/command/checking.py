@@ -365,8 +365,15 @@ file.write_bytes(model.at_site(a.read_bytes(), 5))
 gives(SAFE, (TABLES / "a.expected").read_text() + sum_line(file), "release", "--site", "5", file, out)
 need(sum_line(out).split()[1] == subprocess.run(["sha256sum", out], capture_output=True, text=True).stdout.split()[0], "sha256sum says something else")
 need(out.read_bytes() == file.read_bytes(), "release of another site")
-for target in WORK, "/dev/null", WORK / "missing/x", "", WORK / ("x" * 256), a / "x":
-    given = gives(FAILED, (TABLES / "a.expected").read_text(), "release", a, target, err="could not be written")
+# what cannot be OUT is found before anything is printed
+for target, why in (WORK, "it is no file"), ("/dev/null", "it is no file"), (WORK / "missing/x", "No such file"), ("", "No such file"), (WORK / ("x" * 256), "name too long"), (a / "x", "Not a directory"), (
+    f"{WORK}/", "ends with a slash"), (f"{WORK}/free/", "ends with a slash"), (f"{out}/", "Not a directory"), ("/", "ends with a slash"), (f"{WORK}/free/.", "it is no file"), (
+    f"{WORK}/free/..", "it is no file"), (f"{WORK}/.", "it is no file"), ("..", "it is no file"):
+    for words in ("release", a, target), ("report", a, "-o", target):
+        gives(FAILED, "", *words, err=f"could not be written: .*{why}")
+    if target != "/dev/null":
+        gives(FAILED, None, "encode", "-o", target, TABLES / "a.txt", err=f"could not be written: .*{why}")
+need(not (WORK / "free").exists(), "a file under the name of a folder")
 os.mkfifo(WORK / "fifo")
 gives(FAILED, None, "release", a, WORK / "fifo", err="it is no file")
 for words in (), (a,), (a, out, out), ("--json", a, out), ("--text", a, out):

@@ -37,6 +37,7 @@ fn run(call: &Call) -> Done {
         return Err(Failure::Wrong("expected FILE OUT".to_string()));
     };
     need_apart(to)?;
+    need_place(to)?;
     let file = Input::named(from).take(FILE_BYTES + 1)?;
     let answer = Answer::of(&file, site)?;
     print(answer.text.as_bytes())?;
@@ -76,7 +77,6 @@ fn run(call: &Call) -> Done {
             shown(from)
         ));
     }
-    need_place(to)?;
     // Of the bytes that were checked, so that it is true also where they do not get their name; behind that nothing may fail.
     let sum = format!("SHA-256 {}\n", sha256(&file));
     replace_after(to, &file, || print(sum.as_bytes()))?;

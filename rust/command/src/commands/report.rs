@@ -49,6 +49,7 @@ fn run(call: &Call) -> Done {
             "no place for the record is given: expected -o OUT, as -o record.html".to_string(),
         ));
     };
+    need_place(to)?;
     let date = date()?;
     let source = Source::of(call, Some(from))?;
     let answer = Answer::of(&source.file, source.site)?;
@@ -76,7 +77,6 @@ fn run(call: &Call) -> Done {
         version: version_line("shuntberry"),
         proved: proved(),
     };
-    need_place(to)?;
     replace(to, record.page().as_bytes())?;
     Ok(answer.status())
 }
