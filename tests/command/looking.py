@@ -2,6 +2,7 @@
 """inspect, within, replay, options and next-open: on every file of tests/files, and on random tables, logs and houses, held to model.py."""
 import json
 import random
+import resource
 from datetime import date, datetime, timedelta
 
 import support
@@ -183,6 +184,25 @@ for length, number in (32768, None), (32769, 25), (32770, 26), (40001, 25):
 log.write_text("0 nowhere\n-1\n")
 given = gives(REFUSED, "", "replay", "--text-log", E, log, err="2 of its words are no screens")
 need(f"{log}:1: 'nowhere'".encode() in given.err and f"{log}:2: '-1'".encode() in given.err, given)
+# a text of more entries than a log may have is refused as the log is, and costs no more than its bytes, whatever else is in it
+def little():
+    resource.setrlimit(resource.RLIMIT_AS, (96 << 20, 96 << 20))
+
+
+many, MOST = 16384, 16 << 20
+names = WORK / "many.txt"
+names.write_text("states 512\ninitial 0\nforbidden none\nstep 511 -> 0\n" + "".join(f"state {s} s{s}\n" for s in range(512)))
+log.write_text("0\n" * many)
+gives(SAFE, None, "replay", "--text-log", E, log).out.index(b"entries 16384 ")
+for words in "0\n" * (many + 1), "0 " * 515 + "\n" + "0\n" * many, "0\n" * (MOST // 2), ("0 " * 500 + "\n") * (MOST // 1001), "0\n" * (many + 1) + "nowhere\n" * 100:
+    log.write_text(words)
+    gives(REFUSED, "", "replay", "--text-log", E, log, err=f"^replay: {log}: refused 26: ", preexec_fn=little)
+log.write_text("s511\n" * (MOST // 5))
+gives(REFUSED, "", "replay", "--text", "--text-log", names, log, err="refused 26", preexec_fn=little)
+log.write_text(("->" * 515 + "\n") * (MOST // 1031))
+gives(REFUSED, "", "replay", "--text-log", E, log, err="16480 of its words are no screens", preexec_fn=little)
+log.write_text("0\n" * (MOST // 2) + "0")
+gives(FAILED, "", "replay", "--text-log", E, log, err="longer than 16777216 bytes", preexec_fn=little)
 for words in (), (E,), (E, log, log):
     gives(FAILED, "", "replay", *words, err="usage: shuntberry replay")
 gives(FAILED, "", "replay", E, WORK / "missing", err="No such file")
