@@ -32,7 +32,11 @@ def vacuous(path):
     if not table or not table.n or table.initial and table.forbidden():
         return None
     why = "nothing in the table is forbidden" if table.initial else "the table has no initial state"
-    return f"{why}, so that it is safe whatever else is in it; release declines such a table\n"
+    return f"{why}, so that it is safe whatever else is in it"
+
+
+def remark(why):
+    return f"{why}; release declines such a table\n"
 
 
 # ---- check, on every file
@@ -72,11 +76,14 @@ group("check on damaged files and no input")
 
 # ---- its options
 
-def object_of(expected):
+def object_of(expected, why=None):
+    """The object of a text, and of why it says little that the table is safe."""
     words = expected.split()
     if words[0] == "refused":
         return {"verdict": "refused", "refusal": int(words[1]), "ground": RULES[words[1]].split("|")[0]}
     found = {"verdict": words[4] if int(words[1]) else "draft", "states": int(words[1]), "groups": int(words[3]), "refinements": int(words[6])}
+    if found["verdict"] == "safe":
+        found |= {"vacuous": True, "why": why} if why else {"vacuous": False}
     if words[4] == "safe":
         found["invariant"] = sorted(model.numbers(words[9:]))
     elif words[4] == "unsafe":
@@ -86,8 +93,10 @@ def object_of(expected):
 
 for path, expected in tables():
     status = status_of(expected)
-    given = gives(status, None, "check", "--json", path, err=said_of(status))
-    need(given.out.count(b"\n") == 1 and json.loads(given.out) == object_of(expected), "other JSON", given)
+    why = vacuous(path)
+    given = gives(status, None, "check", "--json", path, err=why or said_of(status))
+    need(given.out.count(b"\n") == 1 and json.loads(given.out) == object_of(expected, why), "other JSON", given)
+    need(not why or given.err.decode() == f"check: {remark(why)}", given)
     if status == REFUSED:
         number = expected.split()[1]
         ground, hint = RULES[number].split("|")
@@ -95,13 +104,13 @@ for path, expected in tables():
         old = "check: this file is of the old form, and the command rewrite makes a new one of it\n" if number == "15" and path.read_bytes()[5] < 128 else ""
         need(given.err.decode() == f"check: refused {number}: {ground}\ncheck: look whether {hint}\n{old}", "other words", given)
     else:
-        why = vacuous(path) if status == SAFE else None
         given = gives(status, expected, "check", "--explain", path, err=why or said_of(status))
-        need(not why or given.err.decode() == f"check: {why}", given)
+        need(not why or given.err.decode() == f"check: {remark(why)}", given)
         text = path.with_suffix(".txt")
         gives(status, expected, "check", "--text", text, err=said_of(status))
         gives(status, expected, "check", "--names", text, path, err=said_of(status))
         given = gives(REFUSED, None, "check", "--explain", text, err="looks like a text: --text")
+need({vacuous(path) for path, _ in tables()} > {None} and len({vacuous(path) for path, _ in tables()}) == 3, "no table is vacuous, or not for both reasons")
 subprocess.run(["python3", "-m", "json.tool"], input=call("check", "--json", TABLES / "b.table").out, check=True, stdout=subprocess.DEVNULL)
 
 for path, expected in ACCEPTED:
@@ -222,12 +231,13 @@ def checks(*names, how=(), err=None):
     statuses = list(map(status_of, texts))
     paths = [f"{TABLES}/{name}.table" for name in names]
     lines = "".join(map(line_of, paths, texts)) + summary(statuses)
-    said = "".join(f"check-all: {TABLES}/{name}.table: {vacuous(TABLES / f'{name}.table')}" for name in names if vacuous(TABLES / f"{name}.table"))
+    reasons = [vacuous(TABLES / f"{name}.table") for name in names]
+    said = "".join(f"check-all: {path}: {remark(why)}" for path, why in zip(paths, reasons) if why)
     for json_too in (), ("--json",):
         given = gives(worst(statuses), None if json_too else lines, "check-all", *json_too, *how, *paths, err=err or said and "")
         need(given.err.decode() == said, "other remarks", given)
     objects = [json.loads(line) for line in given.out.splitlines()]
-    need(objects[:-1] == [{"file": path} | object_of(text) for path, text in zip(paths, texts)], given)
+    need(objects[:-1] == [{"file": path} | object_of(*found) for path, *found in zip(paths, texts, reasons)], given)
     need(objects[-1] == counted(summary(statuses)), given)
 
 

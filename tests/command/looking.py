@@ -216,9 +216,21 @@ def optional(table):
     return table.steps | more
 
 
+def vacuous(table, possible):
+    """Why it says little that a table with possible steps is safe: a state that has such steps alone is no hang."""
+    forbidden = table.marked | set(range(table.n)) - table.resting - {a for a, _ in possible}
+    if not table.n or table.initial and forbidden:
+        return None
+    why = "nothing in the table is forbidden" if table.initial else "the table has no initial state"
+    return f"{why}, so that it is safe whatever else is in it"
+
+
 def modal_said(table, possible, names):
     verdict, invariant, path = model.modal(table, possible)
     said, found = head(table) + f"{verdict}\n", {"verdict": verdict if table.n else "draft", "states": table.n, "groups": len(table.groups)}
+    why = vacuous(table, possible)
+    if found["verdict"] == "safe":
+        found |= {"vacuous": True, "why": why} if why else {"vacuous": False}
     if invariant is not None:
         said += f"invariant {len(invariant)}: {spec.listing(sorted(invariant))}\n"
         found["invariant"] = sorted(invariant)
@@ -229,32 +241,33 @@ def modal_said(table, possible, names):
     if names:
         found["names"] = {str(s): names[s] for s in states if s in names}
     status = NO_RELEASE if not table.n or verdict == "depends" else UNSAFE if verdict == "unsafe" else SAFE
-    return status, said + below(names, states), found
+    return status, said + below(names, states), found, why and f"^options: {why}; release declines such a table\n$"
 
 
-seen = set()
+seen, reasons = set(), set()
 for table, path in EVERY:
     if table.n > 100:
         continue
     for possible in table.steps, optional(table), optional(table), optional(table):
         other = WORK / "possible.table"
         other.write_bytes(spec.encode(spec.Table(table.n, table.initial, table.marked, possible, table.groups, table.resting)))
-        status, said, found = modal_said(table, possible, {})
-        gives(status, said, "options", path, "--possible", other)
-        need(json.loads(gives(status, None, "options", "--json", "--possible", other, path).out) == found, found)
+        status, said, found, err = modal_said(table, possible, {})
+        gives(status, said, "options", path, "--possible", other, err=err)
+        need(json.loads(gives(status, None, "options", "--json", "--possible", other, path, err=err).out) == found, found)
         text, names = named(table)
-        status, said, found = modal_said(table, possible, names)
-        gives(status, said, "options", path, "--names", text, f"--possible={other}")
+        status, said, found, err = modal_said(table, possible, names)
+        gives(status, said, "options", path, "--names", text, f"--possible={other}", err=err)
         with open(text, "a") as out:
             out.write("".join(f"possible {a} -> {b}\n" for a, b in possible - table.steps))
-        gives(status, said, "options", "--text", text)
+        gives(status, said, "options", "--text", text, err=err)
         seen.add(found["verdict"])
+        reasons.add(found.get("why"))
         missing = sorted(table.steps)
         if missing:
             fewer = spec.Table(table.n, table.initial, table.marked, possible - {random.choice(missing)}, table.groups, table.resting)
             other.write_bytes(spec.encode(fewer))
             gives(REFUSED, "", "options", path, "--possible", other, err="refused 28")
-need(seen - {"draft"} == {"safe", "unsafe", "depends"}, seen)
+need(seen - {"draft"} == {"safe", "unsafe", "depends"} and len(reasons) == 3, seen, reasons)
 gives(REFUSED, "", "options", TABLES / "a.table", "--possible", TABLES / "b.table", err="not the same table but for their steps")
 gives(REFUSED, "", "options", TABLES / "resting.table", "--possible", TABLES / "hang.table", err="not the same table but for their steps")
 gives(REFUSED, "", "options", E, "--possible", TABLES / "bad-check.table", err="bad-check.table: refused 13")

@@ -63,18 +63,17 @@ fn run(call: &Call) -> Done {
     let mut lines = Vec::new();
     for (done, file) in files.iter().enumerate() {
         progress.show(done, &counts, &mut lines)?;
-        let found = file.answer(site);
-        let remark = match &found {
-            Ok((_, vacuous)) => {
-                vacuous.map(|why| format!("{}: {why}; {DECLINED}", shown(file.path())))
-            }
+        let answer = file.answer(site);
+        let remark = match &answer {
+            Ok(answer) => answer
+                .vacuous
+                .map(|why| format!("{}: {why}; {DECLINED}", shown(file.path()))),
             Err(why) => Some(why.clone()),
         };
         if let Some(remark) = remark {
             progress.clear();
             say(&format!("check-all: {remark}\n"));
         }
-        let answer = found.map(|(answer, _)| answer);
         counts.count(&answer);
         lines.extend(file.line(&answer, call.has(&JSON)).into_bytes());
         if lines.len() > LINES_BYTES {
@@ -258,8 +257,8 @@ impl Entry {
         }
     }
 
-    /// What is found of the file, and why that says little, if it does; or why it failed.
-    fn answer(&self, site: usize) -> Result<(Answer, Option<&'static str>), String> {
+    /// What is found of the file, or why it failed.
+    fn answer(&self, site: usize) -> Result<Answer, String> {
         match self {
             Entry::Fails(path, why) => return Err(format!("{}: {why}", shown(path))),
             // A pipe could wait for ever; one that is named is meant.
@@ -277,9 +276,7 @@ impl Entry {
         let file = Input::named(self.path())
             .take(FILE_BYTES + 1)
             .map_err(why)?;
-        let answer = Answer::of(&file, site).map_err(why)?;
-        let vacuous = answer.vacuous(&file, site);
-        Ok((answer, vacuous))
+        Answer::of(&file, site).map_err(why)
     }
 
     fn line(&self, answer: &Result<Answer, String>, json: bool) -> String {

@@ -60,9 +60,7 @@ fn run(call: &Call) -> Done {
         nothing("the table has no states");
         return Ok(status::NO_RELEASE);
     }
-    let table = Table::read(&file, site)
-        .map_err(|refused| Failure::Refused(refused, refused.to_string()))?;
-    if let Some(why) = vacuous(&table)
+    if let Some(why) = answer.vacuous
         && !call.has(&VACUOUS)
     {
         nothing(&format!("{why} ({})", VACUOUS.name));
@@ -71,6 +69,8 @@ fn run(call: &Call) -> Done {
     if answer.status() != status::DONE {
         return Ok(status::FAILED);
     }
+    let table = Table::read(&file, site)
+        .map_err(|refused| Failure::Refused(refused, refused.to_string()))?;
     if is_unmarked(&table) {
         say(&format!(
             "release: {}: look at it: no state is marked as forbidden, only hangs are\n",
@@ -86,15 +86,4 @@ fn run(call: &Call) -> Done {
 /// Whether hangs alone are forbidden: a state that nothing reaches may be one by accident, and the forbidden ones be forgotten.
 fn is_unmarked(table: &Table) -> bool {
     table.set(Set::Marked) == StateSet::default() && !table.forbidden().is_empty()
-}
-
-/// Why it says little of a table that it is safe.
-pub fn vacuous(table: &Table) -> Option<&'static str> {
-    if table.set(Set::Initial) == StateSet::default() {
-        Some("the table has no initial state, so that it is safe whatever else is in it")
-    } else if table.forbidden().is_empty() {
-        Some("nothing in the table is forbidden, so that it is safe whatever else is in it")
-    } else {
-        None
-    }
 }

@@ -5,7 +5,6 @@ use crate::commands::about::{VERSION, version_line};
 use crate::commands::check::{Answer, Judged};
 use crate::commands::inspect::Found;
 use crate::commands::picture::say_drawing;
-use crate::commands::release::vacuous;
 use crate::drawing::{Limits, draw};
 use crate::failure::{Done, Failure};
 use crate::files::{Input, OUT, need_place, print, replace, say};
@@ -71,7 +70,7 @@ fn run(call: &Call) -> Done {
         answer: &answer,
         found: &Found::of(&table, &source.names).map_err(refused)?,
         names_from: source.names_from.clone(),
-        vacuous: vacuous(&table),
+        vacuous: answer.vacuous,
         picture: pictured(&table, &source, from)?,
         date,
         version: version_line("shuntberry"),
