@@ -320,7 +320,8 @@ wrong("has no names", "check-all", "--from", listed)
 wrong("has no names", "check-all", "--from", listed, a)
 wrong("No such file", "check-all", "--from", WORK / "missing", a)
 
-# --count: of words, folders and lists together, as the last line counts them; where it is another, no verdict is printed
+# --count: of words, folders and lists together, as the last line counts them; where it is another, no verdict
+# is printed
 listed.write_text(f"{a}\n{b}\n")
 for count, words in (1, [a]), (3, [a, b, a]), (4, [folder]), (2, ["--from", listed]), (8, [folder, a, b, "--from", listed]), (1, [nothing]), (1, [TABLES / "missing"]):
     plain = call("check-all", *words)

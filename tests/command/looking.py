@@ -184,7 +184,8 @@ for length, number in (32768, None), (32769, 25), (32770, 26), (40001, 25):
 log.write_text("0 nowhere\n-1\n")
 given = gives(REFUSED, "", "replay", "--text-log", E, log, err="2 of its words are no screens")
 need(f"{log}:1: 'nowhere'".encode() in given.err and f"{log}:2: '-1'".encode() in given.err, given)
-# a text of more entries than a log may have is refused as the log is, and costs no more than its bytes, whatever else is in it
+# a text of more entries than a log may have is refused as the log is, and costs no more than its bytes,
+# whatever else is in it
 def little():
     resource.setrlimit(resource.RLIMIT_AS, (96 << 20, 96 << 20))
 

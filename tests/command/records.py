@@ -431,7 +431,8 @@ def accepted(content, does=None):
 good = drawing(words, titles)
 page = accepted(good)
 need(accepted(good.replace("\n", "\r\n")), "other ends of lines")
-# no variable decides how large the threads are that read and write: one that is too large for the machine would end in a panic
+# no variable decides how large the threads are that read and write: one that is too large for the machine
+# would end in a panic
 drawn(good)
 for size in "1", str(2**62), str(2**64 - 1):
     need(report(B, env=FAKE_DOT | {"RUST_MIN_STACK": size}).status == UNSAFE and out.read_text() == page, f"a record with RUST_MIN_STACK={size}")

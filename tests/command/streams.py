@@ -305,7 +305,8 @@ if os.geteuid() == 0:
         need(given.returncode == SAFE and kept.stat().st_uid == 65534 and kept.read_bytes() != b"kept", given)
     os.chown(kept, 0, 0)
 if mounts:
-    # links that the kernel does not follow, of which fs.protected_symlinks is one case: no other file is written by what stands in them
+    # links that the kernel does not follow, of which fs.protected_symlinks is one case: no other file is
+    # written by what stands in them
     os.symlink("kept", place / "link")
     os.symlink(place / "link", place / "longer")
     os.symlink("free", place / "to-nothing")

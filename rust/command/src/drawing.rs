@@ -116,7 +116,8 @@ fn drawn_by(
     }
 }
 
-/// Far more than a thread that reads or writes takes. It is given, since the environment would decide else (RUST_MIN_STACK).
+/// Far more than a thread that reads or writes takes. It is given, since the environment would decide else
+/// (RUST_MIN_STACK).
 const STACK_BYTES: usize = 1 << 18;
 
 /// Does something meanwhile, and says what came of it.

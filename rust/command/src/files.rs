@@ -76,7 +76,8 @@ impl<'c> Input<'c> {
         read_whole(&mut file, most).map_err(|error| self.not_read(error))
     }
 
-    /// Not the file that is written: to put another one in its place would take away what was read, with the names that a file does not hold.
+    /// Not the file that is written: to put another one in its place would take away what was read, with the
+    /// names that a file does not hold.
     fn need_other(self, file: &File) -> Result<(), Failure> {
         let read = file.metadata().map_err(|error| self.not_read(error))?;
         let is_out = match self.out {
@@ -125,7 +126,8 @@ fn is_same(file: &Metadata, other: &Metadata) -> bool {
     file.is_file() && (file.dev(), file.ino()) == (other.dev(), other.ino())
 }
 
-/// What a name stands for, behind all links; nothing where there is nothing. Any other error stays one: the kernel may refuse to follow a link.
+/// What a name stands for, behind all links; nothing where there is nothing. Any other error stays one: the
+/// kernel may refuse to follow a link.
 fn found(path: &Path) -> io::Result<Option<Metadata>> {
     match fs::metadata(path) {
         Ok(data) => Ok(Some(data)),
@@ -304,8 +306,8 @@ impl Place {
         }
     }
 
-    /// A name that is free, in a folder that is there. A link to nothing is none: what it should lead to, a disk that is not there for one, would
-    /// stay without the file.
+    /// A name that is free, in a folder that is there. A link to nothing is none: what it should lead to, a
+    /// disk that is not there for one, would stay without the file.
     fn free(path: &Path) -> io::Result<Place> {
         match fs::symlink_metadata(path) {
             Ok(_) => return Err(io::Error::other("it is a link to nothing")),
@@ -401,8 +403,8 @@ fn keep_owner(file: &File, old: &Metadata) -> io::Result<()> {
     file.set_permissions(old.permissions())
 }
 
-/// The name of a file behind all links. It is made of what stands in the links, by which one may come where the kernel would not follow: so it must be
-/// the same file.
+/// The name of a file behind all links. It is made of what stands in the links, by which one may come where
+/// the kernel would not follow: so it must be the same file.
 fn behind_links(path: &Path, file: &Metadata) -> io::Result<PathBuf> {
     let behind = fs::canonicalize(path)?;
     match is_same(&fs::metadata(&behind)?, file) {

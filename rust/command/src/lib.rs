@@ -64,8 +64,9 @@ pub fn run(words: &[OsString], streams: Streams) -> u8 {
     })
 }
 
-/// Does what a command does, by its name, and gives the status. Where it fails standard error says why, and a line stands in place of the file that was
-/// due. A panic, which is a mistake of this program, is a failure as any other.
+/// Does what a command does, by its name, and gives the status. Where it fails standard error says why, and a
+/// line stands in place of the file that was due. A panic, which is a mistake of this program, is a failure
+/// as any other.
 pub fn ended(does: impl FnOnce() -> (&'static str, Done)) -> u8 {
     panic::set_hook(Box::new(|mistake| {
         let line = mistake.to_string().replace('\n', " ");

@@ -238,14 +238,16 @@ fn is_regular_output() -> bool {
     output().is_ok_and(|data| data.is_file())
 }
 
-/// What standard output is. It is asked by its own number: a second one may not be had, where few files may be open.
+/// What standard output is. It is asked by its own number: a second one may not be had, where few files may
+/// be open.
 pub fn output() -> io::Result<Metadata> {
     // SAFETY: it is only looked at, and not closed.
     let output = ManuallyDrop::new(unsafe { File::from_raw_fd(OUTPUT) });
     output.metadata()
 }
 
-/// Whether a file system is mounted on a file, as far as the kernel says so (from Linux 5.8 on). No other file can be put in its place then.
+/// Whether a file system is mounted on a file, as far as the kernel says so (from Linux 5.8 on). No other
+/// file can be put in its place then.
 pub fn is_mounted_on(path: &Path) -> io::Result<bool> {
     let path = CString::new(path.as_os_str().as_bytes())?;
     let mut found = Statx::default();

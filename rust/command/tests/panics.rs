@@ -1,5 +1,6 @@
-//! A panic, which is a mistake of the program, is a failure as any other: status 3, lines on standard error, no file that is half written, and a line that is
-//! no file where one was due. No shipped code panics for this: the test runs itself, with a command of its own in place of the program's.
+//! A panic, which is a mistake of the program, is a failure as any other: status 3, lines on standard error,
+//! no file that is half written, and a line that is no file where one was due. No shipped code panics for
+//! this: the test runs itself, with a command of its own in place of the program's.
 
 use shuntberry_command::failure::{Failure, status};
 use shuntberry_command::{ended, files, sys};

@@ -124,7 +124,8 @@ pub struct Answer {
     pub n: usize,
     /// The lines.
     pub text: String,
-    /// Why it says little that the table is safe, if it does; of a draft nothing, which has a word of its own.
+    /// Why it says little that the table is safe, if it does; of a draft nothing, which has a word of its
+    /// own.
     pub vacuous: Option<&'static str>,
 }
 
