@@ -168,7 +168,7 @@ fn is_still(
     most: usize,
 ) -> io::Result<bool> {
     let room = bytes.len() + usize::from(bytes.len() < most);
-    let mut piece = [0; AT_ONCE];
+    let mut piece = vec![0; AT_ONCE];
     let mut length = 0;
     while length < room {
         let piece = &mut piece[..AT_ONCE.min(room - length)];
