@@ -48,9 +48,9 @@ fn run(call: &Call) -> Done {
             "no place for the record is given: expected -o OUT, as -o record.html".to_string(),
         ));
     };
-    need_place(to)?;
     let date = date()?;
     let source = Source::of(call, Some(from))?;
+    need_place(to)?;
     let answer = Answer::of(&source.file, source.site)?;
     print(answer.text.as_bytes())?;
     if let Judged::Refused(refused) = answer.judged {
