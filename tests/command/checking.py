@@ -7,6 +7,7 @@ import mmap
 import os
 import random
 import re
+import resource
 import signal
 import subprocess
 import time
@@ -31,7 +32,11 @@ def vacuous(path):
     if not table or not table.n or table.initial and table.forbidden():
         return None
     why = "nothing in the table is forbidden" if table.initial else "the table has no initial state"
-    return f"{why}, so that it is safe whatever else is in it; release declines such a table\n"
+    return f"{why}, so that it is safe whatever else is in it"
+
+
+def remark(why):
+    return f"{why}; release declines such a table\n"
 
 
 # ---- check, on every file
@@ -71,11 +76,14 @@ group("check on damaged files and no input")
 
 # ---- its options
 
-def object_of(expected):
+def object_of(expected, why=None):
+    """The object of a text, and of why it says little that the table is safe."""
     words = expected.split()
     if words[0] == "refused":
         return {"verdict": "refused", "refusal": int(words[1]), "ground": RULES[words[1]].split("|")[0]}
     found = {"verdict": words[4] if int(words[1]) else "draft", "states": int(words[1]), "groups": int(words[3]), "refinements": int(words[6])}
+    if found["verdict"] == "safe":
+        found |= {"vacuous": True, "why": why} if why else {"vacuous": False}
     if words[4] == "safe":
         found["invariant"] = sorted(model.numbers(words[9:]))
     elif words[4] == "unsafe":
@@ -85,8 +93,10 @@ def object_of(expected):
 
 for path, expected in tables():
     status = status_of(expected)
-    given = gives(status, None, "check", "--json", path, err=said_of(status))
-    need(given.out.count(b"\n") == 1 and json.loads(given.out) == object_of(expected), "other JSON", given)
+    why = vacuous(path)
+    given = gives(status, None, "check", "--json", path, err=why or said_of(status))
+    need(given.out.count(b"\n") == 1 and json.loads(given.out) == object_of(expected, why), "other JSON", given)
+    need(not why or given.err.decode() == f"check: {remark(why)}", given)
     if status == REFUSED:
         number = expected.split()[1]
         ground, hint = RULES[number].split("|")
@@ -94,13 +104,13 @@ for path, expected in tables():
         old = "check: this file is of the old form, and the command rewrite makes a new one of it\n" if number == "15" and path.read_bytes()[5] < 128 else ""
         need(given.err.decode() == f"check: refused {number}: {ground}\ncheck: look whether {hint}\n{old}", "other words", given)
     else:
-        why = vacuous(path) if status == SAFE else None
         given = gives(status, expected, "check", "--explain", path, err=why or said_of(status))
-        need(not why or given.err.decode() == f"check: {why}", given)
+        need(not why or given.err.decode() == f"check: {remark(why)}", given)
         text = path.with_suffix(".txt")
         gives(status, expected, "check", "--text", text, err=said_of(status))
         gives(status, expected, "check", "--names", text, path, err=said_of(status))
         given = gives(REFUSED, None, "check", "--explain", text, err="looks like a text: --text")
+need({vacuous(path) for path, _ in tables()} > {None} and len({vacuous(path) for path, _ in tables()}) == 3, "no table is vacuous, or not for both reasons")
 subprocess.run(["python3", "-m", "json.tool"], input=call("check", "--json", TABLES / "b.table").out, check=True, stdout=subprocess.DEVNULL)
 
 for path, expected in ACCEPTED:
@@ -221,12 +231,13 @@ def checks(*names, how=(), err=None):
     statuses = list(map(status_of, texts))
     paths = [f"{TABLES}/{name}.table" for name in names]
     lines = "".join(map(line_of, paths, texts)) + summary(statuses)
-    said = "".join(f"check-all: {TABLES}/{name}.table: {vacuous(TABLES / f'{name}.table')}" for name in names if vacuous(TABLES / f"{name}.table"))
+    reasons = [vacuous(TABLES / f"{name}.table") for name in names]
+    said = "".join(f"check-all: {path}: {remark(why)}" for path, why in zip(paths, reasons) if why)
     for json_too in (), ("--json",):
         given = gives(worst(statuses), None if json_too else lines, "check-all", *json_too, *how, *paths, err=err or said and "")
         need(given.err.decode() == said, "other remarks", given)
     objects = [json.loads(line) for line in given.out.splitlines()]
-    need(objects[:-1] == [{"file": path} | object_of(text) for path, text in zip(paths, texts)], given)
+    need(objects[:-1] == [{"file": path} | object_of(*found) for path, *found in zip(paths, texts, reasons)], given)
     need(objects[-1] == counted(summary(statuses)), given)
 
 
@@ -271,9 +282,10 @@ given = gives(FAILED, f"{nothing}: failed\n1 file: 0 safe, 0 unsafe, 0 refused, 
 # .table in capitals is one; what is spelled otherwise is named, up to ten of them, in the order of names
 spelled = WORK / "spelled"
 spelled.mkdir()
-for name, place in ("a", "a.table"), ("b", "PUMP.TABLE"), ("b", "pump.Table"), ("b", "pump.table "), ("b", "pump.table.txt"), ("b", "two\nlines"):
+for name, place in ("a", "a.table"), ("b", ".table"), ("a", ".TABLE"), ("b", "PUMP.TABLE"), ("b", "pump.Table"), ("b", "pump.table "), ("b", "pump.table.txt"), ("b", "two\nlines"):
     (spelled / place).write_bytes((TABLES / f"{name}.table").read_bytes())
-lines = [f"{spelled}/PUMP.TABLE: unsafe", f"{spelled}/a.table: safe", f"{spelled}/pump.Table: unsafe", "3 files: 1 safe, 2 unsafe, 0 refused, 0 drafts, 0 failed"]
+lines = [f"{spelled}/.TABLE: safe", f"{spelled}/.table: unsafe", f"{spelled}/PUMP.TABLE: unsafe", f"{spelled}/a.table: safe", f"{spelled}/pump.Table: unsafe",
+         "5 files: 2 safe, 3 unsafe, 0 refused, 0 drafts, 0 failed"]
 said = [f"not checked: {spelled}/pump.table ", f"not checked: {spelled}/pump.table.txt", f'not checked: "{spelled}/two\\nlines"',
         f"{spelled}: 3 files whose name does not end in .table were not checked"]
 given = gives(UNSAFE, "\n".join(lines) + "\n", "check-all", spelled, err="")
@@ -283,28 +295,85 @@ for i in range(9):
 given = gives(UNSAFE, "\n".join(lines) + "\n", "check-all", spelled, err="12 files whose name does not end in .table were not checked; 2 of them are not named here\n")
 need(given.err.count(b"not checked: ") == 10, given)
 last = json.loads(call("check-all", "--json", spelled, folder).out.splitlines()[-1])
-need(last == counted("7 files: 4 safe, 3 unsafe, 0 refused, 0 drafts, 0 failed", 12, 0), last)
+need(last == counted("9 files: 5 safe, 4 unsafe, 0 refused, 0 drafts, 0 failed", 12, 0), last)
 for place in spelled.iterdir():
-    if place.suffix.lower() == ".table":
+    if place.name.lower().endswith(".table"):
         place.unlink()
 gives(FAILED, f"{spelled}: failed\n{summary([FAILED])}", "check-all", spelled, err=f"not checked: {spelled}/0.txt\n(.*\n)*.*no file in it whose name ends in .table")
 
 # lists
 listed = WORK / "list"
 a, b = TABLES / "a.table", TABLES / "b.table"
-for how, end in ((), "\n"), (("-0",), "\0"):
-    for text in f"{a}{end}{b}{end}", f"{a}{end}{b}":
-        listed.write_text(text)
-        gives(UNSAFE, f"{a}: safe\n{b}: unsafe\n{summary([SAFE, UNSAFE])}", "check-all", "--from", listed, *how)
-        gives(UNSAFE, f"{a}: safe\n{a}: safe\n{b}: unsafe\n{summary([SAFE, SAFE, UNSAFE])}", "check-all", *how, a, "--from", listed)
+ENDS = ((), "\n", "line feed"), (("-0",), "\0", "zero byte")
+for how, end, called in ENDS:
+    listed.write_text(f"{a}{end}{b}{end}")
+    gives(UNSAFE, f"{a}: safe\n{b}: unsafe\n{summary([SAFE, UNSAFE])}", "check-all", "--from", listed, *how)
+    gives(UNSAFE, f"{a}: safe\n{a}: safe\n{b}: unsafe\n{summary([SAFE, SAFE, UNSAFE])}", "check-all", *how, a, "--from", listed)
+    listed.write_text(f"{a}{end}{b}")
+    wrong(f"{listed} may be cut: its last name does not end with a {called}\n", "check-all", "--from", listed, *how)
     listed.write_text(f"{a}{end}{end}{b}{end}")
     gives(FAILED, f"{a}: safe\n\"\": failed\n{b}: unsafe\n{summary([SAFE, FAILED, UNSAFE])}", "check-all", "--from", listed, *how, err="No such file")
 listed.write_text("")
-for words in (), ("--",), ("-0", a), ("--from",), ("-x",), ("--json=1", a):
+for words in (), ("--",), ("-0", a), ("--from",), ("-x",), ("--json=1", a), ("--count",), ("--count", "x", a), ("--count", "-1", a), ("--count", "", a), ("--count", "1"), ("--count=1", "--count=1", a):
     wrong("usage: shuntberry check-all", "check-all", *words)
 wrong("has no names", "check-all", "--from", listed)
 wrong("has no names", "check-all", "--from", listed, a)
 wrong("No such file", "check-all", "--from", WORK / "missing", a)
+
+# --count: of words, folders and lists together, as the last line counts them; where it is another, no verdict
+# is printed
+listed.write_text(f"{a}\n{b}\n")
+for count, words in (1, [a]), (3, [a, b, a]), (4, [folder]), (2, ["--from", listed]), (8, [folder, a, b, "--from", listed]), (1, [nothing]), (1, [TABLES / "missing"]):
+    plain = call("check-all", *words)
+    given = call("check-all", *words, "--count", str(count))
+    need((given.status, given.out, given.err) == (plain.status, plain.out, plain.err) and given.out.splitlines()[-1].startswith(f"{count} file".encode()), given)
+    for other in 0, count - 1, count + 1, 10 * count, 2**64 - 1, 2**64:
+        if other != count:
+            wrong(f"check-all: files to check: {count}, where --count says {min(other, 2**64 - 1)}: none was checked\n$", "check-all", f"--count={other}", *words)
+            wrong("none was checked", "check-all", "--json", f"--count={other}", *words)
+
+# a list that was cut at any byte is refused: by itself, or by --count where whole names are left
+cuts = WORK / "cuts"
+cuts.mkdir()
+NAMES = ["a", "ab", "a b", "b", "ab.table", "größe", "-0"]
+for name in NAMES:
+    (cuts / name).write_bytes((b if name == "b" else a).read_bytes())
+found = {"cut": 0, "whole": 0}
+for _ in range(50):
+    how, end, called = random.choice(ENDS)
+    names = random.choices(NAMES, k=random.randrange(1, 6))
+    whole = "".join(name + end for name in names).encode()
+    listed.write_bytes(whole)
+    status = UNSAFE if "b" in names else SAFE
+    gives(status, None, "check-all", "--from", listed, *how, "--count", str(len(names)), cwd=cuts)
+    for at in range(len(whole)):
+        listed.write_bytes(whole[:at])
+        if not at or not whole[:at].endswith(end.encode()):
+            found["cut"] += 1
+            wrong(f"may be cut: its last name does not end with a {called}" if at else "has no names", "check-all", "--from", listed, *how, cwd=cuts)
+        else:
+            found["whole"] += 1
+            left = whole[:at].count(end.encode())
+            wrong(f"files to check: {left}, where --count says {len(names)}: ", "check-all", "--from", listed, *how, "--count", str(len(names)), cwd=cuts)
+need(min(found.values()) > 50, found)
+
+# lists that are too long cost little: of names, of bytes, and of a name
+def little():
+    """What 16 MiB take, and no more."""
+    resource.setrlimit(resource.RLIMIT_AS, (96 << 20, 96 << 20))
+
+
+MOST = 16 << 20
+for how, end, _ in ENDS:
+    end = end.encode()
+    for text, why in (end * MOST, "more than 100000 names"), ((b"x" + end) * (MOST // 2), "more than 100000 names"), (b"x" * (MOST - 1) + end, "a name of more than 4095 bytes"), (
+        b"x" * MOST + end, "longer than 16777216 bytes"), ((b"x" + end) * 100_001, "more than 100000 names"), (b"y" * 4096 + end, "a name of more than 4095 bytes"):
+        listed.write_bytes(text)
+        wrong(f"check-all: {listed} has .*{why}", "check-all", "--from", listed, *how, preexec_fn=little)
+    listed.write_bytes((b"a" + end) * 100_000)
+    need(call("check-all", "--from", listed, *how, cwd=cuts, preexec_fn=little).out.endswith(b"\n100000 files: 100000 safe, 0 unsafe, 0 refused, 0 drafts, 0 failed\n"), "a list of 100000 names")
+    listed.write_bytes(b"./" * 2047 + b"a" + end)
+    gives(SAFE, None, "check-all", "--from", listed, *how, cwd=cuts)
 
 # files that fail are no drafts, and each is named
 lines = f"{a}: safe\n{TABLES}/missing: failed\n\"\": failed\n{b}: unsafe\n{summary([SAFE, FAILED, FAILED, UNSAFE])}"
@@ -365,8 +434,15 @@ file.write_bytes(model.at_site(a.read_bytes(), 5))
 gives(SAFE, (TABLES / "a.expected").read_text() + sum_line(file), "release", "--site", "5", file, out)
 need(sum_line(out).split()[1] == subprocess.run(["sha256sum", out], capture_output=True, text=True).stdout.split()[0], "sha256sum says something else")
 need(out.read_bytes() == file.read_bytes(), "release of another site")
-for target in WORK, "/dev/null", WORK / "missing/x", "", WORK / ("x" * 256), a / "x":
-    given = gives(FAILED, (TABLES / "a.expected").read_text(), "release", a, target, err="could not be written")
+# what cannot be OUT is found before anything is printed
+for target, why in (WORK, "it is no file"), ("/dev/null", "it is no file"), (WORK / "missing/x", "No such file"), ("", "No such file"), (WORK / ("x" * 256), "name too long"), (a / "x", "Not a directory"), (
+    f"{WORK}/", "ends with a slash"), (f"{WORK}/free/", "ends with a slash"), (f"{out}/", "Not a directory"), ("/", "ends with a slash"), (f"{WORK}/free/.", "it is no file"), (
+    f"{WORK}/free/..", "it is no file"), (f"{WORK}/.", "it is no file"), ("..", "it is no file"):
+    for words in ("release", a, target), ("report", a, "-o", target):
+        gives(FAILED, "", *words, err=f"could not be written: .*{why}")
+    if target != "/dev/null":
+        gives(FAILED, None, "encode", "-o", target, TABLES / "a.txt", err=f"could not be written: .*{why}")
+need(not (WORK / "free").exists(), "a file under the name of a folder")
 os.mkfifo(WORK / "fifo")
 gives(FAILED, None, "release", a, WORK / "fifo", err="it is no file")
 for words in (), (a,), (a, out, out), ("--json", a, out), ("--text", a, out):

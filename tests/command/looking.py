@@ -2,6 +2,7 @@
 """inspect, within, replay, options and next-open: on every file of tests/files, and on random tables, logs and houses, held to model.py."""
 import json
 import random
+import resource
 from datetime import date, datetime, timedelta
 
 import support
@@ -191,6 +192,28 @@ for whole in "0\nend\n", "0 0 0\r\nend\r\n", "# end\n0 # end\n end # of it\n":
         gives(REFUSED, "", "replay", "--text-log", E, log, err=f"(?m)^{log}:[0-9]+: the text may be cut: ")
     log.write_text(whole + "0\n", newline="")
     gives(REFUSED, "", "replay", "--text-log", E, log, err="goes on behind its 'end'")
+# a text of more entries than a log may have is refused as the log is, and costs no more than its bytes,
+# whatever else is in it
+def little():
+    resource.setrlimit(resource.RLIMIT_AS, (96 << 20, 96 << 20))
+
+
+many, MOST = 16384, 16 << 20
+END = "end\n"
+FILLED = MOST - len(END)
+names = WORK / "many.txt"
+names.write_text("states 512\ninitial 0\nforbidden none\nstep 511 -> 0\n" + "".join(f"state {s} s{s}\n" for s in range(512)) + END)
+log.write_text("0\n" * many + END)
+gives(SAFE, None, "replay", "--text-log", E, log).out.index(b"entries 16384 ")
+for words in "0\n" * (many + 1), "0 " * 515 + "\n" + "0\n" * many, "0\n" * (FILLED // 2), ("0 " * 500 + "\n") * (FILLED // 1001), "0\n" * (many + 1) + "nowhere\n" * 100:
+    log.write_text(words + END)
+    gives(REFUSED, "", "replay", "--text-log", E, log, err=f"^replay: {log}: refused 26: ", preexec_fn=little)
+log.write_text("s511\n" * (FILLED // 5) + END)
+gives(REFUSED, "", "replay", "--text", "--text-log", names, log, err="refused 26", preexec_fn=little)
+log.write_text(("->" * 515 + "\n") * (FILLED // 1031) + END)
+gives(REFUSED, "", "replay", "--text-log", E, log, err="16480 of its words are no screens", preexec_fn=little)
+log.write_text("0\n" * (MOST // 2) + "0")
+gives(FAILED, "", "replay", "--text-log", E, log, err="longer than 16777216 bytes", preexec_fn=little)
 for words in (), (E,), (E, log, log):
     gives(FAILED, "", "replay", *words, err="usage: shuntberry replay")
 gives(FAILED, "", "replay", E, WORK / "missing", err="No such file")
@@ -204,9 +227,21 @@ def optional(table):
     return table.steps | more
 
 
+def vacuous(table, possible):
+    """Why it says little that a table with possible steps is safe: a state that has such steps alone is no hang."""
+    forbidden = table.marked | set(range(table.n)) - table.resting - {a for a, _ in possible}
+    if not table.n or table.initial and forbidden:
+        return None
+    why = "nothing in the table is forbidden" if table.initial else "the table has no initial state"
+    return f"{why}, so that it is safe whatever else is in it"
+
+
 def modal_said(table, possible, names):
     verdict, invariant, path = model.modal(table, possible)
     said, found = head(table) + f"{verdict}\n", {"verdict": verdict if table.n else "draft", "states": table.n, "groups": len(table.groups)}
+    why = vacuous(table, possible)
+    if found["verdict"] == "safe":
+        found |= {"vacuous": True, "why": why} if why else {"vacuous": False}
     if invariant is not None:
         said += f"invariant {len(invariant)}: {spec.listing(sorted(invariant))}\n"
         found["invariant"] = sorted(invariant)
@@ -217,31 +252,32 @@ def modal_said(table, possible, names):
     if names:
         found["names"] = {str(s): names[s] for s in states if s in names}
     status = NO_RELEASE if not table.n or verdict == "depends" else UNSAFE if verdict == "unsafe" else SAFE
-    return status, said + below(names, states), found
+    return status, said + below(names, states), found, why and f"^options: {why}; release declines such a table\n$"
 
 
-seen = set()
+seen, reasons = set(), set()
 for table, path in EVERY:
     if table.n > 100:
         continue
     for possible in table.steps, optional(table), optional(table), optional(table):
         other = WORK / "possible.table"
         other.write_bytes(spec.encode(spec.Table(table.n, table.initial, table.marked, possible, table.groups, table.resting)))
-        status, said, found = modal_said(table, possible, {})
-        gives(status, said, "options", path, "--possible", other)
-        need(json.loads(gives(status, None, "options", "--json", "--possible", other, path).out) == found, found)
+        status, said, found, err = modal_said(table, possible, {})
+        gives(status, said, "options", path, "--possible", other, err=err)
+        need(json.loads(gives(status, None, "options", "--json", "--possible", other, path, err=err).out) == found, found)
         text, names = named(table)
-        status, said, found = modal_said(table, possible, names)
-        gives(status, said, "options", path, "--names", text, f"--possible={other}")
+        status, said, found, err = modal_said(table, possible, names)
+        gives(status, said, "options", path, "--names", text, f"--possible={other}", err=err)
         text.write_text(spec.longer(text.read_text(), "".join(f"possible {a} -> {b}\n" for a, b in possible - table.steps)))
-        gives(status, said, "options", "--text", text)
+        gives(status, said, "options", "--text", text, err=err)
         seen.add(found["verdict"])
+        reasons.add(found.get("why"))
         missing = sorted(table.steps)
         if missing:
             fewer = spec.Table(table.n, table.initial, table.marked, possible - {random.choice(missing)}, table.groups, table.resting)
             other.write_bytes(spec.encode(fewer))
             gives(REFUSED, "", "options", path, "--possible", other, err="refused 28")
-need(seen - {"draft"} == {"safe", "unsafe", "depends"}, seen)
+need(seen - {"draft"} == {"safe", "unsafe", "depends"} and len(reasons) == 3, seen, reasons)
 gives(REFUSED, "", "options", TABLES / "a.table", "--possible", TABLES / "b.table", err="not the same table but for their steps")
 gives(REFUSED, "", "options", TABLES / "resting.table", "--possible", TABLES / "hang.table", err="not the same table but for their steps")
 gives(REFUSED, "", "options", E, "--possible", TABLES / "bad-check.table", err="bad-check.table: refused 13")

@@ -431,6 +431,12 @@ def accepted(content, does=None):
 good = drawing(words, titles)
 page = accepted(good)
 need(accepted(good.replace("\n", "\r\n")), "other ends of lines")
+# no variable decides how large the threads are that read and write: one that is too large for the machine
+# would end in a panic
+drawn(good)
+for size in "1", str(2**62), str(2**64 - 1):
+    need(report(B, env=FAKE_DOT | {"RUST_MIN_STACK": size}).status == UNSAFE and out.read_text() == page, f"a record with RUST_MIN_STACK={size}")
+    gives(SAFE, good, "picture", "--svg", "b.table", cwd=TABLES, env=FAKE_DOT | {"RUST_MIN_STACK": size})
 # what is no place or look is dropped, wherever it stands
 hostile = good.replace("<polygon", '<polygon onclick="alert(1)" style="fill:url(http://x.test/)" href="http://x.test/" xlink:href="javascript:alert(1)" id="x" class="y"')
 hostile = hostile.replace("<?xml", '<?xml-stylesheet href="http://x.test/x.css"?><!-- <script>alert(1)</script> --><?xml').replace('xmlns="', 'onload="alert(1)" xml:base="http://x.test/" xmlns="')

@@ -143,6 +143,11 @@ for file, words in (TABLES / "old-e.table", ["rewrite"]), (E, ["decode"]), (TABL
         run = subprocess.run(["bash", "-c", how, PROGRAM, both, *words], capture_output=True)
         need(run.returncode == FAILED and b"one file" in run.stderr, how, run)
         need(both.read_bytes() != b"" and call("check", both).status == REFUSED, how)
+    # also where no file may be open but the input and the standard streams
+    both.write_bytes(file.read_bytes())
+    with open(both, "ab") as output:
+        gives(FAILED, b"", *words, both, stdout=output, err="input and output are one file", preexec_fn=lambda: resource.setrlimit(resource.RLIMIT_NOFILE, (4, 4)))
+    need(both.read_bytes() == file.read_bytes() + b"failed\n", words)
 group("inputs that fail, wait or are no files")
 
 # ---- terminals: a file is not for one; how far check-all is stands there, and is gone at the end
@@ -228,6 +233,96 @@ for words in ["encode", "-o", WORK / "loose", TABLES / "e.txt"], ["release", A, 
 gives(FAILED, None, "encode", "-o", "-o", TABLES / "e.txt", err="-o wants a word behind it", cwd=WORK)
 need(not (WORK / "-o").exists(), "a file called -o")
 group("outputs by their names")
+
+# ---- an OUT that is there stays whose it is, or stays as it is
+
+WRITING = ["release", A], ["report", A, "-o"], ["encode", TABLES / "a.txt", "-o"], ["decode", A, "-o"], ["picture", A, "-o"], ["generate", "7", "3", "2", "-o"], ["rewrite", TABLES / "old-e.table", "-o"]
+place = WORK / "place"
+place.mkdir()
+kept, second = place / "kept", place / "second"
+
+
+def stays(words, err, path=kept, **how):
+    """A call that fails, prints nothing, and leaves all in the folder as it was."""
+    look = lambda: {file.name: (file.lstat().st_ino, file.lstat().st_uid, file.lstat().st_gid, file.lstat().st_mode, file.is_symlink() or file.read_bytes()) for file in place.iterdir()}
+    before = look()
+    gives(FAILED, "", *words, path, err=f"could not be written: {err}", **how)
+    need(look() == before, "the folder is not as it was", words, before, look())
+
+
+kept.write_bytes(b"kept")
+os.link(kept, second)
+for words in WRITING:
+    for name in kept, second:
+        stays(words, "it has a second name", name)
+os.symlink("second", place / "by-link")
+stays(WRITING[0], "it has a second name", place / "by-link")
+second.unlink(), (place / "by-link").unlink()
+group("outputs with a second name")
+
+
+def private(*mounts):
+    """For a call in a name space of its own, in which some things are mounted: (what, where, flags of mount)."""
+    BIND, REC, PRIVATE, NEWNS = 4096, 16384, 1 << 18, 0x20000
+
+    def done():
+        for result in libc.unshare(NEWNS), libc.mount(None, b"/", None, REC | PRIVATE, None), *(libc.mount(os.fsencode(what), os.fsencode(where), None, BIND | flags, None) for what, where, flags in mounts):
+            if result:
+                raise OSError(ctypes.get_errno(), "no name space, or no mount")
+
+    return done
+
+
+libc = ctypes.CDLL(None, use_errno=True)
+REMOUNT, NOSYMFOLLOW = 32, 256
+try:
+    subprocess.run(["true"], preexec_fn=private(), check=True)
+    mounts = True
+except subprocess.SubprocessError:
+    mounts = False
+if os.geteuid() == 0:
+    os.chmod(WORK, 0o755)
+    os.chmod(place, 0o777)
+    os.chmod(copy, 0o755)
+    nobody = {"user": 65534, "group": 65534, "extra_groups": []}
+    # root keeps owner, group and mode; another user does so, or leaves the file as it was
+    for words in WRITING:
+        for owner, group_of, mode in (1, 2, 0o640), (0, 7, 0o660), (65534, 65534, 0o600):
+            kept.write_bytes(b"kept")
+            os.chown(kept, owner, group_of), os.chmod(kept, mode)
+            given = call(*words, kept)
+            found = kept.stat()
+            need(given.status == SAFE and (found.st_uid, found.st_gid, found.st_mode & 0o7777) == (owner, group_of, mode) and kept.read_bytes() != b"kept", "another owner", given, found)
+        kept.write_bytes(b"kept")
+        for owner, group_of in (0, 0), (65534, 0), (0, 65534), (1, 1):
+            os.chown(kept, owner, group_of), os.chmod(kept, 0o666)
+            given = subprocess.run([copy, *words, kept], capture_output=True, **nobody)
+            need(given.returncode == FAILED and b"it would not keep its owner and group: Operation not permitted" in given.stderr and b"SHA-256" not in given.stdout, given)
+            need(os.listdir(place) == ["kept"] and kept.read_bytes() == b"kept" and (kept.stat().st_uid, kept.stat().st_gid) == (owner, group_of), "not as it was", given)
+            support.count += 1
+        os.chown(kept, 65534, 65534)
+        given = subprocess.run([copy, *words, kept], capture_output=True, **nobody)
+        need(given.returncode == SAFE and kept.stat().st_uid == 65534 and kept.read_bytes() != b"kept", given)
+    os.chown(kept, 0, 0)
+if mounts:
+    # links that the kernel does not follow, of which fs.protected_symlinks is one case: no other file is
+    # written by what stands in them
+    os.symlink("kept", place / "link")
+    os.symlink(place / "link", place / "longer")
+    os.symlink("free", place / "to-nothing")
+    for words in WRITING:
+        for name in "link", "longer", "to-nothing":
+            stays(words, "Too many levels of symbolic links", place / name, preexec_fn=private((place, place, 0), ("none", place, REMOUNT | NOSYMFOLLOW)))
+        gives(SAFE, None, *words, place / "longer")
+        kept.write_bytes(b"kept")
+    for name in "link", "longer", "to-nothing":
+        (place / name).unlink()
+    # what is mounted there cannot be replaced, be it of another file system or of the same
+    second.write_bytes(b"second")
+    for what in second, Path("/proc/self/status"), kept:
+        for words in WRITING:
+            stays(words, "a file system is mounted on it|it is write-protected", preexec_fn=private((what, kept, 0)))
+group("outputs that stay whose they are" + ("" if mounts else "; nothing could be mounted"))
 
 # ---- signals: at many moments, to every command that writes a file
 

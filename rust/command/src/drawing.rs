@@ -84,13 +84,15 @@ fn drawn_by(
     // In threads of their own: it may print before it has read all, and what it started may keep its streams open.
     let (input, output) = (dot.stdin.take(), dot.stdout.take());
     let graph = graph.as_bytes().to_vec();
-    let written = apart(move || input.map_or(Ok(()), |mut input| input.write_all(&graph)));
-    let printed = apart(move || {
+    let writes = move || input.map_or(Ok(()), |mut input| input.write_all(&graph));
+    let written = apart(writes).map_err(|error| ended(dot, Some(error.to_string())))?;
+    let prints = move || {
         let mut bytes = Vec::new();
         let most = (most as u64).saturating_add(1);
         output.map_or(Ok(0), |output| output.take(most).read_to_end(&mut bytes))?;
         Ok(bytes)
-    });
+    };
+    let printed = apart(prints).map_err(|error| ended(dot, Some(error.to_string())))?;
     let bytes = match printed.recv_timeout(left()) {
         Ok(Ok(bytes)) if bytes.len() <= most => bytes,
         Ok(Ok(_)) => {
@@ -114,13 +116,19 @@ fn drawn_by(
     }
 }
 
+/// Far more than a thread that reads or writes takes. It is given, since the environment would decide else
+/// (RUST_MIN_STACK).
+const STACK_BYTES: usize = 1 << 18;
+
 /// Does something meanwhile, and says what came of it.
-fn apart<T: Send + 'static>(does: impl FnOnce() -> T + Send + 'static) -> Receiver<T> {
+fn apart<T: Send + 'static>(does: impl FnOnce() -> T + Send + 'static) -> io::Result<Receiver<T>> {
     let (said, heard) = channel();
-    thread::spawn(move || {
-        let _ = said.send(does()); // where nobody waits any more it is not missed
-    });
-    heard
+    thread::Builder::new()
+        .stack_size(STACK_BYTES)
+        .spawn(move || {
+            let _ = said.send(does()); // where nobody waits any more it is not missed
+        })?;
+    Ok(heard)
 }
 
 fn status(dot: &mut Child, left: &dyn Fn() -> Duration) -> Result<ExitStatus, Option<NotDrawn>> {

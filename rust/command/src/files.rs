@@ -9,7 +9,7 @@ use std::fs::{self, File, Metadata, OpenOptions};
 use std::io::{self, IsTerminal, Read, Seek, Write};
 use std::os::fd::AsFd;
 use std::os::unix::ffi::OsStrExt;
-use std::os::unix::fs::{FileExt, FileTypeExt, MetadataExt};
+use std::os::unix::fs::{FileExt, FileTypeExt, MetadataExt, fchown};
 use std::path::{Path, PathBuf};
 
 /// The longest text that is read, in bytes: every list full, and every name as long as can be.
@@ -72,20 +72,32 @@ impl<'c> Input<'c> {
     /// The same, where standard input may be empty.
     pub fn take_or_nothing(self, most: usize) -> Result<Vec<u8>, Failure> {
         let mut file = self.open()?;
-        let to_out = |out| is_same(file.metadata(), fs::metadata(out));
-        // To put another file in its place would take away what was read, with the names that a file does not hold.
-        if self.out.is_some_and(to_out) || sys::is_file_due() && is_output(file.metadata()) {
+        self.need_other(&file)?;
+        read_whole(&mut file, most).map_err(|error| self.not_read(error))
+    }
+
+    /// Not the file that is written: to put another one in its place would take away what was read, with the
+    /// names that a file does not hold.
+    fn need_other(self, file: &File) -> Result<(), Failure> {
+        let read = file.metadata().map_err(|error| self.not_read(error))?;
+        let is_out = match self.out {
+            Some(out) => found(out)
+                .map_err(|error| not_written(out, error))?
+                .is_some_and(|data| is_same(&read, &data)),
+            None => false,
+        };
+        if is_out || sys::is_file_due() && is_output(&read)? {
             return Err(Failure::Failed("input and output are one file".to_string()));
         }
-        read_whole(&mut file, most).map_err(|error| {
-            Failure::Failed(format!("{} could not be read: {error}", self.shown()))
-        })
+        Ok(())
+    }
+
+    fn not_read(self, error: io::Error) -> Failure {
+        Failure::Failed(format!("{} could not be read: {error}", self.shown()))
     }
 
     fn open(self) -> Result<File, Failure> {
-        let failed = |error: io::Error| {
-            Failure::Failed(format!("{} could not be read: {error}", self.shown()))
-        };
+        let failed = |error| self.not_read(error);
         match self.path {
             Some(path) => File::open(path).map_err(failed),
             None if self.no_input => Err(Failure::Failed("standard input is closed".to_string())),
@@ -102,17 +114,30 @@ impl<'c> Input<'c> {
 }
 
 /// Whether a file on a disk is standard output too. The shell has emptied it then, or what is written goes into what is read.
-fn is_output(file: io::Result<Metadata>) -> bool {
-    let output = io::stdout().as_fd().try_clone_to_owned().map(File::from);
-    is_same(file, output.and_then(|output| output.metadata()))
+fn is_output(file: &Metadata) -> Result<bool, Failure> {
+    let output = sys::output().map_err(|error| {
+        Failure::Failed(format!("standard output could not be looked at: {error}"))
+    })?;
+    Ok(is_same(file, &output))
 }
 
 /// Whether both are one file on a disk.
-fn is_same(file: io::Result<Metadata>, other: io::Result<Metadata>) -> bool {
-    match (file, other) {
-        (Ok(a), Ok(b)) => a.is_file() && a.dev() == b.dev() && a.ino() == b.ino(),
-        _ => false,
+fn is_same(file: &Metadata, other: &Metadata) -> bool {
+    file.is_file() && (file.dev(), file.ino()) == (other.dev(), other.ino())
+}
+
+/// What a name stands for, behind all links; nothing where there is nothing. Any other error stays one: the
+/// kernel may refuse to follow a link.
+fn found(path: &Path) -> io::Result<Option<Metadata>> {
+    match fs::metadata(path) {
+        Ok(data) => Ok(Some(data)),
+        Err(error) if error.kind() == io::ErrorKind::NotFound && path != Path::new("") => Ok(None),
+        Err(error) => Err(error),
     }
+}
+
+fn not_written(path: &Path, error: io::Error) -> Failure {
+    Failure::Failed(format!("{} could not be written: {error}", shown(path)))
 }
 
 /// The bytes of an open file. A file on a disk is read twice, and looked at before and after: what was changed meanwhile is an error, since blocks of
@@ -134,6 +159,7 @@ pub fn read_whole(file: &mut File, most: usize) -> io::Result<Vec<u8>> {
     Ok(bytes)
 }
 
+/// Whether the file has the same bytes from its start on, and none behind them where there was room for more.
 fn is_still(
     file: &File,
     start: u64,
@@ -141,12 +167,15 @@ fn is_still(
     before: &Metadata,
     most: usize,
 ) -> io::Result<bool> {
-    let mut again = vec![0; bytes.len() + usize::from(bytes.len() < most)];
+    let room = bytes.len() + usize::from(bytes.len() < most);
+    let mut piece = vec![0; AT_ONCE];
     let mut length = 0;
-    while length < again.len() {
-        match file.read_at(&mut again[length..], start + length as u64) {
+    while length < room {
+        let piece = &mut piece[..AT_ONCE.min(room - length)];
+        match file.read_at(piece, start + length as u64) {
             Ok(0) => break,
-            Ok(count) => length += count,
+            Ok(count) if bytes[length..].starts_with(&piece[..count]) => length += count,
+            Ok(_) => return Ok(false),
             Err(error) if error.kind() == io::ErrorKind::Interrupted => {}
             Err(error) => return Err(error),
         }
@@ -160,7 +189,7 @@ fn is_still(
             data.ctime_nsec(),
         )
     };
-    Ok(again[..length] == *bytes && seen(before) == seen(&file.metadata()?))
+    Ok(length == bytes.len() && seen(before) == seen(&file.metadata()?))
 }
 
 /// Writes all bytes to the file that `-o` names, or to standard output.
@@ -194,28 +223,27 @@ pub fn say(line: &str) {
 
 /// A file, or a name that is free: bytes that go into a pipe or a device are released to nobody knows whom.
 pub fn need_place(path: &Path) -> Result<(), Failure> {
-    match fs::metadata(path) {
-        Ok(data) if !data.is_file() => Err(Failure::Failed(format!(
-            "{} could not be written: it is no file",
-            shown(path)
-        ))),
-        _ => Ok(()),
+    match Place::of(path) {
+        Ok(Place::File { .. }) => Ok(()),
+        Ok(Place::Stream(_)) => Err(not_written(path, io::Error::other(NO_FILE))),
+        Err(error) => Err(not_written(path, error)),
     }
 }
 
 /// Not the file that standard output goes to: another file in its place would take away what is printed. Where the shell has emptied it, it gets a
 /// line, since a file of no bytes is a draft.
 pub fn need_apart(path: &Path) -> Result<(), Failure> {
-    if !is_output(fs::metadata(path)) {
+    let Some(data) = found(path).map_err(|error| not_written(path, error))? else {
+        return Ok(());
+    };
+    if !is_output(&data)? {
         return Ok(());
     }
-    if fs::metadata(path).is_ok_and(|data| data.len() == 0) {
+    if data.len() == 0 {
         print(b"failed\n")?;
     }
-    Err(Failure::Failed(format!(
-        "{} could not be written: standard output goes there too",
-        shown(path)
-    )))
+    let why = io::Error::other("standard output goes there too");
+    Err(not_written(path, why))
 }
 
 /// Puts a whole file in the place of another, or leaves that as it was: half a file, or one of no bytes, could be taken for a table.
@@ -229,11 +257,10 @@ pub fn replace_after(
     bytes: &[u8],
     last: impl FnOnce() -> Result<(), Failure>,
 ) -> Result<(), Failure> {
-    let failed = |error: io::Error| {
-        Failure::Failed(format!("{} could not be written: {error}", shown(path)))
-    };
+    let failed = |error| not_written(path, error);
     match Place::of(path).map_err(failed)? {
-        Place::Stream(mut stream) => {
+        Place::Stream(path) => {
+            let mut stream = OpenOptions::new().write(true).open(path).map_err(failed)?;
             last()?;
             stream.write_all(bytes).map_err(failed)
         }
@@ -248,7 +275,7 @@ pub fn replace_after(
 /// Where bytes go.
 enum Place {
     /// A pipe or a device.
-    Stream(File),
+    Stream(PathBuf),
     /// A file, or a name that is free, behind all links; and what is there now.
     File {
         path: PathBuf,
@@ -256,30 +283,62 @@ enum Place {
     },
 }
 
+const NO_FILE: &str = "it is no file";
+
 impl Place {
     fn of(path: &Path) -> io::Result<Place> {
-        let path = behind_links(path)?;
-        let is_free = |error: &io::Error| {
-            error.kind() == io::ErrorKind::NotFound && path.file_name().is_some()
+        need_name(path)?;
+        let Some(old) = found(path)? else {
+            return Place::free(path);
         };
-        let old = match fs::metadata(&path) {
-            Ok(data) => Some(data),
-            Err(error) if is_free(&error) => None,
-            Err(error) => return Err(error), // an empty name, or one that is too long: better now than once all is written
-        };
-        let kind = old.as_ref().map(Metadata::file_type);
-        match kind {
-            Some(kind) if kind.is_fifo() || kind.is_char_device() => {
-                let stream = OpenOptions::new().write(true).open(path)?;
-                Ok(Place::Stream(stream))
-            }
-            Some(kind) if !kind.is_file() => Err(io::Error::other("it is no file")),
-            _ if old.as_ref().is_some_and(is_protected) => {
-                Err(io::Error::other("it is write-protected"))
-            }
-            _ => Ok(Place::File { path, old }),
+        let kind = old.file_type();
+        if kind.is_fifo() || kind.is_char_device() {
+            return Ok(Place::Stream(path.to_path_buf()));
+        }
+        need_replaceable(&old)?;
+        let path = behind_links(path, &old)?;
+        match sys::is_mounted_on(&path)? {
+            true => Err(io::Error::other("a file system is mounted on it")),
+            false => Ok(Place::File {
+                path,
+                old: Some(old),
+            }),
         }
     }
+
+    /// A name that is free, in a folder that is there. A link to nothing is none: what it should lead to, a
+    /// disk that is not there for one, would stay without the file.
+    fn free(path: &Path) -> io::Result<Place> {
+        match fs::symlink_metadata(path) {
+            Ok(_) => return Err(io::Error::other("it is a link to nothing")),
+            Err(error) if error.kind() != io::ErrorKind::NotFound => return Err(error),
+            Err(_) => {}
+        }
+        fs::metadata(folder_of(path))?;
+        let path = path.to_path_buf();
+        Ok(Place::File { path, old: None })
+    }
+}
+
+/// Not a name that only a folder can have: that would come out once all is written.
+fn need_name(path: &Path) -> io::Result<()> {
+    let bytes = path.as_os_str().as_bytes();
+    match bytes.rsplit(|&byte| byte == b'/').next() {
+        Some(b"") if !bytes.is_empty() => Err(io::Error::other("its name ends with a slash")),
+        Some(b"." | b"..") => Err(io::Error::other(NO_FILE)),
+        _ => Ok(()),
+    }
+}
+
+/// A file that may be replaced, by the one name that it has: under a second one the old file would stay.
+fn need_replaceable(old: &Metadata) -> io::Result<()> {
+    let why = match old {
+        _ if !old.is_file() => NO_FILE,
+        _ if is_protected(old) => "it is write-protected",
+        _ if old.nlink() > 1 => "it has a second name (a hard link), which would keep the old file",
+        _ => return Ok(()),
+    };
+    Err(io::Error::other(why))
 }
 
 /// Whether its owner may not write it. The folder alone would let it be replaced, but who protects a released file means it to stay.
@@ -297,10 +356,10 @@ impl Part {
     fn written(path: &Path, bytes: &[u8], old: Option<Metadata>) -> io::Result<Part> {
         let (at, mut file) = new_part(folder_of(path))?;
         let part = Part { at };
-        file.write_all(bytes)?;
         if let Some(old) = old {
-            file.set_permissions(old.permissions())?; // who may read it stays the same
+            keep_owner(&file, &old)?;
         }
+        file.write_all(bytes)?;
         file.sync_all()?;
         Ok(part)
     }
@@ -332,15 +391,25 @@ fn folder_of(path: &Path) -> &Path {
     }
 }
 
-/// The file that a name stands for. A link to nothing is none: what it should lead to, a disk that is not there for one, would stay without the file.
-fn behind_links(path: &Path) -> io::Result<PathBuf> {
-    let is_link = fs::symlink_metadata(path).is_ok_and(|data| data.is_symlink());
-    match fs::canonicalize(path) {
-        Ok(behind) => Ok(behind),
-        Err(_) if is_link && fs::metadata(path).is_err() => {
-            Err(io::Error::other("it is a link to nothing"))
-        }
-        Err(_) => Ok(path.to_path_buf()), // a new name, or a pipe behind /dev/stdout
+/// Who owns the file, and who may read it, stays the same, and is so before there is anything to read.
+fn keep_owner(file: &File, old: &Metadata) -> io::Result<()> {
+    let new = file.metadata()?;
+    if (new.uid(), new.gid()) != (old.uid(), old.gid()) {
+        fchown(file, Some(old.uid()), Some(old.gid())).map_err(|error| {
+            let why = format!("it would not keep its owner and group: {error}");
+            io::Error::other(why)
+        })?;
+    }
+    file.set_permissions(old.permissions())
+}
+
+/// The name of a file behind all links. It is made of what stands in the links, by which one may come where
+/// the kernel would not follow: so it must be the same file.
+fn behind_links(path: &Path, file: &Metadata) -> io::Result<PathBuf> {
+    let behind = fs::canonicalize(path)?;
+    match is_same(&fs::metadata(&behind)?, file) {
+        true => Ok(behind),
+        false => Err(io::Error::other("it was changed meanwhile")),
     }
 }
 

@@ -32,6 +32,7 @@ use crate::sys::Streams;
 use crate::words::{Call, Command, Output, did_you_mean};
 pub use shuntberry_text::{house, lines};
 use std::ffi::{OsStr, OsString};
+use std::panic::{self, AssertUnwindSafe};
 use std::path::Path;
 
 /// Whether a file may be due on standard output: not where the words name a command that answers.
@@ -53,13 +54,27 @@ fn is_check(words: &[OsString]) -> bool {
 pub fn run(words: &[OsString], streams: Streams) -> u8 {
     let check = is_check(words);
     let words = words.get(1..).unwrap_or_default();
-    let (name, done) = match check {
+    ended(|| match check {
         true => (
             "check",
             call("check", &commands::check::CHECK, words, streams),
         ),
         false => by_name(words, streams),
-    };
+    })
+}
+
+/// Does what a command does, by its name, and gives the status. Where it fails standard error says why, and a
+/// line stands in place of the file that was due. A panic, which is a mistake of this program, is a failure
+/// as any other.
+pub fn ended(does: impl FnOnce() -> (&'static str, Done)) -> u8 {
+    panic::set_hook(Box::new(|mistake| {
+        let line = mistake.to_string().replace('\n', " ");
+        files::say(&format!("{OWN}: {}\n", shown(line)));
+    }));
+    let (name, done) = panic::catch_unwind(AssertUnwindSafe(does)).unwrap_or_else(|_| {
+        let why = "this is a mistake of the program: what it printed does not count";
+        (OWN, Err(Failure::Failed(why.to_string())))
+    });
     let done = done.and_then(|status| {
         sys::close_output().map(|()| status).map_err(|error| {
             Failure::Failed(format!("standard output could not be written: {error}"))
@@ -74,21 +89,23 @@ pub fn run(words: &[OsString], streams: Streams) -> u8 {
     })
 }
 
+/// What it calls itself where no command is known.
+const OWN: &str = "shuntberry";
+
 fn by_name(words: &[OsString], streams: Streams) -> (&'static str, Done) {
-    let own = "shuntberry";
     let Some((first, rest)) = words.split_first() else {
         let why = format!("no command\n{}", about::USAGE);
-        return (own, Err(Failure::Wrong(why)));
+        return (OWN, Err(Failure::Wrong(why)));
     };
     match first.to_str() {
-        Some("help" | "--help" | "-h") => (own, about::help(rest, streams)),
-        Some("--version") => (own, about::version(rest, streams)),
+        Some("help" | "--help" | "-h") => (OWN, about::help(rest, streams)),
+        Some("--version") => (OWN, about::version(rest, streams)),
         name => match COMMANDS.iter().find(|command| Some(command.name) == name) {
             Some(command) => {
                 let program = format!("shuntberry {}", command.name);
                 (command.name, call(&program, command, rest, streams))
             }
-            None => (own, Err(unknown(first))),
+            None => (OWN, Err(unknown(first))),
         },
     }
 }

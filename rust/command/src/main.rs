@@ -21,7 +21,5 @@ pub unsafe extern "C" fn main(count: c_int, words: *const *const c_char) -> c_in
         .map(|word| OsStr::from_bytes(word.to_bytes()).to_os_string())
         .collect();
     let streams = sys::begin(file_may_be_due(&words));
-    // A panic would be a mistake of this program; its message is on standard error.
-    let status = std::panic::catch_unwind(|| run(&words, streams)).unwrap_or(3);
-    status.into()
+    run(&words, streams).into()
 }

@@ -4,10 +4,13 @@
 //! `-o` was about to rename, ends the programs that were started, and, where a file was due on standard output and has no byte yet, writes
 //! `failed` there: with nothing there it would be an empty file, which is a draft.
 
-use std::ffi::{CString, c_char, c_int, c_ulong, c_void};
-use std::fs::File;
+use std::ffi::{CString, c_char, c_int, c_uint, c_ulong, c_void};
+use std::fs::{File, Metadata};
 use std::io::{self, IsTerminal};
-use std::os::fd::{AsFd, IntoRawFd};
+use std::mem::ManuallyDrop;
+use std::os::fd::{FromRawFd, IntoRawFd};
+use std::os::unix::ffi::OsStrExt;
+use std::path::Path;
 use std::ptr;
 use std::sync::atomic::{AtomicBool, AtomicI32, AtomicPtr, Ordering::SeqCst};
 
@@ -23,6 +26,18 @@ struct Poll {
 #[derive(Clone, Copy)]
 struct Signals([c_ulong; 16]);
 
+/// The kernel's answer about a file: of its 256 bytes, what is asked for here.
+#[repr(C)]
+#[derive(Default)]
+struct Statx {
+    before: [u32; 2],
+    attributes: u64,
+    between: [u64; 5],
+    /// Those of the attributes that the file system knows.
+    known: u64,
+    behind: [u64; 24],
+}
+
 unsafe extern "C" {
     fn fcntl(fd: c_int, command: c_int, ...) -> c_int;
     fn signal(number: c_int, action: usize) -> usize;
@@ -35,10 +50,19 @@ unsafe extern "C" {
     fn ppoll(polls: *mut Poll, count: c_ulong, wait: *const c_void, mask: *const Signals) -> c_int;
     fn sigfillset(set: *mut Signals) -> c_int;
     fn pthread_sigmask(how: c_int, set: *const Signals, old: *mut Signals) -> c_int;
+    fn statx(
+        folder: c_int,
+        path: *const c_char,
+        flags: c_int,
+        mask: c_uint,
+        found: *mut Statx,
+    ) -> c_int;
 }
 
 const F_GETFD: c_int = 1;
 const POLLOUT: i16 = 4;
+const AT_FDCWD: c_int = -100;
+const STATX_ATTR_MOUNT_ROOT: u64 = 0x2000;
 const SIG_SETMASK: c_int = 2;
 const DEFAULT: usize = 0;
 const IGNORE: usize = 1;
@@ -211,11 +235,27 @@ pub fn print(bytes: &[u8]) -> io::Result<()> {
 }
 
 fn is_regular_output() -> bool {
-    io::stdout()
-        .as_fd()
-        .try_clone_to_owned()
-        .and_then(|output| File::from(output).metadata())
-        .is_ok_and(|data| data.is_file())
+    output().is_ok_and(|data| data.is_file())
+}
+
+/// What standard output is. It is asked by its own number: a second one may not be had, where few files may
+/// be open.
+pub fn output() -> io::Result<Metadata> {
+    // SAFETY: it is only looked at, and not closed.
+    let output = ManuallyDrop::new(unsafe { File::from_raw_fd(OUTPUT) });
+    output.metadata()
+}
+
+/// Whether a file system is mounted on a file, as far as the kernel says so (from Linux 5.8 on). No other
+/// file can be put in its place then.
+pub fn is_mounted_on(path: &Path) -> io::Result<bool> {
+    let path = CString::new(path.as_os_str().as_bytes())?;
+    let mut found = Statx::default();
+    // SAFETY: a text that ends with a zero, and room for the whole answer.
+    match unsafe { statx(AT_FDCWD, path.as_ptr(), 0, 0, &mut found) } {
+        0 => Ok(found.attributes & found.known & STATX_ATTR_MOUNT_ROOT != 0),
+        _ => Err(io::Error::last_os_error()),
+    }
 }
 
 /// Closes standard output, which may be when a disk says that it is full.

@@ -1,17 +1,16 @@
 //! `check`: the verdict on one table, in the three lines of the program of the specification. Text and verdict are the proved call's.
 
-use crate::commands::release::vacuous;
 use crate::failure::{Done, Failure, status};
 use crate::files::{print, say};
 use crate::json::Object;
 use crate::lines::Names;
 use crate::refusals::{hint, old_form};
 use crate::source::{JSON, NAMES, SITE, Source, TEXT, name_lines};
-use crate::table::Table;
+use crate::table::{Set, Table};
 use crate::text::looks_like_text;
 use crate::words::{Call, Command, Opt, Output};
 use shuntberry::checking::{CHECK_TEXT_BYTES, Checked, check};
-use shuntberry::{MAX_ALLOWANCE, PATH_PLACES, Refused, Verdict, decide};
+use shuntberry::{MAX_ALLOWANCE, PATH_PLACES, Refused, StateSet, Verdict, decide};
 
 const EXPLAIN: Opt = Opt {
     name: "--explain",
@@ -58,13 +57,15 @@ fn run(call: &Call) -> Done {
         Some(answer) => answer,
         None => Answer::of(&source.file, source.site)?,
     };
-    if call.has(&EXPLAIN) {
-        if let Judged::Refused(refused) = answer.judged {
-            explain(refused, &source.file, source.site);
-        }
-        if let Some(why) = answer.vacuous(&source.file, source.site) {
-            say(&format!("check: {why}; {DECLINED}\n"));
-        }
+    if let Judged::Refused(refused) = answer.judged
+        && call.has(&EXPLAIN)
+    {
+        explain(refused, &source.file, source.site);
+    }
+    if let Some(why) = answer.vacuous
+        && (call.has(&EXPLAIN) || call.has(&JSON))
+    {
+        say(&format!("check: {why}; {DECLINED}\n"));
     }
     if call.has(&JSON) {
         print(
@@ -86,6 +87,17 @@ fn run(call: &Call) -> Done {
 }
 
 // ---- Answers
+
+/// Why it says little of a table that it is safe.
+pub fn vacuous(table: &Table) -> Option<&'static str> {
+    if table.set(Set::Initial) == StateSet::default() {
+        Some("the table has no initial state, so that it is safe whatever else is in it")
+    } else if table.forbidden().is_empty() {
+        Some("nothing in the table is forbidden, so that it is safe whatever else is in it")
+    } else {
+        None
+    }
+}
 
 /// What is said behind that.
 pub const DECLINED: &str = "release declines such a table";
@@ -112,6 +124,9 @@ pub struct Answer {
     pub n: usize,
     /// The lines.
     pub text: String,
+    /// Why it says little that the table is safe, if it does; of a draft nothing, which has a word of its
+    /// own.
+    pub vacuous: Option<&'static str>,
 }
 
 impl Answer {
@@ -124,11 +139,18 @@ impl Answer {
             Ok(Checked::RefusedFile { refusal, text }) => (Judged::Refused(refusal), 0, text),
             Err(refused) => return Err(Failure::Failed(format!("the call was {refused}"))),
         };
-        Ok(Answer {
+        let mut answer = Answer {
             judged,
             n,
             text: String::from_utf8_lossy(text).into_owned(),
-        })
+            vacuous: None,
+        };
+        if answer.status() == status::DONE {
+            let table = Table::read(file, site)
+                .map_err(|refused| Failure::Refused(refused, refused.to_string()))?;
+            answer.vacuous = vacuous(&table);
+        }
+        Ok(answer)
     }
 
     /// A table without states: safe, but nothing that may be released.
@@ -144,12 +166,6 @@ impl Answer {
             Judged::Unsafe => status::UNSAFE,
             Judged::Refused(_) => status::REFUSED,
         }
-    }
-
-    /// Why it says little that the table of this file is safe, if it does; of a draft nothing, which has a word of its own.
-    pub fn vacuous(&self, file: &[u8], site: usize) -> Option<&'static str> {
-        let table = Table::read(file, site).ok()?;
-        vacuous(&table).filter(|_| self.status() == status::DONE)
     }
 
     /// The answer's word.
@@ -201,12 +217,24 @@ impl Answer {
                 object = object.plain(word, number);
             }
         }
+        if self.status() == status::DONE {
+            object = with_vacuous(object, self.vacuous);
+        }
         object = match self.judged {
             Judged::Safe => object.numbers("invariant", self.listed()),
             Judged::Unsafe => object.numbers("path", self.listed()),
             _ => object,
         };
         with_names(object, names, self.listed())
+    }
+}
+
+/// Whether it says little that a table is safe, and why it does.
+pub fn with_vacuous(object: Object, why: Option<&str>) -> Object {
+    let object = object.plain("vacuous", why.is_some());
+    match why {
+        Some(why) => object.text("why", why),
+        None => object,
     }
 }
 
@@ -247,6 +275,7 @@ fn undecided(source: &Source, allowance: usize) -> Result<Option<Answer>, Failur
         judged: Judged::Undecided,
         n,
         text: format!("states {n} groups {g}\nundecided refinements {count}\n"),
+        vacuous: None,
     }))
 }
 

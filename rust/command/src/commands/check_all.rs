@@ -26,6 +26,11 @@ const ZERO: Opt = Opt {
     value: None,
     about: "the names of LIST end with a zero byte each, and not with a line",
 };
+const COUNT: Opt = Opt {
+    name: "--count",
+    value: Some("N"),
+    about: "checks nothing, and fails, unless there are just N files in all",
+};
 
 /// The command.
 pub const CHECK_ALL: Command = Command {
@@ -34,7 +39,7 @@ pub const CHECK_ALL: Command = Command {
     counts: (0, usize::MAX),
     about: "check many files, with a line for each",
     more: "A folder stands for the files in it, and in its folders, whose names end in .table, in capitals or not. The others are named on standard error.",
-    options: &[&SITE, &FROM, &ZERO, &JSON],
+    options: &[&SITE, &FROM, &ZERO, &COUNT, &JSON],
     needs: &[],
     output: Output::Answer,
     run,
@@ -42,27 +47,33 @@ pub const CHECK_ALL: Command = Command {
 
 fn run(call: &Call) -> Done {
     let site = site(call)?;
+    let count = call.number(&COUNT, usize::MAX)?;
     let (files, passed) = files(call)?;
     if files.is_empty() {
         return Err(Failure::Wrong("there is no file to check".to_string()));
+    }
+    if let Some(count) = count.filter(|&count| count != files.len()) {
+        return Err(Failure::Failed(format!(
+            "files to check: {}, where --count says {count}: none was checked",
+            files.len()
+        )));
     }
     let mut counts = Counts::default();
     let mut progress = Progress::new(files.len());
     let mut lines = Vec::new();
     for (done, file) in files.iter().enumerate() {
         progress.show(done, &counts, &mut lines)?;
-        let found = file.answer(site);
-        let remark = match &found {
-            Ok((_, vacuous)) => {
-                vacuous.map(|why| format!("{}: {why}; {DECLINED}", shown(file.path())))
-            }
+        let answer = file.answer(site);
+        let remark = match &answer {
+            Ok(answer) => answer
+                .vacuous
+                .map(|why| format!("{}: {why}; {DECLINED}", shown(file.path()))),
             Err(why) => Some(why.clone()),
         };
         if let Some(remark) = remark {
             progress.clear();
             say(&format!("check-all: {remark}\n"));
         }
-        let answer = found.map(|(answer, _)| answer);
         counts.count(&answer);
         lines.extend(file.line(&answer, call.has(&JSON)).into_bytes());
         if lines.len() > LINES_BYTES {
@@ -96,9 +107,11 @@ fn files(call: &Call) -> Result<(Vec<Entry>, Passed), Failure> {
     }
     match call.path(&FROM) {
         Some(list) => {
-            for name in listed(list, call.has(&ZERO))? {
-                let name = OsStr::from_bytes(&name);
-                add(Path::new(name), &mut files, &mut passed);
+            let end = if call.has(&ZERO) { ZERO_BYTE } else { LINE };
+            let names = listed(list, end)?;
+            let names = names.strip_suffix(&[end.0]).unwrap_or(&names);
+            for name in names.split(|&byte| byte == end.0) {
+                add(Path::new(OsStr::from_bytes(name)), &mut files, &mut passed);
             }
         }
         None if call.has(&ZERO) => {
@@ -109,22 +122,35 @@ fn files(call: &Call) -> Result<(Vec<Entry>, Passed), Failure> {
     Ok((files, passed))
 }
 
-/// The names of a list. One of no names is an accident.
-fn listed(list: &Path, zero: bool) -> Result<Vec<Vec<u8>>, Failure> {
-    let end = if zero { 0 } else { b'\n' };
+/// What each name of a list ends with, and how that is called.
+#[derive(Clone, Copy)]
+struct End(u8, &'static str);
+
+const LINE: End = End(b'\n', "line feed");
+const ZERO_BYTE: End = End(0, "zero byte");
+
+/// So many names a list may have, and so many bytes a name: no file has a longer one.
+const MAX_NAMES: usize = 100_000;
+const NAME_BYTES: usize = 4095;
+
+/// The bytes of a list, each of whose names has its end. One of no names is an accident.
+fn listed(list: &Path, End(end, called): End) -> Result<Vec<u8>, Failure> {
     let input = Input::named(list);
     let bytes = input.take(TEXT_BYTES + 1)?;
-    if bytes.is_empty() || bytes.len() > TEXT_BYTES {
-        return Err(Failure::Failed(format!(
-            "{} has no names, or is longer than {TEXT_BYTES} bytes",
-            input.shown()
-        )));
-    }
-    let names = bytes.strip_suffix(&[end]).unwrap_or(&bytes);
-    Ok(names
-        .split(|&byte| byte == end)
-        .map(<[u8]>::to_vec)
-        .collect())
+    let is_end = |&byte: &u8| byte == end;
+    let names = || bytes.split(is_end);
+    let why = if bytes.is_empty() || bytes.len() > TEXT_BYTES {
+        format!("has no names, or is longer than {TEXT_BYTES} bytes")
+    } else if !bytes.last().is_some_and(is_end) {
+        format!("may be cut: its last name does not end with a {called}")
+    } else if names().nth(MAX_NAMES + 1).is_some() {
+        format!("has more than {MAX_NAMES} names: make several lists of it")
+    } else if names().any(|name| name.len() > NAME_BYTES) {
+        format!("has a name of more than {NAME_BYTES} bytes, as no file has one")
+    } else {
+        return Ok(bytes);
+    };
+    Err(Failure::Failed(format!("{} {why}", input.shown())))
 }
 
 fn add(path: &Path, files: &mut Vec<Entry>, all: &mut Passed) {
@@ -193,8 +219,10 @@ impl Passed {
 
 /// Whether a name ends in `.table`; some systems write it in capitals.
 fn is_table(path: &Path) -> bool {
-    path.extension()
-        .is_some_and(|end| end.eq_ignore_ascii_case("table"))
+    const END: &[u8] = b".table";
+    let name = path.as_os_str().as_bytes();
+    let end = name.len().checked_sub(END.len()).map(|at| &name[at..]);
+    end.is_some_and(|end| end.eq_ignore_ascii_case(END))
 }
 
 /// The files below a folder, in the order of their names. A link to a folder is not followed: it could lead in a circle.
@@ -229,8 +257,8 @@ impl Entry {
         }
     }
 
-    /// What is found of the file, and why that says little, if it does; or why it failed.
-    fn answer(&self, site: usize) -> Result<(Answer, Option<&'static str>), String> {
+    /// What is found of the file, or why it failed.
+    fn answer(&self, site: usize) -> Result<Answer, String> {
         match self {
             Entry::Fails(path, why) => return Err(format!("{}: {why}", shown(path))),
             // A pipe could wait for ever; one that is named is meant.
@@ -248,9 +276,7 @@ impl Entry {
         let file = Input::named(self.path())
             .take(FILE_BYTES + 1)
             .map_err(why)?;
-        let answer = Answer::of(&file, site).map_err(why)?;
-        let vacuous = answer.vacuous(&file, site);
-        Ok((answer, vacuous))
+        Answer::of(&file, site).map_err(why)
     }
 
     fn line(&self, answer: &Result<Answer, String>, json: bool) -> String {

@@ -1,8 +1,8 @@
 //! `options`: a table some of whose steps exist only on pumps with an option bought, decided for every choice between them.
 
-use crate::commands::check::with_names;
+use crate::commands::check::{DECLINED, vacuous, with_names, with_vacuous};
 use crate::failure::{Done, Failure, status};
-use crate::files::{Input, print};
+use crate::files::{Input, print, say};
 use crate::json::Object;
 use crate::lines::Names;
 use crate::source::{JSON, NAMES, SITE, Source, TEXT, alone, name_lines, parsed};
@@ -47,26 +47,26 @@ fn run(call: &Call) -> Done {
     }?;
     let mut path = [0; PATH_PLACES];
     let (table, g) = (&modal.table, modal.table.g());
-    let verdict = decide_modal(table.store(), table.n(), g, &modal.possible, &mut path)
+    let possible = rows(&modal.more);
+    let verdict = decide_modal(table.store(), table.n(), g, &possible, &mut path)
         .map_err(|refused| Failure::Refused(refused, refused.to_string()))?;
     let answer = Answer::of(verdict);
+    if let Some(why) = answer.vacuous(&modal) {
+        say(&format!("options: {why}; {DECLINED}\n"));
+    }
     let said = match call.has(&JSON) {
         true => answer.object(&modal).line(),
         false => answer.lines(&modal),
     };
     print(said.as_bytes())?;
-    Ok(match answer.word {
-        _ if table.n() == 0 => status::NO_RELEASE,
-        "safe" => status::DONE,
-        "unsafe" => status::UNSAFE,
-        _ => status::NO_RELEASE,
-    })
+    Ok(answer.status(table))
 }
 
 /// A table and its possible steps.
 struct Modal {
     table: Table,
-    possible: Vec<u64>,
+    /// The same table with every possible step in it: whether a state hangs goes by these.
+    more: Table,
     names: Names,
 }
 
@@ -92,8 +92,8 @@ impl Modal {
             ));
         }
         Ok(Modal {
-            possible: rows(&more),
             table,
+            more,
             names: source.names,
         })
     }
@@ -106,8 +106,8 @@ impl Modal {
             more.insert(Set::Successors(a), b);
         }
         Ok(Modal {
-            possible: rows(&more),
             table: text.table,
+            more,
             names: text.names,
         })
     }
@@ -145,6 +145,20 @@ impl Answer {
         }
     }
 
+    fn status(&self, table: &Table) -> u8 {
+        match self.word {
+            _ if table.n() == 0 => status::NO_RELEASE,
+            "safe" => status::DONE,
+            "unsafe" => status::UNSAFE,
+            _ => status::NO_RELEASE,
+        }
+    }
+
+    /// Why it says little that the table is safe, if it does.
+    fn vacuous(&self, modal: &Modal) -> Option<&'static str> {
+        vacuous(&modal.more).filter(|_| self.status(&modal.table) == status::DONE)
+    }
+
     fn states(&self) -> impl Iterator<Item = usize> {
         let invariant = self.invariant.unwrap_or_default();
         let path = self.path.iter().flatten().copied();
@@ -178,6 +192,9 @@ impl Answer {
             .text("verdict", word)
             .plain("states", modal.table.n())
             .plain("groups", modal.table.g());
+        if self.status(&modal.table) == status::DONE {
+            object = with_vacuous(object, self.vacuous(modal));
+        }
         if let Some(invariant) = self.invariant {
             object = object.numbers("invariant", invariant.states());
         }

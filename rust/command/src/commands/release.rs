@@ -37,6 +37,7 @@ fn run(call: &Call) -> Done {
         return Err(Failure::Wrong("expected FILE OUT".to_string()));
     };
     need_apart(to)?;
+    need_place(to)?;
     let file = Input::named(from).take(FILE_BYTES + 1)?;
     let answer = Answer::of(&file, site)?;
     print(answer.text.as_bytes())?;
@@ -59,9 +60,7 @@ fn run(call: &Call) -> Done {
         nothing("the table has no states");
         return Ok(status::NO_RELEASE);
     }
-    let table = Table::read(&file, site)
-        .map_err(|refused| Failure::Refused(refused, refused.to_string()))?;
-    if let Some(why) = vacuous(&table)
+    if let Some(why) = answer.vacuous
         && !call.has(&VACUOUS)
     {
         nothing(&format!("{why} ({})", VACUOUS.name));
@@ -70,13 +69,14 @@ fn run(call: &Call) -> Done {
     if answer.status() != status::DONE {
         return Ok(status::FAILED);
     }
+    let table = Table::read(&file, site)
+        .map_err(|refused| Failure::Refused(refused, refused.to_string()))?;
     if is_unmarked(&table) {
         say(&format!(
             "release: {}: look at it: no state is marked as forbidden, only hangs are\n",
             shown(from)
         ));
     }
-    need_place(to)?;
     // Of the bytes that were checked, so that it is true also where they do not get their name; behind that nothing may fail.
     let sum = format!("SHA-256 {}\n", sha256(&file));
     replace_after(to, &file, || print(sum.as_bytes()))?;
@@ -86,15 +86,4 @@ fn run(call: &Call) -> Done {
 /// Whether hangs alone are forbidden: a state that nothing reaches may be one by accident, and the forbidden ones be forgotten.
 fn is_unmarked(table: &Table) -> bool {
     table.set(Set::Marked) == StateSet::default() && !table.forbidden().is_empty()
-}
-
-/// Why it says little of a table that it is safe.
-pub fn vacuous(table: &Table) -> Option<&'static str> {
-    if table.set(Set::Initial) == StateSet::default() {
-        Some("the table has no initial state, so that it is safe whatever else is in it")
-    } else if table.forbidden().is_empty() {
-        Some("nothing in the table is forbidden, so that it is safe whatever else is in it")
-    } else {
-        None
-    }
 }

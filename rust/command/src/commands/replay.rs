@@ -7,7 +7,8 @@ use crate::lines::{Mistake, Mistakes, Names, number, quoted, said};
 use crate::source::{JSON, NAMES, SITE, Source, TEXT, parsed};
 use crate::table::Table;
 use crate::words::{Call, Command, Opt, Output};
-use shuntberry::{Refused, StateSet, open, replay};
+use shuntberry::{MAX_LOG, Refused, StateSet, open, replay};
+use std::collections::BTreeMap;
 
 const TEXT_LOG: Opt = Opt {
     name: "--text-log",
@@ -75,9 +76,9 @@ fn text_log(input: Input, names: &Names) -> Result<Vec<u8>, Failure> {
     };
     let mut mistakes = Mistakes::default();
     let mut log = Vec::new();
+    let states: BTreeMap<&str, usize> = names.iter().map(|(s, name)| (&**name, *s)).collect();
     for (line, word) in words {
-        let named = names.iter().find(|(_, name)| **name == word);
-        let state = number(&word).or(named.map(|(state, _)| *state));
+        let state = number(&word).or_else(|| states.get(&*word).copied());
         match state.map(u16::try_from) {
             Some(Ok(state)) => log.extend(state.to_le_bytes()),
             Some(Err(_)) => mistakes.push(Mistake {
@@ -106,11 +107,17 @@ fn text_log(input: Input, names: &Names) -> Result<Vec<u8>, Failure> {
     }
 }
 
-/// The words of a text, each with its line.
+/// The most entries of a log.
+const MAX_ENTRIES: usize = MAX_LOG / 2;
+
+/// The words of a text, each with its line; of a log that is too long no more than show that it is.
 fn words_of(text: &[u8]) -> Result<Vec<(usize, String)>, Mistakes> {
     let mut mistakes = Mistakes::default();
     let mut words = Vec::new();
     for (line, found) in said(text)? {
+        if words.len() > MAX_ENTRIES {
+            break; // too long a log, whatever follows
+        }
         match found {
             Ok(found) => words.extend(found.into_iter().map(|word| (line, word.to_string()))),
             Err(reason) => mistakes.push(Mistake {

@@ -5,7 +5,6 @@ use crate::commands::about::{VERSION, version_line};
 use crate::commands::check::{Answer, Judged};
 use crate::commands::inspect::Found;
 use crate::commands::picture::say_drawing;
-use crate::commands::release::vacuous;
 use crate::drawing::{Limits, draw};
 use crate::failure::{Done, Failure};
 use crate::files::{Input, OUT, need_place, print, replace, say};
@@ -51,6 +50,7 @@ fn run(call: &Call) -> Done {
     };
     let date = date()?;
     let source = Source::of(call, Some(from))?;
+    need_place(to)?;
     let answer = Answer::of(&source.file, source.site)?;
     print(answer.text.as_bytes())?;
     if let Judged::Refused(refused) = answer.judged {
@@ -70,13 +70,12 @@ fn run(call: &Call) -> Done {
         answer: &answer,
         found: &Found::of(&table, &source.names).map_err(refused)?,
         names_from: source.names_from.clone(),
-        vacuous: vacuous(&table),
+        vacuous: answer.vacuous,
         picture: pictured(&table, &source, from)?,
         date,
         version: version_line("shuntberry"),
         proved: proved(),
     };
-    need_place(to)?;
     replace(to, record.page().as_bytes())?;
     Ok(answer.status())
 }
