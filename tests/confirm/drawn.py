@@ -54,7 +54,7 @@ def other_report(drawn, rng):
         case 5 if states:
             states = [some_state() if rng.random() < 0.2 else s for s in states]
         case 6:
-            return report(drawn, verdict, states, rng.choice([0, 1, 511, 512, 513, 10**9, -1]))
+            return report(drawn, verdict, states, rng.choice([0, 1, drawn.n, drawn.n + 1, 512, 513, 10**9, -1]))
         case 7:
             return report(drawn, verdict, states, size=len(states) + rng.choice([-1, 1, 10]))
     return report(drawn, verdict, states)

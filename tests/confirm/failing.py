@@ -1,9 +1,11 @@
 #!/usr/bin/env python3
 """The command confirm where something goes wrong: words, streams, signals, limits, environments, a confirm that was cut, a Python that is none. Nothing of that
 ends with 0, 1 or 4, and what can be caught ends with 3. Then the same with a confirm that has a mistake in it, which must be found."""
+import hashlib
 import os
 import random
 import resource
+import shutil
 import signal
 import subprocess
 import sys
@@ -17,6 +19,19 @@ A, B, EMPTY, BAD, LARGEST, LONG = (TABLES / f"{name}.table" for name in "a b emp
 SAID = {path: path.with_suffix(".expected") for path in (A, B, EMPTY, BAD, LARGEST)}
 ANSWERS = {A: 0, B: 1, EMPTY: 4, BAD: 3}
 rng = random.Random(SEED)
+PYTHON = "/usr/bin/python3"  # that of confirm
+
+
+def put_summed(name, said, table):
+    """A report with the line of release, for which Python's hashlib is loaded."""
+    path = WORK / name
+    path.write_bytes(said + f"SHA-256 {hashlib.sha256(table.read_bytes()).hexdigest()}\n".encode())
+    return path
+
+
+RELEASED = put_summed("released", SAID[A].read_bytes(), A)
+FORGED = put_summed("forged", b"states 5 groups 0\nsafe refinements 0\ninvariant 5: 0 1 2 3 4\n", B)
+CASES = [(table, SAID[table], status) for table, status in ANSWERS.items()] + [(A, RELEASED, 0), (B, FORGED, 3)]
 
 
 class Wrong(Exception):
@@ -57,7 +72,7 @@ def words(program, confirm):
         fails(confirm(f"--site={site}", A, a), site)
     ends(confirm("--site", "0", A, a), 0)
     run = confirm("--help")
-    if run.returncode != 3 or not run.stdout.startswith(b"usage: confirm [--site N] FILE REPORT\n"):
+    if run.returncode != 3 or not run.stdout.startswith(b"usage: confirm [--site N] [--] FILE REPORT\n"):
         raise Wrong("--help", run)
     for name in b"-dash", b"--", b"-", b"a space", b"two\nlines", b"\xff\xfe", b"$(exit 0)", "ä".encode(), b"x" * 255:
         folder = os.fsencode(WORK / "names")
@@ -66,8 +81,14 @@ def words(program, confirm):
             Path(os.fsdecode(folder + b"/" + name)).write_bytes(table.read_bytes())
             ends(confirm("--", os.fsdecode(folder + b"/" + name), SAID[table]), status, name)
             ends(confirm("--", name, SAID[table], cwd=folder), status, name)
-    (WORK / "names/-dash").write_bytes(a.read_bytes())
-    ends(confirm("--", A, "-dash", cwd=WORK / "names"), 0)
+    for name in "-dash", "-":
+        (WORK / "names" / name).write_bytes(a.read_bytes())
+        ends(confirm("--", A, name, cwd=WORK / "names"), 0)
+        ends(confirm("--site", "0", "--", A, name, cwd=WORK / "names", input=SAID[B].read_bytes()), 0)
+        fails(confirm("--", B, name, cwd=WORK / "names", input=SAID[B].read_bytes()), "standard input, which is not named")
+    fails(confirm("--", A, "-", cwd=TOP, input=a.read_bytes()), "no file -")
+    ends(confirm(A, "-", cwd=WORK / "names", input=a.read_bytes()), 0)
+    fails(confirm(A, "-", cwd=WORK / "names", input=SAID[B].read_bytes()), "the file -, which is not named")
 
 
 # ---- outputs
@@ -244,6 +265,11 @@ def signals(program, confirm):
     run, python = waiting(program, preexec_fn=lambda: signal.signal(signal.SIGHUP, signal.SIG_IGN))
     run.send_signal(signal.SIGHUP)
     ends(ended(run, SAID[A].read_bytes()), 0, "nohup")
+    # a parent that waits for no child, and one that holds signals back
+    blocked = lambda: signal.pthread_sigmask(signal.SIG_BLOCK, signal.valid_signals())
+    for before in (lambda: signal.signal(signal.SIGCHLD, signal.SIG_IGN)), blocked:
+        for table, said, status in CASES:
+            ends(counted(call, table, said, program=(program,), preexec_fn=before), status)
     # at any moment
     for _ in range(40):
         run = counted(subprocess.Popen, [program, A, SAID[A]], stdin=subprocess.DEVNULL, stdout=subprocess.PIPE, stderr=subprocess.PIPE, start_new_session=True)
@@ -279,9 +305,9 @@ def limits(program, confirm):
 # ---- environments
 
 def evil(folder):
-    """Modules by the names of Python's own, which end as a confirmed safe would."""
+    """Programs and modules by the names of others, which end as a confirmed safe would."""
     folder.mkdir(exist_ok=True)
-    for name in "atexit os posix posixpath stat sys sitecustomize usercustomize site signal re io codecs encodings abc genericpath".split():
+    for name in "atexit os posix posixpath stat sys sitecustomize usercustomize site signal re io codecs encodings abc genericpath hashlib".split():
         (folder / f"{name}.py").write_text("import posix\nposix._exit(40)\n")
     for name in "python3 python kill wait bash sh env trap".split():
         (folder / name).write_text("#!/bin/sh\necho 'confirmed safe: '\nexit 40\n")
@@ -290,43 +316,108 @@ def evil(folder):
     return folder
 
 
+LOADED = r"""
+#include <unistd.h>
+__attribute__((constructor)) static void loaded(void) {
+  static const char text[] = "confirmed safe: forged\nnot confirmed: the count of refinements\n";
+  _exit(write(1, text, sizeof text - 1) > 0 ? 40 : 3);
+}
+"""
+OPENSSL = """openssl_conf = all
+[all]
+providers = of_providers
+engines = of_engines
+[of_providers]
+forger = forger
+[forger]
+module = {so}
+activate = 1
+[of_engines]
+forging = forging
+[forging]
+dynamic_path = {so}
+init = 1
+"""
+
+
+def forgers(folder):
+    """Environments that make a program load a library, which forges the answer: each with a program in which it is seen to do so."""
+    folder.mkdir(exist_ok=True)
+    library = folder / "FORGER.so"
+    (folder / "forger.c").write_text(LOADED)
+    subprocess.run(["gcc", "-shared", "-fPIC", "-o", library, folder / "forger.c"], check=True)
+    (folder / "openssl.cnf").write_text(OPENSSL.format(so=library))
+    conf = {"OPENSSL_CONF": folder / "openssl.cnf", "OPENSSL_MODULES": folder, "OPENSSL_ENGINES": folder}
+    yield "OPENSSL_CONF", conf, [PYTHON, "-I", "-S", "-c", "import hashlib; hashlib.sha256(b'')"]
+    # the C library loads the converter of a locale's letters from where it is told
+    (folder / "gconv-modules").write_text("module ISO-8859-15// INTERNAL FORGER 1\nmodule INTERNAL ISO-8859-15// FORGER 1\n")
+    if shutil.which("localedef"):
+        subprocess.run(["localedef", "-i", "POSIX", "-f", "ISO-8859-15", "--no-archive", folder / "forging"], capture_output=True)
+    yield "GCONV_PATH", {"GCONV_PATH": folder, "LOCPATH": folder, "LC_ALL": "forging"}, ["/bin/bash", "-p", "-c", ":"]
+
+
+def with_words(trick):
+    return os.environ | {key: str(value) for key, value in trick.items()}
+
+
+def working_forgers():
+    """Those of them that this system falls for."""
+    for name, trick, program in forgers(WORK / "forgers"):
+        run = subprocess.run(program, env=with_words(trick), capture_output=True)
+        if run.returncode == 40 and run.stdout.startswith(b"confirmed safe: forged"):
+            yield name, trick
+        else:
+            print(f"confirm: {name}: {program[0]} does not load a library by it here, so it is not tried", flush=True)
+
+
+FORGERS = dict(working_forgers())
+
+
 def environments(program, confirm):
     bad = evil(WORK / "evil")
     path = os.environ["PATH"]
     tricks = {
-        "modules": {"PYTHONPATH": bad, "PYTHONUSERBASE": bad, "PYTHONSTARTUP": bad / "exits"},
+        "modules": {"PYTHONPATH": bad, "PYTHONUSERBASE": bad, "PYTHONSTARTUP": bad / "exits", "PYTHONPYCACHEPREFIX": bad},
         "Python": {"PYTHONOPTIMIZE": "2", "PYTHONINSPECT": "1", "PYTHONWARNINGS": "error", "PYTHONIOENCODING": "utf-16", "PYTHONINTMAXSTRDIGITS": "640", "PYTHONHASHSEED": "x",
                    "PYTHONUTF8": "x", "PYTHONVERBOSE": "1", "PYTHONDEVMODE": "1", "PYTHONMALLOC": "debug", "PYTHONBREAKPOINT": "os.abort", "PYTHONEXECUTABLE": "/nowhere"},
         "home": {"PYTHONHOME": "/nowhere", "PYTHONPLATLIBDIR": "no", "HOME": bad},
         "fakes": {"PATH": f"{bad}:{path}"},
         "nothing in reach": {"PATH": "/nowhere"},
-        "shell": {"BASH_ENV": bad / "exits", "ENV": bad / "exits", "SHELLOPTS": "noexec:xtrace", "BASHOPTS": "extglob", "CDPATH": "/", "IFS": "/", "POSIXLY_CORRECT": "1", "PS4": "$(exit 0)"},
+        "shell": {"BASH_ENV": bad / "exits", "ENV": bad / "exits", "SHELLOPTS": "noexec:xtrace", "BASHOPTS": "extglob", "CDPATH": "/", "IFS": "/", "POSIXLY_CORRECT": "1", "PS4": "$(exit 0)",
+                  "BASH_XTRACEFD": "1", "BASH_COMPAT": "3.2", "BASH_LOADABLES_PATH": bad, "TMOUT": "1", "python": bad / "python3"},
         "functions": {f"BASH_FUNC_{name}%%": "() { builtin exit 0; }" for name in ("python3", "wait", "trap", "kill", "exec", "exit", "[", ":")},
-        "languages": {"LC_ALL": "tr_TR.UTF-8", "LANG": "C", "PYTHONCOERCECLOCALE": "1", "TERM": "x", "TMPDIR": "/nowhere"},
+        "languages": {"LC_ALL": "xx_XX.nowhere", "LANG": "C", "PYTHONCOERCECLOCALE": "1", "TERM": "x", "TMPDIR": "/nowhere"},
         "nothing": None,
-    }
+    } | FORGERS
     for name, trick in tricks.items():
-        env = {} if trick is None else os.environ | {key: str(value) for key, value in trick.items()}
-        for table, status in ANSWERS.items():
+        env = {} if trick is None else with_words(trick)
+        for table, said, status in CASES:
             for folder in TOP, bad:
-                run = confirm(table, SAID[table], env=env, cwd=folder)
-                run.stderr = b"".join(line for line in run.stderr.splitlines(True) if b"cannot change locale" not in line)
-                ends(run, status, name)
+                ends(confirm(table, said, env=env, cwd=folder), status, name)
     copy = bad / "confirm"
     copy.write_bytes(Path(program).read_bytes()), os.chmod(copy, 0o755)
     link = WORK / "by a link"
     link.is_symlink() or os.symlink(copy, link)
     for called in (copy,), (link,), (sys.executable, copy), (sys.executable, "-O", copy), (sys.executable, "-OO", "-i", copy), (sys.executable, "-I", copy), ("/bin/bash", copy):
-        for table, status in ANSWERS.items():
-            ends(confirm(table, SAID[table], program=called), status, called)
-            ends(confirm(table, "-", program=called, input=SAID[table].read_bytes()), status, called)
-    # a Python that ends in some way without having looked
-    tampered = WORK / "tampered"
-    tampered.write_text(Path(program).read_text().replace("PATH=/usr/bin:/usr/local/bin:$PATH", f"PATH={WORK}/python"))
+        for table, said, status in CASES:
+            ends(confirm(table, said, program=called), status, called)
+            ends(confirm(table, "-", program=called, input=said.read_bytes()), status, called)
+    # bash and Python that were called by others have had their environment; what they start has not
+    if "OPENSSL_CONF" in FORGERS:
+        for called in ("/bin/bash", copy), (PYTHON, copy):
+            fails(confirm(B, FORGED, program=called, env=with_words(FORGERS["OPENSSL_CONF"])), called)
+    run = confirm(A, SAID[A], program=("/bin/sh", copy))
+    if run.returncode != 0:  # a sh that is no bash
+        fails(run)
+    # a Python that ends in some way without having looked, and none where it must be
+    tampered, fake = WORK / "tampered", WORK / "python/python3"
+    places = "/usr/bin/python3 /usr/local/bin/python3"
+    source = Path(program).read_text()
+    need(source.count(places) == 1, f"confirm does not name {places}")
+    tampered.write_text(source.replace(places, f"/nowhere/python3 {fake}"))
     os.chmod(tampered, 0o755)
-    fails(confirm(A, SAID[A], program=(tampered,)), "no Python")
-    (WORK / "python").mkdir(exist_ok=True)
-    fake = WORK / "python/python3"
+    fails(confirm(A, SAID[A], program=(tampered,)), "no Python but that of PATH")
+    fake.parent.mkdir(exist_ok=True)
     for way in [f"exit {status}" for status in {*range(256)} - {40, 41, 44} if status < 50 or status in (120, 127, 128, 139, 255)] + ["kill -9 $$", "kill -11 $$", "exec 2>&-"]:
         fake.write_text(f"#!/bin/sh\n{way}\n")
         os.chmod(fake, 0o755)
@@ -372,6 +463,10 @@ MISTAKES = [
     ("Python's 0 is safe", "  40) exit 0 ;;", "  0 | 40) exit 0 ;;", cuts),
     ("Python's 1 is unsafe", "  41) exit 1 ;;", "  1 | 41) exit 1 ;;", inputs),
     ("Python's status as it is", "  exit 3\n}", "  exit $?\n}", environments),
+    ("the environment handed on to bash", " -i /bin/bash", " /bin/bash", environments),
+    ("the environment handed on to Python", "/usr/bin/env -i ", "", environments),
+    ("the Python that PATH has", "env -i \"$python\"", "env -i python3", environments),
+    ("- is standard input behind -- too", "names, options = words[1:], []", "names, options = [None if word == \"-\" else word for word in words[1:]], []", words),
     ("signals not caught", "  trap ", "  : ", signals),
     ("Python goes on after a signal", "kill -KILL $! 2>/dev/null; ", "", signals),
     ("a part that is written is enough", "        left = left[os.write(stream, left) :]", "        try:\n            left = left[os.write(stream, left) :]\n        except OSError:\n            return", outputs),
@@ -379,7 +474,7 @@ MISTAKES = [
     ("the front of a longer file", "os.read(stream, most + 1 - len(some))", "os.read(stream, most - len(some))", inputs),
     ("sites of any size", "int(word) <= MAX_SITE", "True", words),
     ("sites of any form", "set(word) <= set(\"0123456789\") and ", "", words),
-    ("words too many", "len(words) == 2 and (options", "len(words) > 1 and (options", words),
+    ("words too many", "len(names) == 2 and not options", "len(names) > 1 and not options", words),
     ("the help is safe", "end(NOT_CONFIRMED, ", "end(SAFE, ", words),
 ]
 source = CONFIRM.read_text()

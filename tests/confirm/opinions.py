@@ -40,10 +40,13 @@ def put(name, some):
 
 def by_command(file, site, report):
     """In each way that a report can be given."""
-    words = [["--site", str(site)], [f"--site={site}"], ["--site", str(site), "--"]][rng.randrange(3)] if site or rng.random() < 0.3 else []
+    words = [["--site", str(site)], [f"--site={site}"]][rng.randrange(2)] if site or rng.random() < 0.3 else []
     table, said = put("table", file), put("report", report)
-    if rng.random() < 0.5:
-        return call(*words, table, "-", input=report)
+    match rng.randrange(4):
+        case 0 | 1:
+            return call(*words, table, "-", input=report)
+        case 2:
+            return call(*words, "--", table, said)
     return call(*words, table, said)
 
 
@@ -141,7 +144,9 @@ MISTAKES = [
     ("white space not looked at", "text == printed(table, verdict, count, states)", "text.split() == printed(table, verdict, count, states).split()"),
     ("every other verdict is safe", 'need(verdict in ("safe", "unsafe"), ', "need(True, "),
     ("a negative count", "0 <= count <=", "count <="),
-    ("every count", "0 <= count <= MAX_REFINEMENTS", "count >= 0"),
+    ("every count", "0 <= count <= table.n", "count >= 0"),
+    ("a count that a larger table may have", "0 <= count <= table.n", "0 <= count <= MAX_STATES"),
+    ("no count that is the number of states", "0 <= count <= table.n", "0 <= count < table.n"),
     ("the numbers of blocks not looked at", "number(block[:2]) == k", "True"),
     ("the low bytes of the numbers alone", "number(block[:2]) == k", "block[0] == k"),
     ("checks not looked at", "number(block[-2:]) == check % PRIME", "True"),
@@ -201,7 +206,7 @@ def typed():
             yield file, 0, (said + more).encode()
         yield spec.with_byte(file, 510, file[510] ^ 1), 0, (said + line).encode()
         yield file, 0, (line + said).encode()
-        for count in "0", "1", "512", "513", "-1", "00", "", "1 ":
+        for count in "0", "1", table.n, table.n + 1, "512", "513", "-1", "00", "", "1 ":
             yield file, 0, re.sub("refinements [0-9]+", f"refinements {count}", said).encode()
         for more in "\n", " ", "\0", said, "refused 13\n":
             yield file, 0, (said + more).encode()

@@ -58,7 +58,7 @@ def status(file, site, report):
     table, found = table_of(file, site), REPORT.fullmatch(report)
     if not table or not found or (int(found["n"]), int(found["g"])) != (table.n, len(table.groups)):
         return NOT_CONFIRMED
-    if int(found["i"] or found["j"]) > spec.ALLOWANCE:
+    if int(found["i"] or found["j"]) > table.n:
         return NOT_CONFIRMED
     states = [int(word) for word in (found["path"] or found["invariant"]).split() if word != b"none"]
     if not set(states) <= table.states():

@@ -84,15 +84,17 @@ fn drawn_by(
     // In threads of their own: it may print before it has read all, and what it started may keep its streams open.
     let (input, output) = (dot.stdin.take(), dot.stdout.take());
     let graph = graph.as_bytes().to_vec();
-    let writes = move || input.map_or(Ok(()), |mut input| input.write_all(&graph));
-    let written = apart(writes).map_err(|error| ended(dot, Some(error.to_string())))?;
-    let prints = move || {
+    let write = move || input.map_or(Ok(()), |mut input| input.write_all(&graph));
+    let read = move || {
         let mut bytes = Vec::new();
         let most = (most as u64).saturating_add(1);
         output.map_or(Ok(0), |output| output.take(most).read_to_end(&mut bytes))?;
         Ok(bytes)
     };
-    let printed = apart(prints).map_err(|error| ended(dot, Some(error.to_string())))?;
+    let (written, printed) = match (apart(write), apart(read)) {
+        (Ok(written), Ok(printed)) => (written, printed),
+        (Err(error), _) | (_, Err(error)) => return Err(ended(dot, Some(error.to_string()))),
+    };
     let bytes = match printed.recv_timeout(left()) {
         Ok(Ok(bytes)) if bytes.len() <= most => bytes,
         Ok(Ok(_)) => {
@@ -116,18 +118,15 @@ fn drawn_by(
     }
 }
 
-/// Far more than a thread that reads or writes takes. It is given, since the environment would decide else
-/// (RUST_MIN_STACK).
-const STACK_BYTES: usize = 1 << 18;
+/// What a thread needs by far; without a number the standard library looks for one in the environment.
+const STACK: usize = 1 << 18;
 
 /// Does something meanwhile, and says what came of it.
 fn apart<T: Send + 'static>(does: impl FnOnce() -> T + Send + 'static) -> io::Result<Receiver<T>> {
     let (said, heard) = channel();
-    thread::Builder::new()
-        .stack_size(STACK_BYTES)
-        .spawn(move || {
-            let _ = said.send(does()); // where nobody waits any more it is not missed
-        })?;
+    thread::Builder::new().stack_size(STACK).spawn(move || {
+        let _ = said.send(does()); // where nobody waits any more it is not missed
+    })?;
     Ok(heard)
 }
 
