@@ -25,8 +25,6 @@ pub struct Drawing {
     pub height: f64,
     /// What stands within the element `svg`.
     pub shapes: String,
-    /// Nothing: what is not listed makes it no drawing.
-    pub active: Option<String>,
 }
 
 /// The drawing that an SVG has, or why it is none.
@@ -624,7 +622,6 @@ impl Cleaner {
             width,
             height,
             shapes: self.shapes,
-            active: None,
         })
     }
 }

@@ -5,7 +5,7 @@ use crate::failure::{Done, Failure, status};
 use crate::files::{OUT, put, say};
 use crate::picture::{self, Graph, Options};
 use crate::source::{NAMES, SITE, Source, TEXT};
-use crate::svg::{Drawing, cleaned};
+use crate::svg::cleaned;
 use crate::table::Table;
 use crate::words::{Call, Command, Opt, Output};
 use std::io::{self, IsTerminal};
@@ -65,17 +65,12 @@ fn svg(graph: Graph) -> Result<Vec<u8>, Failure> {
             _ => why.to_string(),
         })
     })?;
-    let why = match cleaned(&svg, graph.asked) {
-        Ok(Drawing { active: None, .. }) => return Ok(svg), // as dot wrote it, with the classes of states and steps
-        Ok(Drawing { active, .. }) => {
-            let what = active.unwrap_or_default();
-            format!("it has '{what}', which no drawing of a table has")
-        }
-        Err(why) => why,
-    };
-    Err(Failure::Failed(format!(
-        "what dot printed is no drawing of the table: {why}"
-    )))
+    match cleaned(&svg, graph.asked) {
+        Ok(_) => Ok(svg), // as dot wrote it, with the classes of states and steps
+        Err(why) => Err(Failure::Failed(format!(
+            "what dot printed is no drawing of the table: {why}"
+        ))),
+    }
 }
 
 /// Says on a terminal what takes its time.
