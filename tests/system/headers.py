@@ -20,8 +20,11 @@ OURS = {
     "PIPE_BYTES": ["PIPE_BUF"],
     "LAST_SIGNAL": ["SIGRTMAX"],
     "NO_GROUP": None,
-    # those that cannot be caught, those that end nothing, and the two between the last usual signal and the first of real time
-    "LEFT_ALONE": "SIGKILL SIGSTOP SIGCHLD SIGCONT SIGTSTP SIGTTIN SIGTTOU SIGURG SIGWINCH SIGRTMIN-2 SIGRTMIN-1".split(),
+    # those that cannot be caught, those that end nothing, and the two that the C library keeps, below the first of real time
+    "LEFT_ALONE": [
+        *"SIGKILL SIGSTOP SIGCHLD SIGCONT SIGTSTP SIGTTIN SIGTTOU SIGURG SIGWINCH".split(),
+        *["SIGRTMIN - 2", "SIGRTMIN - 1"],
+    ],
 }
 # A struct of ours: the type in C, and its fields there; what is not in the list is filler.
 STRUCTS = {
