@@ -502,7 +502,7 @@ for name in "check", "shuntberry", "VERSION", "crates.txt", "scripts/native":
     os.chmod(clone / name, 0o755)
 bare = WORK / "bare"
 bare.mkdir()
-for tool in "touch tail mv mkdir flock".split():
+for tool in "tail mv mkdir flock rm".split():
     os.symlink(subprocess.run(["which", tool], capture_output=True, text=True).stdout.strip(), bare / tool)
 for script in "check", "shuntberry":
     run = subprocess.run([clone / script, A], capture_output=True, env={"PATH": str(bare)}, text=True)
@@ -515,12 +515,9 @@ for tool in "rt", "cargo":
     (bare / tool).write_text("#!/bin/sh\necho the build is broken\nexit 1\n")
     os.chmod(bare / tool, 0o755)
 run = subprocess.run([clone / "check", A], capture_output=True, env={"PATH": str(bare)}, text=True)
-need(run.returncode == FAILED and not run.stdout and "the build is broken" in run.stderr and "could not be built: prove_library" in run.stderr, run)
-for name in "library", "program":
+need(run.returncode == FAILED and not run.stdout and "the build is broken" in run.stderr and "could not be built: the library" in run.stderr, run)
+for name in "library", "program":  # tests/dist/clone has when it is built
     (clone / f"target/{name}.built").write_bytes(b"")
-run = subprocess.run([clone / "check", A], capture_output=True, env={"PATH": str(bare)}, text=True)
-need(run.returncode == SAFE and run.stdout == (TABLES / "a.expected").read_text(), run)
-os.utime(clone / "crates.txt", (time.time() + 60, time.time() + 60))
 run = subprocess.run([clone / "check", A], capture_output=True, env={"PATH": str(bare)}, text=True)
 need(run.returncode == FAILED and not run.stdout, run)
 (clone / "scripts/native").unlink()
