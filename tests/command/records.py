@@ -577,7 +577,7 @@ if shutil.which("dot"):
             count += 1
     group(f"{count} pictures by dot")
 else:
-    print("no dot: the pictures of records were not drawn")
+    print("skipped: no dot: the pictures of records were not drawn")
 
 # ---- one read: what is written over the file meanwhile plays no part
 
@@ -758,4 +758,4 @@ if browser and browse("--dump-dom", "about:blank") is not None:
         support.count += 2
     group("records in a browser")
 else:
-    print("no browser: no record was looked at in one")
+    print("skipped: no browser: no record was looked at in one")

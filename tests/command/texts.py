@@ -227,5 +227,5 @@ if shutil.which("dot"):
         need(b"</svg>" in gives(SAFE, None, "picture", "--svg", "--", name, cwd=WORK).out, name)
     gives(SAFE, None, "picture", "--svg", "--text", TOP / "examples/pump.txt")
 else:
-    print("no dot: the pictures were not drawn")
+    print("skipped: no dot: the pictures were not drawn")
 group("pictures")

@@ -81,7 +81,7 @@ try:
         for wrong in (work / "none", work, torn / NAME, "/dev/null"):
             no_answer("SHUNTBERRY_LIBRARY names", alone, SHUNTBERRY_LIBRARY=str(wrong))
     else:
-        print("python: the system has the library: the environment's was not tried")
+        print("skipped: the system has the library: the environment's was not tried")
     answers(loader / NAME, alone, LD_LIBRARY_PATH=str(loader))
     answers(loader / NAME, alone, LD_LIBRARY_PATH="loader")
     answers(loader / NAME, alone, LD_LIBRARY_PATH=str(loader), SHUNTBERRY_LIBRARY=str(torn / NAME))

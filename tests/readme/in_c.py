@@ -17,7 +17,7 @@ lines = re.findall(r"`(cc released\.c [^`]*)`", README)
 same(len(lines), 2, "lines that compile it")
 need("--libs" in lines[0] and "archive" in lines[1], "the page does not link the shared library first, and then the archive")
 if not shutil.which("pkg-config"):
-    print("readme: no pkg-config: C was compiled by flags of the test's own")
+    print("skipped: no pkg-config: C was compiled by flags of the test's own")
     flags = f"'-I{HOME}/include' "
     lines = [f"cc released.c {flags} '-L{HOME}/lib' -lshuntberry -o released", f"cc released.c {flags} '{HOME}/lib/libshuntberry.a' -o released"]
 

@@ -24,7 +24,7 @@ if shutil.which("rt"):
     version = run(["rt", "version"]).decode().strip()
     need(f"`{version}`" in README, f"README.md names another toolchain than {version!r}")
 else:
-    print("readme: no rt: the version of the toolchain was not looked at")
+    print("skipped: no rt: the version of the toolchain was not looked at")
 
 counted = [int(number) for number in re.findall(r"^ *(\d+)  ", run([str(TOP / "scripts" / "believe")]).decode(), re.M)]
 for page in (README, (TOP / "docs" / "BELIEVE.md").read_text()):
