@@ -81,6 +81,13 @@
 pub mod checking;
 pub mod raw;
 
+// links the functions that `raw` declares
+#[cfg(any(
+    feature = "portable",
+    not(all(target_arch = "x86_64", target_os = "linux"))
+))]
+use ::portable_c as _;
+
 mod builder;
 mod set;
 mod table;

@@ -130,7 +130,7 @@ fn put_rows(numbers: &[u32], n: usize, f: usize, store: &mut [u64])
     requires { ⌜ (0 < n) × (n ≤ maxStates) × (longLag + n * f ≤ length (now numbers)) × (storeWords ≤ length (now store)) ⌝ }
     ensures { λ r. ⌜ now (store .exit) ≡ putSets rowAt (successors (now (numbers .entry)) n f) n (now (store .entry)) ⌝ }
 {
-    let inverse = (1 << 32) / n;
+    let inverse = (1u64 << 32) / (n as u64);
     for s in 0..n {
         let from = LONG_LAG + s * f;
         let end = from + f;
@@ -141,7 +141,7 @@ fn put_rows(numbers: &[u32], n: usize, f: usize, store: &mut [u64])
 
 // x modulo n, where `inverse` is 2^32 / n: a multiplication in place of a division, which would be most of the work. The quotient that it gives is at most
 // one too small.
-fn remainder(x: usize, n: usize, inverse: usize) -> usize
+fn remainder(x: u64, n: u64, inverse: u64) -> u64
     requires { ⌜ (x < 2 ^ 32) × (0 < n) × (n ≤ maxStates) × (inverse ≡ 2 ^ 32 / n) ⌝ }
     ensures { λ r. ⌜ r ≡ x % n ⌝ }
 {
@@ -152,19 +152,26 @@ fn remainder(x: usize, n: usize, inverse: usize) -> usize
 
 // Some numbers, each modulo n, as a set in a row. The bits are set in the store itself, in words that are cleared for it: a set put together
 // elsewhere would be read by wider words than it was written by, which is slow.
-fn put_remainders(numbers: &[u32], n: usize, inverse: usize, row: &mut [u64])
+fn put_remainders(numbers: &[u32], n: usize, inverse: u64, row: &mut [u64])
     requires { ⌜ (0 < n) × (n ≤ maxStates) × (inverse ≡ 2 ^ 32 / n) × (WORDS ≤ length (now row)) ⌝ }
     ensures { λ r. ⌜ now (row .exit) ≡ overwrite (remainders (now (numbers .entry)) n) (now (row .entry)) ⌝ }
 {
     put_set(row, 0, StateSet::empty());
     for i in 0..numbers.len() {
-        let t = remainder(wide(numbers[i]), n, inverse);
+        let t = narrow(remainder(wide(numbers[i]), n as u64, inverse));
         row[t / WORD_BITS] |= 1 << (t % WORD_BITS);
     }
 }
 
-fn wide(x: u32) -> usize
+fn wide(x: u32) -> u64
     ensures { λ r. ⌜ (r ≡ x) × (r < 2 ^ 32) ⌝ }
+{
+    x as u64
+}
+
+// A number of 64 bits as a place, in a function of its own: where a place has 32 bits it is looked at (scripts/portable).
+fn narrow(x: u64) -> usize
+    ensures { λ r. ⌜ r ≡ x ⌝ }
 {
     x as usize
 }

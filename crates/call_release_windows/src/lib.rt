@@ -40,13 +40,15 @@ pub enum NextOpen {
 fn start_of(window: u64) -> usize
     ensures { λ r. ⌜ r ≡ startOf window ⌝ }
 {
-    (window % LENGTH_UNIT) as usize
+    let start = window % LENGTH_UNIT;
+    start as usize
 }
 
 fn length_of(window: u64) -> usize
     ensures { λ r. ⌜ r ≡ lengthOf window ⌝ }
 {
-    (window / LENGTH_UNIT) as usize
+    let length = window / LENGTH_UNIT;
+    length as usize
 }
 
 // ---- refusals

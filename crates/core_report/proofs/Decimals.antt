@@ -1,54 +1,47 @@
--- The digits that `io::decimal` puts are those of `decimal`.
+-- Laws of `decimal`: its digits are the last one after those of a tenth of the number, and few.
 --
---   fewest-le                       a number below 10 ^ m has at most m digits
---   glyph-digit                     io's digit below 10 is a decimal digit
---   fewest-front                    without its last digit a number has one digit fewer
---   digits-fewest, decimal-digits   the fewest digits that hold n, as io has them, are `decimal n`
-use Prim.Native.Nat.{ℕ, zero, suc, _+_, _-_, _/_, _%_, _^_, _≤_, _<_}
-use native.Mathlib.Nat.{not-suc-le-zero, pow-suc, pow-le-pow-right}
-use native.Mathlib.Numerals.{sub-one}
+--   digits-fuel                     as many digits as there are, whatever more may be taken
+--   decimal-one, decimal-more       a number below 10; from 10 on, and how long that is (decimal-long)
+--   decimal-short                   a number below 10 ^ m has at most m digits
+use Prim.Native.Nat.{ℕ, zero, suc, _+_, _/_, _%_, _^_, _≤_, _<_}
+use native.Mathlib.Nat.{not-suc-le-zero, pow-suc}
 use native.Mathlib.Omega.{arith}
-use mathlib.Core.Path.{_≡_, ap, ap₂, _∙_}
+use mathlib.Core.Path.{_≡_, refl, ap}
 use mathlib.Core.Logic.{⊎-elim}
 use mathlib.Core.List.{List, [], _∷_, _++_}
-use borrow.Author.Tests.{ltb-true, ltb-false, lt-ltb}
-use lib.Dec.{ltb}
-use Rattle.io.specs.Digits.{glyph, Fewest, digits as digitsIn}
-use Rattle.basics.proofs.BoundLaws.{by-cond, lt-or-ge}
-use Rattle.core_report.specs.Text.{digits, decimal}
+use borrow.Author.Tests.{lt-ltb, le-ltb}
+use lib.ListN.{length, length-append}
+use Rattle.basics.proofs.BoundLaws.{lt-or-ge}
+use Rattle.core_report.specs.Text.{digit, digits, decimal}
 
-pub fewest-le : (m n k : ℕ) → 0 < m → n < 10 ^ m → Fewest 10 1 n k → k ≤ m
-fewest-le m n k p h f =
-    ⊎-elim
-    (λ l. let more : 10 ^ m ≤ 10 ^ (k - 1) = pow-le-pow-right (omega arith) (omega arith) in absurd (omega (arith, f .2 (omega arith))))
-    (λ l. l)
-    (lt-or-ge m k)
-
-glyph-digit : (d : ℕ) → d < 10 → glyph d ≡ 48 + d
-glyph-digit d h = rw (lt-ltb d 10 h)
-
-fewest-front : (n k : ℕ) → 10 ≤ n → Fewest 10 1 n (suc k) → Fewest 10 1 (n / 10) k
-fewest-front n zero h f = absurd (omega (arith, f .1))
-fewest-front n (suc k) h f =
-    let least : 10 ^ suc k ≤ n = rw (sub-one (suc (suc k))) at (f .2 (omega arith)) in
-    (omega arith, omega (arith, f .1, pow-suc 10 (suc k)), λ m. rw (sub-one (suc k)) (omega (arith, pow-suc 10 k)))
-
-digits-fewest : (fuel n k : ℕ) → n < fuel → Fewest 10 1 n k → digitsIn 10 k n ≡ digits fuel n
+digits-fuel : (f g n : ℕ) → n < f → n < g → digits f n ≡ digits g n
 unfolding digits
-digits-fewest zero n k h f = absurd (not-suc-le-zero h)
-digits-fewest (suc fuel) n zero h f = absurd (not-suc-le-zero (f .0))
-digits-fewest (suc fuel) n (suc k) h f =
-    by-cond (λ (r : List ℕ). digitsIn 10 k (n / 10) ++ (glyph (n % 10) ∷ []) ≡ r) (ltb n 10) _ _
-    (λ e.
-    let small : n < 10 = ltb-true n 10 e in
-    let none : k ≡ 0 = omega (arith, fewest-le 1 n (suc k) (omega arith) small f) in
-    rw none (ap (λ (d : ℕ). d ∷ []) (glyph-digit (n % 10) (omega arith) ∙ omega arith)))
-    (λ e.
-    let large : 10 ≤ n = ltb-false n 10 e in
-    ap₂ (λ (xs : List ℕ) (d : ℕ). xs ++ (d ∷ []))
-    (digits-fewest fuel (n / 10) k (omega arith) (fewest-front n k large f))
-    (glyph-digit (n % 10) (omega arith)))
+digits-fuel zero g n h k = absurd (not-suc-le-zero h)
+digits-fuel (suc f) zero n h k = absurd (not-suc-le-zero k)
+digits-fuel (suc f) (suc g) n h k =
+    ⊎-elim
+    (λ (l : n < 10). rw (lt-ltb n 10 l) refl)
+    (λ (l : 10 ≤ n). rw (le-ltb n 10 l) (ap (λ (xs : List ℕ). xs ++ (digit (n % 10) ∷ [])) (digits-fuel f g (n / 10) (omega arith) (omega arith))))
+    (lt-or-ge n 10)
 
-pub decimal-digits : {n k : ℕ} → Fewest 10 1 n k → digitsIn 10 k n ≡ decimal n
-unfolding decimal
-decimal-digits {n} {k} f = digits-fewest (suc n) n k (omega arith) f
+pub decimal-one : (n : ℕ) → n < 10 → decimal n ≡ digit n ∷ []
+unfolding decimal digits
+decimal-one n l = rw (lt-ltb n 10 l) refl
+
+pub decimal-more : (n : ℕ) → 10 ≤ n → decimal n ≡ decimal (n / 10) ++ (digit (n % 10) ∷ [])
+unfolding decimal digits
+decimal-more n l =
+    rw (le-ltb n 10 l) (ap (λ (xs : List ℕ). xs ++ (digit (n % 10) ∷ [])) (digits-fuel n (suc (n / 10)) (n / 10) (omega arith) (omega arith)))
+
+pub decimal-long : (n : ℕ) → 10 ≤ n → length (decimal n) ≡ length (decimal (n / 10)) + 1
+decimal-long n l = rw (decimal-more n l) (length-append (decimal (n / 10)) (digit (n % 10) ∷ []))
+
+pub decimal-short : (m n : ℕ) → n < 10 ^ suc m → length (decimal n) ≤ suc m
+decimal-short zero n h = rw (decimal-one n (omega arith)) (omega arith)
+decimal-short (suc m) n h =
+    ⊎-elim
+    (λ (l : n < 10). rw (decimal-one n l) (omega arith))
+    (λ (l : 10 ≤ n).
+    rw (decimal-more n l)
+    (omega (arith, length-append (decimal (n / 10)) (digit (n % 10) ∷ []), decimal-short m (n / 10) (omega (arith, pow-suc 10 (suc m))))))
+    (lt-or-ge n 10)

@@ -1,7 +1,7 @@
 -- What is printed for a file (docs/SPECIFICATION.md, "The program"), as lists of bytes.
 --
 --   ascii s                                a text: the code of each character
---   decimal n                              the digits of n: no zero in front, `0` for 0
+--   digit d, decimal n                     the digit d; the digits of n: no zero in front, `0` for 0
 --   spaced xs                              each number after a single space
 --   statesLine n g, verdictLine word count lines 1 and 2
 --   invariantLine X, pathLine xs           line 3, for safe and for unsafe
@@ -26,7 +26,7 @@ unfoldable pub ascii : String → List ℕ
 ascii []ˢ = []
 ascii (c ∷ˢ s) = code c ∷ ascii s
 
-abbrev digit : ℕ → ℕ
+abbrev pub digit : ℕ → ℕ
 digit d = code "0" + d
 
 -- The last digits of n, at most so many of them.

@@ -14,7 +14,7 @@ ghost use lib.ListN.{length};
 ghost use Rattle.model.specs.Sets.{maxStates, member, members};
 ghost use Rattle.model.specs.Stores.{maxGroups};
 ghost use Rattle.model.specs.Calls.{release};
-ghost use Rattle.core_report.specs.Text.{ascii, decimal, spaced, statesLine, verdictLine, invariantLine, pathLine, safeText, unsafeText, undecidedText, refusedText};
+ghost use Rattle.core_report.specs.Text.{ascii, digit, decimal, spaced, statesLine, verdictLine, invariantLine, pathLine, safeText, unsafeText, undecidedText, refusedText};
 ghost use Rattle.core_report.specs.Put.{numberLimit, numberBytes, spacedBytes, textRoom, Front, Put};
 use core_state_set::MAX_STATES;
 use core_state_set::StateSet;
@@ -165,10 +165,28 @@ fn put_number(label: &[u8], n: usize, at: usize, out: &mut [u8]) -> usize
     requires { ⌜ (n < numberLimit) × (at + (length (now label) + numberBytes) ≤ length (now out)) ⌝ }
     ensures { λ r. ⌜ Put (length (now (label .entry)) + numberBytes) (now (label .entry) ++ decimal n) at (now (out .entry)) r (now (out .exit)) ⌝ }
 {
-    let mut digits = [0u8; 20];
-    let k = io::decimal(n as u64, &mut digits);
     let a = put(label, at, out);
-    put(&digits[..k], a, out)
+    put_decimal(n, a, out)
+}
+
+// The digits of n: the last one after those of n / 10.
+fn put_decimal(n: usize, at: usize, out: &mut [u8]) -> usize
+    requires { ⌜ at + length (decimal n) ≤ length (now out) ⌝ }
+    ensures { λ r. ⌜ Put (length (decimal n)) (decimal n) at (now (out .entry)) r (now (out .exit)) ⌝ }
+{
+    if n < 10 {
+        return put_digit(n, at, out);
+    }
+    let a = put_decimal(n / 10, at, out);
+    put_digit(n % 10, a, out)
+}
+
+fn put_digit(d: usize, at: usize, out: &mut [u8]) -> usize
+    requires { ⌜ (d < 10) × (at + 1 ≤ length (now out)) ⌝ }
+    ensures { λ r. ⌜ Put 1 (digit d ∷ []) at (now (out .entry)) r (now (out .exit)) ⌝ }
+{
+    out[at] = b'0' + d as u8;
+    at + 1
 }
 
 fn put(text: &[u8], at: usize, out: &mut [u8]) -> usize

@@ -5,7 +5,7 @@
 //   HEADER                                   the content bytes of n and of the second number, before the sets
 //   MAX_FILE, JOINED_ROOM                    the length of the largest file, and the bytes that its contents take, joined
 //   Form, head_sets, added                   the form of a file; its sets before the groups, how many; what its second number has more than g
-//   wide                                     a byte as a 64-bit number
+//   wide                                     a byte as a number
 //   le16_at                                  the number whose two bytes stand at a place, low byte first
 //   copy_content                             the content of a block, copied
 //   MODULUS, MAX_SITE, checksum_of           the prime of the checksum; the greatest site number; the checksum of a block for a site (01: its check)
@@ -81,17 +81,17 @@ pub fn added(form: Form) -> usize
     }
 }
 
-pub fn wide(b: u8) -> u64
+pub fn wide(b: u8) -> usize
     ensures { λ r. ⌜ (r ≡ b) × (r < 256) ⌝ }
 {
-    b as u64
+    b as usize
 }
 
 pub fn le16_at(bytes: &[u8], i: usize) -> usize
     requires { ⌜ i + 1 < length (now bytes) ⌝ }
     ensures { λ r. ⌜ r ≡ le16At (now (bytes .entry)) i ⌝ }
 {
-    (wide(bytes[i]) + 256 * wide(bytes[i + 1])) as usize
+    wide(bytes[i]) + 256 * wide(bytes[i + 1])
 }
 
 // The content of a block, from byte `from` of some bytes on, to the front of what is lent.
@@ -161,7 +161,7 @@ fn whole_chunks(block: &[u8]) -> u32
 }
 
 // The sum starts from the site and the whole chunks. It stays below 2^32, so it is reduced once, at the end.
-pub fn checksum_of(block: &[u8], site: usize) -> u64
+pub fn checksum_of(block: &[u8], site: usize) -> usize
     requires { ⌜ (checkAt ≤ length (now block)) × (site ≤ maxSite) ⌝ }
     ensures { λ r. ⌜ r ≡ checkOf site (now (block .entry)) ⌝ }
 {
@@ -169,7 +169,7 @@ pub fn checksum_of(block: &[u8], site: usize) -> u64
     for i in LANES * CHUNKS..CHECK_AT {
         sum += (i as u32 + 1) * (wide(block[i]) as u32);
     }
-    (sum % MODULUS) as u64
+    (sum % MODULUS) as usize
 }
 
 pub fn set_width(n: usize) -> usize

@@ -115,7 +115,7 @@ fn word_in(bytes: &[u8], at: usize, v: usize) -> u64
 {
     let mut word: u64 = 0;
     for b in 0..8 {
-        word |= wide(bytes[at + (8 * v + b)]) << (8 * b);
+        word |= (wide(bytes[at + (8 * v + b)]) as u64) << (8 * b);
     }
     word
 }

@@ -160,7 +160,7 @@ fn block_fault(block: &[u8], site: usize, k: usize) -> u8
     if number != k {
         return 12;
     }
-    let check = le16_at(block, CHECK_AT) as u64;
+    let check = le16_at(block, CHECK_AT);
     let sum = checksum_of(block, site);
     if check != sum {
         return 13;

@@ -94,6 +94,6 @@ fn write_block(bytes: &[u8], site: usize, k: usize, out: &mut [u8])
 {
     write_le16(k, out);
     copy_content(bytes, CONTENT_BYTES * k, &mut out[CONTENT_AT..]);
-    let check = checksum_of(out, site) as usize;
+    let check = checksum_of(out, site);
     write_le16(check, &mut out[CHECK_AT..]);
 }

@@ -16,8 +16,8 @@ Inv-loop numbers n inverse row₀ i₀ i-end row i =
 abbrev μ-loop : tie.MeasureT-loop
 μ-loop numbers n inverse row₀ i₀ i-end row i = i-end - i
 
-state : (c : tie.After-remainder Inv-loop μ-loop) → c .remainder .result < maxStates
-state c = remainder-state _ (c .remainder .ensures) (search needs) (search needs)
+state : (c : tie.After-narrow Inv-loop μ-loop) → c .narrow .result < maxStates
+state c = remainder-state _ (c .narrow .ensures ∙ c .before .remainder .ensures) (search needs) (search needs)
 
 pub put-remainders-spec : {M : Type 1} → statement M
 put-remainders-spec =
@@ -34,6 +34,7 @@ put-remainders-spec =
     (λ c. search needs)
     (λ c κs. search needs)
     (λ c κs. search needs)
+    (λ c κs. search needs)
     (λ c. search needs)
     (λ c. record { fits = omega (arith, state c) })
     (λ c. omega (arith, state (c .before)))
@@ -42,8 +43,8 @@ put-remainders-spec =
     (λ c. search needs)
     (λ c.
     let taken = c .before in
-    let so = taken .before .before .before .before .loop .inv in
-    (search needs, search needs, reducing-more _ _ (so .2) (taken .before .wide .ensures .0) (taken .remainder .ensures) (state taken)))
+    let so = taken .before .before .before .before .before .loop .inv in
+    (search needs, search needs, reducing-more _ _ (so .2) (taken .before .before .wide .ensures .0) (taken .narrow .ensures ∙ taken .before .remainder .ensures) (state taken)))
     (λ c. c .before .loop .inv .2 .long ∙ c .before .before .before .before .put-set .kept .0)
     (λ c.
     let put = c .before .before .before .before in
