@@ -7,8 +7,8 @@ from dataclasses import dataclass
 from typing import Any, FrozenSet, Iterable, List, Optional, Tuple
 
 from ._answers import Checked, Decision, ModalDecision, Replay, Verdict, checked_of, verdict_of
-from ._library import (
-    CHECK_TEXT, FILE_BYTES, MAX_ALLOWANCE, NO_MINUTE, PATH_PLACES, POSSIBLE_WORDS, UNREACHABLE, Session as RawSession, StateSet, call, fitting, whole)
+from ._library import call, fitting, whole
+from ._raw import CHECK_TEXT, FILE_BYTES, MAX_ALLOWANCE, NO_MINUTE, PATH_PLACES, POSSIBLE_WORDS, UNREACHABLE, Session as RawSession, Set as StateSet
 from ._refusals import UnknownAnswer
 from ._tables import Bytes, State, Steps, Store, Table, accepted, lent, states_in
 

@@ -3,7 +3,7 @@
 use crate::{Refused, accepted, front, raw};
 
 /// The room that the longest text of [`check`] takes.
-pub const CHECK_TEXT_BYTES: usize = 4_096;
+pub const CHECK_TEXT_BYTES: usize = raw::CHECK_TEXT;
 
 /// What [`check`] answers of a file, with the text that the program `check` prints for it: the front of the lent buffer.
 #[derive(Clone, Copy, Debug, PartialEq, Eq)]
@@ -88,9 +88,9 @@ fn checked(said: raw::Checked, text: &[u8]) -> Result<Checked<'_>, Refused> {
     accepted(said.refusal)?;
     let text = front(text, said.length)?;
     match (said.file_refusal, said.verdict) {
-        (0, raw::SAFE) => Ok(Checked::Safe { n: said.n, text }),
-        (0, raw::UNSAFE) => Ok(Checked::Unsafe { n: said.n, text }),
-        (0, _) => Err(Refused::UNKNOWN_ANSWER),
+        (raw::ACCEPTED, raw::SAFE) => Ok(Checked::Safe { n: said.n, text }),
+        (raw::ACCEPTED, raw::UNSAFE) => Ok(Checked::Unsafe { n: said.n, text }),
+        (raw::ACCEPTED, _) => Err(Refused::UNKNOWN_ANSWER),
         (refusal, raw::NO_VERDICT) => Ok(Checked::RefusedFile {
             refusal: Refused(refusal),
             text,

@@ -82,56 +82,25 @@ pub mod checking;
 pub mod raw;
 
 mod builder;
+mod refusals;
 mod set;
 mod table;
 
 pub use builder::{NeedsInitial, NeedsMarked, NeedsSteps, TableBuilder};
 pub use set::{State, StateSet, States};
-pub use table::{Decision, ModalDecision, Report, Table, TableSession};
+pub use table::{Decision, Forbidden, ModalDecision, Report, Table, TableSession};
 
 use std::error::Error;
 use std::fmt;
 
-/// The words of a set.
-pub const SET_WORDS: usize = 8;
-/// The sets that stand before the groups: initial, marked and resting.
-pub const HEAD_SETS: usize = 3;
-/// The greatest number of states.
-pub const MAX_STATES: usize = 64 * SET_WORDS;
-/// The greatest number of groups.
-pub const MAX_GROUPS: usize = 64;
-/// The greatest allowance, and that of a release check: with it no verdict is undecided.
-pub const MAX_ALLOWANCE: usize = MAX_STATES;
-/// The least length of a store, in words.
-pub const STORE_WORDS: usize = row(MAX_STATES);
-/// The least length of a path buffer, in 16-bit places.
-pub const PATH_PLACES: usize = MAX_STATES;
-/// The length of the largest file: 73 blocks of 512 bytes.
-pub const FILE_BYTES: usize = 37_376;
-/// The greatest site number.
-pub const MAX_SITE: usize = 65_520;
-/// The greatest fan-out of a generated table.
-pub const MAX_FAN_OUT: usize = 16;
-/// The greatest length of a pump's log, in bytes.
-pub const MAX_LOG: usize = 32_768;
-/// The least length of a buffer of possible steps, in words.
-pub const POSSIBLE_WORDS: usize = possible_row(MAX_STATES);
-/// The greatest time, in minutes.
-pub const MAX_TIME: usize = 2_147_483_647;
-/// The greatest number of windows.
-pub const MAX_WINDOWS: usize = 32;
-/// The greatest number of closed days.
-pub const MAX_DAYS: usize = 64;
+pub use raw::{
+    FILE_BYTES, HEAD_SETS, INITIAL, MARKED, MAX_ALLOWANCE, MAX_DAYS, MAX_FAN_OUT, MAX_GROUPS,
+    MAX_LOG, MAX_SITE, MAX_STATES, MAX_TIME, MAX_WINDOWS, PATH_PLACES, POSSIBLE_WORDS, RESTING,
+    SET_WORDS, STORE_WORDS,
+};
 
 /// What [`distances`] writes for a state from which no forbidden state can be reached.
-pub const UNREACHABLE: u16 = 65_535;
-
-/// Where the initial set begins in a store.
-pub const INITIAL: usize = 0;
-/// Where the set of the states that are marked forbidden begins in a store.
-pub const MARKED: usize = SET_WORDS;
-/// Where the resting set begins in a store.
-pub const RESTING: usize = 2 * SET_WORDS;
+pub const UNREACHABLE: u16 = raw::UNREACHABLE as u16;
 
 /// Where group `j` begins in a store, for `j` below [`MAX_GROUPS`].
 pub const fn group(j: usize) -> usize {
@@ -229,56 +198,24 @@ const fn saturated(number: u64) -> u64 {
 #[derive(Clone, Copy, Debug, PartialEq, Eq, Hash)]
 pub struct Refused(pub u32);
 
-/// Each ground by name, with its number and its words: as in the header, of which each constant has the name.
-macro_rules! refusals {
-    ($($name:ident = $number:literal, $ground:literal;)*) => {
-        impl Refused {
-            $(
-                #[doc = concat!($number, ": ", $ground, ".")]
-                pub const $name: Refused = Refused($number);
-            )*
-
-            /// The ground on which the call was refused.
-            pub fn message(self) -> &'static str {
-                match self {
-                    $(Refused::$name => $ground,)*
-                    Refused::UNKNOWN_ANSWER => "the library answered with a number that this version of the wrapper does not know",
-                    _ => "no ground that this version of the wrapper knows",
-                }
-            }
-        }
-    };
-}
-
-refusals! {
-    STORE_SHORT = 10, "the store has under 4,632 words, or the possible steps under 4,096";
-    INPUT_LENGTH = 11, "the input's length is no multiple of 512, or over 37,376";
-    BLOCK_NUMBER = 12, "a block does not hold its own number";
-    BLOCK_CHECK = 13, "a block's stored check is not its check for the site";
-    STATES = 14, "n is over 512, or 0 with groups, in a block or in a load";
-    GROUPS = 15, "g is over 64, or a file's second number is not g + 32,768, as in the old form";
-    BLOCK_COUNT = 16, "the number of blocks is not that of a file with this n and g";
-    STRAY_BIT = 17, "a set, the resting one included, holds a state from n up, or a word of an unused group or row is not 0, also of the possible steps";
-    FILLER = 18, "a filler byte is not 0";
-    OUTPUT_SHORT = 19, "the output is shorter than the file";
-    ALLOWANCE = 20, "the allowance is over 512";
-    PATH_SHORT = 21, "the path buffer has under 512 places";
-    FAN_OUT = 22, "the fan-out is over 16";
-    DISTANCES_SHORT = 23, "the distance buffer has fewer than n places";
-    SITE = 24, "the site is over 65,520";
-    LOG_ODD = 25, "the log's length is odd";
-    LOG_LONG = 26, "the log has over 32,768 bytes";
-    STEP_STATE = 27, "a state number of an edit is n or more";
-    NOT_POSSIBLE = 28, "a certain step is not possible";
-    WINDOW_RANGE = 29, "a window starts past minute 10,079 of the week, or is 0 or over 10,080 minutes long";
-    TOO_MANY = 30, "there are over 32 windows or over 64 closed days";
-    TIME = 31, "the time is over 2^31 - 1";
-}
-
 impl Refused {
     /// No ground of the library's: it accepted the call, and then answered with a number that stands for nothing that this
     /// version of the wrapper knows, as a library of a later version might. The proved library gives none.
     pub const UNKNOWN_ANSWER: Refused = Refused(u32::MAX);
+
+    /// The ground on which the call was refused.
+    pub fn message(self) -> &'static str {
+        if self == Refused::UNKNOWN_ANSWER {
+            return "the library answered with a number that this version of the wrapper does not know";
+        }
+        let known = refusals::GROUNDS
+            .iter()
+            .find(|(number, _)| *number == self.0);
+        known.map_or(
+            "no ground that this version of the wrapper knows",
+            |(_, ground)| ground,
+        )
+    }
 }
 
 impl fmt::Display for Refused {
@@ -871,7 +808,7 @@ pub fn next_open(
 /// The refusal of a call, if its number is one.
 fn accepted(refusal: u32) -> Result<(), Refused> {
     match refusal {
-        0 => Ok(()),
+        raw::ACCEPTED => Ok(()),
         number => Err(Refused(number)),
     }
 }
@@ -899,6 +836,10 @@ fn front<T>(buffer: &[T], length: usize) -> Result<&[T], Refused> {
 #[cfg(doctest)]
 #[doc = include_str!("../README.md")]
 struct Page;
+
+/// A store is just the sets that it holds, and nothing is cut where a size becomes 16 bits.
+const _: () = assert!(STORE_WORDS == row(MAX_STATES) && POSSIBLE_WORDS == possible_row(MAX_STATES));
+const _: () = assert!(UNREACHABLE as usize == raw::UNREACHABLE && MAX_STATES == 64 * SET_WORDS);
 
 #[cfg(test)]
 mod tests {
