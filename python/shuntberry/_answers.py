@@ -8,6 +8,8 @@ from typing import FrozenSet, NoReturn, Optional, Tuple
 from . import _raw
 from ._refusals import Refused, UnknownAnswer
 
+__all__ = ["Answer", "Checked", "Decision", "Forbidden", "ModalDecision", "Replay", "Verdict"]
+
 
 class Verdict(enum.Enum):
     """What a decision says. Look at `is_safe` of the answer first: the verdict of a table without states, such as an empty file gives, is SAFE too. A verdict

@@ -229,7 +229,7 @@ impl Error for Refused {}
 /// Decides whether a forbidden state can be reached, with at most `allowance` refinements.
 ///
 /// If unsafe, the path stands at the front of `path`, and no other place of it is touched; if safe or
-/// undecided, none is. Refused with 10, 14, 15, 17, 20 or 21.
+/// undecided, none is. Refused as [`raw::shuntberry_decide`] says.
 pub fn decide<'p>(
     store: &[u64],
     n: usize,
@@ -274,7 +274,7 @@ fn verdict(decision: raw::Decision, path: &[u16]) -> Result<Verdict<'_>, Refused
 /// The smallest of the shortest paths from an initial to a forbidden state, at the front of `path`;
 /// no other place of it is touched, and none if there is no path.
 ///
-/// Refused with 10, 14, 15, 17 or 21.
+/// Refused as [`raw::shuntberry_shortest_path`] says.
 ///
 /// ```
 /// use shuntberry::{INITIAL, MARKED, PATH_PLACES, STORE_WORDS, row, shortest_path};
@@ -322,7 +322,7 @@ pub fn shortest_path<'p>(
 /// `distances`: one place for each of the `n` states, [`UNREACHABLE`] where none can be reached. No
 /// other place is touched.
 ///
-/// Refused with 10, 14, 15, 17 or 23.
+/// Refused as [`raw::shuntberry_distances`] says.
 ///
 /// ```
 /// use shuntberry::{INITIAL, MARKED, RESTING, STORE_WORDS, UNREACHABLE, distances, row, within};
@@ -364,7 +364,7 @@ pub fn distances(store: &[u64], n: usize, g: usize, distances: &mut [u16]) -> Re
 
 /// Whether there is a path of at most `k` steps from an initial to a forbidden state.
 ///
-/// Refused with 10, 14, 15 or 17.
+/// Refused as [`raw::shuntberry_within`] says.
 pub fn within(store: &[u64], n: usize, g: usize, k: usize) -> Result<bool, Refused> {
     // SAFETY: the pointer and the length are those of a slice.
     let answer = unsafe { raw::shuntberry_within(store.as_ptr(), store.len(), n, g, k) };
@@ -376,7 +376,7 @@ pub fn within(store: &[u64], n: usize, g: usize, k: usize) -> Result<bool, Refus
 /// input of no bytes is an untouched draft, at every site: `n` and `g` are 0, and so is each of those words. So a read that failed must
 /// not be passed on as one of no bytes.
 ///
-/// Refused with 10, 24, 11, 12, 13, 14, 15, 16, 17 or 18. A block that was made for another site and is unaltered is
+/// Refused as [`raw::shuntberry_read`] says. A block that was made for another site and is unaltered is
 /// refused with 13 where it stands at its own number, and with 12 where it does not, once all that is looked at before
 /// it passes. A file of the old form, which has no resting set, is refused with 15; [`checking::rewrite`] makes a new one of it.
 pub fn read(input: &[u8], site: usize, store: &mut [u64]) -> Result<TableRead, Refused> {
@@ -400,7 +400,7 @@ pub fn read(input: &[u8], site: usize, store: &mut [u64]) -> Result<TableRead, R
 /// Writes the table as a block file for a site, 0 to [`MAX_SITE`], at the front of `output` and returns the file; no other byte of
 /// `output` is touched. An output of [`FILE_BYTES`] is always long enough.
 ///
-/// Refused with 10, 24, 14, 15, 17 or 19.
+/// Refused as [`raw::shuntberry_write`] says.
 ///
 /// ```
 /// use shuntberry::{FILE_BYTES, Refused, STORE_WORDS, TableRead, read, write};
@@ -446,7 +446,7 @@ pub fn write<'o>(
 /// state has up to `fan_out` successors: with a fan-out of 0 every state is a hang. Every call that takes a table accepts
 /// it, with `g` = 0.
 ///
-/// Refused with 10, 14 or 22.
+/// Refused as [`raw::shuntberry_generate`] says.
 ///
 /// ```
 /// use shuntberry::{FILE_BYTES, STORE_WORDS, generate, row, write};
@@ -482,7 +482,7 @@ pub struct Replay {
 /// Walks a pump's log through the table: a list of state numbers of two bytes each, low byte first.
 ///
 /// The first entry must be initial, each later one a successor of the entry before. On a table that
-/// [`decide`] calls safe, no followed entry is forbidden. Refused with 10, 14, 15, 17, 25 or 26.
+/// [`decide`] calls safe, no followed entry is forbidden. Refused as [`raw::shuntberry_replay`] says.
 ///
 /// ```
 /// use shuntberry::{INITIAL, Replay, STORE_WORDS, replay, row};
@@ -514,7 +514,7 @@ pub fn replay(store: &[u64], n: usize, g: usize, log: &[u8]) -> Result<Replay, R
 
 /// The states that can be reached from the initial ones, these included: what an edit [`Session`] starts from.
 ///
-/// Refused with 10, 14, 15 or 17.
+/// Refused as [`raw::shuntberry_open`] says.
 pub fn open(store: &[u64], n: usize, g: usize) -> Result<StateSet, Refused> {
     // SAFETY: as in `decide`; nothing is written.
     let session = unsafe { raw::shuntberry_open(store.as_ptr(), store.len(), n, g) };
@@ -526,7 +526,7 @@ pub fn open(store: &[u64], n: usize, g: usize) -> Result<StateSet, Refused> {
 /// the same if the step exists or `from` is not in it, else the set with all that `to` reaches. At most one
 /// word of the store changes.
 ///
-/// Refused with 10, 14, 15, 17 or 27; the set that was handed in is then still the one to go on with.
+/// Refused as [`raw::shuntberry_add_step`] says; the set that was handed in is then still the one to go on with.
 ///
 /// ```
 /// use shuntberry::{SET_WORDS, STORE_WORDS, StateSet, add_step, remove_step, row};
@@ -564,7 +564,7 @@ pub fn add_step(
 /// Removes a step from the table, and gives the set that is lit after it: `reachable` if there is no such
 /// step, else what the initial states reach. At most one word of the store changes. ([`add_step`] has an example.)
 ///
-/// Refused with 10, 14, 15, 17 or 27; the set that was handed in is then still the one to go on with.
+/// Refused as [`raw::shuntberry_remove_step`] says; the set that was handed in is then still the one to go on with.
 pub fn remove_step(
     store: &mut [u64],
     n: usize,
@@ -615,7 +615,7 @@ pub struct Session<'s> {
 }
 
 impl<'s> Session<'s> {
-    /// Opens the table. Refused with 10, 14, 15 or 17.
+    /// Opens the table. Refused as [`open`] is.
     pub fn open(store: &'s mut [u64], n: usize, g: usize) -> Result<Session<'s>, Refused> {
         let reachable = open(store, n, g)?;
         Ok(Session {
@@ -682,7 +682,7 @@ pub enum ModalVerdict<'p> {
 /// choice that is safe here may be unsafe there, as a table of its own.
 ///
 /// The path stands at the front of `path`, and no other place of it is touched; if safe, none is. Words of `possible` past the
-/// first [`POSSIBLE_WORDS`] are not read. Refused with 10 (either buffer), 14, 15, 17 (either buffer), 28 or 21.
+/// first [`POSSIBLE_WORDS`] are not read. Refused as [`raw::shuntberry_decide_modal`] says.
 ///
 /// ```
 /// use shuntberry::{INITIAL, MARKED, ModalVerdict, PATH_PLACES, POSSIBLE_WORDS, Refused, STORE_WORDS};
@@ -766,7 +766,7 @@ fn modal_verdict(decision: raw::Modal, path: &[u16]) -> Result<ModalVerdict<'_>,
 /// A window may run over the week's end, and recurs in every week, the one before minute 0 included. With
 /// at least one window the answer is less than 655,200 minutes after `time`; it may lie past [`MAX_TIME`].
 ///
-/// Refused with 31, 30 or 29, in this order.
+/// Refused as [`raw::shuntberry_next_open`] says.
 ///
 /// ```
 /// use shuntberry::{Refused, Window, next_open};

@@ -188,7 +188,7 @@ impl Table {
     /// The table in the bytes of a file that was made for a site. No bytes are an untouched draft, a table without states: so a read that failed must
     /// not be passed on as one of no bytes.
     ///
-    /// Refused with 24, 11, 12, 13, 14, 15, 16, 17 or 18, as [`read`] is.
+    /// Refused as [`read`] is.
     ///
     /// ```
     /// use shuntberry::{Refused, Table};
@@ -205,13 +205,13 @@ impl Table {
 
     /// The table of `n` states and `g` groups in a store, of which the first [`STORE_WORDS`] words are copied.
     ///
-    /// Refused with 10, 14, 15 or 17.
+    /// Refused as [`within`] is.
     pub fn from_store(store: &[u64], n: usize, g: usize) -> Result<Table, Refused> {
         let words = store.get(..STORE_WORDS).ok_or(Refused::STORE_SHORT)?;
         Table::of_store(words.to_vec(), n, g)
     }
 
-    /// The table that a seed gives, as [`generate`] says. Refused with 14, where `n` is 0 or over [`MAX_STATES`], or with 22.
+    /// The table that a seed gives, as [`generate`] says. Refused as that is.
     ///
     /// ```
     /// use shuntberry::Table;

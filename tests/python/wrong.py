@@ -8,7 +8,7 @@ from array import array
 from pathlib import Path
 
 from support import group, need, raises, refused, same, shuntberry
-from shuntberry import Refusal, Refused, Session, Table, Verdict, Window
+from shuntberry import Refused, Session, Table, Verdict, Window
 
 SIZE, WORD = 2**64, 2**32
 E = dict(initial=[0], marked=[2], steps={0: [0], 1: [2]})
@@ -170,7 +170,6 @@ for answer in (shuntberry.decide(draft), shuntberry.check(b""), shuntberry.decid
 need(not shuntberry.decide(unsafe).is_safe and not shuntberry.decide(table, 0).is_safe, "unsafe or undecided is safe")
 same((shuntberry.write(draft), shuntberry.distances(draft), Session(draft).reachable), (b"", (), frozenset()), "a draft")
 same((Refused(13) == Refused(13), Refused(13) == Refused(14), str(Refused(99))), (True, False, "refused 99: no ground that this version of the module knows"), "Refused")
-same(sorted(Refusal), list(range(10, 32)), "refusals")
 for why in shuntberry.Forbidden:
     raises(TypeError, "neither true nor false", bool, why)
 for state in (3, -1, 512):
