@@ -622,14 +622,15 @@ static const uint64_t few[SHUNTBERRY_STORE_WORDS] = {
 #define CHANGED(place, value) (256 * (place) + (value))
 
 /* The calls on a store with a table, by their bits. */
-#define BIT(k) ((uint32_t)1 << (k))
+#define BIT(k) ((uint64_t)1 << (k)) /* of a call, or of a refusal, whose numbers go past 31 one day */
 #define EDIT (BIT(ADD_STEP) | BIT(REMOVE_STEP))
 #define WITH_PATH (BIT(DECIDE) | BIT(SHORTEST_PATH) | BIT(DECIDE_MODAL))
 #define ON_TABLE (WITH_PATH | EDIT | BIT(DISTANCES) | BIT(WITHIN) | BIT(REPLAY) | BIT(OPEN))
 
 /* One argument changed, so that some calls refuse. */
 static const struct ground {
-    uint32_t refusal, calls;
+    uint32_t refusal;
+    uint64_t calls;
     enum argument argument;
     size_t changed;
 } grounds[] = {
@@ -670,7 +671,7 @@ static const struct ground {
 
 /* The grounds of each call, as the header's comments name them. */
 #define SHARED (BIT(10) | BIT(14) | BIT(15) | BIT(17))
-static const uint32_t named[CALLS] = {
+static const uint64_t named[CALLS] = {
     [DECIDE] = SHARED | BIT(20) | BIT(21),
     [SHORTEST_PATH] = SHARED | BIT(21),
     [DISTANCES] = SHARED | BIT(23),
@@ -805,7 +806,7 @@ static void require_refused(enum call call, const uint64_t *table, const size_t 
 
 static void refused_calls(void)
 {
-    uint32_t met[CALLS] = {0};
+    uint64_t met[CALLS] = {0};
 
     for (enum call call = DECIDE; call <= NEXT_OPEN; call++) {
         memcpy(other, few, sizeof other);
