@@ -2,7 +2,8 @@
 
 From the source of `shuntberry` and `shuntberry_fields`: the names of the exports; the names, order and widths of their
 parameters and of the fields of the structs; that each export hands its parameters on, under the same names and in the same
-order, to the call of its own name, which has those that it names in the same places; and the numbers of the constants.
+order, to the call of its own name, which has those that it names in the same places (or, without parameters, is a constant);
+and the numbers of the constants.
 """
 import re
 from pathlib import Path
@@ -68,7 +69,9 @@ def differ(what: str, found: List[Tuple[str, str]], expected: List[Tuple[str, st
 
 
 def body_faults(top: Path, exports: str, name: str, parameters: List[Tuple[str, str]], body: str) -> Faults:
-    """Whether an export hands its parameters on, each under its name, to the call of its own name."""
+    """Whether an export hands its parameters on, each under its name, to the call of its own name; without any it may be a constant."""
+    if not parameters and re.fullmatch(r"\s*[A-Z][A-Z_]*\s*", body):
+        return
     match = re.fullmatch(r"\s*(let words = reachable\.words;\s*)?\w+\((?:(\w+)::)?(\w+)\(([^()]*)\)\)\s*", body)
     if not match:
         yield f"{name} does more than to lay out what its call answers"
@@ -92,7 +95,7 @@ def body_faults(top: Path, exports: str, name: str, parameters: List[Tuple[str, 
 def export_faults(top: Path, header: Header) -> Faults:
     text = source(top, "shuntberry")
     found = {match["name"]: match for match in EXPORT.finditer(text)}
-    if not len(found) == text.count("#[no_mangle]") == text.count("extern "):
+    if not len(found) == text.count("#[no_mangle]") == text.count("extern ") or "/*" in text:
         yield "an export is written in a way that is not known"
     if re.search(r"^use .* as ", text, re.M):
         yield "an import of shuntberry has another name than what it imports"
@@ -113,7 +116,7 @@ def struct_faults(top: Path, header: Header) -> Faults:
     text = source(top, "shuntberry_fields")
     words = re.search(r"^pub const WORDS: usize = (\d+);$", source(top, "core_state_set"), re.M)
     found = {match["name"]: match["fields"] for match in STRUCT.finditer(text)}
-    if len(found) != text.count("struct "):
+    if len(found) != text.count("struct ") or "/*" in text:
         yield "a struct of shuntberry_fields is written in a way that is not known"
     structs = {in_rattle(struct.name): struct for struct in header.structs}
     for name in sorted(found.keys() ^ structs.keys()):
@@ -121,11 +124,14 @@ def struct_faults(top: Path, header: Header) -> Faults:
     for name in found.keys() & structs.keys():
         fields = [(field.replace("pub ", "", 1), kind.replace("WORDS", words[1] if words else "?")) for field, kind in listed(found[name])]
         yield from differ(name, fields, fields_of(structs[name], header))
+
+
+def constant_faults(top: Path, header: Header) -> Faults:
     constants: Dict[str, object] = {constant.name: constant.value for constant in header.constants}
-    for name, kind, number in re.findall(r"^const (\w+): (\w+) = ([\d_]+);$", text, re.M):
-        if kind != "u32" or constants.get(name) != int(number):
-            yield f"{name} is {number} in shuntberry_fields, and {constants.get(name)} in the header"
+    for name, kind, number in re.findall(r"^(?:pub )?const (\w+): (\w+) = (.*);$", source(top, "shuntberry_fields") + source(top, "shuntberry"), re.M):
+        if kind != "u32" or not re.fullmatch(r"[\d_]+", number) or constants.get(name) != int(number):
+            yield f"{name} is {number} in Rattle, and {constants.get(name)} in the header"
 
 
 def faults(top: Path, header: Header) -> List[str]:
-    return sorted([*export_faults(top, header), *struct_faults(top, header)])
+    return sorted([*export_faults(top, header), *struct_faults(top, header), *constant_faults(top, header)])
