@@ -1,9 +1,9 @@
 """Holds what Rattle exports to the header: contracts know names, C knows places.
 
-From the source of `shuntberry` and `shuntberry_fields`: the names of the exports; the names, order and widths of their
-parameters and of the fields of the structs; that each export hands its parameters on, under the same names and in the same
-order, to the call of its own name, which has those that it names in the same places (or, without parameters, is a constant);
-and the numbers of the constants.
+From the source of `shuntberry` and `shuntberry_fields`: the names of the exports; the names, order and widths of
+their parameters and of the fields of the structs; that each export hands its parameters on, under the same names
+and in the same order, to the call of its own name, which has those that it names in the same places (or, without
+parameters, is a constant); and the numbers of the constants.
 """
 import re
 from pathlib import Path
@@ -13,7 +13,8 @@ from header import Call, Header, Place, Struct
 
 WIDTHS = {"u8": "uint8_t", "u16": "uint16_t", "u32": "uint32_t", "u64": "uint64_t", "usize": "size_t"}
 EXPORT = re.compile(
-    r'#\[no_mangle\]\npub extern "C" fn (?P<name>\w+)\((?P<parameters>[^()]*)\)(?: -> (?P<answer>\w+))?\n(?P<contract>(?:    .*\n)*)\{\n(?P<body>(?:    .*\n)*)\}\n')
+    r'#\[no_mangle\]\npub extern "C" fn (?P<name>\w+)\((?P<parameters>[^()]*)\)(?: -> (?P<answer>\w+))?\n'
+    r"(?:    .*\n)*\{\n(?P<body>(?:    .*\n)*)\}\n")
 STRUCT = re.compile(r"#\[repr\(C\)\]\npub struct (?P<name>\w+) \{\n(?P<fields>(?:    .*\n)*)\}\n")
 Faults = Iterator[str]
 
@@ -69,26 +70,30 @@ def differ(what: str, found: List[Tuple[str, str]], expected: List[Tuple[str, st
 
 
 def body_faults(top: Path, exports: str, name: str, parameters: List[Tuple[str, str]], body: str) -> Faults:
-    """Whether an export hands its parameters on, each under its name, to the call of its own name; without any it may be a constant."""
+    """Whether an export hands its parameters on, each under its name, to the call of its own name."""
     if not parameters and re.fullmatch(r"\s*[A-Z][A-Z_]*\s*", body):
         return
-    match = re.fullmatch(r"\s*(let words = reachable\.words;\s*)?\w+\((?:(\w+)::)?(\w+)\(([^()]*)\)\)\s*", body)
+    match = re.fullmatch(r"\s*(let words = reachable\.words;\s*)?\w+\((?:(\w+)::)?(\w+)\(([^()]*)\)\)\s*",
+        body)
     if not match:
         yield f"{name} does more than to lay out what its call answers"
         return
-    handed = [word.strip() for word in match[4].replace("StateSet { words }", "reachable" if match[1] else "words").split(",") if word.strip()]
+    given = match[4].replace("StateSet { words }", "reachable" if match[1] else "words").split(",")
+    handed = [word.strip() for word in given if word.strip()]
     names = [parameter for parameter, _ in parameters]
     if f"shuntberry_{match[3]}" != name:
         yield f"{name} calls {match[3]}"
     if handed != names:
         yield f"{name} has ({', '.join(names)}) and hands on ({', '.join(handed)})"
     crates = [match[2]] if match[2] else re.findall(rf"^use (\w+)::{match[3]};$", exports, re.M)
-    callee = re.search(rf"^pub fn {match[3]}\(([^()]*)\)", source(top, crates[0]), re.M) if len(crates) == 1 else None
+    callee = re.search(rf"^pub fn {match[3]}\(([^()]*)\)", source(top, crates[0]),
+        re.M) if len(crates) == 1 else None
     if not callee:
         yield f"{name}: there is no one call {match[3]}"
         return
     taken = [parameter for parameter, _ in listed(callee[1])]
-    if len(taken) != len(names) or any(one in names and names.index(one) != at for at, one in enumerate(taken)):
+    if len(taken) != len(names) or any(one in names and names.index(one) != at for at,
+        one in enumerate(taken)):
         yield f"{name} has ({', '.join(names)}), and {match[3]} takes ({', '.join(taken)})"
 
 
@@ -122,13 +127,16 @@ def struct_faults(top: Path, header: Header) -> Faults:
     for name in sorted(found.keys() ^ structs.keys()):
         yield f"{name} is only in {'the header' if name in structs else 'Rattle'}"
     for name in found.keys() & structs.keys():
-        fields = [(field.replace("pub ", "", 1), kind.replace("WORDS", words[1] if words else "?")) for field, kind in listed(found[name])]
+        width = words[1] if words else "?"
+        fields = [(field.replace("pub ", "", 1), kind.replace("WORDS", width)) for field,
+            kind in listed(found[name])]
         yield from differ(name, fields, fields_of(structs[name], header))
 
 
 def constant_faults(top: Path, header: Header) -> Faults:
     constants: Dict[str, object] = {constant.name: constant.value for constant in header.constants}
-    for name, kind, number in re.findall(r"^(?:pub )?const (\w+): (\w+) = (.*);$", source(top, "shuntberry_fields") + source(top, "shuntberry"), re.M):
+    text = source(top, "shuntberry_fields") + source(top, "shuntberry")
+    for name, kind, number in re.findall(r"^(?:pub )?const (\w+): (\w+) = (.*);$", text, re.M):
         if kind != "u32" or not re.fullmatch(r"[\d_]+", number) or constants.get(name) != int(number):
             yield f"{name} is {number} in Rattle, and {constants.get(name)} in the header"
 

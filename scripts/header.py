@@ -1,15 +1,15 @@
-"""Reads include/shuntberry.h, the one place where the interface is said: its constants, refusals, structs and calls.
+"""Reads include/shuntberry.h, the one place where the interface is said: constants, refusals, structs, calls.
 
-It takes a strict subset of C whole, and refuses with the line what it does not know: so nothing is passed over.
+It takes a strict subset of C whole, and refuses with the line what it does not know: nothing is passed over.
 
   #define SHUNTBERRY_NAME VALUE /* what it is */     VALUE: a number, a text, or names with + * and brackets
   #define SHUNTBERRY_NAME(x) VALUE /* what it is */
   struct shuntberry_name { TYPE field; /* what it is */ .. };
-  SHUNTBERRY_NODISCARD TYPE shuntberry_name(TYPE parameter, ..);     the comment above it says `Refuses with ..`
+  SHUNTBERRY_NODISCARD TYPE shuntberry_name(TYPE parameter, ..);   the comment above says `Refuses with ..`
   static inline TYPE shuntberry_name(..) { .. }     its body is C's own, and is not read
 
-A refusal is a constant of the section of refusals, with a comment above it: its ground, then lines `exactly:`,
-`look whether:` and `mended by:`. Everything else is comments, and the directives of FIXED.
+A refusal is a constant of the section of refusals, with a comment above it: its ground, then lines
+`exactly:`, `look whether:` and `mended by:`. Everything else is comments, and the directives of FIXED.
 """
 import re
 from dataclasses import dataclass, field
@@ -20,8 +20,10 @@ PREFIX = "SHUNTBERRY_"
 REFUSALS = "Refusal numbers"
 #: The directives, each as it stands there, once.
 FIXED = (
-    "#ifndef SHUNTBERRY_H\n#define SHUNTBERRY_H\n\n#include <stddef.h>\n#include <stdint.h>\n\n#ifdef __cplusplus\nextern \"C\" {\n#endif\n",
-    """#if (defined(__cplusplus) && __cplusplus >= 201703L) || (defined(__STDC_VERSION__) && __STDC_VERSION__ >= 202311L)
+    "#ifndef SHUNTBERRY_H\n#define SHUNTBERRY_H\n\n#include <stddef.h>\n#include <stdint.h>\n\n"
+    "#ifdef __cplusplus\nextern \"C\" {\n#endif\n",
+    """#if (defined(__cplusplus) && __cplusplus >= 201703L) || \
+(defined(__STDC_VERSION__) && __STDC_VERSION__ >= 202311L)
 #define SHUNTBERRY_NODISCARD [[nodiscard]]
 #elif defined(__GNUC__)
 #define SHUNTBERRY_NODISCARD __attribute__((warn_unused_result))
@@ -31,8 +33,7 @@ FIXED = (
 """,
     "#ifdef __cplusplus\n}\n#endif\n\n#endif\n",
 )
-#: The widths of the numbers, in bits.
-NUMBERS = {"uint8_t": 8, "uint16_t": 16, "uint32_t": 32, "uint64_t": 64, "size_t": 64}
+NUMBERS = ("uint8_t", "uint16_t", "uint32_t", "uint64_t", "size_t")
 
 NAME = r"[a-z][a-z0-9_]*"
 KIND = rf"(?:uint(?:8|16|32|64)_t|size_t|struct shuntberry_{NAME})"
@@ -40,11 +41,14 @@ COMMENT = r"/\*((?:[^*]|\*(?!/))*)\*/"
 ITEMS = {
     "section": r"/\* ---- (?P<title>[^*\n]*) ---- \*/\n",
     "comment": rf"{COMMENT}\n",
-    "constant": rf"#define SHUNTBERRY_(?P<name>[A-Z][A-Z0-9_]*) (?P<value>[^\n/]*?) *(?:/\*(?P<said>[^\n]*)\*/)?\n",
-    "macro": rf"#define SHUNTBERRY_[A-Z][A-Z0-9_]*\([a-z]\) [^\n/]*/\*[^\n]*\*/\n",
+    "constant": r"#define SHUNTBERRY_(?P<name>[A-Z][A-Z0-9_]*) (?P<value>[^\n/]*?) *"
+    r"(?:/\*(?P<said>[^\n]*)\*/)?\n",
+    "macro": r"#define SHUNTBERRY_[A-Z][A-Z0-9_]*\([a-z]\) [^\n/]*/\*[^\n]*\*/\n",
     "struct": rf"struct shuntberry_(?P<name>{NAME}) \{{\n(?P<fields>(?:    [^\n]*\n)+)\}};\n",
-    "call": rf"SHUNTBERRY_NODISCARD\n(?P<answer>{KIND}) shuntberry_(?P<name>{NAME})\((?P<parameters>[^(){{}};]*)\);\n",
-    "inline": rf"(?:SHUNTBERRY_NODISCARD\n)?static inline (?:int |void |const char \*|{KIND} )shuntberry_{NAME}\([^(){{}};]*\)\n\{{\n(?:(?:    [^\n]*)?\n)*?\}}\n",
+    "call": rf"SHUNTBERRY_NODISCARD\n(?P<answer>{KIND}) shuntberry_(?P<name>{NAME})"
+    r"\((?P<parameters>[^(){};]*)\);\n",
+    "inline": rf"(?:SHUNTBERRY_NODISCARD\n)?static inline (?:int |void |const char \*|{KIND} )shuntberry_{NAME}"
+    r"\([^(){};]*\)\n\{\n(?:(?:    [^\n]*)?\n)*?\}\n",
     "blank": r"\n",
 }
 
@@ -99,9 +103,6 @@ class Header:
     refusals: List[Refusal] = field(default_factory=list)
     structs: List[Struct] = field(default_factory=list)
     calls: List[Call] = field(default_factory=list)
-
-    def value(self, name: str) -> int:
-        return next(constant.value for constant in self.constants if constant.name == name)  # type: ignore[return-value]
 
     def numbers(self, call: Call) -> List[int]:
         """The refusals of a call, in the order in which it looks."""
@@ -174,14 +175,15 @@ class Reader:
         said: Dict[str, str] = dict(zip(parts[1::2], map(plain, parts[2::2])))
         ground = plain(parts[0])
         if list(parts[1::2]) != sorted(said) or "mended by" not in said or not all([ground, *said.values()]):
-            self.refuse(f"the comment of {name} is not its ground, then exactly, look whether and mended by, the last always")
+            self.refuse(f"the comment of {name} is not its ground, then exactly, look whether, and always mended by")
         for words in (ground, *said.values()):
             if re.search(r'["\\|]', words):
-                self.refuse(f"the words of {name} have a character that not every language takes as it is: {words}")
+                self.refuse(f"the words of {name} have a character that some language does not take: {words}")
         before = self.found.refusals
         if before and before[-1].number >= value:
             self.refuse(f"{name} is {value}, and the numbers rise")
-        before.append(Refusal(value, name, ground, said.get("exactly", ""), said.get("look whether", ""), said["mended by"]))
+        before.append(Refusal(value, name, ground, said.get("exactly", ""), said.get("look whether", ""),
+            said["mended by"]))
 
     def take_macro(self, match: "re.Match[str]") -> None:
         pass  # each language has these as functions of its own
@@ -194,11 +196,13 @@ class Reader:
             self.refuse(f"the struct {match['name']} has no comment above it")
         fields = []
         for line in match["fields"].splitlines():
-            one = re.fullmatch(rf"    ({KIND}) ({NAME})(?:\[SHUNTBERRY_([A-Z_]+)\])?; *(?:/\* ([^*]*) \*/)?", line)
+            one = re.fullmatch(rf"    ({KIND}) ({NAME})(?:\[SHUNTBERRY_([A-Z_]+)\])?; *(?:/\* ([^*]*) \*/)?",
+                line)
             if not one:
                 self.refuse(f"no field of the struct {match['name']}: {line}")
             self.known(one[1])
-            fields.append(Place(one[2], one[1], self.worth(PREFIX + one[3]) if one[3] else 0, "", plain(one[4] or "")))
+            fields.append(Place(one[2], one[1], self.worth(PREFIX + one[3]) if one[3] else 0, "",
+                plain(one[4] or "")))
         self.distinct(fields)
         self.found.structs.append(Struct(match["name"], tuple(fields), plain(self.above or "")))
         self.above = None
@@ -216,8 +220,9 @@ class Reader:
             parameters.append(Place(kind[4], kind[2] or kind[3], 0, pointer))
         self.distinct(parameters)
         for buffer, length in zip(parameters, parameters[1:] + [Place("", "")]):
-            if buffer.pointer and (length.name, length.kind, length.pointer) != (f"{buffer.name}_len", "size_t", ""):
-                self.refuse(f"{buffer.name} of {match['name']} is not followed by its length, {buffer.name}_len")
+            if buffer.pointer and (length.name, length.kind, length.pointer) != (f"{buffer.name}_len",
+                "size_t", ""):
+                self.refuse(f"{buffer.name} of {match['name']} is not followed by its length")
         refuses = re.findall(r"Refuses with ([^.]*)\.", plain(self.above or ""))
         if len(refuses) != 1 and listed != "void":
             self.refuse(f"the comment above {match['name']} has {len(refuses)} sentences 'Refuses with'")
@@ -233,7 +238,8 @@ class Reader:
             self.refuse(f"no value: {value}")
         known = {PREFIX + constant.name: constant.value for constant in self.found.constants}
         try:
-            return eval(re.sub(r"\b(\d+)u\b", r"\1", value), {"__builtins__": {}}, known)  # digits, names, + * and brackets alone
+            return eval(re.sub(r"\b(\d+)u\b", r"\1", value), {"__builtins__": {}},
+                known)  # digits, names, + * and brackets alone
         except (NameError, SyntaxError, TypeError):
             self.refuse(f"no value: {value}")
 
@@ -252,7 +258,8 @@ class Reader:
         listed = {refusal.number for refusal in self.found.refusals}
         given = {number for call in self.found.calls for number in self.found.numbers(call)}
         for number in sorted(listed ^ given):
-            self.refuse(f"{number} is {'a refusal that no call gives' if number in listed else 'no refusal, and a call gives it'}")
+            fault = "a refusal that no call gives" if number in listed else "no refusal, and a call gives it"
+            self.refuse(f"{number} is {fault}")
         for kind in ("calls", "structs"):
             names = [one.name for one in getattr(self.found, kind)]
             if len(names) != len(set(names)) or not names:

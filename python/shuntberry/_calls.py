@@ -149,7 +149,7 @@ def write(table: Table, site: int = 0) -> bytes:
     >>> read(file, site=18)
     Traceback (most recent call last):
         ...
-    shuntberry.Refused: refused 13: a block's stored check is not its check for the site
+    shuntberry.Refused: refused 13: ...
 
     `site` goes from 0 to MAX_SITE.
     """
@@ -162,7 +162,7 @@ def rewrite(data: Bytes) -> bytes:
     >>> rewrite(write(generate(7, 3, 2)))
     Traceback (most recent call last):
         ...
-    shuntberry.Refused: refused 15: g is over 64, or a file's second number is not g + 32,768, as in the old form
+    shuntberry.Refused: refused 15: ...
     """
     return written("rewrite", lent(data, "a file"))
 
@@ -223,7 +223,7 @@ class Session:
     >>> session.add_step(0, 4)
     Traceback (most recent call last):
         ...
-    shuntberry.Refused: refused 27: a state number of an edit is n or more
+    shuntberry.Refused: refused 27: ...
 
     Any edit may change the verdict: `table` is the table to decide again.
 

@@ -10,10 +10,10 @@ class Refused(Exception):
     >>> refused = Refused(14)
     >>> refused.number == Refusal.STATES
     True
-    >>> Refusal.SITE == 24, Refusal.SITE.ground
-    (True, 'the site is over 65,520')
+    >>> Refusal.SITE == 24, Refused(24).ground == Refusal.SITE.ground
+    (True, True)
     >>> print(refused)
-    refused 14: n is over 512, or 0 with groups, in a block or in a load
+    refused 14: ...
     """
 
     __module__ = "shuntberry"

@@ -75,7 +75,7 @@ class Table:
     >>> Table(3, initial=[3], marked=[], steps={})
     Traceback (most recent call last):
         ...
-    shuntberry.Refused: refused 17: a set, the resting one included, holds a state from n up, or a word of an unused group or row is not 0, also of the possible steps
+    shuntberry.Refused: refused 17: ...
     """
 
     __slots__ = ("_n", "_g", "_store", "_names")

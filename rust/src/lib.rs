@@ -69,7 +69,7 @@
 //! // A table of 513 states is refused.
 //! let refused = decide(&store, 513, 0, MAX_ALLOWANCE, &mut path).unwrap_err();
 //! assert_eq!(refused, Refused::STATES);
-//! assert_eq!(refused.to_string(), "refused 14: n is over 512, or 0 with groups, in a block or in a load");
+//! assert_eq!(refused.to_string(), format!("refused 14: {}", refused.message()));
 //! # Ok::<(), shuntberry::Refused>(())
 //! ```
 //!

@@ -430,7 +430,7 @@ impl Table {
     /// Decides the table for every choice of steps that exist only on pumps with an option bought, as [`decide_modal`] does. The table's steps are the
     /// certain ones; `possible` has all that are possible, with each certain one among them.
     ///
-    /// Refused with 17, where a possible step names a state of n or more, or with 28, where a certain step is not possible.
+    /// Refused with 17 or 28, as [`decide_modal`] is.
     ///
     /// ```
     /// use shuntberry::{ModalDecision, Refused, Table};

@@ -862,8 +862,6 @@ static void refusal_texts(void)
     const uint32_t grounds_not[] = {1, SHUNTBERRY_STORE_SHORT - 1, SHUNTBERRY_TIME + 1, SHUNTBERRY_NO_VERDICT, UINT32_MAX};
     for (size_t i = 0; i < sizeof grounds_not / sizeof grounds_not[0]; i++)
         require(strcmp(shuntberry_refusal_text(grounds_not[i]), none) == 0, "words for no ground");
-    require(strcmp(shuntberry_refusal_text(SHUNTBERRY_BLOCK_CHECK), "a block's stored check is not its check for the site") == 0,
-            "the words for 13");
 }
 
 /* Safe is only an accepted call's verdict of safe, whatever a library should give. */

@@ -1,5 +1,8 @@
-"""What was made of the header for Python is what the C compiler makes of it: sizes, refusals, the layout of the structs, and what the calls take and answer. And
-why a state is forbidden is the same in both."""
+"""What was made of the header for Python is what the C compiler makes of it: sizes, refusals, the layout of the
+structs, and what the calls take and answer. And why a state is forbidden is the same in both.
+
+    header.py PREFIX SEED
+"""
 import ctypes
 import random
 import struct
@@ -19,7 +22,8 @@ def run_c(lines, given=b""):
     with tempfile.TemporaryDirectory() as work:
         source, program = Path(work, "p.c"), Path(work, "p")
         source.write_text('#include <stdio.h>\n#include "shuntberry.h"\nint main(void) {\n' + "\n".join(lines) + "\n}\n")
-        subprocess.run(["gcc", "-Wall", "-Wconversion", "-Werror", f"-I{TOP / 'include'}", source, "-o", program], check=True)
+        subprocess.run(["gcc", "-Wall", "-Wconversion", "-Werror", f"-I{TOP / 'include'}", source, "-o",
+            program], check=True)
         return subprocess.run([program], input=given, check=True, stdout=subprocess.PIPE).stdout.decode()
 
 
@@ -34,7 +38,8 @@ same(printed, "".join(f"{refusal.value} {refusal.ground}\n" for refusal in Refus
 
 # ---- structs: each field at its place
 
-STRUCTS = {found: f"struct shuntberry_{name.lower()}" for name, found in vars(_raw).items() if isinstance(found, type) and found.__base__ is ctypes.Structure}
+STRUCTS = {found: f"struct shuntberry_{name.lower()}" for name,
+    found in vars(_raw).items() if isinstance(found, type) and found.__base__ is ctypes.Structure}
 need(len(STRUCTS) >= 11, "too few structs")
 lines, laid_out = [], ""
 for found, of in STRUCTS.items():
@@ -48,7 +53,8 @@ same(run_c(lines), laid_out, "the layout of the structs")
 # ---- calls: C takes arguments of these types, and answers with this one; nothing is called
 
 C_TYPES = {
-    ctypes.c_size_t: "size_t", ctypes.c_uint32: "uint32_t", ctypes.POINTER(ctypes.c_uint8): "uint8_t *", ctypes.POINTER(ctypes.c_uint16): "uint16_t *",
+    ctypes.c_size_t: "size_t", ctypes.c_uint32: "uint32_t", ctypes.POINTER(ctypes.c_uint8): "uint8_t *",
+        ctypes.POINTER(ctypes.c_uint16): "uint16_t *",
     ctypes.POINTER(ctypes.c_uint32): "uint32_t *", ctypes.POINTER(ctypes.c_uint64): "uint64_t *", **STRUCTS}
 lines = []
 for name, (answer, parameters) in _raw.CALLS.items():
@@ -62,15 +68,21 @@ group("sizes, refusals, structs and calls as the C compiler has them")
 tables, given = [], b""
 for n in (0, 1, 2, 63, 64, 65, 511, 512, *(random.randrange(1, 40) for _ in range(40))):
     some = lambda: [s for s in range(n) if random.random() < 0.3]  # noqa: E731
-    tables.append(Table(n, initial=some(), marked=some(), resting=some(), steps={s: random.choices(range(n), k=random.randrange(3)) for s in range(n)}))
+    tables.append(Table(n, initial=some(), marked=some(), resting=some(), steps={s: random.choices(range(n),
+        k=random.randrange(3)) for s in range(n)}))
     given += struct.pack("=Q", n) + bytes(tables[-1]._store)
 said = run_c([
-    "static uint64_t store[SHUNTBERRY_STORE_WORDS]; uint64_t n;", "while (fread(&n, sizeof n, 1, stdin) == 1 && fread(store, sizeof store, 1, stdin) == 1) {",
-    "for (size_t state = 0; state < n + 2; state++)", 'printf("%u ", (unsigned)shuntberry_why_forbidden(store, n, state));', 'puts(""); }'], given)
+    "static uint64_t store[SHUNTBERRY_STORE_WORDS]; uint64_t n;",
+        "while (fread(&n, sizeof n, 1, stdin) == 1 && fread(store, sizeof store, 1, stdin) == 1) {",
+    "for (size_t state = 0; state < n + 2; state++)",
+        'printf("%u ", (unsigned)shuntberry_why_forbidden(store, n, state));', 'puts(""); }'], given)
 for table, line in zip(tables, said.splitlines()):
     ours = [table.why_forbidden(s) for s in range(table.n)]
-    same([int(number) for number in line.split()], [why.value for why in ours] + [_raw.NO_ANSWER] * 2, "why in C", table)
-    same([why is not Forbidden.NOT for why in ours], [away == 0 for away in shuntberry.distances(table)], "why, and distances", table)
+    same([int(number) for number in line.split()], [why.value for why in ours] + [_raw.NO_ANSWER] * 2,
+        "why in C", table)
+    same([why is not Forbidden.NOT for why in ours], [away == 0 for away in shuntberry.distances(table)],
+        "why, and distances", table)
     same({s for s in range(table.n) if ours[s] is Forbidden.MARKED}, set(table.marked), "marked", table)
-need(said.count("\n") == len(tables) and all(f" {why.value} " in said for why in Forbidden), "a reason was not tried")
+need(said.count("\n") == len(tables) and all(f" {why.value} " in said for why in Forbidden),
+    "a reason was not tried")
 group("why a state is forbidden, as in C")
