@@ -9,16 +9,11 @@
  */
 #include "common.h"
 
-static int contains(const uint64_t set[SHUNTBERRY_SET_WORDS], unsigned state)
-{
-    return set[state / 64] >> (state % 64) & 1;
-}
-
 static void print_safe(const struct shuntberry_decision *decision)
 {
     printf("safe refinements %u\ninvariant %u:", (unsigned)decision->count, (unsigned)decision->size);
     for (unsigned state = 0; state < SHUNTBERRY_MAX_STATES; state++)
-        if (contains(decision->invariant, state))
+        if (shuntberry_has_state(decision->invariant, state))
             printf(" %u", state);
     puts(decision->size == 0 ? " none" : "");
 }
@@ -41,9 +36,9 @@ static enum status decide(const uint64_t *store, struct shuntberry_table table)
     if (decision.refusal != SHUNTBERRY_ACCEPTED)
         return print_refused(decision.refusal);
     printf("states %u groups %u\n", (unsigned)table.n, (unsigned)table.g);
-    if (shuntberry_is_safe(decision)) {
+    if (decision.verdict == SHUNTBERRY_SAFE) {
         print_safe(&decision);
-        return table.n > 0 ? WELL : EMPTY;
+        return shuntberry_is_safe(decision, table.n) ? WELL : EMPTY; /* a table without states is nothing to release */
     }
     if (decision.verdict == SHUNTBERRY_UNSAFE) {
         print_unsafe(&decision, path);

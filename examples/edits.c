@@ -41,19 +41,14 @@ static int step_of(const char *word, struct step *step)
     return *end == '\0';
 }
 
-static int is_in(struct shuntberry_set set, unsigned state)
-{
-    return set.words[state / 64] >> (state % 64) & 1;
-}
-
 static void print_reached(struct shuntberry_set set)
 {
     unsigned count = 0;
     for (unsigned state = 0; state < SHUNTBERRY_MAX_STATES; state++)
-        count += (unsigned)is_in(set, state);
+        count += (unsigned)shuntberry_has_state(set.words, state);
     printf("reached %u:%s", count, count == 0 ? " none" : "");
     for (unsigned state = 0; state < SHUNTBERRY_MAX_STATES; state++)
-        if (is_in(set, state))
+        if (shuntberry_has_state(set.words, state))
             printf(" %u", state);
     printf("\n");
 }

@@ -54,6 +54,15 @@
 extern "C" {
 #endif
 
+/* Is put before each call: compilers that know it warn if nobody looks at the result, and so at a refusal. */
+#if (defined(__cplusplus) && __cplusplus >= 201703L) || (defined(__STDC_VERSION__) && __STDC_VERSION__ >= 202311L)
+#define SHUNTBERRY_NODISCARD [[nodiscard]]
+#elif defined(__GNUC__)
+#define SHUNTBERRY_NODISCARD __attribute__((warn_unused_result))
+#else
+#define SHUNTBERRY_NODISCARD
+#endif
+
 /* ---- Version ---- */
 
 /*
@@ -78,6 +87,9 @@ extern "C" {
  * SHUNTBERRY_NO_TABLE and SHUNTBERRY_NO_MINUTE. Before they were 0, which is also SHUNTBERRY_SAFE.
  * SHUNTBERRY_NO_MINUTE is also the minute of `never`. Otherwise an accepted call gives what it gave before, and
  * signatures and files are as they were.
+ *
+ * From 6 on, shuntberry_is_safe and shuntberry_modal_is_safe are also given n, and are 0 for a draft, as
+ * shuntberry_checked_is_safe is. Nothing else changed for a program that compiles.
  */
 #define SHUNTBERRY_VERSION 5
 #define SHUNTBERRY_VERSION_TEXT "5.1.0" /* all of it: that number, then one for what is new, and one for the rest */
@@ -111,38 +123,214 @@ extern "C" {
 #define SHUNTBERRY_GROUP(j) (SHUNTBERRY_SET_WORDS * (SHUNTBERRY_HEAD_SETS + (j))) /* group j */
 #define SHUNTBERRY_ROW(s) SHUNTBERRY_GROUP(SHUNTBERRY_MAX_GROUPS + (s))           /* the successors of state s */
 
-/* Where the possible steps of state s begin in their buffer. */
-#define SHUNTBERRY_POSSIBLE_ROW(s) (SHUNTBERRY_SET_WORDS * (s))
+#define SHUNTBERRY_POSSIBLE_ROW(s) (SHUNTBERRY_SET_WORDS * (s))                   /* the possible steps of state s, in their buffer */
+
+/* ---- Sets of states ---- */
+
+/*
+ * A set is the SHUNTBERRY_SET_WORDS words that begin at store + SHUNTBERRY_MARKED, say, or the `words` of a struct
+ * shuntberry_set. A state of SHUNTBERRY_MAX_STATES or more is in no set, and changes none.
+ */
+
+/* Whether a state is in a set: 1 or 0. */
+static inline int shuntberry_has_state(const uint64_t *set, size_t state)
+{
+    return state < SHUNTBERRY_MAX_STATES && (set[state / 64] >> state % 64 & 1) != 0;
+}
+
+/* Puts a state into a set: 1, or 0 if no set has room for it. Look at it: a marked state that is lost is a wrong safe. */
+SHUNTBERRY_NODISCARD
+static inline int shuntberry_put_state(uint64_t *set, size_t state)
+{
+    if (state >= SHUNTBERRY_MAX_STATES)
+        return 0;
+    set[state / 64] |= (uint64_t)1 << state % 64;
+    return 1;
+}
+
+/* Removes a state from a set. */
+static inline void shuntberry_remove_state(uint64_t *set, size_t state)
+{
+    if (state < SHUNTBERRY_MAX_STATES)
+        set[state / 64] &= ~((uint64_t)1 << state % 64);
+}
+
+/*
+ * Draws the step from `from` to `to` into a store: 1, or 0 if there is no room for one of the two. (For a table that is
+ * edited while the states that can be reached are shown, shuntberry_add_step keeps these up to date.)
+ */
+SHUNTBERRY_NODISCARD
+static inline int shuntberry_draw_step(uint64_t *store, size_t from, size_t to)
+{
+    return from < SHUNTBERRY_MAX_STATES && shuntberry_put_state(store + SHUNTBERRY_ROW(from), to);
+}
+
+/* Draws a possible step into the buffer of these (shuntberry_decide_modal): 1, or 0 if there is no room for it. */
+SHUNTBERRY_NODISCARD
+static inline int shuntberry_draw_possible_step(uint64_t *possible, size_t from, size_t to)
+{
+    return from < SHUNTBERRY_MAX_STATES && shuntberry_put_state(possible + SHUNTBERRY_POSSIBLE_ROW(from), to);
+}
 
 /* ---- Refusal numbers ---- */
 
-#define SHUNTBERRY_ACCEPTED 0           /* the call was not refused */
-#define SHUNTBERRY_STORE_SHORT 10       /* the store has under SHUNTBERRY_STORE_WORDS words (all calls with a store), or the possible steps under SHUNTBERRY_POSSIBLE_WORDS (decide modal) */
-#define SHUNTBERRY_INPUT_LENGTH 11      /* the input's length is no multiple of 512, or over SHUNTBERRY_FILE_BYTES (read, rewrite) */
-#define SHUNTBERRY_BLOCK_NUMBER 12      /* block k does not hold the number k (read, rewrite) */
-#define SHUNTBERRY_BLOCK_CHECK 13       /* a block's stored check is not its check for the site (read, rewrite) */
-#define SHUNTBERRY_STATES 14            /* n is over SHUNTBERRY_MAX_STATES, or 0 with g above 0, in a block or in generate (rewrite, and all calls with a store) */
-#define SHUNTBERRY_GROUPS 15            /* g is over SHUNTBERRY_MAX_GROUPS; in read, the file's second number is below 32,768 (as in files of version 3 and before) or over 32,832 (rewrite, and all calls with a store but generate) */
-#define SHUNTBERRY_BLOCK_COUNT 16       /* the file has too few or too many blocks for its n and g (read, rewrite) */
-#define SHUNTBERRY_STRAY_BIT 17         /* a set, the resting one included, holds a state from n up, or a word of an unused group or row is not 0 (rewrite, and all calls with a store but generate); in decide modal also of the possible steps */
-#define SHUNTBERRY_FILLER 18            /* a byte past the contents is not 0 (read, rewrite) */
-#define SHUNTBERRY_OUTPUT_SHORT 19      /* the output is shorter than the file (write, rewrite), or has under SHUNTBERRY_CHECK_TEXT bytes (check) */
-#define SHUNTBERRY_ALLOWANCE 20         /* the allowance is over SHUNTBERRY_MAX_ALLOWANCE (decide) */
-#define SHUNTBERRY_PATH_SHORT 21        /* the path buffer has under SHUNTBERRY_PATH_PLACES places (decide, shortest path, decide modal) */
-#define SHUNTBERRY_FAN_OUT 22           /* the fan-out is over 16 (generate) */
-#define SHUNTBERRY_DISTANCES_SHORT 23   /* the distance buffer has fewer than n places (distances) */
-#define SHUNTBERRY_SITE 24              /* the site is over 65,520 (read, write, check); given straight after 10 */
-#define SHUNTBERRY_LOG_ODD 25           /* the log's length is odd, also where it is over 32,768 (replay) */
-#define SHUNTBERRY_LOG_LONG 26          /* the log has over 32,768 bytes (replay) */
-#define SHUNTBERRY_STEP_STATE 27        /* a state number of the step is n or more (add a step, remove a step) */
-#define SHUNTBERRY_NOT_POSSIBLE 28      /* a certain step is not possible (decide modal); given straight before 21 */
-#define SHUNTBERRY_WINDOW_RANGE 29      /* a window starts past minute 10,079 of the week, or is 0 or over 10,080 minutes long (next open) */
-#define SHUNTBERRY_TOO_MANY 30          /* over 32 windows, or over 64 closed days (next open) */
-#define SHUNTBERRY_TIME 31              /* the time is over 2^31 - 1 (next open) */
+/*
+ * Each has its ground above it, in the words of shuntberry_refusal_text. Where several grounds hold, the comment of
+ * the call names the one first that it gives. `exactly` is what the specification says where these words are short
+ * of it, `look whether` what a person should look at in a file that is refused so, `mended by` who can mend it.
+ */
+
+#define SHUNTBERRY_ACCEPTED 0 /* the call was not refused */
 
 /*
- * The ground of a refusal, in words. A number that is no refusal, such as 0, gets words that say so. The words are
- * those of `check --explain` and of the manual page.
+ * the store has under 4,632 words, or the possible steps under 4,096
+ *   mended by: the caller: lend a longer one
+ */
+#define SHUNTBERRY_STORE_SHORT 10
+
+/*
+ * the input's length is no multiple of 512, or over 37,376
+ *   look whether: the file was cut short, has something behind it, or is no table
+ *   mended by: whoever sent the file: it was cut, or is no table
+ */
+#define SHUNTBERRY_INPUT_LENGTH 11
+
+/*
+ * a block does not hold its own number
+ *   look whether: a block is damaged, missing, there twice or out of order, or the file is no table
+ *   mended by: whoever sent the file: blocks were lost, doubled or exchanged
+ */
+#define SHUNTBERRY_BLOCK_NUMBER 12
+
+/*
+ * a block's stored check is not its check for the site
+ *   look whether: the file is damaged, or was made for another site: ask who made it, and do not try numbers,
+ *     since a damaged file can pass at another one by chance
+ *   mended by: whoever sent the file: bytes were damaged, or the block is another site's; get it again
+ */
+#define SHUNTBERRY_BLOCK_CHECK 13
+
+/*
+ * n is over 512, or 0 with groups, in a block or in a load
+ *   look whether: the program that wrote the file gave it no states, or more than there can be
+ *   mended by: in a file the drafter, whose table has no or too many states; else the caller, who gave the
+ *     number
+ */
+#define SHUNTBERRY_STATES 14
+
+/*
+ * g is over 64, or a file's second number is not g + 32,768, as in the old form
+ *   exactly: g is over 64; in read, the file's second number is below 32,768 or over 32,832; in rewrite, it
+ *     is over 64
+ *   look whether: the file is of the old form, of which the command rewrite makes a new one if it is of site
+ *     0, or has too many groups
+ *   mended by: in a file the drafter, whose table has too many groups, or whoever sent the file, which is of
+ *     the old form; else the caller
+ */
+#define SHUNTBERRY_GROUPS 15
+
+/*
+ * the number of blocks is not that of a file with this n and g
+ *   look whether: the file lost whole blocks at its end, or has more of them than its table
+ *   mended by: whoever sent the file: whole blocks are missing at its end, or too many
+ */
+#define SHUNTBERRY_BLOCK_COUNT 16
+
+/*
+ * a set, the resting one included, holds a state from n up, or a word of an unused group or row is not 0,
+ * also of the possible steps
+ *   look whether: the program that wrote the file put a state into a set that the table does not have
+ *   mended by: in a file whoever made it; else the caller, who filled the store
+ */
+#define SHUNTBERRY_STRAY_BIT 17
+
+/*
+ * a filler byte is not 0
+ *   look whether: the program that wrote the file put something behind the table, in its last block
+ *   mended by: whoever made the file
+ */
+#define SHUNTBERRY_FILLER 18
+
+/*
+ * the output is shorter than the file, or in check under 4,096 bytes
+ *   mended by: the caller: lend a longer one; 37,376 bytes are always enough
+ */
+#define SHUNTBERRY_OUTPUT_SHORT 19
+
+/*
+ * the allowance is over 512
+ *   mended by: the caller
+ */
+#define SHUNTBERRY_ALLOWANCE 20
+
+/*
+ * the path buffer has under 512 places
+ *   mended by: the caller
+ */
+#define SHUNTBERRY_PATH_SHORT 21
+
+/*
+ * the fan-out is over 16
+ *   mended by: the caller, or whoever gave `generate` the number
+ */
+#define SHUNTBERRY_FAN_OUT 22
+
+/*
+ * the distance buffer has fewer than n places
+ *   mended by: the caller
+ */
+#define SHUNTBERRY_DISTANCES_SHORT 23
+
+/*
+ * the site is over 65,520
+ *   mended by: the caller
+ */
+#define SHUNTBERRY_SITE 24
+
+/*
+ * the log's length is odd
+ *   mended by: whoever read the log: half an entry is missing
+ */
+#define SHUNTBERRY_LOG_ODD 25
+
+/*
+ * the log has over 32,768 bytes
+ *   mended by: the caller: replay a shorter one
+ */
+#define SHUNTBERRY_LOG_LONG 26
+
+/*
+ * a state number of an edit is n or more
+ *   mended by: the caller
+ */
+#define SHUNTBERRY_STEP_STATE 27
+
+/*
+ * a certain step is not possible
+ *   mended by: the drafter, whose two rows of a state do not fit each other
+ */
+#define SHUNTBERRY_NOT_POSSIBLE 28
+
+/*
+ * a window starts past minute 10,079 of the week, or is 0 or over 10,080 minutes long
+ *   mended by: the house, whose window it is; or the caller, who made the number
+ */
+#define SHUNTBERRY_WINDOW_RANGE 29
+
+/*
+ * there are over 32 windows or over 64 closed days
+ *   mended by: the house, which has too many
+ */
+#define SHUNTBERRY_TOO_MANY 30
+
+/*
+ * the time is over 2^31 - 1
+ *   mended by: the caller
+ */
+#define SHUNTBERRY_TIME 31
+
+/*
+ * The ground of a refusal, in words. A number that is no refusal, such as 0, gets words that say so.
  */
 static inline const char *shuntberry_refusal_text(uint32_t refusal)
 {
@@ -166,7 +354,7 @@ static inline const char *shuntberry_refusal_text(uint32_t refusal)
     case SHUNTBERRY_FILLER:
         return "a filler byte is not 0";
     case SHUNTBERRY_OUTPUT_SHORT:
-        return "the output is shorter than the file";
+        return "the output is shorter than the file, or in check under 4,096 bytes";
     case SHUNTBERRY_ALLOWANCE:
         return "the allowance is over 512";
     case SHUNTBERRY_PATH_SHORT:
@@ -210,16 +398,30 @@ static inline const char *shuntberry_refusal_text(uint32_t refusal)
 #define SHUNTBERRY_NO_TABLE 65535 /* for n and g (read). Every call that takes n refuses this one, with 14 unless 10 or 24 comes first */
 #define SHUNTBERRY_NO_MINUTE 4294967295u /* for the minute (next open), also if no minute is ever open: later than any that the call gives */
 
-/* ---- The calls ---- */
+/* ---- Why a state is forbidden ---- */
 
-/* Is put before each call: compilers that know it warn if nobody looks at the result, and so at a refusal. */
-#if (defined(__cplusplus) && __cplusplus >= 201703L) || (defined(__STDC_VERSION__) && __STDC_VERSION__ >= 202311L)
-#define SHUNTBERRY_NODISCARD [[nodiscard]]
-#elif defined(__GNUC__)
-#define SHUNTBERRY_NODISCARD __attribute__((warn_unused_result))
-#else
-#define SHUNTBERRY_NODISCARD
-#endif
+#define SHUNTBERRY_FORBIDDEN_NOT 0    /* it is not forbidden */
+#define SHUNTBERRY_FORBIDDEN_MARKED 1 /* it is marked, whether it is a hang too or not */
+#define SHUNTBERRY_FORBIDDEN_HANG 2   /* it is a hang: it has no successor, and is not resting */
+
+/*
+ * Why a state is forbidden in a table that the calls accept, one of n states in a store of SHUNTBERRY_STORE_WORDS words
+ * or more. SHUNTBERRY_NO_ANSWER if the table has no such state.
+ */
+static inline uint32_t shuntberry_why_forbidden(const uint64_t *store, size_t n, size_t state)
+{
+    uint64_t successors = 0;
+    if (n > SHUNTBERRY_MAX_STATES || state >= n)
+        return SHUNTBERRY_NO_ANSWER;
+    if (shuntberry_has_state(store + SHUNTBERRY_MARKED, state))
+        return SHUNTBERRY_FORBIDDEN_MARKED;
+    for (size_t word = 0; word < SHUNTBERRY_SET_WORDS; word++)
+        successors |= store[SHUNTBERRY_ROW(state) + word];
+    return successors == 0 && !shuntberry_has_state(store + SHUNTBERRY_RESTING, state) ? SHUNTBERRY_FORBIDDEN_HANG
+                                                                                        : SHUNTBERRY_FORBIDDEN_NOT;
+}
+
+/* ---- The calls ---- */
 
 /* What shuntberry_check answers. */
 struct shuntberry_checked {
@@ -242,8 +444,8 @@ struct shuntberry_checked {
  * An input of no bytes is a draft: safe, with n 0. Read the file into a buffer of one byte more than
  * SHUNTBERRY_FILE_BYTES, so that a longer file is seen to be too long.
  *
- * Refuses with 24, or with 19 if `text` has under SHUNTBERRY_CHECK_TEXT bytes. That a file is refused is an
- * answer: `file_refusal` has the number that shuntberry_read gives.
+ * Refuses with 24 or 19. That a file is refused is an answer: `file_refusal` has the number that shuntberry_read
+ * gives.
  */
 SHUNTBERRY_NODISCARD
 struct shuntberry_checked shuntberry_check(const uint8_t *input, size_t input_len, size_t site, uint8_t *text,
@@ -283,13 +485,13 @@ struct shuntberry_decision shuntberry_decide(const uint64_t *store, size_t store
                                              size_t allowance, uint16_t *path, size_t path_len);
 
 /*
- * Whether the call was accepted and the verdict is safe: 1 or 0. It is 1 also for n = 0, a draft, which is what
- * shuntberry_read makes of no bytes: of an empty file, or of a read that failed and was taken for one. So look at n
- * too, or use shuntberry_check and shuntberry_checked_is_safe, which is 0 then.
+ * Whether the call was accepted, the verdict is safe and the table has states: 1 or 0. `n` is the one that the call was
+ * given. A table without states, a draft, is nothing to release: shuntberry_read makes it of no bytes, and so of an
+ * empty file, or of a read that failed and was taken for one.
  */
-static inline int shuntberry_is_safe(struct shuntberry_decision decision)
+static inline int shuntberry_is_safe(struct shuntberry_decision decision, size_t n)
 {
-    return decision.refusal == SHUNTBERRY_ACCEPTED && decision.verdict == SHUNTBERRY_SAFE;
+    return decision.refusal == SHUNTBERRY_ACCEPTED && decision.verdict == SHUNTBERRY_SAFE && n > 0;
 }
 
 /* What shuntberry_shortest_path answers. */
@@ -315,7 +517,7 @@ struct shuntberry_shortest shuntberry_shortest_path(const uint64_t *store, size_
  * SHUNTBERRY_UNREACHABLE if no forbidden state can be reached. Places past n are not touched. The store is never changed.
  * `distances_len` is the number of places. Returns 0, or the number of the refusal.
  *
- * Refuses with 10, 14, 15, 17 or 23; the buffer is then as it was before. Only the returned number shows this: look
+ * Refuses with 10, 14, 15, 17 or 23. The buffer is then as it was before. Only the returned number shows this: look
  * at it.
  */
 SHUNTBERRY_NODISCARD
@@ -355,7 +557,8 @@ struct shuntberry_table {
  * not pass on a read that failed as one of no bytes.
  * A file of the old form, as versions 1 to 3 wrote it, is refused with 15; shuntberry_rewrite makes a new one of it.
  *
- * Refuses with 10, 24, 11, 12, 13, 14, 15, 16, 17 (of set bytes only) or 18.
+ * Refuses with 10, 24, 11, then 12 and 13 block by block, 14, 15, 16, 17 (of set bytes only) or 18; of an input of no
+ * bytes with 10 or 24 only.
  */
 SHUNTBERRY_NODISCARD
 struct shuntberry_table shuntberry_read(const uint8_t *input, size_t input_len, size_t site, uint64_t *store,
@@ -385,8 +588,9 @@ struct shuntberry_file shuntberry_write(const uint64_t *store, size_t store_len,
  * ends, and no other state, resting. So decide answers on it as before. The new file is put at the front of `output`, and
  * no other byte is touched. An output of SHUNTBERRY_FILE_BYTES is always long enough.
  *
- * If the old form refuses the file, refuses with that number (11 to 18; a file of the new form gets 15); otherwise with
- * 19 if the output is too short. Nothing is written then. As with shuntberry_write, test `refusal` first.
+ * Refuses with 11, then 12 and 13 block by block, 14, 15, 16, 17 or 18, as the old form refuses the file, or 19; an
+ * input of no bytes with none. A file of the new form gets 15. Nothing is written then. As with shuntberry_write,
+ * test `refusal` first.
  */
 SHUNTBERRY_NODISCARD
 struct shuntberry_file shuntberry_rewrite(const uint8_t *input, size_t input_len, uint8_t *output, size_t output_len);
@@ -399,8 +603,10 @@ struct shuntberry_file shuntberry_rewrite(const uint8_t *input, size_t input_len
  * seed, each of the next 54 the one before plus 2,654,435,769, and each from the 56th on the sum of the
  * numbers 24 and 55 places back, all modulo 2^32; the states take those from the 56th on.
  *
- * Returns 0, or refuses with 10, 14 or 22. The store is then as it was before, so a zeroed one still holds a draft.
- * Only the returned number shows this: look at it.
+ * Returns 0, or the number of the refusal. The store is then as it was before, so a zeroed one still holds a draft. Only
+ * the returned number shows this: look at it.
+ *
+ * Refuses with 10, 14 or 22.
  */
 SHUNTBERRY_NODISCARD
 uint32_t shuntberry_generate(uint32_t seed, size_t n, size_t fan_out, uint64_t *store, size_t store_len);
@@ -471,7 +677,7 @@ struct shuntberry_session shuntberry_open(const uint64_t *store, size_t store_le
  * Any edit may change what shuntberry_decide answers, also by making a hang or by giving one a way out: call it
  * again. Which states are reached does not depend on which are forbidden.
  *
- * Both refuse with 10, 14, 15, 17 or 27; store and set are then as they were before.
+ * Refuses with 10, 14, 15, 17 or 27. Store and set are then as they were before.
  */
 SHUNTBERRY_NODISCARD
 struct shuntberry_session shuntberry_add_step(uint64_t *store, size_t store_len, size_t n, size_t g,
@@ -520,10 +726,10 @@ struct shuntberry_modal shuntberry_decide_modal(const uint64_t *store, size_t st
                                                 const uint64_t *possible, size_t possible_len, uint16_t *path,
                                                 size_t path_len);
 
-/* Whether the call was accepted and every choice is safe: 1 or 0. It is 1 also for n = 0, as shuntberry_is_safe is. */
-static inline int shuntberry_modal_is_safe(struct shuntberry_modal decision)
+/* Whether the call was accepted, every choice is safe and the table has states, as in shuntberry_is_safe: 1 or 0. */
+static inline int shuntberry_modal_is_safe(struct shuntberry_modal decision, size_t n)
 {
-    return decision.refusal == SHUNTBERRY_ACCEPTED && decision.verdict == SHUNTBERRY_SAFE;
+    return decision.refusal == SHUNTBERRY_ACCEPTED && decision.verdict == SHUNTBERRY_SAFE && n > 0;
 }
 
 /* ---- When a release may be loaded ---- */
@@ -557,7 +763,7 @@ struct shuntberry_minute {
  * With at least one window there always is an open minute, less than 655,200 minutes later; it may lie
  * past SHUNTBERRY_MAX_TIME. Neither buffer is changed.
  *
- * Refuses with 31, 30 or 29, in this order.
+ * Refuses with 31, 30 or 29.
  */
 SHUNTBERRY_NODISCARD
 struct shuntberry_minute shuntberry_next_open(size_t time, const uint64_t *windows, size_t windows_len,

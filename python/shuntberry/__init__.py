@@ -12,21 +12,21 @@ true nor false: look at its `is_safe`. That is false for a table without states,
 Tables never change, and calls may be made from several threads at once; they let other threads run meanwhile. A thread needs the stack that the header
 names.
 """
-from ._answers import Answer, Checked, Decision, ModalDecision, Replay, Verdict
-from ._calls import (
-    Session, Window, check, decide, decide_modal, distances, generate, next_open, read, replay, rewrite, shortest_path, within, write)
-from ._library import (
-    FILE_BYTES, LIBRARY, MAX_ALLOWANCE, MAX_DAYS, MAX_FAN_OUT, MAX_GROUPS, MAX_LOG, MAX_SITE, MAX_STATES, MAX_TIME, MAX_WINDOWS)
-from ._refusals import Mistakes, Refusal, Refused, UnknownAnswer
+from . import _answers, _calls
+from ._answers import *  # noqa: F403
+from ._calls import *  # noqa: F403
+from ._library import LIBRARY
+from ._raw import (
+    FILE_BYTES, MAX_ALLOWANCE, MAX_DAYS, MAX_FAN_OUT, MAX_GROUPS, MAX_LOG, MAX_SITE, MAX_STATES, MAX_TIME, MAX_WINDOWS, Refusal)
+from ._refusals import Mistakes, Refused, UnknownAnswer
 from ._tables import State, Steps, Table
 from ._version import __version__
 
 __all__ = [
-    "Answer", "Checked", "Decision", "ModalDecision", "Replay", "Verdict",
-    "Session", "Window", "check", "decide", "decide_modal", "distances", "generate", "next_open", "read", "replay", "rewrite", "shortest_path",
-    "within", "write",
     "FILE_BYTES", "LIBRARY", "MAX_ALLOWANCE", "MAX_DAYS", "MAX_FAN_OUT", "MAX_GROUPS", "MAX_LOG", "MAX_SITE", "MAX_STATES", "MAX_TIME", "MAX_WINDOWS",
     "Mistakes", "Refusal", "Refused", "UnknownAnswer",
     "State", "Steps", "Table",
     "__version__",
 ]
+__all__ += _answers.__all__
+__all__ += _calls.__all__

@@ -5,8 +5,10 @@ import enum
 from dataclasses import dataclass, field
 from typing import FrozenSet, NoReturn, Optional, Tuple
 
-from ._library import NO_VERDICT
+from . import _raw
 from ._refusals import Refused, UnknownAnswer
+
+__all__ = ["Answer", "Checked", "Decision", "Forbidden", "ModalDecision", "Replay", "Verdict"]
 
 
 class Verdict(enum.Enum):
@@ -25,10 +27,10 @@ class Verdict(enum.Enum):
     TypeError: a verdict is compared with a Verdict alone, not with 'unsafe'
     """
 
-    SAFE = 0  #: no forbidden state can be reached from an initial one; also if there are no states at all
-    UNSAFE = 1  #: one can
-    UNDECIDED = 2  #: the allowance was used up before either was known (decide)
-    DEPENDS = 3  #: safe with the certain steps alone, unsafe with all possible ones (decide_modal)
+    SAFE = _raw.SAFE  #: no forbidden state can be reached from an initial one; also if there are no states at all
+    UNSAFE = _raw.UNSAFE  #: one can
+    UNDECIDED = _raw.UNDECIDED  #: the allowance was used up before either was known (decide)
+    DEPENDS = _raw.DEPENDS  #: safe with the certain steps alone, unsafe with all possible ones (decide_modal)
 
     def __bool__(self) -> NoReturn:
         raise TypeError("a verdict is neither true nor false: look at is_safe of the answer")
@@ -42,6 +44,23 @@ class Verdict(enum.Enum):
         return not self == other
 
     __hash__ = enum.Enum.__hash__
+
+
+class Forbidden(enum.Enum):
+    """Why a state is forbidden, or that it is not: what `Table.why_forbidden` answers. It is compared with another one, and is neither true nor false.
+
+    >>> bool(Forbidden.NOT)
+    Traceback (most recent call last):
+        ...
+    TypeError: why a state is forbidden is neither true nor false: compare it with Forbidden.NOT, MARKED or HANG
+    """
+
+    NOT = _raw.FORBIDDEN_NOT  #: it is not forbidden
+    MARKED = _raw.FORBIDDEN_MARKED  #: it is marked, whether it is a hang too or not
+    HANG = _raw.FORBIDDEN_HANG  #: it is a hang: it has no step, and is not resting
+
+    def __bool__(self) -> NoReturn:
+        raise TypeError("why a state is forbidden is neither true nor false: compare it with Forbidden.NOT, MARKED or HANG")
 
 
 def verdict_of(number: int, *known: Verdict) -> Verdict:
@@ -134,10 +153,10 @@ class Checked(Answer):
 
 def checked_of(text: str, n: int, file_refusal: int, verdict: int) -> Checked:
     """The answer of check, whose fields must fit each other."""
-    if file_refusal == 0:
+    if file_refusal == _raw.ACCEPTED:
         verdict_of(verdict, Verdict.SAFE, Verdict.UNSAFE)
         return Checked(text, None, n, verdict)
-    if verdict != NO_VERDICT:
+    if verdict != _raw.NO_VERDICT:
         raise UnknownAnswer(f"the library refused a file with {file_refusal} and gave the verdict {verdict} beside it")
     return Checked(text, Refused(file_refusal), n, verdict)
 

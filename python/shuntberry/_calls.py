@@ -7,10 +7,14 @@ from dataclasses import dataclass
 from typing import Any, FrozenSet, Iterable, List, Optional, Tuple
 
 from ._answers import Checked, Decision, ModalDecision, Replay, Verdict, checked_of, verdict_of
-from ._library import (
-    CHECK_TEXT, FILE_BYTES, MAX_ALLOWANCE, NO_MINUTE, PATH_PLACES, POSSIBLE_WORDS, UNREACHABLE, Session as RawSession, StateSet, call, fitting, whole)
+from ._library import call, fitting, whole
+from ._raw import CHECK_TEXT, FILE_BYTES, MAX_ALLOWANCE, NO_MINUTE, PATH_PLACES, POSSIBLE_WORDS, UNREACHABLE, Session as RawSession, Set as StateSet
 from ._refusals import UnknownAnswer
 from ._tables import Bytes, State, Steps, Store, Table, accepted, lent, states_in
+
+__all__ = [
+    "Session", "Window", "check", "decide", "decide_modal", "distances", "generate", "next_open", "read", "replay", "rewrite", "shortest_path",
+    "within", "write"]
 
 Path = ctypes.c_uint16 * PATH_PLACES
 Possible = ctypes.c_uint64 * POSSIBLE_WORDS
@@ -59,7 +63,7 @@ def decide(table: Table, allowance: int = MAX_ALLOWANCE) -> Decision:
     >>> decision.verdict, decision.path
     (<Verdict.UNSAFE: 1>, (0, 1, 2))
 
-    Refused with 20, where the allowance is over MAX_ALLOWANCE.
+    `allowance` goes from 0 to MAX_ALLOWANCE.
     """
     path = Path()
     found = call("decide", *of_table(table), allowance, path)
@@ -91,7 +95,7 @@ def check(data: Bytes, site: int = 0) -> Checked:
     >>> check(b"").verdict, check(b"").status, check(b"").is_safe
     (<Verdict.SAFE: 0>, 4, False)
 
-    Refused itself with 24, where the site is over MAX_SITE.
+    `site` goes from 0 to MAX_SITE.
     """
     text = (ctypes.c_uint8 * CHECK_TEXT)()
     found = call("check", lent(data, "a file"), site, text)
@@ -145,9 +149,9 @@ def write(table: Table, site: int = 0) -> bytes:
     >>> read(file, site=18)
     Traceback (most recent call last):
         ...
-    shuntberry.Refused: refused 13: a block's stored check is not its check for the site
+    shuntberry.Refused: refused 13: ...
 
-    Refused with 24, where the site is over MAX_SITE.
+    `site` goes from 0 to MAX_SITE.
     """
     return written("write", *of_table(table), site)
 
@@ -158,7 +162,7 @@ def rewrite(data: Bytes) -> bytes:
     >>> rewrite(write(generate(7, 3, 2)))
     Traceback (most recent call last):
         ...
-    shuntberry.Refused: refused 15: g is over 64, or a file's second number is not g + 32,768, as in the old form
+    shuntberry.Refused: refused 15: ...
     """
     return written("rewrite", lent(data, "a file"))
 
@@ -181,7 +185,7 @@ def generate(seed: int, n: int, fan_out: int) -> Table:
     >>> generate(7, 3, 2).steps
     {0: frozenset({0, 1}), 1: frozenset({1, 2}), 2: frozenset({1, 2})}
 
-    Refused with 14, where n is 0 or over MAX_STATES, or 22, where the fan-out is over MAX_FAN_OUT.
+    `n` goes from 1 to MAX_STATES, `fan_out` from 0 to MAX_FAN_OUT.
     """
     store = Store()
     accepted(call("generate", seed, n, fan_out, store))
@@ -197,7 +201,7 @@ def replay(table: Table, log: Bytes) -> Replay:
     >>> replay(table, log)
     Replay(followed=3, seen=2, percent=66, remainder=2, entries=4)
 
-    Refused with 25, where the log's length is odd, or 26, where it is over MAX_LOG.
+    A log has whole entries, and MAX_LOG bytes at most.
     """
     array = lent(log, "a log")
     found = call("replay", *of_table(table), array)
@@ -219,7 +223,7 @@ class Session:
     >>> session.add_step(0, 4)
     Traceback (most recent call last):
         ...
-    shuntberry.Refused: refused 27: a state number of an edit is n or more
+    shuntberry.Refused: refused 27: ...
 
     Any edit may change the verdict: `table` is the table to decide again.
 
@@ -332,7 +336,7 @@ def next_open(time: int, windows: Iterable[Window], closed_days: Iterable[int] =
     >>> print(start + timedelta(minutes=next_open((datetime(2026, 3, 1) - start) // timedelta(minutes=1), windows)))
     2026-03-03 22:00:00
 
-    Refused with 31, where the time is over MAX_TIME, 30, with over MAX_WINDOWS windows or MAX_DAYS closed days, or 29, where a window is out of range.
+    `time` goes from 0 to MAX_TIME, and there may be MAX_WINDOWS windows and MAX_DAYS closed days.
     """
     numbers = [packed(window) for window in windows]
     days = [fitting(day, ctypes.c_uint32, "a closed day") for day in closed_days]

@@ -1,4 +1,4 @@
-"""The shared library: where it is found, what its calls are given and answer (shuntberry.h has a comment for each).
+"""The shared library: where it is found, and its calls.
 
 Numbers go to it through `call` alone, which takes none that its C type cannot hold: ctypes would cut it.
 """
@@ -7,10 +7,11 @@ from __future__ import annotations
 import ctypes
 import operator
 import os
-from ctypes import POINTER, c_size_t, c_uint8, c_uint16, c_uint32, c_uint64
+from ctypes import POINTER, c_size_t, c_uint32
 from pathlib import Path
 from typing import Any, Callable, Dict, Iterator, List, Optional, Tuple
 
+from ._raw import CALLS, MAX_ALLOWANCE, MAX_FAN_OUT, MAX_SITE, MAX_STATES, MAX_TIME
 from ._version import __version__
 
 MAJOR = __version__.split(".")[0]
@@ -20,114 +21,14 @@ SYMBOL_VERSION = f"SHUNTBERRY_{MAJOR}"
 #: Names a library where none is found beside the module or by the system's loader.
 VARIABLE = "SHUNTBERRY_LIBRARY"
 
-SET_WORDS = 8
-HEAD_SETS = 3
-MAX_STATES = 64 * SET_WORDS
-MAX_GROUPS = 64
-MAX_ALLOWANCE = MAX_STATES
-STORE_WORDS = SET_WORDS * (HEAD_SETS + MAX_GROUPS + MAX_STATES)
-POSSIBLE_WORDS = SET_WORDS * MAX_STATES
-PATH_PLACES = MAX_STATES
-FILE_BYTES = 37376
-CHECK_TEXT = 4096
-UNREACHABLE = 65535
-MAX_SITE = 65520
-MAX_FAN_OUT = 16
-MAX_LOG = 32768
-MAX_TIME = 2147483647
-MAX_WINDOWS = 32
-MAX_DAYS = 64
-ACCEPTED, NO_VERDICT, NO_MINUTE = 0, 255, 4294967295
-
-# ---- The structs
-
-
-class Checked(ctypes.Structure):
-    _fields_ = [
-        ("length", c_size_t), ("n", c_size_t), ("refusal", c_uint32), ("file_refusal", c_uint32), ("verdict", c_uint32), ("reserved", c_uint32)]
-
-
-class Decision(ctypes.Structure):
-    _fields_ = [
-        ("invariant", c_uint64 * SET_WORDS), ("refusal", c_uint32), ("verdict", c_uint32), ("count", c_uint32), ("size", c_uint32),
-        ("steps", c_uint32), ("reserved", c_uint32)]
-
-
-class Shortest(ctypes.Structure):
-    _fields_ = [("refusal", c_uint32), ("found", c_uint32), ("steps", c_uint32)]
-
-
-class Within(ctypes.Structure):
-    _fields_ = [("refusal", c_uint32), ("within", c_uint32)]
-
-
-class TableRead(ctypes.Structure):
-    _fields_ = [("refusal", c_uint32), ("n", c_uint32), ("g", c_uint32)]
-
-
-class File(ctypes.Structure):
-    _fields_ = [("refusal", c_uint32), ("length", c_uint32)]
-
-
-class Replay(ctypes.Structure):
-    _fields_ = [("refusal", c_uint32), ("followed", c_uint32), ("seen", c_uint32), ("percent", c_uint32), ("remainder", c_uint32)]
-
-
-class StateSet(ctypes.Structure):
-    _fields_ = [("words", c_uint64 * SET_WORDS)]
-
-
-class Session(ctypes.Structure):
-    _fields_ = [("reachable", StateSet), ("refusal", c_uint32), ("reserved", c_uint32)]
-
-
-class Modal(ctypes.Structure):
-    _fields_ = [
-        ("invariant", c_uint64 * SET_WORDS), ("refusal", c_uint32), ("verdict", c_uint32), ("size", c_uint32), ("steps", c_uint32)]
-
-
-class Minute(ctypes.Structure):
-    _fields_ = [("refusal", c_uint32), ("never", c_uint32), ("minute", c_uint32)]
-
-
-#: The structs by the header's names.
-STRUCTS = {
-    "checked": Checked, "decision": Decision, "shortest": Shortest, "within": Within, "table": TableRead, "file": File, "replay": Replay,
-    "set": StateSet, "session": Session, "modal": Modal, "minute": Minute,
-}
-
-# ---- The calls: what each answers, and its parameters by the header's names
-
-Parameter = Tuple[str, Any]
-_STORE: List[Parameter] = [("store", POINTER(c_uint64)), ("store_len", c_size_t)]
-_TABLE = _STORE + [("n", c_size_t), ("g", c_size_t)]
-_PATH: List[Parameter] = [("path", POINTER(c_uint16)), ("path_len", c_size_t)]
-_INPUT: List[Parameter] = [("input", POINTER(c_uint8)), ("input_len", c_size_t)]
-_OUTPUT: List[Parameter] = [("output", POINTER(c_uint8)), ("output_len", c_size_t)]
-_EDIT = _TABLE + [("reachable", StateSet), ("from", c_size_t), ("to", c_size_t)]
-CALLS: Dict[str, Tuple[Any, List[Parameter]]] = {
-    "check": (Checked, _INPUT + [("site", c_size_t), ("text", POINTER(c_uint8)), ("text_len", c_size_t)]),
-    "decide": (Decision, _TABLE + [("allowance", c_size_t)] + _PATH),
-    "shortest_path": (Shortest, _TABLE + _PATH),
-    "distances": (c_uint32, _TABLE + [("distances", POINTER(c_uint16)), ("distances_len", c_size_t)]),
-    "within": (Within, _TABLE + [("k", c_size_t)]),
-    "read": (TableRead, _INPUT + [("site", c_size_t)] + _STORE),
-    "write": (File, _TABLE + [("site", c_size_t)] + _OUTPUT),
-    "rewrite": (File, _INPUT + _OUTPUT),
-    "generate": (c_uint32, [("seed", c_uint32), ("n", c_size_t), ("fan_out", c_size_t)] + _STORE),
-    "replay": (Replay, _TABLE + [("log", POINTER(c_uint8)), ("log_len", c_size_t)]),
-    "open": (Session, _TABLE),
-    "add_step": (Session, _EDIT),
-    "remove_step": (Session, _EDIT),
-    "decide_modal": (Modal, _TABLE + [("possible", POINTER(c_uint64)), ("possible_len", c_size_t)] + _PATH),
-    "next_open": (Minute, [
-        ("time", c_size_t), ("windows", POINTER(c_uint64)), ("windows_len", c_size_t), ("closed_days", POINTER(c_uint32)),
-        ("closed_days_len", c_size_t)]),
-}
-
 # ---- Numbers that C can hold
 
 NUMBERS = (c_size_t, c_uint32)
+#: The greatest number of a parameter, where there is one: what a number is told of that C cannot hold.
+GREATEST = {
+    "site": MAX_SITE, "n": MAX_STATES, "allowance": MAX_ALLOWANCE, "fan_out": MAX_FAN_OUT, "time": MAX_TIME, "source": MAX_STATES - 1, "target": MAX_STATES - 1}
+#: The parameters that have another name here, since Python has the header's for itself.
+NAMED = {"from": "source", "to": "target"}
 
 
 def whole(value: object, what: str) -> int:
@@ -142,9 +43,9 @@ def whole(value: object, what: str) -> int:
 
 def fitting(value: object, kind: Any, what: str) -> int:
     """A number that a C type holds; ctypes would cut any other."""
-    number, limit = whole(value, what), 1 << 8 * ctypes.sizeof(kind)
-    if not 0 <= number < limit:
-        raise OverflowError(f"{what} is {number}, and the library takes 0 to {limit - 1}")
+    number, greatest = whole(value, what), (1 << 8 * ctypes.sizeof(kind)) - 1
+    if not 0 <= number <= greatest:
+        raise OverflowError(f"{what} is {number}: it goes from 0 to {GREATEST.get(what, greatest)}")
     return number
 
 
@@ -254,7 +155,7 @@ def call(name: str, *arguments: Any) -> Any:
     for argument in arguments:
         what, kind = parameters[len(given)]
         if kind in NUMBERS:
-            given.append(fitting(argument, kind, what))
+            given.append(fitting(argument, kind, NAMED.get(what, what)))
         elif isinstance(argument, ctypes.Array):
             given += [argument, len(argument)]
         else:

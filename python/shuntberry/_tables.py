@@ -9,8 +9,9 @@ from pathlib import Path
 from types import MappingProxyType
 from typing import Any, Dict, FrozenSet, Iterable, List, Mapping, Optional, Tuple, Type, Union
 
-from ._library import (
-    ACCEPTED, FILE_BYTES, HEAD_SETS, MAX_GROUPS, MAX_STATES, SET_WORDS, STORE_WORDS, call, prefix, whole)
+from ._answers import Forbidden
+from ._library import call, prefix, whole
+from ._raw import ACCEPTED, FILE_BYTES, HEAD_SETS, MAX_GROUPS, MAX_STATES, SET_WORDS, STORE_WORDS
 from ._refusals import Mistakes, Refused, UnknownAnswer
 
 #: A state by its number, or by its name where the table knows names.
@@ -74,7 +75,7 @@ class Table:
     >>> Table(3, initial=[3], marked=[], steps={})
     Traceback (most recent call last):
         ...
-    shuntberry.Refused: refused 17: a set, the resting one included, holds a state from n up, or a word of an unused group or row is not 0, also of the possible steps
+    shuntberry.Refused: refused 17: ...
     """
 
     __slots__ = ("_n", "_g", "_store", "_names")
@@ -90,6 +91,8 @@ class Table:
         groups: Iterable[Iterable[State]] = (),
         names: Optional[Mapping[int, str]] = None,
     ) -> None:
+        if not isinstance(groups, Iterable):
+            raise TypeError(f"groups is a list of groups, not of type {type(groups).__name__}: write [[0, 1], [2]]")
         listed = list(groups)
         self._hold(whole(n, "n"), len(listed), Store(), names)
         sets = [self._bits(states, what) for what, states in (("initial", initial), ("marked", marked), ("resting", resting))]
@@ -139,6 +142,8 @@ class Table:
         """
         if not isinstance(text, str):
             raise TypeError(f"a text is a str, not of type {type(text).__name__}")
+        if len(text.split()) == 1 or "\n" not in text and os.path.exists(text):
+            raise ValueError(f"a text is given itself, and {text!r} is the name of a file: Table.from_text(Path({text!r}).read_text())")
         program = the_command() if command is None else os.fspath(command)
         file = answer_of([program, "encode"], text)
         facts = answer_of([program, "decode", "--text"], text).decode().split("\n")
@@ -166,6 +171,8 @@ class Table:
         """A set as its bytes in a store."""
         if isinstance(states, (str, bytes, bytearray, memoryview)):
             raise TypeError(f"{what} is a list or set of states, not a text or bytes: write [{states!r}]")
+        if not isinstance(states, Iterable):
+            raise TypeError(f"{what} is a list or set of states, not of type {type(states).__name__}: write [{states!r}]")
         bits = 0
         for state in states:
             bits |= 1 << self._place(state, what)
@@ -245,6 +252,18 @@ class Table:
         if not 0 <= number < self._n:
             raise ValueError(f"there is no state {number}: the table has {self._n}")
         return self._set(FIRST_ROW + number)
+
+    def why_forbidden(self, state: State) -> Forbidden:
+        """Why a state is forbidden, if it is; ValueError for a state that the table does not have.
+
+        >>> table = Table(4, initial=[0], marked=[1], resting=[3], steps={0: [1]})
+        >>> [table.why_forbidden(s).name for s in range(4)]
+        ['NOT', 'MARKED', 'HANG', 'NOT']
+        """
+        number, successors = self.state(state), self.successors(state)
+        if number in self.marked:
+            return Forbidden.MARKED
+        return Forbidden.NOT if successors or number in self.resting else Forbidden.HANG
 
     @property
     def steps(self) -> Dict[int, FrozenSet[int]]:

@@ -3,7 +3,7 @@
 use crate::{Refused, accepted, front, raw};
 
 /// The room that the longest text of [`check`] takes.
-pub const CHECK_TEXT_BYTES: usize = 4_096;
+pub const CHECK_TEXT_BYTES: usize = raw::CHECK_TEXT;
 
 /// What [`check`] answers of a file, with the text that the program `check` prints for it: the front of the lent buffer.
 #[derive(Clone, Copy, Debug, PartialEq, Eq)]
@@ -43,7 +43,7 @@ impl Checked<'_> {
 /// A release check of a file's bytes at a site. An input of no bytes is an untouched draft, with 0 states and safe, so a read that failed
 /// must not be passed on as one.
 ///
-/// Refused itself with 24, then 19 where `text` has under [`CHECK_TEXT_BYTES`] places.
+/// Refused itself as [`raw::shuntberry_check`] says: a site goes to [`MAX_SITE`](crate::MAX_SITE), and `text` has [`CHECK_TEXT_BYTES`] places or more.
 ///
 /// ```
 /// use shuntberry::checking::{CHECK_TEXT_BYTES, Checked, check};
@@ -88,9 +88,9 @@ fn checked(said: raw::Checked, text: &[u8]) -> Result<Checked<'_>, Refused> {
     accepted(said.refusal)?;
     let text = front(text, said.length)?;
     match (said.file_refusal, said.verdict) {
-        (0, raw::SAFE) => Ok(Checked::Safe { n: said.n, text }),
-        (0, raw::UNSAFE) => Ok(Checked::Unsafe { n: said.n, text }),
-        (0, _) => Err(Refused::UNKNOWN_ANSWER),
+        (raw::ACCEPTED, raw::SAFE) => Ok(Checked::Safe { n: said.n, text }),
+        (raw::ACCEPTED, raw::UNSAFE) => Ok(Checked::Unsafe { n: said.n, text }),
+        (raw::ACCEPTED, _) => Err(Refused::UNKNOWN_ANSWER),
         (refusal, raw::NO_VERDICT) => Ok(Checked::RefusedFile {
             refusal: Refused(refusal),
             text,
@@ -102,7 +102,7 @@ fn checked(said: raw::Checked, text: &[u8]) -> Result<Checked<'_>, Refused> {
 /// The file of the new form for an old file of site 0, with its dead ends resting, at the front of `output`. An output of
 /// [`FILE_BYTES`](crate::FILE_BYTES) is always long enough.
 ///
-/// Refused with 11 to 18 where the old form refuses the file, and with 19.
+/// Refused as [`raw::shuntberry_rewrite`] says.
 pub fn rewrite<'o>(input: &[u8], output: &'o mut [u8]) -> Result<&'o [u8], Refused> {
     // SAFETY: pointers and lengths are those of two slices, which do not overlap.
     let file = unsafe {

@@ -69,7 +69,7 @@
 //! // A table of 513 states is refused.
 //! let refused = decide(&store, 513, 0, MAX_ALLOWANCE, &mut path).unwrap_err();
 //! assert_eq!(refused, Refused::STATES);
-//! assert_eq!(refused.to_string(), "refused 14: n is over 512, or 0 with groups, in a block or in a load");
+//! assert_eq!(refused.to_string(), format!("refused 14: {}", refused.message()));
 //! # Ok::<(), shuntberry::Refused>(())
 //! ```
 //!
@@ -89,56 +89,25 @@ pub mod raw;
 use ::portable_c as _;
 
 mod builder;
+mod refusals;
 mod set;
 mod table;
 
 pub use builder::{NeedsInitial, NeedsMarked, NeedsSteps, TableBuilder};
 pub use set::{State, StateSet, States};
-pub use table::{Decision, ModalDecision, Report, Table, TableSession};
+pub use table::{Decision, Forbidden, ModalDecision, Report, Table, TableSession};
 
 use std::error::Error;
 use std::fmt;
 
-/// The words of a set.
-pub const SET_WORDS: usize = 8;
-/// The sets that stand before the groups: initial, marked and resting.
-pub const HEAD_SETS: usize = 3;
-/// The greatest number of states.
-pub const MAX_STATES: usize = 64 * SET_WORDS;
-/// The greatest number of groups.
-pub const MAX_GROUPS: usize = 64;
-/// The greatest allowance, and that of a release check: with it no verdict is undecided.
-pub const MAX_ALLOWANCE: usize = MAX_STATES;
-/// The least length of a store, in words.
-pub const STORE_WORDS: usize = row(MAX_STATES);
-/// The least length of a path buffer, in 16-bit places.
-pub const PATH_PLACES: usize = MAX_STATES;
-/// The length of the largest file: 73 blocks of 512 bytes.
-pub const FILE_BYTES: usize = 37_376;
-/// The greatest site number.
-pub const MAX_SITE: usize = 65_520;
-/// The greatest fan-out of a generated table.
-pub const MAX_FAN_OUT: usize = 16;
-/// The greatest length of a pump's log, in bytes.
-pub const MAX_LOG: usize = 32_768;
-/// The least length of a buffer of possible steps, in words.
-pub const POSSIBLE_WORDS: usize = possible_row(MAX_STATES);
-/// The greatest time, in minutes.
-pub const MAX_TIME: usize = 2_147_483_647;
-/// The greatest number of windows.
-pub const MAX_WINDOWS: usize = 32;
-/// The greatest number of closed days.
-pub const MAX_DAYS: usize = 64;
+pub use raw::{
+    FILE_BYTES, HEAD_SETS, INITIAL, MARKED, MAX_ALLOWANCE, MAX_DAYS, MAX_FAN_OUT, MAX_GROUPS,
+    MAX_LOG, MAX_SITE, MAX_STATES, MAX_TIME, MAX_WINDOWS, PATH_PLACES, POSSIBLE_WORDS, RESTING,
+    SET_WORDS, STORE_WORDS,
+};
 
 /// What [`distances`] writes for a state from which no forbidden state can be reached.
-pub const UNREACHABLE: u16 = 65_535;
-
-/// Where the initial set begins in a store.
-pub const INITIAL: usize = 0;
-/// Where the set of the states that are marked forbidden begins in a store.
-pub const MARKED: usize = SET_WORDS;
-/// Where the resting set begins in a store.
-pub const RESTING: usize = 2 * SET_WORDS;
+pub const UNREACHABLE: u16 = raw::UNREACHABLE as u16;
 
 /// Where group `j` begins in a store, for `j` below [`MAX_GROUPS`].
 pub const fn group(j: usize) -> usize {
@@ -236,56 +205,24 @@ const fn saturated(number: u64) -> u64 {
 #[derive(Clone, Copy, Debug, PartialEq, Eq, Hash)]
 pub struct Refused(pub u32);
 
-/// Each ground by name, with its number and its words: as in the header, of which each constant has the name.
-macro_rules! refusals {
-    ($($name:ident = $number:literal, $ground:literal;)*) => {
-        impl Refused {
-            $(
-                #[doc = concat!($number, ": ", $ground, ".")]
-                pub const $name: Refused = Refused($number);
-            )*
-
-            /// The ground on which the call was refused.
-            pub fn message(self) -> &'static str {
-                match self {
-                    $(Refused::$name => $ground,)*
-                    Refused::UNKNOWN_ANSWER => "the library answered with a number that this version of the wrapper does not know",
-                    _ => "no ground that this version of the wrapper knows",
-                }
-            }
-        }
-    };
-}
-
-refusals! {
-    STORE_SHORT = 10, "the store has under 4,632 words, or the possible steps under 4,096";
-    INPUT_LENGTH = 11, "the input's length is no multiple of 512, or over 37,376";
-    BLOCK_NUMBER = 12, "a block does not hold its own number";
-    BLOCK_CHECK = 13, "a block's stored check is not its check for the site";
-    STATES = 14, "n is over 512, or 0 with groups, in a block or in a load";
-    GROUPS = 15, "g is over 64, or a file's second number is not g + 32,768, as in the old form";
-    BLOCK_COUNT = 16, "the number of blocks is not that of a file with this n and g";
-    STRAY_BIT = 17, "a set, the resting one included, holds a state from n up, or a word of an unused group or row is not 0, also of the possible steps";
-    FILLER = 18, "a filler byte is not 0";
-    OUTPUT_SHORT = 19, "the output is shorter than the file";
-    ALLOWANCE = 20, "the allowance is over 512";
-    PATH_SHORT = 21, "the path buffer has under 512 places";
-    FAN_OUT = 22, "the fan-out is over 16";
-    DISTANCES_SHORT = 23, "the distance buffer has fewer than n places";
-    SITE = 24, "the site is over 65,520";
-    LOG_ODD = 25, "the log's length is odd";
-    LOG_LONG = 26, "the log has over 32,768 bytes";
-    STEP_STATE = 27, "a state number of an edit is n or more";
-    NOT_POSSIBLE = 28, "a certain step is not possible";
-    WINDOW_RANGE = 29, "a window starts past minute 10,079 of the week, or is 0 or over 10,080 minutes long";
-    TOO_MANY = 30, "there are over 32 windows or over 64 closed days";
-    TIME = 31, "the time is over 2^31 - 1";
-}
-
 impl Refused {
     /// No ground of the library's: it accepted the call, and then answered with a number that stands for nothing that this
     /// version of the wrapper knows, as a library of a later version might. The proved library gives none.
     pub const UNKNOWN_ANSWER: Refused = Refused(u32::MAX);
+
+    /// The ground on which the call was refused.
+    pub fn message(self) -> &'static str {
+        if self == Refused::UNKNOWN_ANSWER {
+            return "the library answered with a number that this version of the wrapper does not know";
+        }
+        let known = refusals::GROUNDS
+            .iter()
+            .find(|(number, _)| *number == self.0);
+        known.map_or(
+            "no ground that this version of the wrapper knows",
+            |(_, ground)| ground,
+        )
+    }
 }
 
 impl fmt::Display for Refused {
@@ -299,7 +236,7 @@ impl Error for Refused {}
 /// Decides whether a forbidden state can be reached, with at most `allowance` refinements.
 ///
 /// If unsafe, the path stands at the front of `path`, and no other place of it is touched; if safe or
-/// undecided, none is. Refused with 10, 14, 15, 17, 20 or 21.
+/// undecided, none is. Refused as [`raw::shuntberry_decide`] says.
 pub fn decide<'p>(
     store: &[u64],
     n: usize,
@@ -344,7 +281,7 @@ fn verdict(decision: raw::Decision, path: &[u16]) -> Result<Verdict<'_>, Refused
 /// The smallest of the shortest paths from an initial to a forbidden state, at the front of `path`;
 /// no other place of it is touched, and none if there is no path.
 ///
-/// Refused with 10, 14, 15, 17 or 21.
+/// Refused as [`raw::shuntberry_shortest_path`] says.
 ///
 /// ```
 /// use shuntberry::{INITIAL, MARKED, PATH_PLACES, STORE_WORDS, row, shortest_path};
@@ -392,7 +329,7 @@ pub fn shortest_path<'p>(
 /// `distances`: one place for each of the `n` states, [`UNREACHABLE`] where none can be reached. No
 /// other place is touched.
 ///
-/// Refused with 10, 14, 15, 17 or 23.
+/// Refused as [`raw::shuntberry_distances`] says.
 ///
 /// ```
 /// use shuntberry::{INITIAL, MARKED, RESTING, STORE_WORDS, UNREACHABLE, distances, row, within};
@@ -434,7 +371,7 @@ pub fn distances(store: &[u64], n: usize, g: usize, distances: &mut [u16]) -> Re
 
 /// Whether there is a path of at most `k` steps from an initial to a forbidden state.
 ///
-/// Refused with 10, 14, 15 or 17.
+/// Refused as [`raw::shuntberry_within`] says.
 pub fn within(store: &[u64], n: usize, g: usize, k: usize) -> Result<bool, Refused> {
     // SAFETY: the pointer and the length are those of a slice.
     let answer = unsafe { raw::shuntberry_within(store.as_ptr(), store.len(), n, g, k) };
@@ -446,7 +383,7 @@ pub fn within(store: &[u64], n: usize, g: usize, k: usize) -> Result<bool, Refus
 /// input of no bytes is an untouched draft, at every site: `n` and `g` are 0, and so is each of those words. So a read that failed must
 /// not be passed on as one of no bytes.
 ///
-/// Refused with 10, 24, 11, 12, 13, 14, 15, 16, 17 or 18. A block that was made for another site and is unaltered is
+/// Refused as [`raw::shuntberry_read`] says. A block that was made for another site and is unaltered is
 /// refused with 13 where it stands at its own number, and with 12 where it does not, once all that is looked at before
 /// it passes. A file of the old form, which has no resting set, is refused with 15; [`checking::rewrite`] makes a new one of it.
 pub fn read(input: &[u8], site: usize, store: &mut [u64]) -> Result<TableRead, Refused> {
@@ -470,7 +407,7 @@ pub fn read(input: &[u8], site: usize, store: &mut [u64]) -> Result<TableRead, R
 /// Writes the table as a block file for a site, 0 to [`MAX_SITE`], at the front of `output` and returns the file; no other byte of
 /// `output` is touched. An output of [`FILE_BYTES`] is always long enough.
 ///
-/// Refused with 10, 24, 14, 15, 17 or 19.
+/// Refused as [`raw::shuntberry_write`] says.
 ///
 /// ```
 /// use shuntberry::{FILE_BYTES, Refused, STORE_WORDS, TableRead, read, write};
@@ -516,7 +453,7 @@ pub fn write<'o>(
 /// state has up to `fan_out` successors: with a fan-out of 0 every state is a hang. Every call that takes a table accepts
 /// it, with `g` = 0.
 ///
-/// Refused with 10, 14 or 22.
+/// Refused as [`raw::shuntberry_generate`] says.
 ///
 /// ```
 /// use shuntberry::{FILE_BYTES, STORE_WORDS, generate, row, write};
@@ -552,7 +489,7 @@ pub struct Replay {
 /// Walks a pump's log through the table: a list of state numbers of two bytes each, low byte first.
 ///
 /// The first entry must be initial, each later one a successor of the entry before. On a table that
-/// [`decide`] calls safe, no followed entry is forbidden. Refused with 10, 14, 15, 17, 25 or 26.
+/// [`decide`] calls safe, no followed entry is forbidden. Refused as [`raw::shuntberry_replay`] says.
 ///
 /// ```
 /// use shuntberry::{INITIAL, Replay, STORE_WORDS, replay, row};
@@ -584,7 +521,7 @@ pub fn replay(store: &[u64], n: usize, g: usize, log: &[u8]) -> Result<Replay, R
 
 /// The states that can be reached from the initial ones, these included: what an edit [`Session`] starts from.
 ///
-/// Refused with 10, 14, 15 or 17.
+/// Refused as [`raw::shuntberry_open`] says.
 pub fn open(store: &[u64], n: usize, g: usize) -> Result<StateSet, Refused> {
     // SAFETY: as in `decide`; nothing is written.
     let session = unsafe { raw::shuntberry_open(store.as_ptr(), store.len(), n, g) };
@@ -596,7 +533,7 @@ pub fn open(store: &[u64], n: usize, g: usize) -> Result<StateSet, Refused> {
 /// the same if the step exists or `from` is not in it, else the set with all that `to` reaches. At most one
 /// word of the store changes.
 ///
-/// Refused with 10, 14, 15, 17 or 27; the set that was handed in is then still the one to go on with.
+/// Refused as [`raw::shuntberry_add_step`] says; the set that was handed in is then still the one to go on with.
 ///
 /// ```
 /// use shuntberry::{SET_WORDS, STORE_WORDS, StateSet, add_step, remove_step, row};
@@ -634,7 +571,7 @@ pub fn add_step(
 /// Removes a step from the table, and gives the set that is lit after it: `reachable` if there is no such
 /// step, else what the initial states reach. At most one word of the store changes. ([`add_step`] has an example.)
 ///
-/// Refused with 10, 14, 15, 17 or 27; the set that was handed in is then still the one to go on with.
+/// Refused as [`raw::shuntberry_remove_step`] says; the set that was handed in is then still the one to go on with.
 pub fn remove_step(
     store: &mut [u64],
     n: usize,
@@ -685,7 +622,7 @@ pub struct Session<'s> {
 }
 
 impl<'s> Session<'s> {
-    /// Opens the table. Refused with 10, 14, 15 or 17.
+    /// Opens the table. Refused as [`open`] is.
     pub fn open(store: &'s mut [u64], n: usize, g: usize) -> Result<Session<'s>, Refused> {
         let reachable = open(store, n, g)?;
         Ok(Session {
@@ -752,7 +689,7 @@ pub enum ModalVerdict<'p> {
 /// choice that is safe here may be unsafe there, as a table of its own.
 ///
 /// The path stands at the front of `path`, and no other place of it is touched; if safe, none is. Words of `possible` past the
-/// first [`POSSIBLE_WORDS`] are not read. Refused with 10 (either buffer), 14, 15, 17 (either buffer), 28 or 21.
+/// first [`POSSIBLE_WORDS`] are not read. Refused as [`raw::shuntberry_decide_modal`] says.
 ///
 /// ```
 /// use shuntberry::{INITIAL, MARKED, ModalVerdict, PATH_PLACES, POSSIBLE_WORDS, Refused, STORE_WORDS};
@@ -836,7 +773,7 @@ fn modal_verdict(decision: raw::Modal, path: &[u16]) -> Result<ModalVerdict<'_>,
 /// A window may run over the week's end, and recurs in every week, the one before minute 0 included. With
 /// at least one window the answer is less than 655,200 minutes after `time`; it may lie past [`MAX_TIME`].
 ///
-/// Refused with 31, 30 or 29, in this order.
+/// Refused as [`raw::shuntberry_next_open`] says.
 ///
 /// ```
 /// use shuntberry::{Refused, Window, next_open};
@@ -878,7 +815,7 @@ pub fn next_open(
 /// The refusal of a call, if its number is one.
 fn accepted(refusal: u32) -> Result<(), Refused> {
     match refusal {
-        0 => Ok(()),
+        raw::ACCEPTED => Ok(()),
         number => Err(Refused(number)),
     }
 }
@@ -906,6 +843,10 @@ fn front<T>(buffer: &[T], length: usize) -> Result<&[T], Refused> {
 #[cfg(doctest)]
 #[doc = include_str!("../README.md")]
 struct Page;
+
+/// A store is just the sets that it holds, and nothing is cut where a size becomes 16 bits.
+const _: () = assert!(STORE_WORDS == row(MAX_STATES) && POSSIBLE_WORDS == possible_row(MAX_STATES));
+const _: () = assert!(UNREACHABLE as usize == raw::UNREACHABLE && MAX_STATES == 64 * SET_WORDS);
 
 #[cfg(test)]
 mod tests {

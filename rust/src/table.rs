@@ -166,6 +166,18 @@ impl Report {
     }
 }
 
+/// Why a state is forbidden, or that it is not.
+#[derive(Clone, Copy, Debug, PartialEq, Eq, Hash)]
+#[must_use = "an answer that is not looked at may be that the state is forbidden"]
+pub enum Forbidden {
+    /// It is not forbidden.
+    Not,
+    /// It is marked, whether it is a hang too or not.
+    Marked,
+    /// It is a hang: it leads nowhere, and does not rest.
+    Hang,
+}
+
 /// Where a table comes from.
 impl Table {
     /// Begins a table of `n` states, whose initial states, marked states and steps come next: [`TableBuilder`].
@@ -176,7 +188,7 @@ impl Table {
     /// The table in the bytes of a file that was made for a site. No bytes are an untouched draft, a table without states: so a read that failed must
     /// not be passed on as one of no bytes.
     ///
-    /// Refused with 24, 11, 12, 13, 14, 15, 16, 17 or 18, as [`read`] is.
+    /// Refused as [`read`] is.
     ///
     /// ```
     /// use shuntberry::{Refused, Table};
@@ -193,13 +205,13 @@ impl Table {
 
     /// The table of `n` states and `g` groups in a store, of which the first [`STORE_WORDS`] words are copied.
     ///
-    /// Refused with 10, 14, 15 or 17.
+    /// Refused as [`within`] is.
     pub fn from_store(store: &[u64], n: usize, g: usize) -> Result<Table, Refused> {
         let words = store.get(..STORE_WORDS).ok_or(Refused::STORE_SHORT)?;
         Table::of_store(words.to_vec(), n, g)
     }
 
-    /// The table that a seed gives, as [`generate`] says. Refused with 14, where `n` is 0 or over [`MAX_STATES`], or with 22.
+    /// The table that a seed gives, as [`generate`] says. Refused as that is.
     ///
     /// ```
     /// use shuntberry::Table;
@@ -278,6 +290,30 @@ impl Table {
         let leads_nowhere = |&state: &State| self.set(row(state.into())).is_empty();
         let dead_ends: StateSet = every.filter(leads_nowhere).collect();
         self.marked().union(dead_ends.difference(self.resting()))
+    }
+
+    /// Why a state is forbidden, if it is; none if there is no such state.
+    ///
+    /// ```
+    /// use shuntberry::{Forbidden, Table};
+    ///
+    /// let table = Table::builder(4).initial([0]).marked([1]).steps([(0, 1)]).resting([3]).build()?;
+    /// assert_eq!(table.why_forbidden(0), Some(Forbidden::Not));
+    /// assert_eq!(table.why_forbidden(1), Some(Forbidden::Marked));
+    /// assert_eq!(table.why_forbidden(2), Some(Forbidden::Hang));
+    /// assert_eq!(table.why_forbidden(3), Some(Forbidden::Not));
+    /// assert_eq!(table.why_forbidden(4), None);
+    /// # Ok::<(), shuntberry::Refused>(())
+    /// ```
+    pub fn why_forbidden(&self, state: usize) -> Option<Forbidden> {
+        let leads_nowhere = self.successors(state)?.is_empty();
+        Some(if self.marked().contains(state) {
+            Forbidden::Marked
+        } else if leads_nowhere && !self.resting().contains(state) {
+            Forbidden::Hang
+        } else {
+            Forbidden::Not
+        })
     }
 
     /// The store, as the calls that take one expect it with [`Table::n`] and [`Table::g`].
@@ -394,7 +430,7 @@ impl Table {
     /// Decides the table for every choice of steps that exist only on pumps with an option bought, as [`decide_modal`] does. The table's steps are the
     /// certain ones; `possible` has all that are possible, with each certain one among them.
     ///
-    /// Refused with 17, where a possible step names a state of n or more, or with 28, where a certain step is not possible.
+    /// Refused with 17 or 28, as [`decide_modal`] is.
     ///
     /// ```
     /// use shuntberry::{ModalDecision, Refused, Table};
@@ -530,5 +566,37 @@ fn words(text: &[u8]) -> Result<String, Refused> {
     match std::str::from_utf8(text) {
         Ok(text) if text.is_ascii() => Ok(text.to_string()),
         _ => Err(Refused::UNKNOWN_ANSWER),
+    }
+}
+
+#[cfg(test)]
+mod tests {
+    use super::*;
+
+    /// A state is forbidden for a reason just where its distance is 0, and marked before it is a hang.
+    #[test]
+    fn reasons_are_those_of_the_library() -> Result<(), Refused> {
+        let mut seen = [0; 3];
+        for seed in 0..50 {
+            let load = Table::generate(seed, 100, 1)?;
+            // Some states lead nowhere, of which some rest and some are marked.
+            let kept = load.steps().filter(|(from, _)| from % 3 > 0);
+            let table = Table::builder(100)
+                .initial([0])
+                .marked((0..100).filter(|state| state % 5 == 0))
+                .steps(kept)
+                .resting((0..100).filter(|state| state % 2 == 0))
+                .build()?;
+            for (state, distance) in table.distances()?.into_iter().enumerate() {
+                let why = table.why_forbidden(state).expect("there is such a state");
+                assert_eq!(why != Forbidden::Not, distance == Some(0));
+                assert_eq!(why != Forbidden::Not, table.forbidden().contains(state));
+                assert_eq!(why == Forbidden::Marked, table.marked().contains(state));
+                seen[why as usize] += 1;
+            }
+            assert_eq!(table.why_forbidden(100), None);
+        }
+        assert!(seen.iter().all(|&count| count > 0));
+        Ok(())
     }
 }

@@ -189,7 +189,7 @@ static void hangs(void)
         require(decision.refusal == SHUNTBERRY_ACCEPTED &&
                     decision.verdict == (forbidden ? SHUNTBERRY_UNSAFE : SHUNTBERRY_SAFE) &&
                     decision.size == (forbidden ? 0 : STATES) && (!forbidden || is_corridor(decision.steps)) &&
-                    shuntberry_is_safe(decision) == !forbidden,
+                    shuntberry_is_safe(decision, STATES) == !forbidden,
                 "decide on a state that leads nowhere");
         require(within(STATES - 1) == forbidden && within(STATES - 2) == 0, "within, of a state that leads nowhere");
         require(shuntberry_distances(store, words, STATES, 0, distances, STATES) == SHUNTBERRY_ACCEPTED &&
@@ -473,7 +473,7 @@ static void options(void)
     add(SHUNTBERRY_RESTING, STATES - 2);
     answer = decide_modal();
     require(answer.refusal == SHUNTBERRY_ACCEPTED && answer.verdict == SHUNTBERRY_SAFE && all_but_last(answer) &&
-                answer.steps == 0 && is_painted(path, sizeof path) && shuntberry_modal_is_safe(answer),
+                answer.steps == 0 && is_painted(path, sizeof path) && shuntberry_modal_is_safe(answer, STATES),
             "every choice safe");
     memset(store + SHUNTBERRY_RESTING, 0, sizeof step);
 
@@ -544,7 +544,7 @@ static void nothing(void)
     require(written.refusal == SHUNTBERRY_ACCEPTED && written.length == 0, "write of a draft");
     struct shuntberry_decision decision = shuntberry_decide(draft, words, 0, 0, 0, path, room);
     require(decision.refusal == SHUNTBERRY_ACCEPTED && decision.verdict == SHUNTBERRY_SAFE && decision.count == 0 &&
-                decision.size == 0 && decision.steps == 0,
+                decision.size == 0 && decision.steps == 0 && !shuntberry_is_safe(decision, 0),
             "decide on a draft");
     require(shuntberry_decide(draft, words, 0, 1, 0, path, room).refusal == SHUNTBERRY_STATES, "groups without states");
     require(shuntberry_distances(draft, words, 0, 0, NULL, 0) == SHUNTBERRY_ACCEPTED, "distances of a draft");
@@ -622,14 +622,15 @@ static const uint64_t few[SHUNTBERRY_STORE_WORDS] = {
 #define CHANGED(place, value) (256 * (place) + (value))
 
 /* The calls on a store with a table, by their bits. */
-#define BIT(k) ((uint32_t)1 << (k))
+#define BIT(k) ((uint64_t)1 << (k)) /* of a call, or of a refusal, whose numbers go past 31 one day */
 #define EDIT (BIT(ADD_STEP) | BIT(REMOVE_STEP))
 #define WITH_PATH (BIT(DECIDE) | BIT(SHORTEST_PATH) | BIT(DECIDE_MODAL))
 #define ON_TABLE (WITH_PATH | EDIT | BIT(DISTANCES) | BIT(WITHIN) | BIT(REPLAY) | BIT(OPEN))
 
 /* One argument changed, so that some calls refuse. */
 static const struct ground {
-    uint32_t refusal, calls;
+    uint32_t refusal;
+    uint64_t calls;
     enum argument argument;
     size_t changed;
 } grounds[] = {
@@ -670,7 +671,7 @@ static const struct ground {
 
 /* The grounds of each call, as the header's comments name them. */
 #define SHARED (BIT(10) | BIT(14) | BIT(15) | BIT(17))
-static const uint32_t named[CALLS] = {
+static const uint64_t named[CALLS] = {
     [DECIDE] = SHARED | BIT(20) | BIT(21),
     [SHORTEST_PATH] = SHARED | BIT(21),
     [DISTANCES] = SHARED | BIT(23),
@@ -722,7 +723,7 @@ static struct outcome ask(enum call call, uint64_t *table, const size_t with[ARG
     switch (call) {
     case DECIDE: {
         struct shuntberry_decision gave = shuntberry_decide(table, words, n, g, with[ALLOWANCE], path, with[PLACES]);
-        require(gave.refusal == SHUNTBERRY_ACCEPTED || !shuntberry_is_safe(gave), "a refused decision is safe");
+        require(gave.refusal == SHUNTBERRY_ACCEPTED || !shuntberry_is_safe(gave, n), "a refused decision is safe");
         return (struct outcome){gave.refusal, gave.verdict != SHUNTBERRY_NO_VERDICT ||
                                                   (gave.count | gave.size | gave.steps | gave.reserved) != 0 ||
                                                   memcmp(gave.invariant, none.words, sizeof none) != 0};
@@ -763,7 +764,7 @@ static struct outcome ask(enum call call, uint64_t *table, const size_t with[ARG
         const uint64_t *const rows[] = {no_steps, table + SHUNTBERRY_ROW(0), stray};
         struct shuntberry_modal gave =
             shuntberry_decide_modal(table, words, n, g, rows[with[KNOWN]], with[POSSIBLE], path, with[PLACES]);
-        require(gave.refusal == SHUNTBERRY_ACCEPTED || !shuntberry_modal_is_safe(gave), "a refused modal decision is safe");
+        require(gave.refusal == SHUNTBERRY_ACCEPTED || !shuntberry_modal_is_safe(gave, n), "a refused modal decision is safe");
         return (struct outcome){gave.refusal, gave.verdict != SHUNTBERRY_NO_VERDICT || (gave.size | gave.steps) != 0 ||
                                                   memcmp(gave.invariant, none.words, sizeof none) != 0};
     }
@@ -805,7 +806,7 @@ static void require_refused(enum call call, const uint64_t *table, const size_t 
 
 static void refused_calls(void)
 {
-    uint32_t met[CALLS] = {0};
+    uint64_t met[CALLS] = {0};
 
     for (enum call call = DECIDE; call <= NEXT_OPEN; call++) {
         memcpy(other, few, sizeof other);
@@ -861,8 +862,6 @@ static void refusal_texts(void)
     const uint32_t grounds_not[] = {1, SHUNTBERRY_STORE_SHORT - 1, SHUNTBERRY_TIME + 1, SHUNTBERRY_NO_VERDICT, UINT32_MAX};
     for (size_t i = 0; i < sizeof grounds_not / sizeof grounds_not[0]; i++)
         require(strcmp(shuntberry_refusal_text(grounds_not[i]), none) == 0, "words for no ground");
-    require(strcmp(shuntberry_refusal_text(SHUNTBERRY_BLOCK_CHECK), "a block's stored check is not its check for the site") == 0,
-            "the words for 13");
 }
 
 /* Safe is only an accepted call's verdict of safe, whatever a library should give. */
@@ -875,7 +874,8 @@ static void only_safe_is_safe(void)
             const struct shuntberry_decision decision = {.refusal = numbers[i], .verdict = numbers[k]};
             const struct shuntberry_modal modal = {.refusal = numbers[i], .verdict = numbers[k]};
             const int safe = numbers[i] == SHUNTBERRY_ACCEPTED && numbers[k] == SHUNTBERRY_SAFE;
-            require(shuntberry_is_safe(decision) == safe && shuntberry_modal_is_safe(modal) == safe, "is safe");
+            require(shuntberry_is_safe(decision, 1) == safe && shuntberry_modal_is_safe(modal, STATES) == safe, "is safe");
+            require(!shuntberry_is_safe(decision, 0) && !shuntberry_modal_is_safe(modal, 0), "a draft is nothing to release");
             for (size_t j = 0; j < count; j++) {
                 const struct shuntberry_checked checked = {
                     .n = 1, .refusal = numbers[i], .file_refusal = numbers[j], .verdict = numbers[k]};
@@ -883,6 +883,87 @@ static void only_safe_is_safe(void)
             }
         }
     require(!shuntberry_checked_is_safe((struct shuntberry_checked){0}), "a record of zeros is not safe");
+}
+
+/* Each state by itself in and out of a set of ones or zeros: no other bit moves, and what is no state moves none. */
+static void sets(void)
+{
+    const size_t beyond[] = {STATES, STATES + 1, 2 * STATES, SIZE_MAX - 63, SIZE_MAX};
+    uint64_t set[SHUNTBERRY_SET_WORDS + 1], before[SHUNTBERRY_SET_WORDS + 1];
+
+    for (int full = 0; full < 2; full++) {
+        memset(before, full ? 0xff : 0, sizeof before);
+        for (size_t state = 0; state < STATES; state++) {
+            memcpy(set, before, sizeof set);
+            require(shuntberry_put_state(set, state) == 1 && shuntberry_has_state(set, state) == 1, "a state that is put in");
+            for (size_t word = 0; word <= SHUNTBERRY_SET_WORDS; word++)
+                require((set[word] ^ before[word]) == (!full && word == state / 64 ? (uint64_t)1 << state % 64 : 0), "put");
+            memcpy(set, before, sizeof set);
+            shuntberry_remove_state(set, state);
+            require(shuntberry_has_state(set, state) == 0, "a state that is taken out");
+            for (size_t word = 0; word <= SHUNTBERRY_SET_WORDS; word++)
+                require((set[word] ^ before[word]) == (full && word == state / 64 ? (uint64_t)1 << state % 64 : 0), "remove");
+        }
+        memcpy(set, before, sizeof set);
+        for (size_t i = 0; i < sizeof beyond / sizeof beyond[0]; i++) {
+            require(shuntberry_put_state(set, beyond[i]) == 0 && shuntberry_has_state(set, beyond[i]) == 0, "no state");
+            shuntberry_remove_state(set, beyond[i]);
+        }
+        require(memcmp(set, before, sizeof set) == 0, "what is no state changes a set");
+    }
+}
+
+/* Steps by their two ends, in a store and in the buffer of possible ones: just that bit of just that row. */
+static void steps(void)
+{
+    static uint64_t drawn[SHUNTBERRY_STORE_WORDS], none[SHUNTBERRY_STORE_WORDS];
+    const size_t ends[] = {0, 1, 63, 64, STATES - 1}, beyond[] = {STATES, STATES + 64, SIZE_MAX};
+
+    for (size_t i = 0; i < sizeof ends / sizeof ends[0]; i++)
+        for (size_t k = 0; k < sizeof ends / sizeof ends[0]; k++) {
+            const size_t from = ends[i], to = ends[k];
+            require(shuntberry_draw_step(drawn, from, to) == 1 && shuntberry_has_state(drawn + SHUNTBERRY_ROW(from), to), "draw");
+            drawn[SHUNTBERRY_ROW(from) + to / 64] = 0;
+            require(shuntberry_draw_possible_step(drawn, from, to) == 1 &&
+                        shuntberry_has_state(drawn + SHUNTBERRY_POSSIBLE_ROW(from), to),
+                    "draw a possible step");
+            drawn[SHUNTBERRY_POSSIBLE_ROW(from) + to / 64] = 0;
+            require(memcmp(drawn, none, sizeof drawn) == 0, "a step changes more than its word");
+        }
+    for (size_t i = 0; i < sizeof beyond / sizeof beyond[0]; i++)
+        require(!shuntberry_draw_step(drawn, beyond[i], 0) && !shuntberry_draw_step(drawn, 0, beyond[i]) &&
+                    !shuntberry_draw_possible_step(drawn, beyond[i], 0) && !shuntberry_draw_possible_step(drawn, 0, beyond[i]),
+                "a step of no state");
+    require(memcmp(drawn, none, sizeof drawn) == 0, "a step of no state changes a store");
+}
+
+/* A state is forbidden for a reason just where its distance is 0, and marked before it is a hang. */
+static void reasons(void)
+{
+    static uint64_t load_store[SHUNTBERRY_STORE_WORDS];
+    const size_t n = 100, words = SHUNTBERRY_STORE_WORDS;
+    unsigned seen[3] = {0};
+
+    for (uint32_t seed = 0; seed < 50; seed++) {
+        require(shuntberry_generate(seed, n, 1, load_store, words) == SHUNTBERRY_ACCEPTED, "generate");
+        for (size_t state = seed % 3; state < n; state += 3) { /* every third one leads nowhere, some of these rest, some are marked */
+            memset(load_store + SHUNTBERRY_ROW(state), 0, SHUNTBERRY_SET_WORDS * sizeof *load_store);
+            require(state % 2 || shuntberry_put_state(load_store + SHUNTBERRY_RESTING, state), "rest");
+            require(state % 5 || shuntberry_put_state(load_store + SHUNTBERRY_MARKED, state), "mark");
+        }
+        require(shuntberry_distances(load_store, words, n, 0, distances, n) == SHUNTBERRY_ACCEPTED, "distances");
+        for (size_t state = 0; state < n; state++) {
+            const uint32_t why = shuntberry_why_forbidden(load_store, n, state);
+            require(why <= SHUNTBERRY_FORBIDDEN_HANG && (why != SHUNTBERRY_FORBIDDEN_NOT) == (distances[state] == 0), "forbidden");
+            require((why == SHUNTBERRY_FORBIDDEN_MARKED) == shuntberry_has_state(load_store + SHUNTBERRY_MARKED, state), "marked");
+            seen[why]++;
+        }
+        const size_t beyond[] = {n, n + 1, STATES, SIZE_MAX};
+        for (size_t i = 0; i < sizeof beyond / sizeof beyond[0]; i++)
+            require(shuntberry_why_forbidden(load_store, n, beyond[i]) == SHUNTBERRY_NO_ANSWER, "no state is forbidden");
+        require(shuntberry_why_forbidden(load_store, SHUNTBERRY_NO_TABLE, 0) == SHUNTBERRY_NO_ANSWER, "no table");
+    }
+    require(seen[0] > 0 && seen[1] > 0 && seen[2] > 0, "a reason was not tried");
 }
 
 static void *on_painted_stack(void *unused)
@@ -904,6 +985,9 @@ static void *on_painted_stack(void *unused)
     refused_files();
     refusal_texts();
     only_safe_is_safe();
+    sets();
+    steps();
+    reasons();
     return NULL;
 }
 

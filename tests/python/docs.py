@@ -10,7 +10,7 @@ same(shuntberry.LIBRARY, str(PREFIX / "lib" / ("libshuntberry.so." + (TOP / "VER
 examples = 0
 for name in sorted(path.stem for path in (PACKAGE / "shuntberry").glob("*.py")):
     module = importlib.import_module("shuntberry" if name == "__init__" else f"shuntberry.{name}")
-    ran = doctest.testmod(module)
+    ran = doctest.testmod(module, optionflags=doctest.ELLIPSIS)  # the words of a refusal are the header's
     need(ran.failed == 0, f"an example of {name} fails")
     examples += ran.attempted
 readme = doctest.testfile(str(PACKAGE / "README.md"), module_relative=False)

@@ -8,7 +8,7 @@ from array import array
 from pathlib import Path
 
 from support import PREFIX, group, need, raises, refused, same, shuntberry
-from shuntberry import Refusal, Refused, Session, Table, Verdict, Window
+from shuntberry import Refused, Session, Table, Verdict, Window
 
 SIZE, WORD = 2**64, 2**32
 E = dict(initial=[0], marked=[2], steps={0: [0], 1: [2]})
@@ -39,6 +39,13 @@ for what, (limit, call) in NUMBERS.items():
 for bad, words in ((-1, "negative"), (1.5, "whole number"), ("1", "whole number"), (True, "whole number"), (None, "whole number")):
     for wrong in (Window(bad, 1), Window(1, bad)):
         raises(OverflowError if bad == -1 else TypeError, words, shuntberry.next_open, 0, [wrong])
+for words, call in {
+    "site is -1: it goes from 0 to 65520": lambda: shuntberry.write(table, site=-1), "site is -2: it goes from 0 to 65520": lambda: shuntberry.read(file, site=-2),
+    "allowance is -1: it goes from 0 to 512": lambda: shuntberry.decide(table, -1), "n is -1: it goes from 0 to 512": lambda: Table(-1, initial=[], marked=[], steps={}),
+    "fan_out is -1: it goes from 0 to 16": lambda: shuntberry.generate(1, 3, -1), "time is -1: it goes from 0 to 2147483647": lambda: shuntberry.next_open(-1, []),
+    "source is -1: it goes from 0 to 511": lambda: session.add_step(-1, 0), "target is -1: it goes from 0 to 511": lambda: session.add_step(0, -1),
+}.items():
+    raises(OverflowError, words, call)
 group("numbers that C cannot hold")
 
 # ---- what the library refuses
@@ -97,6 +104,11 @@ for part in (dict(initial="0"), dict(marked=b"\2"), dict(resting=0), dict(groups
         kind = None
     need(kind is None, part)
 raises(TypeError, "write ['home']", Table, 3, **{**E, "initial": "home"})
+for part in ("initial", "marked", "resting"):
+    raises(TypeError, f"{part} is a list or set of states, not of type int: write [0]", Table, 3, **{**E, part: 0})
+raises(TypeError, "the steps of state 1 is a list or set of states, not of type int: write [2]", Table, 3, **{**E, "steps": {1: 2}})
+raises(TypeError, "group 1 is a list or set of states, not of type int: write [0]", Table, 3, **E, groups=[[0], 0])
+raises(TypeError, "groups is a list of groups, not of type int", Table, 3, **E, groups=0)
 raises(TypeError, "successors of each state", Table, 3, **{**E, "steps": [(0, 0)]})
 for forgotten in E:
     raises(TypeError, forgotten, Table, 3, **{part: given for part, given in E.items() if part != forgotten})
@@ -158,7 +170,12 @@ for answer in (shuntberry.decide(draft), shuntberry.check(b""), shuntberry.decid
 need(not shuntberry.decide(unsafe).is_safe and not shuntberry.decide(table, 0).is_safe, "unsafe or undecided is safe")
 same((shuntberry.write(draft), shuntberry.distances(draft), Session(draft).reachable), (b"", (), frozenset()), "a draft")
 same((Refused(13) == Refused(13), Refused(13) == Refused(14), str(Refused(99))), (True, False, "refused 99: no ground that this version of the module knows"), "Refused")
-same(sorted(Refusal), list(range(10, 32)), "refusals")
+for why in shuntberry.Forbidden:
+    raises(TypeError, "neither true nor false", bool, why)
+for state in (3, -1, 512):
+    raises(ValueError, f"no state {state}", table.why_forbidden, state)
+raises(ValueError, "no state is named", table.why_forbidden, "home")
+same((named.why_forbidden("over"), named.why_forbidden(1)), (shuntberry.Forbidden.MARKED, shuntberry.Forbidden.NOT), "why, by a name")
 group("answers are no truths")
 
 # ---- files and texts that cannot be read
@@ -187,7 +204,10 @@ with tempfile.TemporaryDirectory() as work:
         raises(shuntberry.Mistakes, "the text may be cut", Table.from_text, TEXT[:length])
     for behind in ("\n", " ", "#", "end\n", TEXT):
         raises(shuntberry.Mistakes, "goes on behind its 'end'", Table.from_text, TEXT + behind)
-    raises(UnicodeEncodeError, "", Table.from_text, "\ud800")
+    raises(UnicodeEncodeError, "", Table.from_text, "states 1\n\ud800")
+    Path(work, "my pump.txt").write_text(TEXT)
+    for name in ("pump.txt", "/etc/hostname", str(Path(work, "my pump.txt")), "x"):
+        raises(ValueError, f"{name!r} is the name of a file: Table.from_text(Path({name!r}).read_text())", Table.from_text, name)
     for none in (None, b"states 0", 0):
         raises(TypeError, "a text is a str", Table.from_text, none)
     raises(FileNotFoundError, "", Table.from_text, TEXT, command=Path(work, "no command"))

@@ -15,7 +15,6 @@ ghost use Rattle.call_release_windows.specs.WindowAnswers.{nextOpenAnswer};
 ghost use Rattle.shuntberry_fields.specs.Fields.{refusalNumber, decisionFields, shortestFields, withinFields, tableFields, fileFields, replayFields, sessionFields, modalFields, minuteFields, checkFields};
 use call_check::check;
 use call_decide::decide;
-use call_distances::distances;
 use call_edit_session::add_step;
 use call_edit_session::open;
 use call_edit_session::remove_step;
@@ -29,7 +28,7 @@ use call_rewrite::rewrite;
 use core_state_set::StateSet;
 use file_reading::read;
 use file_writing::write;
-use shuntberry_fields::CheckFields;
+use shuntberry_fields::CheckedFields;
 use shuntberry_fields::DecisionFields;
 use shuntberry_fields::FileFields;
 use shuntberry_fields::MinuteFields;
@@ -72,7 +71,7 @@ pub extern "C" fn shuntberry_decide(
 // ---- check: from a file's bytes to the text and the verdict
 
 #[no_mangle]
-pub extern "C" fn shuntberry_check(input: &[u8], site: usize, text: &mut [u8]) -> CheckFields
+pub extern "C" fn shuntberry_check(input: &[u8], site: usize, text: &mut [u8]) -> CheckedFields
     ensures { λ r. ⌜ (r ≡ checkFields (checkAnswer (now (input .entry)) site (length (now (text .entry)))))
         × (now (text .exit) ≡ checkBuffer (now (input .entry)) site (now (text .entry))) ⌝ }
 {
@@ -97,11 +96,16 @@ pub extern "C" fn shuntberry_shortest_path(
 // ---- distances
 
 #[no_mangle]
-pub extern "C" fn shuntberry_distances(store: &[u64], n: usize, g: usize, out: &mut [u16]) -> u32
-    ensures { λ r. ⌜ (r ≡ refusalNumber (distancesAnswer (now (store .entry)) n g (length (now (out .entry)))))
-        × (now (out .exit) ≡ distancesBuffer (now (store .entry)) n g (now (out .entry))) ⌝ }
+pub extern "C" fn shuntberry_distances(
+    store: &[u64],
+    n: usize,
+    g: usize,
+    distances: &mut [u16],
+) -> u32
+    ensures { λ r. ⌜ (r ≡ refusalNumber (distancesAnswer (now (store .entry)) n g (length (now (distances .entry)))))
+        × (now (distances .exit) ≡ distancesBuffer (now (store .entry)) n g (now (distances .entry))) ⌝ }
 {
-    lay_out_distances(distances(store, n, g, out))
+    lay_out_distances(call_distances::distances(store, n, g, distances))
 }
 
 // ---- within
@@ -226,8 +230,12 @@ pub extern "C" fn shuntberry_decide_modal(
 // ---- next open minute
 
 #[no_mangle]
-pub extern "C" fn shuntberry_next_open(time: usize, windows: &[u64], closed: &[u32]) -> MinuteFields
-    ensures { λ r. ⌜ r ≡ minuteFields (nextOpenAnswer time (now (windows .entry)) (now (closed .entry))) ⌝ }
+pub extern "C" fn shuntberry_next_open(
+    time: usize,
+    windows: &[u64],
+    closed_days: &[u32],
+) -> MinuteFields
+    ensures { λ r. ⌜ r ≡ minuteFields (nextOpenAnswer time (now (windows .entry)) (now («closed_days» .entry))) ⌝ }
 {
-    lay_out_minute(next_open(time, windows, closed))
+    lay_out_minute(next_open(time, windows, closed_days))
 }

@@ -18,7 +18,7 @@ use Rattle.call_modal.specs.Modal.{ModalAnswer}
 use Rattle.call_release_windows.specs.WindowAnswers.{Opening, minute, never}
 use Rattle.call_check.specs.CheckText.{FileVerdict, safe, unsafe, refusedFile}
 use Rattle.call_check.specs.CheckAnswers.{CheckedFile}
-use Rattle.shuntberry_fields.specs.declared.CheckFields.{CheckFields}
+use Rattle.shuntberry_fields.specs.declared.CheckedFields.{CheckedFields}
 use Rattle.shuntberry_fields.specs.declared.DecisionFields.{DecisionFields}
 use Rattle.shuntberry_fields.specs.declared.ShortestFields.{ShortestFields}
 use Rattle.shuntberry_fields.specs.declared.WithinFields.{WithinFields}
@@ -89,12 +89,12 @@ minuteFields (refused k) = record { refusal = k; never = noAnswer; minute = noMi
 minuteFields (answered (minute m)) = record { refusal = 0; never = 0; minute = m }
 minuteFields (answered never) = record { refusal = 0; never = 1; minute = noMinute }
 
--- `ground`, which is `file_refusal` in C, is the number with which read refuses the file: that is an answer, whose text says so, but no verdict.
-abbrev pub checkedFields : ℕ → FileVerdict → CheckFields
-checkedFields l (safe n) = record { length = l; n = n; refusal = 0; ground = 0; verdict = 0; reserved = 0 }
-checkedFields l (unsafe n) = record { length = l; n = n; refusal = 0; ground = 0; verdict = 1; reserved = 0 }
-checkedFields l (refusedFile k) = record { length = l; n = noTable; refusal = 0; ground = k; verdict = noVerdict; reserved = 0 }
+-- `file_refusal` is the number with which read refuses the file: that is an answer, whose text says so, but no verdict.
+abbrev pub checkedFields : ℕ → FileVerdict → CheckedFields
+checkedFields l (safe n) = record { length = l; n = n; refusal = 0; «file_refusal» = 0; verdict = 0; reserved = 0 }
+checkedFields l (unsafe n) = record { length = l; n = n; refusal = 0; «file_refusal» = 0; verdict = 1; reserved = 0 }
+checkedFields l (refusedFile k) = record { length = l; n = noTable; refusal = 0; «file_refusal» = k; verdict = noVerdict; reserved = 0 }
 
-abbrev pub checkFields : Answered CheckedFile → CheckFields
-checkFields (refused k) = record { length = 0; n = noTable; refusal = k; ground = 0; verdict = noVerdict; reserved = 0 }
+abbrev pub checkFields : Answered CheckedFile → CheckedFields
+checkFields (refused k) = record { length = 0; n = noTable; refusal = k; «file_refusal» = 0; verdict = noVerdict; reserved = 0 }
 checkFields (answered a) = checkedFields (a .textLength) (a .verdict)

@@ -62,9 +62,9 @@ pub record FieldsAre : Type 0 where
       ≡ record { invariant = X; refusal = 0; verdict = 3; size = 1; steps = 2 }
   pub next-open : (minuteFields (answered (minute 7)) ≡ record { refusal = 0; never = 0; minute = 7 })
       × (minuteFields (answered never) ≡ record { refusal = 0; never = 1; minute = 4294967295 })
-  pub check : (checkFields (answered (record { textLength = 8; verdict = safe 3 })) ≡ record { length = 8; n = 3; refusal = 0; ground = 0; verdict = 0; reserved = 0 })
-      × (checkFields (answered (record { textLength = 8; verdict = unsafe 3 })) ≡ record { length = 8; n = 3; refusal = 0; ground = 0; verdict = 1; reserved = 0 })
-      × (checkFields (answered (record { textLength = 8; verdict = refusedFile 13 })) ≡ record { length = 8; n = 65535; refusal = 0; ground = 13; verdict = 255; reserved = 0 })
+  pub check : (checkFields (answered (record { textLength = 8; verdict = safe 3 })) ≡ record { length = 8; n = 3; refusal = 0; «file_refusal» = 0; verdict = 0; reserved = 0 })
+      × (checkFields (answered (record { textLength = 8; verdict = unsafe 3 })) ≡ record { length = 8; n = 3; refusal = 0; «file_refusal» = 0; verdict = 1; reserved = 0 })
+      × (checkFields (answered (record { textLength = 8; verdict = refusedFile 13 })) ≡ record { length = 8; n = 65535; refusal = 0; «file_refusal» = 13; verdict = 255; reserved = 0 })
 
 -- Of a refused call with the number k, and its other fields in figures (FailsSafe says why these).
 pub record RefusedAre : Type 0 where
@@ -78,6 +78,6 @@ pub record RefusedAre : Type 0 where
   pub session : (X : Set) (k : ℕ) → sessionFields X (refused k) ≡ record { reachable = X; refusal = k; reserved = 0 }
   pub decide-modal : (k : ℕ) → modalFields (refused k) ≡ record { invariant = empty; refusal = k; verdict = 255; size = 0; steps = 0 }
   pub next-open : (k : ℕ) → minuteFields (refused k) ≡ record { refusal = k; never = 255; minute = 4294967295 }
-  pub check : (k : ℕ) → checkFields (refused k) ≡ record { length = 0; n = 65535; refusal = k; ground = 0; verdict = 255; reserved = 0 }
+  pub check : (k : ℕ) → checkFields (refused k) ≡ record { length = 0; n = 65535; refusal = k; «file_refusal» = 0; verdict = 255; reserved = 0 }
   -- what distances and generate return, whose answer has no value: the number, and 0 where they are answered
   pub number : (k : ℕ) → (refusalNumber {A = Unit {0}} (refused k) ≡ k) × (refusalNumber {A = Unit {0}} (answered tt) ≡ 0)

@@ -3,7 +3,7 @@
 use crate::text::looks_like_text;
 use shuntberry::Refused;
 
-/// NUMBER|GROUND|HINT
+/// NUMBER|GROUND|HINT, from the header.
 const TABLE: &str = include_str!("../refusals.txt");
 
 /// What a person should look at in a file that is refused so; nothing where no file gives the number.
@@ -24,14 +24,12 @@ pub const BY_ENCODE: &str = "it looks like a text, of which the command encode m
 
 /// What is said of a file that is refused: the number, the ground, and what may help.
 pub fn ground(refused: Refused, file: &[u8], site: usize, text: &str) -> String {
-    let more = match refused {
-        // No number to try: of all sites one may fit a damaged block.
-        Refused::BLOCK_CHECK => Some(
-            "it is damaged, or was made for another site: ask who made it, and do not try numbers, since a damaged file can pass at another one by chance",
-        ),
-        _ => old_form(refused, file, site).or(looks_like_text(file).then_some(text)),
-    };
-    with(refused, more)
+    // Of a check no number to try: of all sites one may fit a damaged block.
+    if let (Refused::BLOCK_CHECK, Some(hint)) = (refused, hint(refused)) {
+        return with(refused, Some(&hint.replacen("the file", "it", 1)));
+    }
+    let text = looks_like_text(file).then_some(text);
+    with(refused, old_form(refused, file, site).or(text))
 }
 
 /// What is said of a file of the old form.

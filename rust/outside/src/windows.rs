@@ -77,7 +77,10 @@ pub fn words(windows: &[Window]) -> Vec<u64> {
 
 // ---- What is expected
 
-/// The refusal that the request names, in its order, or 0.
+/// The refusals that the request names.
+pub const REFUSALS: [u32; 3] = [29, 30, 31];
+
+/// The one of them that it names first, or 0.
 fn refusal(time: u64, windows: &[Window], closed: &[u32]) -> u32 {
     let outside = |&(start, length): &Window| start > WEEK - 1 || length == 0 || length > WEEK;
     if time > MAX_TIME {

@@ -271,7 +271,7 @@ fn unearned_refusals(tally: &Tally) -> Vec<String> {
         ("refusal by open", &[10, 14, 15, 17]),
         ("refusal by an edit", &[10, 14, 15, 17, 27]),
         ("refusal by decide modal", &[10, 14, 15, 17, 28, 21]),
-        ("refusal by next open", &[29, 30, 31]),
+        ("refusal by next open", &windows::REFUSALS),
     ];
     let mut unearned = Vec::new();
     for (call, numbers) in table {
