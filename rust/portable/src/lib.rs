@@ -54,7 +54,7 @@ pub use crate::shuntberry::shuntberry_rewrite;
 pub use crate::shuntberry::shuntberry_shortest_path;
 pub use crate::shuntberry::shuntberry_within;
 pub use crate::shuntberry::shuntberry_write;
-pub use crate::shuntberry_fields::CheckFields;
+pub use crate::shuntberry_fields::CheckedFields;
 pub use crate::shuntberry_fields::DecisionFields;
 pub use crate::shuntberry_fields::FileFields;
 pub use crate::shuntberry_fields::MinuteFields;

@@ -3,7 +3,6 @@
 // The calls for C (include/shuntberry.h). Each only calls the call of the same name and lays its answer out as C reads it (`shuntberry_fields`).
 use crate::call_check::check;
 use crate::call_decide::decide;
-use crate::call_distances::distances;
 use crate::call_edit_session::add_step;
 use crate::call_edit_session::open;
 use crate::call_edit_session::remove_step;
@@ -17,7 +16,7 @@ use crate::call_rewrite::rewrite;
 use crate::core_state_set::StateSet;
 use crate::file_reading::read;
 use crate::file_writing::write;
-use crate::shuntberry_fields::CheckFields;
+use crate::shuntberry_fields::CheckedFields;
 use crate::shuntberry_fields::DecisionFields;
 use crate::shuntberry_fields::FileFields;
 use crate::shuntberry_fields::MinuteFields;
@@ -56,7 +55,7 @@ pub fn shuntberry_decide(
 
 // ---- check: from a file's bytes to the text and the verdict
 
-pub fn shuntberry_check(input: &[u8], site: usize, text: &mut [u8]) -> CheckFields
+pub fn shuntberry_check(input: &[u8], site: usize, text: &mut [u8]) -> CheckedFields
 {
     lay_out_check(check(input, site, text))
 }
@@ -75,9 +74,14 @@ pub fn shuntberry_shortest_path(
 
 // ---- distances
 
-pub fn shuntberry_distances(store: &[u64], n: usize, g: usize, out: &mut [u16]) -> u32
+pub fn shuntberry_distances(
+    store: &[u64],
+    n: usize,
+    g: usize,
+    distances: &mut [u16],
+) -> u32
 {
-    lay_out_distances(distances(store, n, g, out))
+    lay_out_distances(crate::call_distances::distances(store, n, g, distances))
 }
 
 // ---- within
@@ -174,7 +178,11 @@ pub fn shuntberry_decide_modal(
 
 // ---- next open minute
 
-pub fn shuntberry_next_open(time: usize, windows: &[u64], closed: &[u32]) -> MinuteFields
+pub fn shuntberry_next_open(
+    time: usize,
+    windows: &[u64],
+    closed_days: &[u32],
+) -> MinuteFields
 {
-    lay_out_minute(next_open(time, windows, closed))
+    lay_out_minute(next_open(time, windows, closed_days))
 }

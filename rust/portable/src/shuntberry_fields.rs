@@ -99,50 +99,50 @@ pub fn lay_out_decision(answer: Decision) -> DecisionFields
 
 // ---- check: from a file's bytes to the text and the verdict
 
-// `ground`, which is `file_refusal` in C, is the number with which read refuses the file.
+// `file_refusal` is the number with which read refuses the file.
 #[repr(C)]
 #[derive(Clone, Copy)]
-pub struct CheckFields {
+pub struct CheckedFields {
     pub length: usize,
     pub n: usize,
     pub refusal: u32,
-    pub ground: u32,
+    pub file_refusal: u32,
     pub verdict: u32,
     pub reserved: u32,
 }
 
-pub fn lay_out_check(answer: Checked) -> CheckFields
+pub fn lay_out_check(answer: Checked) -> CheckedFields
 {
     match answer {
-        Checked::Safe { length, n } => CheckFields {
+        Checked::Safe { length, n } => CheckedFields {
             length,
             n,
             refusal: 0,
-            ground: 0,
+            file_refusal: 0,
             verdict: 0,
             reserved: 0,
         },
-        Checked::Unsafe { length, n } => CheckFields {
+        Checked::Unsafe { length, n } => CheckedFields {
             length,
             n,
             refusal: 0,
-            ground: 0,
+            file_refusal: 0,
             verdict: 1,
             reserved: 0,
         },
-        Checked::RefusedFile { length, refusal } => CheckFields {
+        Checked::RefusedFile { length, refusal } => CheckedFields {
             length,
             n: NO_TABLE as usize,
             refusal: 0,
-            ground: refusal as u32,
+            file_refusal: refusal as u32,
             verdict: NO_VERDICT,
             reserved: 0,
         },
-        Checked::Refused(refusal) => CheckFields {
+        Checked::Refused(refusal) => CheckedFields {
             length: 0,
             n: NO_TABLE as usize,
             refusal: refusal as u32,
-            ground: 0,
+            file_refusal: 0,
             verdict: NO_VERDICT,
             reserved: 0,
         },

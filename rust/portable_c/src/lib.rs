@@ -51,7 +51,7 @@ pub mod c {
         site: usize,
         text: *mut u8,
         text_len: usize,
-    ) -> portable::CheckFields {
+    ) -> portable::CheckedFields {
         portable::shuntberry_check(lent(input, input_len), site, lent_mut(text, text_len))
     }
 
@@ -77,10 +77,10 @@ pub mod c {
         store_len: usize,
         n: usize,
         g: usize,
-        out: *mut u16,
-        out_len: usize,
+        distances: *mut u16,
+        distances_len: usize,
     ) -> u32 {
-        portable::shuntberry_distances(lent(store, store_len), n, g, lent_mut(out, out_len))
+        portable::shuntberry_distances(lent(store, store_len), n, g, lent_mut(distances, distances_len))
     }
 
     /// # Safety
@@ -228,10 +228,10 @@ pub mod c {
         time: usize,
         windows: *const u64,
         windows_len: usize,
-        closed: *const u32,
-        closed_len: usize,
+        closed_days: *const u32,
+        closed_days_len: usize,
     ) -> portable::MinuteFields {
-        portable::shuntberry_next_open(time, lent(windows, windows_len), lent(closed, closed_len))
+        portable::shuntberry_next_open(time, lent(windows, windows_len), lent(closed_days, closed_days_len))
     }
 }
 
@@ -260,7 +260,7 @@ pub mod wasm {
     /// Each pointer is to as many as its length says, or to one.
     #[no_mangle]
     pub unsafe extern "C" fn shuntberry_check(
-        answer: *mut portable::CheckFields,
+        answer: *mut portable::CheckedFields,
         input: *const u8,
         input_len: usize,
         site: usize,
@@ -294,10 +294,10 @@ pub mod wasm {
         store_len: usize,
         n: usize,
         g: usize,
-        out: *mut u16,
-        out_len: usize,
+        distances: *mut u16,
+        distances_len: usize,
     ) {
-        *answer = portable::shuntberry_distances(lent(store, store_len), n, g, lent_mut(out, out_len));
+        *answer = portable::shuntberry_distances(lent(store, store_len), n, g, lent_mut(distances, distances_len));
     }
 
     /// # Safety
@@ -456,9 +456,9 @@ pub mod wasm {
         time: usize,
         windows: *const u64,
         windows_len: usize,
-        closed: *const u32,
-        closed_len: usize,
+        closed_days: *const u32,
+        closed_days_len: usize,
     ) {
-        *answer = portable::shuntberry_next_open(time, lent(windows, windows_len), lent(closed, closed_len));
+        *answer = portable::shuntberry_next_open(time, lent(windows, windows_len), lent(closed_days, closed_days_len));
     }
 }
