@@ -29,8 +29,8 @@ use Rattle.examples_tables.specs.Tables as table
 use Rattle.examples_tables.specs.Worked.{held, Decides}
 use Rattle.examples_tables.proofs.Worked.{worked}
 use Rattle.core_report.specs.Text.{ascii, digits, decimal, spaced, statesLine, verdictLine, invariantLine, pathLine, safeText, unsafeText, reportText}
 use Rattle.call_check.specs.CheckText.{zeroStore, zeroPath, checkTable, releaseCheck, checkText}
-use Rattle.call_check.specs.WorkedFiles.{WorkedFiles}
+use Rattle.examples_files.specs.WorkedFiles.{WorkedFiles}
 
 abbrev fit : List ℕ → Bool
 fit [] = true
