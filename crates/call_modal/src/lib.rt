@@ -28,9 +28,9 @@ use core_state_set::StateSet;
 use core_state_set::WORDS;
 use core_table::GROUPS_AT;
 use core_table::ROWS_AT;
-use core_table::any_beyond;
+use core_table::any_stored_beyond;
 use core_table::forbidden_by;
-use core_table::non_zero;
+use core_table::non_zero_word;
 use core_table::refusal;
 use core_table::row_at;
 use core_table::set_at;
@@ -95,10 +95,10 @@ fn is_malformed(possible: &[u64], n: usize) -> bool
     requires { ⌜ (n ≤ maxStates) × (possibleWords ≤ length (now possible)) ⌝ }
     ensures { λ r. ⌜ r ≡ malformedRows (now (possible .entry)) n ⌝ }
 {
-    if any_beyond(possible, 0, n, n) {
+    if any_stored_beyond(possible, 0, n, n) {
         return true;
     }
-    non_zero(possible, WORDS * n, POSSIBLE_WORDS)
+    non_zero_word(possible, WORDS * n, POSSIBLE_WORDS)
 }
 
 // A certain step is not possible.

@@ -1,9 +1,8 @@
-pub mod Laws
-pub mod MapAt
-pub mod Joins
-pub mod Hold
-pub mod Parts
-pub mod States
-pub mod Overwriting
-pub mod Putting
-pub mod Filling
+pub mod StoresGrounds
+pub mod RowsMapped
+pub mod SetsJoined
+pub mod SetsHeld
+pub mod RowsLent
+pub mod ListsOverwritten
+pub mod StoresPut
+pub mod StoresFilled

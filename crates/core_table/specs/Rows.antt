@@ -6,7 +6,7 @@
 --   rowIn rows s                   row s of a part
 --   rowsIn rows n                  the rows of n states, empty from n up; groupsIn groups g: the g groups
 --   forbiddenBy store n rows       the states that are marked in a store, or hang by the rows
---   tableOn                        the table of n states, initial and forbidden states, groups and rows; `Parts.table-on`: a store's table by its parts
+--   tableOn                        the table of n states, initial and forbidden states, groups and rows; `RowsLent.table-on`: a store's table by its parts
 --   successorsBy rows X            the successors of the states of X
 --   meetHold rows X Y              the states of X whose every successor is in Y: X meet hold(Y)
 --   mapAt X f z xs                 xs with f applied to each element at a state of X (z stands for an element past the end, and is never read)

@@ -6,7 +6,8 @@
 //   held_word, meet_hold         x meet hold(y), the states of a set whose every successor is in another: a word of it; all of it
 //   forbidden_by, forbidden      the forbidden states of a store with given rows, and with its own
 //   Rows, row_of, union_of       a row of words for each state, the set in one row, the union of the rows of a set's states
-//   any_beyond, non_zero         whether some of the store's sets have a state from n up; whether some of its words are not 0
+//   any_stored_beyond            whether some of the store's sets have a state from n up
+//   non_zero_word                whether some of its words are not 0
 //   refusal                      the first of the grounds 10, 14, 15 and 17 that holds, or 0
 //
 // Functions below the calls ask for a store, or for rows, that are long enough; `refusal` asks for nothing. What works on a table is lent its parts: the
@@ -221,7 +222,7 @@ fn is_beyond(x: StateSet, n: usize) -> bool
 
 // One of the `count` sets that begin at `at` has a state from n up. The sets are joined and tested once, and not looked at where there are as many
 // states as can be.
-pub fn any_beyond(store: &[u64], at: usize, count: usize, n: usize) -> bool
+pub fn any_stored_beyond(store: &[u64], at: usize, count: usize, n: usize) -> bool
     requires { ⌜ at + WORDS * count ≤ length (now store) ⌝ }
     ensures { λ r. ⌜ r ≡ any count (λ j. beyond n (setAt (now (store .entry)) (at + WORDS * j))) ⌝ }
 {
@@ -236,7 +237,7 @@ pub fn any_beyond(store: &[u64], at: usize, count: usize, n: usize) -> bool
 }
 
 // Some word from `from` on and before `to` is not 0. They are joined and tested once, which the compiler does several at a time.
-pub fn non_zero(store: &[u64], from: usize, to: usize) -> bool
+pub fn non_zero_word(store: &[u64], from: usize, to: usize) -> bool
     requires { ⌜ (from ≤ to) × (to ≤ length (now store)) ⌝ }
     ensures { λ r. ⌜ r ≡ nonZero (now (store .entry)) from to ⌝ }
 {
@@ -261,16 +262,16 @@ fn is_malformed(store: &[u64], n: usize, g: usize) -> bool
     if is_beyond(set_at(store, RESTING_AT), n) {
         return true;
     }
-    if any_beyond(store, GROUPS_AT, g, n) {
+    if any_stored_beyond(store, GROUPS_AT, g, n) {
         return true;
     }
-    if any_beyond(store, ROWS_AT, n, n) {
+    if any_stored_beyond(store, ROWS_AT, n, n) {
         return true;
     }
-    if non_zero(store, GROUPS_AT + WORDS * g, ROWS_AT) {
+    if non_zero_word(store, GROUPS_AT + WORDS * g, ROWS_AT) {
         return true;
     }
-    non_zero(store, ROWS_AT + WORDS * n, STORE_WORDS)
+    non_zero_word(store, ROWS_AT + WORDS * n, STORE_WORDS)
 }
 
 // Groups but no state.

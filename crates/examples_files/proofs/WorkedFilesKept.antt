@@ -22,8 +22,8 @@ use Rattle.model.specs.Contents.{newForm, heads, sets}
 use Rattle.model.specs.Files.{fileOf}
 use Rattle.model.specs.Calls.{overwrite, release, Decision, decideAnswer, readBuffer}
 use Rattle.model.specs.RoundTrip.{Bounded, WriteRead}
-use Rattle.model.proofs.StoreLaws.{Within, beyond-below}
-use Rattle.model.proofs.Acceptance.{Store, check-of}
+use Rattle.model.proofs.StoresTables.{Within, beyond-below}
+use Rattle.model.proofs.StoresAccepted.{Store, check-of}
 use Rattle.model.proofs.RoundTrips.{Storable, new-read}
 use Rattle.examples_tables.specs.Tables as table
 use Rattle.examples_tables.specs.Worked.{held, Decides}

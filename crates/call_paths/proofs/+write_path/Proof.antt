@@ -8,7 +8,7 @@ use borrow.Fn.Kinds.{In}
 use borrow.Fn.PlainCycle.{Measures, is, falls, and}
 use lib.ListN.{length, length-set}
 use lib.Seq.{length-sets}
-use Rattle.call_paths.proofs.Walks.{walkBy-last, walkBy-step, writable-first, writable-rest}
+use Rattle.call_paths.proofs.PathsWritten.{walkBy-last, walkBy-step, writable-first, writable-rest}
 use Rattle.call_paths.proofs.write_path.Reads as write-path
 use Rattle.call_paths.proofs.write_path.Kinds as write-path-kinds
 use Rattle.call_paths.proofs.+write_path.Lts-write_path as write-path-lts

@@ -3,7 +3,7 @@ use native.Mathlib.Omega.{arith}
 use mathlib.Core.Path.{_∙_}
 use borrow.Author.Needs.{needs}
 use Rattle.core_report.specs.Put.{numberBytes}
-use Rattle.core_report.proofs.Putting.{put-most, put-then}
+use Rattle.core_report.proofs.TextsPut.{put-most, put-then}
 use Rattle.core_report.proofs.Decimals.{fewest-le, decimal-digits}
 use Rattle.core_report.proofs.put_number.Statement.{statement}
 use Rattle.core_report.proofs.put_number.Tie as tie

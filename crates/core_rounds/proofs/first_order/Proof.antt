@@ -8,11 +8,11 @@ use Rattle.basics.specs.Refusals.{refuse}
 use Rattle.model.specs.Sets.{maxStates}
 use Rattle.model.specs.Tables.{coverOf, notForbidden}
 use Rattle.model.specs.Stores.{sharedGrounds}
-use Rattle.model.proofs.Acceptance.{Store, accepted-store}
+use Rattle.model.proofs.StoresAccepted.{Store, accepted-store}
 use Rattle.core_table.specs.Rows.{groupsOf, groupsIn}
-use Rattle.core_table.proofs.Parts.{rows-long, groups-long}
+use Rattle.core_table.proofs.RowsLent.{rows-long, groups-long}
 use Rattle.core_fixpoints.specs.Steps.{covers}
-use Rattle.core_fixpoints.proofs.Lists.{Stored, stored-start, stored-turn, stored-all}
+use Rattle.core_fixpoints.proofs.SetsListed.{Stored, stored-start, stored-turn, stored-all}
 use Rattle.core_rounds.proofs.FirstCover.{order-refused, order-listed}
 use Rattle.core_rounds.proofs.first_order.Statement.{statement}
 use Rattle.core_rounds.proofs.first_order.Tie as tie

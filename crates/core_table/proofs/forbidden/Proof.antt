@@ -1,7 +1,7 @@
 -- `forbidden`: by the rows of the store.
 use mathlib.Core.Path.{_∙_}
 use borrow.Author.Needs.{needs}
-use Rattle.core_table.proofs.Parts.{forbidden-of}
+use Rattle.core_table.proofs.RowsLent.{forbidden-of}
 use Rattle.core_table.proofs.forbidden.Statement.{statement}
 use Rattle.core_table.proofs.forbidden.Tie as tie
 

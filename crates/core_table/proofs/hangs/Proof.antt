@@ -3,7 +3,7 @@ use mathlib.Core.Path.{refl, ap₂, _∙_}
 use borrow.Author.Needs.{needs}
 use Rattle.model.specs.Sets.{difference}
 use Rattle.core_table.specs.Rows.{meetHold}
-use Rattle.core_table.proofs.Parts.{hangs-is}
+use Rattle.core_table.proofs.RowsLent.{hangs-is}
 use Rattle.core_table.proofs.hangs.Statement.{statement}
 use Rattle.core_table.proofs.hangs.Tie as tie
 

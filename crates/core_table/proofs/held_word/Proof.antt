@@ -6,10 +6,10 @@ use mathlib.Core.Logic.{⊎-elim}
 use borrow.Author.Needs.{needs}
 use lib.Count.{trailing-le}
 use Rattle.model.specs.Sets.{subset}
-use Rattle.core_state_set.proofs.Counts.{bits-fit, states-fit}
-use Rattle.core_state_set.proofs.WordSets.{word-less}
+use Rattle.core_state_set.proofs.SetsOnes.{bits-fit, states-fit}
+use Rattle.core_state_set.proofs.SetsByWord.{word-less}
 use Rattle.core_table.specs.Rows.{rowIn}
-use Rattle.core_table.proofs.Hold.{lowest-place, Gathering, gather-start, gather-take, gather-skip, gather-end}
+use Rattle.core_table.proofs.SetsHeld.{lowest-place, Gathering, gather-start, gather-take, gather-skip, gather-end}
 use Rattle.core_table.proofs.held_word.Statement.{statement}
 use Rattle.core_table.proofs.held_word.Tie as tie
 

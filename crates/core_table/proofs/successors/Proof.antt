@@ -3,8 +3,8 @@ use Prim.Native.Nat.{_-_}
 use borrow.Author.Needs.{needs}
 use Rattle.model.specs.Sets.{WORDS}
 use Rattle.core_table.specs.Rows.{rowIn, successorsBy}
-use Rattle.core_state_set.proofs.Words.{proper}
-use Rattle.core_table.proofs.Joins.{WordsJoining, words-start, words-turn, words-end}
+use Rattle.core_state_set.proofs.SetsWords.{proper}
+use Rattle.core_table.proofs.SetsJoined.{WordsJoining, words-start, words-turn, words-end}
 use Rattle.core_table.proofs.successors.Statement.{statement}
 use Rattle.core_table.proofs.successors.Tie as tie
 

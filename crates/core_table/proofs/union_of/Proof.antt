@@ -4,8 +4,8 @@ use mathlib.Core.List.{[]}
 use lib.ListN.{getD}
 use borrow.Author.Needs.{needs}
 use Rattle.model.specs.Sets.{WORDS}
-use Rattle.core_state_set.proofs.Words.{proper}
-use Rattle.core_table.proofs.Joins.{WordsJoining, words-start, words-turn, words-end}
+use Rattle.core_state_set.proofs.SetsWords.{proper}
+use Rattle.core_table.proofs.SetsJoined.{WordsJoining, words-start, words-turn, words-end}
 use Rattle.core_table.proofs.union_of.Statement.{statement}
 use Rattle.core_table.proofs.union_of.Tie as tie
 
