@@ -1,6 +1,6 @@
 -- The texts that the specification shows (docs/SPECIFICATION.md, "The program"): of the answers of tables E, G and B, and of a refusal; and texts with numbers of
 -- several digits, groups, and an invariant of several states.
--- `Worked.worked` proves it.
+-- `WorkedTextsKept.worked-texts` proves it.
 --
 --   safeAfter i X, unsafeAfter i d     the answers safe, with i refinements and the invariant X, and unsafe, with a path of d steps
 --   WorkedTexts                        what is printed for them
