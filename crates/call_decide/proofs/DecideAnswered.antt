@@ -19,7 +19,7 @@ use Rattle.basics.proofs.RefusalLaws.{refuse-append, refuse-past, refuse-clear,
 use Rattle.model.proofs.StoresAccepted.{Store, accepted-store, well-formed}
 use Rattle.model.proofs.RoundLaws.{unsafe-path}
 use Rattle.model.proofs.PathLaws.{has-path}
-use Rattle.core_table.specs.Rows.{rowsOf, groupsOf, groupsIn, tableOn}
+use Rattle.core_rows.specs.Rows.{rowsOf, groupsOf, groupsIn, tableOn}
 use Rattle.call_paths.specs.declared.PathFound.{PathFound}
 use Rattle.call_paths.specs.PathAnswers.{foundIn, pathWritten, stepsIn}
 use Rattle.call_paths.proofs.Groups.{store-table}

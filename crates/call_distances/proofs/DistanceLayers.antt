@@ -20,9 +20,9 @@ use Rattle.basics.proofs.BoundLaws.{is-false, clash, by-cond, same-test, tabula
 use Rattle.model.proofs.SetsMembers.{Proper, In, in-bound, empty-in, in-union, union-in, in-states, states-in, in-firstStates, firstStates-in, ⊆-of-eq, in-image, image-in}
 use Rattle.model.specs.WellFormed.{WellFormed}
 use Rattle.model.proofs.PathLaws.{At, in-reaching, reaching-in, reaching-mono, at-lt, distance-is, distance-unreachable}
-use Rattle.core_table.specs.Rows.{mapAt}
-use Rattle.core_table.proofs.RowsLent.{HasRows}
-use Rattle.core_table.proofs.RowsMapped.{mapAt-tabulate}
+use Rattle.core_rows.specs.Rows.{mapAt}
+use Rattle.core_rows.proofs.RowsLent.{HasRows}
+use Rattle.core_rows.proofs.RowsMapped.{mapAt-tabulate}
 use Rattle.core_reach.proofs.ReachLayers.{before, before-grows, before-mono, Layered, layered-start, layered-turn, layered-still}
 use Rattle.call_distances.specs.Transposing.{predecessorsIn}
 

@@ -20,7 +20,7 @@ use Rattle.model.specs.Paths.{unreachable, distance}
 use Rattle.model.specs.Stores.{setAt, tableOf, sharedGrounds}
 use Rattle.model.specs.Calls.{overwrite}
 use Rattle.model.proofs.StoresAccepted.{Store}
-use Rattle.core_table.specs.Rows.{rowsOf, groupsOf, groupsIn, tableOn}
+use Rattle.core_rows.specs.Rows.{rowsOf, groupsOf, groupsIn, tableOn}
 use Rattle.call_paths.proofs.Groups.{reaching-alike, store-table}
 use Rattle.call_paths.proofs.PathsAnswered.{call-refused, call-short, call-answered}
 use Rattle.call_distances.specs.Distances.{distancesGrounds, distancesAnswer, distancesBuffer, CalledDistances}

@@ -18,8 +18,8 @@ use Rattle.basics.proofs.BoundLaws.{clash, by-cond, below-suc, getD-tabulate, t
 use Rattle.model.proofs.SetsMembers.{setOf-proper, In, in-bound, in-single, single-in, in-union, union-in, in-difference, difference-in, in-states, states-in, in-firstStates, firstStates-in, same-set, in-image, image-in}
 use Rattle.model.proofs.SetsImages.{image-cong}
 use Rattle.core_state_set.proofs.SetsWords.{with-bit}
-use Rattle.core_table.specs.Rows.{rowIn, mapAt}
-use Rattle.core_table.proofs.RowsMapped.{mapAt-tabulate}
+use Rattle.core_rows.specs.Rows.{rowIn, mapAt}
+use Rattle.core_rows.proofs.RowsMapped.{mapAt-tabulate}
 use Rattle.call_paths.specs.Search.{steppingInto}
 use Rattle.call_paths.proofs.RowsStepping.{in-stepping, stepping-in}
 use Rattle.call_distances.specs.Transposing.{withBit, predecessorsIn, predecessorRows}

@@ -23,8 +23,8 @@ use Rattle.basics.proofs.BoundLaws.{decided, lt-or-ge}
 use Rattle.model.proofs.SetsMembers.{Proper, setOf-proper, In, in-firstStates, in-single, single-in, in-union, union-in, difference-in, ⊆-of-eq}
 use Rattle.model.proofs.StoresTables.{setAt-proper, beyond-below, below-beyond, malformed-clean, clean-malformed, row-is}
 use Rattle.model.proofs.StoresAccepted.{Store}
-use Rattle.core_table.specs.Rows.{rowsWords, rowsOf}
-use Rattle.core_table.proofs.RowsLent.{rows-long}
+use Rattle.core_rows.specs.Rows.{rowsWords, rowsOf}
+use Rattle.core_rows.proofs.RowsLent.{rows-long}
 use Rattle.core_table.proofs.StoresPut.{put-long, put-own, put-other, put-apart, put-word}
 use Rattle.core_state_set.proofs.SetsWords.{with-bit, without-bit}
 use Rattle.call_edit_session.specs.Edits.{Edit, add, remove, source, target, rowAfter, edited}

@@ -27,8 +27,8 @@ use Rattle.basics.proofs.BoundLaws.{or-false}
 use Rattle.model.proofs.SetsMembers.{in-firstStates, single-in, in-subset, In}
 use Rattle.basics.proofs.RefusalLaws.{refuse-append, refuse-past, refuse-clear, answer-refused, answer-none}
 use Rattle.model.proofs.StoresAccepted.{Store, accepted-store, well-formed}
-use Rattle.core_table.specs.Rows.{rowsOf, rowIn}
-use Rattle.core_table.proofs.RowsLent.{row-of}
+use Rattle.core_rows.specs.Rows.{rowsOf, rowIn}
+use Rattle.core_rows.proofs.RowsLent.{row-of}
 use Rattle.core_reach.specs.Reached.{reachBy, reachable}
 use Rattle.core_reach.proofs.ReachWalks.{reaching}
 use Rattle.call_edit_session.specs.declared.Change.{Change}

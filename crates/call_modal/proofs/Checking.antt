@@ -13,8 +13,8 @@ use Rattle.model.specs.Tables.{Table}
 use Rattle.model.specs.Rounds.{Outcome, safe, unsafe, undecided, run}
 use Rattle.model.specs.Stores.{setAt, dialogueOf, tableOf}
 use Rattle.model.specs.Calls.{release, decisionOf}
-use Rattle.core_table.specs.Rows.{groupsOf, rowsIn, groupsIn, tableOn}
-use Rattle.core_table.proofs.RowsLent.{groups-of}
+use Rattle.core_rows.specs.Rows.{groupsOf, rowsIn, groupsIn, tableOn}
+use Rattle.core_rows.proofs.RowsLent.{groups-of}
 use Rattle.call_paths.specs.Search.{HoldsTable}
 use Rattle.call_paths.specs.PathAnswers.{foundIn, pathWritten, stepsIn}
 use Rattle.call_paths.specs.declared.PathFound.{PathFound}

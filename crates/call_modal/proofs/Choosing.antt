@@ -31,7 +31,7 @@ use Rattle.model.proofs.StoresAccepted.{well-formed}
 use Rattle.model.proofs.Fixpoints.{backward-is}
 use Rattle.model.proofs.RoundLaws.{undecided-short, unsafe-path, safe-invariant, safe-no-path}
 use Rattle.model.proofs.PathLaws.{has-path}
-use Rattle.core_table.specs.Rows.{rowIn, rowsIn}
+use Rattle.core_rows.specs.Rows.{rowIn, rowsIn}
 use Rattle.call_modal.specs.Modal.{possibleWords, certainRow, possibleRow, tableWith, modalForbidden, modalTable, malformedRows, certainImpossible, releaseCheck}
 use Rattle.call_modal.proofs.ModalGrounds.{ModalHeld}
 

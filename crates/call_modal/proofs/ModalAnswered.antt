@@ -19,8 +19,8 @@ use Rattle.model.specs.Stores.{setAt, dialogueOf, tableOf}
 use Rattle.model.specs.Calls.{overwrite, Decision}
 use Rattle.basics.proofs.RefusalLaws.{answer-refused, answer-none}
 use Rattle.model.specs.WellFormed.{WellFormed}
-use Rattle.core_table.specs.Rows.{rowsWords, rowsOf, rowsIn, forbiddenBy, tableOn}
-use Rattle.core_table.proofs.RowsLent.{rows-of}
+use Rattle.core_rows.specs.Rows.{rowsWords, rowsOf, rowsIn, forbiddenBy, tableOn}
+use Rattle.core_rows.proofs.RowsLent.{rows-of}
 use Rattle.call_paths.specs.Search.{HoldsTable}
 use Rattle.call_paths.specs.PathAnswers.{foundIn, pathWritten, stepsIn}
 use Rattle.call_paths.proofs.Groups.{foundIn-groups, pathWritten-groups}

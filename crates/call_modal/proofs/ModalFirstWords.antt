@@ -19,7 +19,7 @@ use Rattle.model.specs.Stores.{maxGroups, storeWords, rowAt, setAt, dialogueOf,
 use Rattle.basics.proofs.BoundLaws.{decided, any-cong}
 use Rattle.basics.proofs.RefusalLaws.{unless-value, answer-cong}
 use Rattle.model.proofs.StoresFirstWords.{same-word, same-part, nonZero-cong, states-le, dialogue-words, malformed-same}
-use Rattle.core_table.specs.Rows.{rowsIn}
+use Rattle.core_rows.specs.Rows.{rowsIn}
 use Rattle.call_modal.specs.Modal.{possibleWords, certainRow, possibleRow, tableWith, modalForbidden, modalTable, certainTable, possibleTable, malformedRows, certainImpossible, releaseCheck, modalGrounds, ModalAnswer, modalOf, modalAnswer, modalWritten, modalBuffer}
 use Rattle.call_modal.proofs.ModalGrounds.{accepted}
 

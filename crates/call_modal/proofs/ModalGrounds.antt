@@ -23,8 +23,8 @@ use Rattle.basics.proofs.BoundLaws.{or-false, or-none, or-right, not-true, is-f
 use Rattle.basics.proofs.RefusalLaws.{Clear, refuse-first, refuse-or, refuse-append, refuse-past, clear-refuse, refuse-clear}
 use Rattle.model.proofs.SetsMembers.{subset-in}
 use Rattle.model.proofs.StoresAccepted.{Store, accepted-store}
-use Rattle.core_table.specs.Rows.{rowsOf, rowIn}
-use Rattle.core_table.proofs.RowsLent.{row-of}
+use Rattle.core_rows.specs.Rows.{rowsOf, rowIn}
+use Rattle.core_rows.proofs.RowsLent.{row-of}
 use Rattle.call_modal.specs.Modal.{possibleWords, malformedRows, certainImpossible, modalGrounds}
 
 -- ---- ground 17 of the second buffer

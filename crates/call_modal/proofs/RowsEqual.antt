@@ -24,7 +24,7 @@ use Rattle.basics.proofs.RefusalLaws.{clear-refuse, answer-none}
 use Rattle.model.proofs.SetsMembers.{in-subset}
 use Rattle.model.proofs.StoresTables.{malformed-clean, zero-nonZero}
 use Rattle.model.proofs.StoresAccepted.{Store, store-accepted}
-use Rattle.core_table.specs.Rows.{rowsIn}
+use Rattle.core_rows.specs.Rows.{rowsIn}
 use Rattle.call_modal.specs.Modal.{certainRow, possibleRow, tableWith, modalForbidden, modalTable, certainTable, possibleTable, possibleWords, malformedRows, certainImpossible, releaseCheck, ModalAnswer, modalOf, modalWritten}
 use Rattle.call_modal.specs.ModalPromises.{AsDecide}
 use Rattle.call_modal.proofs.ModalGrounds.{ModalHeld}

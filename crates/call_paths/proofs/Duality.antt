@@ -20,8 +20,8 @@ use Rattle.model.proofs.SetsMembers.{In, in-bound, empty-in, in-union, union-in
 use Rattle.model.specs.WellFormed.{WellFormed}
 use Rattle.model.proofs.Fixpoints.{iterate-has}
 use Rattle.model.proofs.PathLaws.{in-reaching, reaching-in, reaching-suc, shortest-nearest}
-use Rattle.core_table.specs.Rows.{rowIn, successorsBy}
-use Rattle.core_table.proofs.RowsLent.{HasRows}
+use Rattle.core_rows.specs.Rows.{rowIn, successorsBy}
+use Rattle.core_rows.proofs.RowsLent.{HasRows}
 use Rattle.core_reach.specs.Reached.{reachBy}
 use Rattle.core_reach.proofs.ReachLayers.{before, before-grows}
 use Rattle.call_paths.specs.Search.{metWithin, firstLayer, stepsWithin}

@@ -19,8 +19,8 @@ use Rattle.model.specs.Stores.{setAt, tableOf}
 use Rattle.model.specs.Calls.{overwrite}
 use Rattle.model.specs.WellFormed.{WellFormed, _⊆_}
 use Rattle.model.proofs.StoresAccepted.{Store, well-formed}
-use Rattle.core_table.specs.Rows.{rowsOf, rowsIn, groupsOf, groupsIn, tableOn}
-use Rattle.core_table.proofs.RowsLent.{rows-long, table-on}
+use Rattle.core_rows.specs.Rows.{rowsOf, rowsIn, groupsOf, groupsIn, tableOn}
+use Rattle.core_rows.proofs.RowsLent.{rows-long, table-on}
 use Rattle.call_paths.specs.Search.{HoldsTable}
 use Rattle.call_paths.specs.PathAnswers.{foundIn, pathWritten}
 use Rattle.call_paths.specs.declared.PathFound.{PathFound}

@@ -22,8 +22,8 @@ use Rattle.basics.proofs.BoundLaws.{clash, lt-or-ge}
 use Rattle.model.proofs.SetsMembers.{setOf-proper, In, empty-in, in-meet, meet-in, in-difference, difference-in, firstStates-in, _⊆_, ⊆-of-eq, same-set, in-meets}
 use Rattle.model.specs.WellFormed.{WellFormed}
 use Rattle.model.proofs.PathLaws.{Nearest, pick, pick-at, at-row, in-reaching, reaching-in}
-use Rattle.core_table.specs.Rows.{successorsBy}
-use Rattle.core_table.proofs.RowsLent.{HasRows}
+use Rattle.core_rows.specs.Rows.{successorsBy}
+use Rattle.core_rows.proofs.RowsLent.{HasRows}
 use Rattle.core_reach.specs.Reached.{reachBy}
 use Rattle.call_paths.specs.Search.{layerOf, steppingInto, narrowedBack, smallestIn, walkBy}
 use Rattle.call_paths.proofs.RowsStepping.{in-stepping, stepping-in}

@@ -20,7 +20,7 @@ use Rattle.model.specs.Sets.{maxStates, Set, empty, union, meet, difference, su
 use Rattle.model.specs.Rounds.{iterate}
 use Rattle.basics.proofs.BoundLaws.{is-false, clash, below-suc, first-is, first-none}
 use Rattle.model.proofs.SetsMembers.{Proper, setOf-proper, empty-in, in-difference, difference-in, _⊆_, subset-in, same-set, in-meets, meets-in}
-use Rattle.core_table.specs.Rows.{rowIn, successorsBy}
+use Rattle.core_rows.specs.Rows.{rowIn, successorsBy}
 use Rattle.core_reach.specs.Reached.{reachBy}
 use Rattle.core_reach.proofs.ReachLayers.{before, before-mono, Layered, layered-start, layered-turn, layered-below, layered-still}
 use Rattle.call_paths.specs.Search.{layerOf, metWithin, firstLayer, LayersUpTo}

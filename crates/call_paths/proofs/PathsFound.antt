@@ -20,8 +20,8 @@ use Rattle.model.specs.Calls.{overwrite}
 use Rattle.basics.proofs.BoundLaws.{by-cond}
 use Rattle.model.proofs.SetsMembers.{in-union}
 use Rattle.model.proofs.PathLaws.{Nearest, shortest-nearest, length-smallest, smallest-below}
-use Rattle.core_table.specs.Rows.{tableOn}
-use Rattle.core_table.proofs.RowsLent.{on-rows}
+use Rattle.core_rows.specs.Rows.{tableOn}
+use Rattle.core_rows.proofs.RowsLent.{on-rows}
 use Rattle.call_paths.specs.Search.{HoldsTable, firstLayer, LayersUpTo, narrowedBack, smallestIn, walkBy, Writable}
 use Rattle.call_paths.specs.PathAnswers.{foundIn, pathWritten}
 use Rattle.call_paths.specs.declared.PathFound.{PathFound}

@@ -10,7 +10,7 @@ use mathlib.Core.Path.{_≡_, refl}
 use mathlib.Core.List.{List, [], _∷_}
 use lib.ListN.{getD}
 use Rattle.model.specs.Sets.{maxStates, Set}
-use Rattle.core_table.specs.Rows.{rowIn}
+use Rattle.core_rows.specs.Rows.{rowIn}
 use Rattle.call_paths.specs.Search.{smallestIn, walkBy, Writable}
 
 module _ (rows : List ℕ) (layers : List Set) (s at : ℕ) where

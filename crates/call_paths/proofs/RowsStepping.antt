@@ -9,7 +9,7 @@ use mathlib.Core.List.{List}
 use Rattle.model.specs.Sets.{maxStates, Set, member, difference, firstStates}
 use Rattle.basics.proofs.BoundLaws.{and-true, and-intro, is-false}
 use Rattle.model.proofs.SetsMembers.{setOf-proper, In, in-bound, in-or-out, in-setOf, setOf-in, in-difference, difference-in, in-firstStates, subset-in, subset-not, same-set, in-meets, meets-in}
-use Rattle.core_table.specs.Rows.{rowIn, meetHold}
+use Rattle.core_rows.specs.Rows.{rowIn, meetHold}
 use Rattle.call_paths.specs.Search.{steppingInto}
 
 module _ (rows : List ℕ) {X Y : Set} {s : ℕ} where

@@ -23,7 +23,7 @@ use Rattle.basics.specs.Bounds.{first}
 use Rattle.model.specs.Sets.{maxStates, Set, member, setOf, empty, meet, difference, meets, smallest}
 use Rattle.model.specs.Rounds.{iterate}
 use Rattle.model.specs.WellFormed.{WellFormed}
-use Rattle.core_table.specs.Rows.{rowsWords, rowIn, tableOn}
+use Rattle.core_rows.specs.Rows.{rowsWords, rowIn, tableOn}
 use Rattle.core_reach.specs.Reached.{reachBy}
 use Rattle.call_paths.specs.declared.PathFound.{PathFound}
 use Rattle.call_paths.specs.declared.PathFound.the-variants.{Steps, Nothing}

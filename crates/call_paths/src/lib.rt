@@ -16,21 +16,21 @@ ghost use lib.ListN.{length, set as replaced};
 ghost use lib.Seq.{sets as replacedFrom};
 ghost use mathlib.Core.List.{[]};
 ghost use Rattle.model.specs.Sets.{maxStates};
-ghost use Rattle.core_table.specs.Rows.{rowsWords, tableOn};
+ghost use Rattle.core_rows.specs.Rows.{rowsWords, tableOn};
 ghost use Rattle.call_paths.specs.Search.{HoldsTable, firstLayer, stepsWithin, LayersUpTo, steppingInto, narrowedBack, smallestIn, walkBy, Writable};
 ghost use Rattle.call_paths.specs.PathAnswers.{foundIn, pathWritten, stepsIn, CalledShortest};
 ghost use Rattle.call_paths.specs.Within.{CalledWithin};
 use core_reach::newly_reached;
+use core_rows::Rows;
+use core_rows::forbidden;
+use core_rows::meet_hold;
+use core_rows::row_at;
+use core_rows::row_of;
 use core_state_set::MAX_STATES;
 use core_state_set::StateSet;
 use core_state_set::WORDS;
 use core_table::ROWS_AT;
-use core_table::Rows;
-use core_table::forbidden;
-use core_table::meet_hold;
 use core_table::refusal;
-use core_table::row_at;
-use core_table::row_of;
 use core_table::set_at;
 
 // The states of x that step to a state of y: those that are not in hold of all other states.

@@ -18,7 +18,7 @@ use Rattle.model.proofs.SetsMembers.{in-subset}
 use Rattle.basics.proofs.RefusalLaws.{refuse-append, refuse-past, clear-refuse, refuse-clear, answer-refused, answer-none, answered-clear, answered-value}
 use Rattle.model.proofs.StoresAccepted.{Store, accepted-store, well-formed}
 use Rattle.model.proofs.StoresTables.{row-is}
-use Rattle.core_table.specs.Rows.{rowsOf}
+use Rattle.core_rows.specs.Rows.{rowsOf}
 use Rattle.core_reach.specs.Reached.{reachBy}
 use Rattle.core_reach.proofs.ReachWalks.{reaching}
 use Rattle.call_replay.specs.Logs.{maxLog, followed, seen, percentOf, remainderOf, logGrounds, reachableCount, replayGrounds, Replay, walkThrough, replayAnswer}

@@ -24,9 +24,9 @@ use Rattle.model.proofs.ListsInParts.{length-overwrite}
 use Rattle.model.proofs.StoresTables.{Holds, Laid, length-layout, overwrite-holds}
 use Rattle.model.proofs.StoresAccepted.{Store}
 use Rattle.model.proofs.RoundTrips.{Taken, taken, laid}
-use Rattle.core_table.specs.Rows.{rowsOf, rowIn, meetHold}
+use Rattle.core_rows.specs.Rows.{rowsOf, rowIn, meetHold}
 use Rattle.core_table.specs.Writing.{overwriteFrom}
-use Rattle.core_table.proofs.RowsLent.{row-of, dead-is}
+use Rattle.core_rows.proofs.RowsLent.{row-of, dead-is}
 use Rattle.core_table.proofs.StoresPut.{put-long, put-own, put-apart}
 use Rattle.theorems_rewriting.specs.Rewriting.{deadEnds, rewritten, OldFile, oldDialogue, newFile}
 use Rattle.theorems_rewriting.proofs.Rewritten.{rewritten-held, dialogue-is}

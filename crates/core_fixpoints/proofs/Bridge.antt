@@ -23,8 +23,8 @@ use Rattle.model.specs.Promises.{IsLeast, IsGreatest}
 use Rattle.model.proofs.Fixpoints.{iterate-has, from-below, from-above, least-unique}
 use Rattle.model.proofs.SetsImages.{image-mono, image-proper, image-bound, image-cong}
 use Rattle.model.proofs.CoverLaws.{coverOf-within, coverOf-self, coverOf-trans, in-hold, hold-in, forwardStep-within, backwardStep-within}
-use Rattle.core_table.specs.Rows.{rowIn, successorsBy, meetHold}
-use Rattle.core_table.proofs.RowsLent.{HasRows}
+use Rattle.core_rows.specs.Rows.{rowIn, successorsBy, meetHold}
+use Rattle.core_rows.proofs.RowsLent.{HasRows}
 use Rattle.core_fixpoints.specs.Steps.{covers, coverBy, forwardBy, backwardBy, IsCover}
 
 -- ---- the cover

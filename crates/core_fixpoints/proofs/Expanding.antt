@@ -25,7 +25,7 @@ use Rattle.model.proofs.Fixpoints.{iterate-has}
 use Rattle.model.proofs.SetsImages.{image-mono, image-none, image-union}
 use Rattle.core_state_set.specs.WordSets.{wordSet, wordsBelow}
 use Rattle.core_state_set.proofs.SetsByWord.{word-lowest, word-least, word-rest, word-none, words-none, words-in, words-all}
-use Rattle.core_table.specs.Rows.{successorsBy}
+use Rattle.core_rows.specs.Rows.{successorsBy}
 use Rattle.core_fixpoints.specs.Steps.{coverBy, forwardBy, IsCover}
 use Rattle.core_fixpoints.specs.Order.{passAt, orderOf, firstPassBy, laterPassBy, orderBy, padded}
 use Rattle.core_fixpoints.proofs.Bridge.{coverBy-within, coverBy-closed, forwardBy-proper, forward-least}

@@ -20,7 +20,7 @@ use Rattle.model.proofs.SetsMembers.{In, in-bound, in-or-out, in-union, in-diff
 use Rattle.model.proofs.SetsImages.{image-proper}
 use Rattle.core_state_set.proofs.SetsWords.{word-is}
 use Rattle.core_state_set.proofs.SetsByWord.{in-wordSet}
-use Rattle.core_table.specs.Rows.{rowIn, successorsBy, meetHold}
+use Rattle.core_rows.specs.Rows.{rowIn, successorsBy, meetHold}
 use Rattle.core_fixpoints.specs.Steps.{forwardBy, stepsByWord, Leads, Prepared}
 use Rattle.core_fixpoints.proofs.Bridge.{meetHold-in, coverBy-within, forward-closed}
 

@@ -23,8 +23,8 @@ use Rattle.model.proofs.StoresAccepted.{accepted-store, well-formed}
 use Rattle.model.proofs.Fixpoints.{iterate-has, from-below}
 use Rattle.model.proofs.CoverLaws.{in-post, post-in, post-mono}
 use Rattle.model.proofs.SetsImages.{image-bound, image-cong}
-use Rattle.core_table.specs.Rows.{rowsOf, rowIn, successorsBy}
-use Rattle.core_table.proofs.RowsLent.{HasRows, store-rows}
+use Rattle.core_rows.specs.Rows.{rowsOf, rowIn, successorsBy}
+use Rattle.core_rows.proofs.RowsLent.{HasRows, store-rows}
 use Rattle.core_reach.specs.Reached.{reachStep, reachable, walks, end, ReachableIs, reachBy, Reaching}
 use Rattle.core_reach.proofs.ReachLayers.{stepBy-proper}
 

@@ -17,8 +17,8 @@ use Rattle.model.specs.Stores.{setAt}
 use Rattle.basics.proofs.BoundLaws.{is-false, clash, tabulate-const}
 use Rattle.model.proofs.SetsMembers.{setOf-proper, in-difference, difference-in, same-set}
 use Rattle.model.proofs.CoverLaws.{in-notForbidden, notForbidden-in, notForbidden-within}
-use Rattle.core_table.specs.Rows.{groupsIn}
-use Rattle.core_table.proofs.RowsMapped.{mapAt-tabulate}
+use Rattle.core_rows.specs.Rows.{groupsIn}
+use Rattle.core_rows.proofs.RowsMapped.{mapAt-tabulate}
 use Rattle.core_fixpoints.specs.Steps.{covers}
 use Rattle.core_rounds.specs.Adding.{narrowed, nextAdded}
 

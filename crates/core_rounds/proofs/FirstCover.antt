@@ -18,8 +18,8 @@ use Rattle.model.specs.Stores.{setAt, tableOf, sharedGrounds}
 use Rattle.model.specs.Calls.{overwrite}
 use Rattle.basics.proofs.RefusalLaws.{answer-refused, answer-none}
 use Rattle.model.proofs.CoverLaws.{notForbidden-within}
-use Rattle.core_table.specs.Rows.{rowsOf, groupsOf, groupsIn}
-use Rattle.core_table.proofs.RowsLent.{store-rows, groups-of}
+use Rattle.core_rows.specs.Rows.{rowsOf, groupsOf, groupsIn}
+use Rattle.core_rows.proofs.RowsLent.{store-rows, groups-of}
 use Rattle.core_fixpoints.specs.Steps.{covers}
 use Rattle.core_fixpoints.specs.Order.{forwardOrder, orderBy, padded}
 use Rattle.core_fixpoints.proofs.TableOrder.{order-is}

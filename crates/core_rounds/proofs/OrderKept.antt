@@ -13,8 +13,8 @@ use Rattle.model.specs.Calls.{overwrite}
 use Rattle.basics.proofs.RefusalLaws.{answered-value, refused-is}
 use Rattle.model.proofs.SetsMembers.{subset-in}
 use Rattle.model.proofs.StoresFirstWords.{same-call}
-use Rattle.core_table.specs.Rows.{tableOn}
-use Rattle.core_table.proofs.RowsLent.{on-rows}
+use Rattle.core_rows.specs.Rows.{tableOn}
+use Rattle.core_rows.proofs.RowsLent.{on-rows}
 use Rattle.core_fixpoints.specs.Order.{forwardOrder, padded, InOrder}
 use Rattle.core_fixpoints.proofs.Bridge.{least-is}
 use Rattle.core_fixpoints.proofs.Passes.{in-order}

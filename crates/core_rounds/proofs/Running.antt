@@ -27,8 +27,8 @@ use Rattle.model.proofs.SetsMembers.{empty-in, meet-in, _⊆_, ⊆-of-eq}
 use Rattle.model.proofs.Fixpoints.{iterate-has, greatest-unique}
 use Rattle.model.proofs.CoverLaws.{hold-within, notForbidden-within, forwardStep-within, backwardStep-within}
 use Rattle.model.proofs.RoundLaws.{first-stop}
-use Rattle.core_table.specs.Rows.{groupsIn, successorsBy, meetHold}
-use Rattle.core_table.proofs.RowsLent.{HasRows}
+use Rattle.core_rows.specs.Rows.{groupsIn, successorsBy, meetHold}
+use Rattle.core_rows.proofs.RowsLent.{HasRows}
 use Rattle.core_fixpoints.specs.Steps.{covers, forwardBy, backwardBy, IsCover}
 use Rattle.core_fixpoints.proofs.Bridge.{successorsBy-is, meetHold-is, backwardBy-proper, backward-greatest, least-is, backward-is}
 use Rattle.core_rounds.specs.Adding.{narrowed}

@@ -11,7 +11,7 @@ use Rattle.model.specs.Sets.{maxStates, Set, subset, firstStates}
 use Rattle.model.specs.Rounds.{forward as forwardSet, firstRound}
 use Rattle.model.specs.Promises.{IsLeast}
 use Rattle.model.specs.Stores.{storeWords, tableOf, sharedGrounds}
-use Rattle.core_table.specs.Rows.{tableOn}
+use Rattle.core_rows.specs.Rows.{tableOn}
 use Rattle.core_fixpoints.specs.Steps.{covers, forwardBy}
 use Rattle.core_fixpoints.specs.Order.{orderBy, padded, InOrder}
 use Rattle.core_rounds.specs.OrderAnswers.{OrderAnswer, orderAnswer, orderedOf, CalledFirstOrder}

@@ -15,7 +15,7 @@ ghost use Rattle.model.specs.Sets.{member, meet};
 ghost use Rattle.model.specs.Tables.{coverOf, notForbidden};
 ghost use Rattle.model.specs.Rounds.{run as run·model};
 ghost use Rattle.model.specs.Stores.{maxGroups};
-ghost use Rattle.core_table.specs.Rows.{rowsWords, groupsWords, groupsIn, tableOn};
+ghost use Rattle.core_rows.specs.Rows.{rowsWords, groupsWords, groupsIn, tableOn};
 ghost use Rattle.core_fixpoints.specs.Steps.{Prepared};
 ghost use Rattle.core_rounds.specs.Adding.{nextAdded};
 ghost use Rattle.core_rounds.specs.RunAnswers.{Concludes, outcomeOf, invariantOf};
@@ -25,16 +25,16 @@ use core_fixpoints::WordSteps;
 use core_fixpoints::backward;
 use core_fixpoints::forward;
 use core_fixpoints::steps_by_word;
+use core_rows::Rows;
+use core_rows::forbidden;
+use core_rows::row_of;
 use core_state_set::MAX_STATES;
 use core_state_set::StateSet;
 use core_state_set::WORD_BITS;
 use core_state_set::WORDS;
 use core_table::GROUPS_AT;
 use core_table::ROWS_AT;
-use core_table::Rows;
-use core_table::forbidden;
 use core_table::refusal;
-use core_table::row_of;
 use core_table::set_at;
 
 // ---- the rounds

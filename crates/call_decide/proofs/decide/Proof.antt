@@ -6,7 +6,7 @@ use borrow.Author.Needs.{needs}
 use lib.ListN.{length}
 use Rattle.model.specs.Sets.{maxStates}
 use Rattle.model.proofs.StoresAccepted.{Store}
-use Rattle.core_table.proofs.RowsLent.{rows-long, groups-long}
+use Rattle.core_rows.proofs.RowsLent.{rows-long, groups-long}
 use Rattle.call_paths.proofs.Groups.{holds-table, store-path}
 use Rattle.core_rounds.specs.declared.Ending.the-variants.{Safe, Unsafe, Undecided}
 use Rattle.call_decide.proofs.DecideAnswered.{ended-is, refused-answer, accepted, safe-answer, unsafe-answer, undecided-answer}

@@ -13,7 +13,7 @@ use Rattle.call_paths.proofs.write_path.Reads as write-path
 use Rattle.call_paths.proofs.write_path.Kinds as write-path-kinds
 use Rattle.call_paths.proofs.+write_path.Lts-write_path as write-path-lts
 use Rattle.call_paths.proofs.smallest_in_layer.Reads as smallest-in-layer-reads
-use Rattle.core_table.proofs.row_at.Reads as row-at-reads
+use Rattle.core_rows.proofs.row_at.Reads as row-at-reads
 use Rattle.call_paths.proofs.+write_path.{statement}
 use Rattle.call_paths.proofs.+write_path.Tie.{close}
 

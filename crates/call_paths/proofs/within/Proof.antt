@@ -6,8 +6,8 @@ use borrow.Author.Needs.{needs}
 use Rattle.basics.specs.Refusals.{answered}
 use Rattle.model.specs.Stores.{tableOf}
 use Rattle.model.proofs.StoresAccepted.{Store, well-formed}
-use Rattle.core_table.specs.Rows.{rowsOf}
-use Rattle.core_table.proofs.RowsLent.{rows-long, store-rows}
+use Rattle.core_rows.specs.Rows.{rowsOf}
+use Rattle.core_rows.proofs.RowsLent.{rows-long, store-rows}
 use Rattle.call_paths.specs.Search.{firstLayer, stepsWithin}
 use Rattle.call_paths.specs.Within.{withinAnswer}
 use Rattle.call_paths.specs.declared.PathFound.{PathFound}

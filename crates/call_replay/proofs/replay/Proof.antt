@@ -3,7 +3,7 @@ use native.Mathlib.Omega.{arith}
 use borrow.Author.Needs.{needs}
 use Rattle.model.proofs.StoresAccepted.{Store}
 use Rattle.model.proofs.SetsCounted.{size-most}
-use Rattle.core_table.proofs.RowsLent.{rows-long}
+use Rattle.core_rows.proofs.RowsLent.{rows-long}
 use Rattle.call_replay.proofs.ReplayAnswered.{accepted, refused-answer, walk-answer}
 use Rattle.call_replay.proofs.replay.Statement.{statement}
 use Rattle.call_replay.proofs.replay.Tie as tie

@@ -4,7 +4,7 @@ use borrow.Author.Needs.{needs}
 use lib.ListN.{getD}
 use Rattle.model.specs.Sets.{WORDS}
 use Rattle.core_state_set.specs.WordSets.{wordSet}
-use Rattle.core_table.specs.Rows.{successorsBy}
+use Rattle.core_rows.specs.Rows.{successorsBy}
 use Rattle.core_fixpoints.specs.Steps.{stepsByWord}
 use Rattle.core_fixpoints.proofs.SetsListed.{Stored, stored-start, stored-turn, stored-all}
 use Rattle.core_fixpoints.proofs.Leaving.{steps-word}

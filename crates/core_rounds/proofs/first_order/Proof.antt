@@ -9,8 +9,8 @@ use Rattle.model.specs.Sets.{maxStates}
 use Rattle.model.specs.Tables.{coverOf, notForbidden}
 use Rattle.model.specs.Stores.{sharedGrounds}
 use Rattle.model.proofs.StoresAccepted.{Store, accepted-store}
-use Rattle.core_table.specs.Rows.{groupsOf, groupsIn}
-use Rattle.core_table.proofs.RowsLent.{rows-long, groups-long}
+use Rattle.core_rows.specs.Rows.{groupsOf, groupsIn}
+use Rattle.core_rows.proofs.RowsLent.{rows-long, groups-long}
 use Rattle.core_fixpoints.specs.Steps.{covers}
 use Rattle.core_fixpoints.proofs.SetsListed.{Stored, stored-start, stored-turn, stored-all}
 use Rattle.core_rounds.proofs.FirstCover.{order-refused, order-listed}

@@ -2,8 +2,8 @@
 use mathlib.Core.Path.{ap, _∙_}
 use borrow.Author.Needs.{needs}
 use Rattle.model.specs.Sets.{Set, subset}
-use Rattle.core_table.proofs.row_inside.Statement.{statement}
-use Rattle.core_table.proofs.row_inside.Tie as tie
+use Rattle.core_rows.proofs.row_inside.Statement.{statement}
+use Rattle.core_rows.proofs.row_inside.Tie as tie
 
 pub row-inside-spec : {M : Type 1} → statement M
 row-inside-spec =

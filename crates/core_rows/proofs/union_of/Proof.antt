@@ -5,9 +5,9 @@ use lib.ListN.{getD}
 use borrow.Author.Needs.{needs}
 use Rattle.model.specs.Sets.{WORDS}
 use Rattle.core_state_set.proofs.SetsWords.{proper}
-use Rattle.core_table.proofs.SetsJoined.{WordsJoining, words-start, words-turn, words-end}
-use Rattle.core_table.proofs.union_of.Statement.{statement}
-use Rattle.core_table.proofs.union_of.Tie as tie
+use Rattle.core_rows.proofs.SetsJoined.{WordsJoining, words-start, words-turn, words-end}
+use Rattle.core_rows.proofs.union_of.Statement.{statement}
+use Rattle.core_rows.proofs.union_of.Tie as tie
 
 abbrev Inv-loop : tie.InvT-loop
 Inv-loop rows x found₀ w₀ found w = WordsJoining (λ s. getD rows s []) (x .words) w (found .words)

@@ -1,9 +1,9 @@
 -- `forbidden`: by the rows of the store.
 use mathlib.Core.Path.{_∙_}
 use borrow.Author.Needs.{needs}
-use Rattle.core_table.proofs.RowsLent.{forbidden-of}
-use Rattle.core_table.proofs.forbidden.Statement.{statement}
-use Rattle.core_table.proofs.forbidden.Tie as tie
+use Rattle.core_rows.proofs.RowsLent.{forbidden-of}
+use Rattle.core_rows.proofs.forbidden.Statement.{statement}
+use Rattle.core_rows.proofs.forbidden.Tie as tie
 
 pub forbidden-spec : {M : Type 1} → statement M
 forbidden-spec =

@@ -4,8 +4,8 @@ use borrow.Author.Needs.{needs}
 use Rattle.model.specs.Sets.{union}
 use Rattle.model.specs.Tables.{hangs}
 use Rattle.model.specs.Stores.{setAt, markedAt, restingAt}
-use Rattle.core_table.proofs.forbidden_by.Statement.{statement}
-use Rattle.core_table.proofs.forbidden_by.Tie as tie
+use Rattle.core_rows.proofs.forbidden_by.Statement.{statement}
+use Rattle.core_rows.proofs.forbidden_by.Tie as tie
 
 pub forbidden-by-spec : {M : Type 1} → statement M
 forbidden-by-spec =

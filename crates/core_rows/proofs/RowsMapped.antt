@@ -22,7 +22,7 @@ use Rattle.basics.proofs.BoundLaws.{is-false, same-test, length-tabulate, getD-
 use Rattle.model.proofs.SetsMembers.{Proper, In, in-bound, in-or-out, empty-in, in-single, single-in, in-union, union-in, in-difference, difference-in}
 use Rattle.core_state_set.specs.WordSets.{wordSet, wordsBelow}
 use Rattle.core_state_set.proofs.SetsByWord.{word-lowest, word-rest, word-less, word-none, words-none, words-more, words-apart, words-all}
-use Rattle.core_table.specs.Rows.{mapAt}
+use Rattle.core_rows.specs.Rows.{mapAt}
 
 module _ {A : Type 0} (f : A → A) (z : A) where
   pub length-mapAt : (X : Set) (xs : List A) → length (mapAt X f z xs) ≡ length xs

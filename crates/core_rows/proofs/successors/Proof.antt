@@ -2,11 +2,11 @@
 use Prim.Native.Nat.{_-_}
 use borrow.Author.Needs.{needs}
 use Rattle.model.specs.Sets.{WORDS}
-use Rattle.core_table.specs.Rows.{rowIn, successorsBy}
+use Rattle.core_rows.specs.Rows.{rowIn, successorsBy}
 use Rattle.core_state_set.proofs.SetsWords.{proper}
-use Rattle.core_table.proofs.SetsJoined.{WordsJoining, words-start, words-turn, words-end}
-use Rattle.core_table.proofs.successors.Statement.{statement}
-use Rattle.core_table.proofs.successors.Tie as tie
+use Rattle.core_rows.proofs.SetsJoined.{WordsJoining, words-start, words-turn, words-end}
+use Rattle.core_rows.proofs.successors.Statement.{statement}
+use Rattle.core_rows.proofs.successors.Tie as tie
 
 abbrev Inv-loop : tie.InvT-loop
 Inv-loop rows x found₀ w₀ found w = WordsJoining (rowIn rows) (x .words) w (found .words)

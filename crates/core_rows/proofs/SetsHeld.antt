@@ -24,7 +24,7 @@ use Rattle.model.proofs.SetsMembers.{Proper, setOf-proper, member-at}
 use Rattle.core_state_set.proofs.SetsBits.{bit-or, bit-zero, bit-power, bit-lowest, one-shl, trailing-first, first-bit}
 use Rattle.core_state_set.proofs.SetsWords.{word-is}
 use Rattle.core_state_set.proofs.SetsByWord.{word-less}
-use Rattle.core_table.specs.Rows.{rowIn, meetHold}
+use Rattle.core_rows.specs.Rows.{rowIn, meetHold}
 
 module _ (rest : ℕ) (fits : rest < 2 ^ 64) (some : rest ≡ 0 → ⊥) where
   pub lowest-place : trailingZeros 64 rest < 64

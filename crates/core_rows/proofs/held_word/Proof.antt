@@ -8,10 +8,10 @@ use lib.Count.{trailing-le}
 use Rattle.model.specs.Sets.{subset}
 use Rattle.core_state_set.proofs.SetsOnes.{bits-fit, states-fit}
 use Rattle.core_state_set.proofs.SetsByWord.{word-less}
-use Rattle.core_table.specs.Rows.{rowIn}
-use Rattle.core_table.proofs.SetsHeld.{lowest-place, Gathering, gather-start, gather-take, gather-skip, gather-end}
-use Rattle.core_table.proofs.held_word.Statement.{statement}
-use Rattle.core_table.proofs.held_word.Tie as tie
+use Rattle.core_rows.specs.Rows.{rowIn}
+use Rattle.core_rows.proofs.SetsHeld.{lowest-place, Gathering, gather-start, gather-take, gather-skip, gather-end}
+use Rattle.core_rows.proofs.held_word.Statement.{statement}
+use Rattle.core_rows.proofs.held_word.Tie as tie
 
 abbrev Inv-loop : tie.InvT-loop
 Inv-loop rows w y kept₀ rest₀ kept rest = Gathering (λ i. subset (rowIn rows (64 * w + i)) (y .words)) rest₀ rest kept

@@ -23,7 +23,7 @@ use Rattle.basics.proofs.BoundLaws.{and-true, and-intro, is-false, clash, same-
 use Rattle.model.proofs.SetsMembers.{Proper, setOf-proper, in-bound, in-setOf, setOf-in, empty-in, in-difference, difference-in, in-firstStates, firstStates-in, subset-in, in-subset, same-set}
 use Rattle.model.proofs.StoresTables.{row-is}
 use Rattle.model.proofs.HangLaws.{dead-none, none-dead, in-hangs, hangs-in}
-use Rattle.core_table.specs.Rows.{rowsWords, groupsWords, partFrom, rowsOf, groupsOf, rowIn, rowsIn, forbiddenBy, groupsIn, tableOn, meetHold}
+use Rattle.core_rows.specs.Rows.{rowsWords, groupsWords, partFrom, rowsOf, groupsOf, rowIn, rowsIn, forbiddenBy, groupsIn, tableOn, meetHold}
 
 part-is : (xs : List ℕ) (at : ℕ) → partFrom at xs ≡ drop at xs
 part-is xs at = take-all (length xs - at) (drop at xs) (le-of-eq (length-drop at xs))

@@ -2,10 +2,10 @@
 use mathlib.Core.Path.{refl, ap₂, _∙_}
 use borrow.Author.Needs.{needs}
 use Rattle.model.specs.Sets.{difference}
-use Rattle.core_table.specs.Rows.{meetHold}
-use Rattle.core_table.proofs.RowsLent.{hangs-is}
-use Rattle.core_table.proofs.hangs.Statement.{statement}
-use Rattle.core_table.proofs.hangs.Tie as tie
+use Rattle.core_rows.specs.Rows.{meetHold}
+use Rattle.core_rows.proofs.RowsLent.{hangs-is}
+use Rattle.core_rows.proofs.hangs.Statement.{statement}
+use Rattle.core_rows.proofs.hangs.Tie as tie
 
 pub hangs-spec : {M : Type 1} → statement M
 hangs-spec =

@@ -3,10 +3,10 @@ use Prim.Native.Nat.{_-_}
 use borrow.Author.Needs.{needs}
 use Rattle.model.specs.Sets.{WORDS}
 use Rattle.core_state_set.proofs.SetsWords.{Filling, filling-none, filling-more, filling-all}
-use Rattle.core_table.specs.Rows.{meetHold}
-use Rattle.core_table.proofs.SetsHeld.{meetHold-proper}
-use Rattle.core_table.proofs.meet_hold.Statement.{statement}
-use Rattle.core_table.proofs.meet_hold.Tie as tie
+use Rattle.core_rows.specs.Rows.{meetHold}
+use Rattle.core_rows.proofs.SetsHeld.{meetHold-proper}
+use Rattle.core_rows.proofs.meet_hold.Statement.{statement}
+use Rattle.core_rows.proofs.meet_hold.Tie as tie
 
 abbrev Inv-loop : tie.InvT-loop
 Inv-loop rows x y words₀ w₀ words w = Filling (meetHold rows (x .words) (y .words)) words₀ w words
