@@ -18,7 +18,7 @@ use Rattle.model.proofs.CallLaws.{read-numbered}
 use Rattle.model.proofs.RangesOfAnswers.{read-range}
 use Rattle.call_paths.specs.Within.{withinAnswer}
 use Rattle.call_distances.specs.Distances.{distancesGrounds, distancesAnswer}
-use Rattle.core_rounds.specs.OrderAnswers.{orderAnswer}
+use Rattle.call_first_order.specs.OrderAnswers.{orderAnswer}
 use Rattle.call_generate.specs.Load.{generateGrounds, generateAnswer}
 use Rattle.call_replay.specs.Logs.{replayGrounds, replayAnswer}
 use Rattle.call_edit_session.specs.Edits.{editGrounds, openAnswer, editAnswer}

@@ -21,7 +21,7 @@ use Rattle.model.proofs.CallLaws.{readable, read-none, read-buffer}
 use Rattle.model.proofs.RoundTrips.{taken, filled-held}
 use Rattle.call_paths.specs.Within.{withinAnswer}
 use Rattle.call_distances.specs.Distances.{distancesGrounds, distancesAnswer, distancesBuffer}
-use Rattle.core_rounds.specs.OrderAnswers.{orderAnswer}
+use Rattle.call_first_order.specs.OrderAnswers.{orderAnswer}
 use Rattle.call_generate.proofs.LoadsKept.{accepts, loads}
 use Rattle.call_replay.specs.Logs.{entryBytes, maxLog, logGrounds, replayGrounds, replayAnswer}
 use Rattle.call_edit_session.specs.Edits.{source, target, stateGround, editGrounds, openAnswer, editAnswer}

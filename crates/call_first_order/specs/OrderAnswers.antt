@@ -11,9 +11,9 @@ use Rattle.model.specs.Rounds.{firstRound}
 use Rattle.basics.specs.Refusals.{Answered, refused, answered, answer, unlessRefused}
 use Rattle.model.specs.Stores.{tableOf, sharedGrounds}
 use Rattle.core_fixpoints.specs.Order.{forwardOrder, padded}
-use Rattle.core_rounds.specs.declared.Expansion.{Expansion}
-use Rattle.core_rounds.specs.declared.Expansion.the-variants.{Listed, Refused}
-use Rattle.core_rounds.specs.declared.FirstOrder.{FirstOrder}
+use Rattle.call_first_order.specs.declared.Expansion.{Expansion}
+use Rattle.call_first_order.specs.declared.Expansion.the-variants.{Listed, Refused}
+use Rattle.call_first_order.specs.declared.FirstOrder.{FirstOrder}
 
 pub record OrderAnswer : Type 0 where
   pub count : ℕ  -- of the states that are expanded

@@ -23,9 +23,9 @@ use Rattle.core_rows.proofs.RowsLent.{store-rows, groups-of}
 use Rattle.core_fixpoints.specs.Steps.{covers}
 use Rattle.core_fixpoints.specs.Order.{forwardOrder, orderBy, padded}
 use Rattle.core_fixpoints.proofs.TableOrder.{order-is}
-use Rattle.core_rounds.specs.declared.Expansion.the-variants.{Listed, Refused as ExpansionRefused}
-use Rattle.core_rounds.specs.OrderAnswers.{OrderAnswer, orderAnswer, CalledFirstOrder}
+use Rattle.call_first_order.specs.declared.Expansion.the-variants.{Listed, Refused as ExpansionRefused}
+use Rattle.call_first_order.specs.OrderAnswers.{OrderAnswer, orderAnswer, CalledFirstOrder}
 use Rattle.core_rounds.proofs.Adding.{groups-last}
 
 -- ---- the cover of a state
 

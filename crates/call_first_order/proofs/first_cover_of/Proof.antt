@@ -1,8 +1,8 @@
 -- `first_cover_of`: the groups but the first `left` are added, and then z.
 use borrow.Author.Needs.{needs}
-use Rattle.core_rounds.proofs.FirstCover.{Meeting, meeting-start, meeting-turn, meeting-end}
-use Rattle.core_rounds.proofs.first_cover_of.Statement.{statement}
-use Rattle.core_rounds.proofs.first_cover_of.Tie as tie
+use Rattle.call_first_order.proofs.FirstCover.{Meeting, meeting-start, meeting-turn, meeting-end}
+use Rattle.call_first_order.proofs.first_cover_of.Statement.{statement}
+use Rattle.call_first_order.proofs.first_cover_of.Tie as tie
 
 abbrev Inv-loop : tie.InvT-loop
 Inv-loop groups g n z s met₀ left₀ met left = Meeting groups g n s (met .words) left

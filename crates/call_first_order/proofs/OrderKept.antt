@@ -19,8 +19,8 @@ use Rattle.core_fixpoints.specs.Order.{forwardOrder, padded, InOrder}
 use Rattle.core_fixpoints.proofs.Bridge.{least-is}
 use Rattle.core_fixpoints.proofs.Passes.{in-order}
 use Rattle.core_fixpoints.proofs.TableOrder.{order-is}
-use Rattle.core_rounds.specs.OrderAnswers.{OrderAnswer, orderAnswer}
-use Rattle.core_rounds.specs.OrderPromises.{OrderPromises}
+use Rattle.call_first_order.specs.OrderAnswers.{OrderAnswer, orderAnswer}
+use Rattle.call_first_order.specs.OrderPromises.{OrderPromises}
 
 -- the order of the first round of a table
 abbrev firstOrder : Table → List ℕ

@@ -13,9 +13,9 @@ use Rattle.core_rows.specs.Rows.{groupsOf, groupsIn}
 use Rattle.core_rows.proofs.RowsLent.{rows-long, groups-long}
 use Rattle.core_fixpoints.specs.Steps.{covers}
 use Rattle.core_fixpoints.proofs.SetsListed.{Stored, stored-start, stored-turn, stored-all}
-use Rattle.core_rounds.proofs.FirstCover.{order-refused, order-listed}
-use Rattle.core_rounds.proofs.first_order.Statement.{statement}
-use Rattle.core_rounds.proofs.first_order.Tie as tie
+use Rattle.call_first_order.proofs.FirstCover.{order-refused, order-listed}
+use Rattle.call_first_order.proofs.first_order.Statement.{statement}
+use Rattle.call_first_order.proofs.first_order.Tie as tie
 
 abbrev Inv-loop : tie.InvT-loop
 Inv-loop store n g refused z cover₀ s₀ cover s = Stored maxStates (coverOf n (z .words ∷ groupsIn (groupsOf store) g)) cover s

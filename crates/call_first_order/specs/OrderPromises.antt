@@ -14,8 +14,8 @@ use Rattle.model.specs.Stores.{storeWords, tableOf, sharedGrounds}
 use Rattle.core_rows.specs.Rows.{tableOn}
 use Rattle.core_fixpoints.specs.Steps.{covers, forwardBy}
 use Rattle.core_fixpoints.specs.Order.{orderBy, padded, InOrder}
-use Rattle.core_rounds.specs.OrderAnswers.{OrderAnswer, orderAnswer, orderedOf, CalledFirstOrder}
-use Rattle.core_rounds.specs.declared.FirstOrder.{FirstOrder}
+use Rattle.call_first_order.specs.OrderAnswers.{OrderAnswer, orderAnswer, orderedOf, CalledFirstOrder}
+use Rattle.call_first_order.specs.declared.FirstOrder.{FirstOrder}
 
 pub record OrderPromises : Type 0 where
   -- the order in the contract of `forward`, of rows and the cover for a list

@@ -1,8 +1,8 @@
 -- `met_with`: one case for each side of the test.
 use mathlib.Core.Path.{sym, _∙_}
 use borrow.Author.Needs.{needs}
-use Rattle.core_rounds.proofs.met_with.Statement.{statement}
-use Rattle.core_rounds.proofs.met_with.Tie as tie
+use Rattle.call_first_order.proofs.met_with.Statement.{statement}
+use Rattle.call_first_order.proofs.met_with.Tie as tie
 
 pub met-with-spec : {M : Type 1} → statement M
 met-with-spec =
