@@ -5,7 +5,8 @@
 --                                              any-cong: tests that agree
 --   all-at, all-intro, all-not                 each passes; one that does not
 --   first-le, first-passes, first-least        `first` is the least that passes, else the bound; first-is, first-none: so it is that one;
---                                              first-found, first-before: what passes at the bound, or anywhere, tells of it; first-cong: tests that agree
+--                                              first-found, first-before: what passes at the bound, or anywhere, tells of it;
+--                                              first-cong: tests that agree
 --   length-tabulate, getD-tabulate, tabulate-cong             a list by its elements; in-tabulate: each is one of them; tabulate-const: one throughout
 use Prim.Native.Nat.{ℕ, zero, suc, _+_, _≤_, _<_, zero-le, suc-le-suc}
 use native.Mathlib.Nat.{le-of-suc-le-suc, not-suc-le-zero, eq-or-lt-of-le, le-antisymm}

@@ -1,4 +1,5 @@
-// The rows of a table (the specification, "Post, hold and covers"): the states that they step to, and those that step into a set alone.
+// The rows of a table (the specification, "Post, hold and covers"): what its states step to, and which of them step
+// into a set alone.
 //
 //   row_at                       the set in a row
 //   join_successors, successors  what the states of a word step to, joined to a set; post: all successors of the states of a set
@@ -6,8 +7,8 @@
 //   forbidden_by, forbidden      the forbidden states of a store with given rows, and with its own
 //   Rows, row_of, union_of       a row of words for each state, the set in one row, the union of the rows of a set's states
 //
-// What works on a table is lent its parts: the rows (`&store[ROWS_AT..]`, or possible steps as they are lent), the groups (`&store[GROUPS_AT..]`), and
-// sets by value. Functions ask for rows, or for a store, that are long enough.
+// What works on a table is lent its parts: the rows (`&store[ROWS_AT..]`, or possible steps as they are lent), the
+// groups (`&store[GROUPS_AT..]`), and sets by value. Functions ask for rows, or for a store, that are long enough.
 ghost use mathlib.Core.Path.{_≡_};
 ghost use Prim.Native.Nat.{_≤_, _<_};
 ghost use lib.ListN.{length, getD};

@@ -2,7 +2,8 @@
 //
 //   join_contents, join_sets       the contents; the sets, which stand behind the header
 //   place_of                       where a set of the file begins in the store
-//   put_set_bytes                  the bytes of a set; put_words: of its first words; put_bytes: the lowest of a word
+//   put_set_bytes                  the bytes of a set
+//   put_words, put_bytes           those of its first words; the lowest of a word
 //   write_le16                     a two-byte number, low byte first
 //
 // What is written is said with the model's `overwrite`: at the front of what was lent, the rest of it untouched.

@@ -1,5 +1,5 @@
--- Laws of contents: the bytes of a table, and what is read back from them. Bytes are read with 0 past the end, so that filler is no special
--- case.
+-- Laws of contents: the bytes of a table, and what is read back from them. Bytes are read with 0 past the end, so
+-- that filler is no special case.
 --
 --   heads-least, heads-most, added-most       how many sets stand before the groups, and what is added to g
 --   length-heads, heads-each                  those sets: how many, and a fact about each

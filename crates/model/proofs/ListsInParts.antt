@@ -11,7 +11,8 @@
 --   length-overwrite, take-overwrite          a buffer written over: its length and its front; drop-overwrite: the rest
 --   overwrite-front, overwrite-behind         its first elements, and those behind them
 --   overwrite-append, overwrite-more          written over in two parts, the second where the buffer is lent from there on
---   overwrite-set                             one element more; sets-append: one list written behind the other
+--   overwrite-set                             one element more
+--   sets-append                               one list written behind the other
 use Prim.Native.Nat.{ℕ, zero, suc, _+_, _*_, _-_, _/_, _%_, _≤_, _<_}
 use native.Mathlib.Nat.{not-suc-le-zero, zero-mul, mul-zero, mul-suc, mul-comm, mul-le-mul-left, le-of-eq, div-lt-iff-lt-mul, mod-lt, eq-zero-or-pos, add-zero}
 use native.Mathlib.Numerals.{add-one}

@@ -1,8 +1,10 @@
 -- Laws of counting: the length of a list of picked numbers, and the number of states in a set.
 --
 --   filter-le, filter-lt           where what passes p passes q, p picks at most as many as q; fewer, if a number passes q alone
---   filter-bound                   where only numbers below n pass, at most n are picked; filter-none: where none does, none is
---   size-lt                        a set strictly inside another has fewer states; size-le: one inside another has no more; size-empty
+--   filter-bound                   where only numbers below n pass, at most n are picked
+--   filter-none                    where none passes, none is picked
+--   size-lt                        a set strictly inside another has fewer states; size-le: one inside another has no more
+--   size-empty                     the empty set has none
 --   all-or-fewer                   a set inside another is all of it, or has fewer members
 --   size-bound, size-pos           a set of n states has at most n members; one with a member has at least one; size-most: any set
 use Prim.Native.Nat.{ℕ, zero, suc, _+_, _≤_, _<_}

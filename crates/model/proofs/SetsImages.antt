@@ -1,6 +1,7 @@
 -- Laws of images for loops that take a set apart, one state after the other.
 --
---   image-mono          an image grows with the set; image-inside: it is where all of its parts are; image-proper
+--   image-mono          an image grows with the set; image-inside: it is where all of its parts are
+--   image-proper        it is a proper set
 --   image-none          the image of a set without states is empty
 --   image-union         the image of a union
 --   image-peel          the image of a set is what one of its states gives, joined to the image of the rest

@@ -7,7 +7,8 @@
 --   In X s                         s is a member of X, as a record that a proof can hold
 --   in-OP, OP-in                   membership in the result of the operation OP from that in its arguments, and back
 --   _⊆_                            inclusion; subset-in, in-subset: the test and the fact; antisymmetry: same-set
---   union-assoc, -comm, -empty     union is associative and commutative, and the empty set adds nothing; union-proper, empty-proper
+--   union-assoc, -comm, -empty     union is associative and commutative, and the empty set adds nothing
+--   union-proper, empty-proper     both are proper sets
 use Prim.Native.Nat.{ℕ, zero, suc, _+_, _*_, _/_, _%_, _^_, _≤_, _<_}
 use native.Mathlib.Nat.{not-suc-le-zero, le-of-suc-le-suc, pow-suc, pow-succ', div-div-eq-div-mul, div-add-mod, add-suc, suc-add, add-zero}
 use native.Mathlib.Omega.{arith}
