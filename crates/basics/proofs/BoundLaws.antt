@@ -5,7 +5,8 @@
 --                                              any-cong: tests that agree
 --   all-at, all-intro, all-not                 each passes; one that does not
 --   first-le, first-passes, first-least        `first` is the least that passes, else the bound; first-is, first-none: so it is that one;
---                                              first-found, first-before: what passes at the bound, or anywhere, tells of it
+--                                              first-found, first-before: what passes at the bound, or anywhere, tells of it;
+--                                              first-cong: tests that agree
 --   length-tabulate, getD-tabulate, tabulate-cong             a list by its elements; in-tabulate: each is one of them; tabulate-const: one throughout
 use Prim.Native.Nat.{ℕ, zero, suc, _+_, _≤_, _<_, zero-le, suc-le-suc}
 use native.Mathlib.Nat.{le-of-suc-le-suc, not-suc-le-zero, eq-or-lt-of-le, le-antisymm}
@@ -186,6 +187,12 @@ first-is p n k h e f =
     order a b = ⊎-elim (λ l. inl l) (λ l. inr (eq-or-lt-of-le l)) (lt-or-ge a b)
 
 -- where the bound passes too, the first that passes does
+pub first-cong : (p q : ℕ → Bool) (n : ℕ) → ((k : ℕ) → p k ≡ q k) → first n p ≡ first n q
+unfolding first
+first-cong p q zero e = refl
+first-cong p q (suc n) e =
+    ap₂ (λ (a : Bool) (r : ℕ). cond a zero (suc r)) (e zero) (first-cong (λ k. p (suc k)) (λ k. q (suc k)) n (λ k. e (suc k)))
+
 pub first-found : (p : ℕ → Bool) (n : ℕ) → p n ≡ true → p (first n p) ≡ true
 first-found p n h = ⊎-elim (λ e. ap p e ∙ h) (λ l. first-passes p n l) (eq-or-lt-of-le (first-le p n))
 

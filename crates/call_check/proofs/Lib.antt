@@ -1,4 +1,3 @@
 pub mod Reports
 pub mod Lines
 pub mod ReportedKept
-pub mod WorkedFilesKept

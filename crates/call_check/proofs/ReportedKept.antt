@@ -29,11 +29,11 @@ use Rattle.model.specs.Contents.{newForm}
 use Rattle.model.specs.Files.{maxFile}
 use Rattle.model.specs.Calls.{overwrite, release, Decision, decideLimits, decideGrounds, decisionOf, decideAnswer, decideBuffer, TableRead, statesIn, groupsIn, badLength, fileGrounds, readGroundsAs, readAnswer, readBuffer}
 use Rattle.model.specs.Promises.{Demand2}
-use Rattle.model.proofs.ListLaws.{take-overwrite, drop-overwrite}
-use Rattle.model.proofs.Acceptance.{Store, store-accepted}
+use Rattle.model.proofs.ListsInParts.{take-overwrite, drop-overwrite}
+use Rattle.model.proofs.StoresAccepted.{Store, store-accepted}
 use Rattle.model.proofs.CallLaws.{read-refused, read-none, read-buffer}
 use Rattle.model.proofs.RoundTrips.{taken, filled-held}
-use Rattle.model.proofs.Kept.{promises}
+use Rattle.model.proofs.PromisesKept.{promises}
 use Rattle.model.proofs.Drafts.{draft}
 use Rattle.core_report.specs.Text.{ascii, digits, decimal, spaced, statesLine, verdictLine, invariantLine, safeText, unsafeText, reportText, refusedText}
 use Rattle.call_check.specs.declared.Checked.{Checked}

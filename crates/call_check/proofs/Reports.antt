@@ -24,8 +24,8 @@ use Rattle.model.specs.Calls.{overwrite, release, Decision, decisionOf, decideA
 use Rattle.model.specs.WellFormed.{WellFormed}
 use Rattle.model.proofs.RoundLaws.{unsafe-path}
 use Rattle.model.proofs.PathLaws.{has-path}
-use Rattle.model.proofs.Acceptance.{well-formed, check-of}
-use Rattle.model.proofs.Ranges.{decide-range}
+use Rattle.model.proofs.StoresAccepted.{well-formed, check-of}
+use Rattle.model.proofs.RangesOfAnswers.{decide-range}
 use Rattle.call_decide.specs.declared.Verdict.{Verdict}
 use Rattle.call_decide.specs.declared.Verdict.the-variants as verdict
 use Rattle.call_decide.specs.declared.Decision.{Decision as Decision·code}

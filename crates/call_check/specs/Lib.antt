@@ -1,4 +1,3 @@
 pub mod CheckText
 pub mod CheckAnswers
 pub mod Reported
-pub mod WorkedFiles

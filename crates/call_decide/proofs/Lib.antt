@@ -1,2 +1,2 @@
-pub mod Deciding
-pub mod DemandsKept
+pub mod DecideAnswered
+pub mod DecideDemandsKept

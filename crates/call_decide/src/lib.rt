@@ -11,11 +11,11 @@ use call_paths::steps_of;
 use core_rounds::Ending;
 use core_rounds::MAX_ALLOWANCE;
 use core_rounds::run;
+use core_rows::forbidden;
 use core_state_set::MAX_STATES;
 use core_state_set::StateSet;
 use core_table::GROUPS_AT;
 use core_table::ROWS_AT;
-use core_table::forbidden;
 use core_table::refusal;
 use core_table::set_at;
 

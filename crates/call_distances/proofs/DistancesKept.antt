@@ -23,13 +23,13 @@ use Rattle.basics.specs.Refusals.{Ground, answered, unlessRefused}
 use Rattle.model.specs.Stores.{tableOf, sharedGrounds}
 use Rattle.model.specs.Calls.{overwrite}
 use Rattle.basics.proofs.BoundLaws.{length-tabulate, getD-tabulate}
-use Rattle.model.proofs.ListLaws.{getD-behind, length-overwrite, overwrite-front}
-use Rattle.model.proofs.SetLaws.{in-firstStates, firstStates-in, in-meets, meets-in}
+use Rattle.model.proofs.ListsInParts.{getD-behind, length-overwrite, overwrite-front}
+use Rattle.model.proofs.SetsMembers.{in-firstStates, firstStates-in, in-meets, meets-in}
 use Rattle.model.specs.WellFormed.{WellFormed}
 use Rattle.model.proofs.PathLaws.{reaching-leads, leads-reaching, length-smallest, path-of, has-path, smallest-is}
 use Rattle.basics.proofs.RefusalLaws.{clear-refuse, refuse-clear, answer-none, answered-clear, answered-is, answered-value, refused-is}
-use Rattle.model.proofs.Acceptance.{Store, accepted-store, store-accepted, well-formed}
-use Rattle.model.proofs.FirstWords.{same-call, same-buffer}
+use Rattle.model.proofs.StoresAccepted.{Store, accepted-store, store-accepted, well-formed}
+use Rattle.model.proofs.StoresFirstWords.{same-call, same-buffer}
 use Rattle.call_distances.specs.Distances.{distancesGrounds, distancesAnswer, distancesBuffer, distancesOf, CalledDistances}
 use Rattle.call_paths.specs.Within.{isWithin, withinAnswer}
 use Rattle.call_distances.specs.DistancePromises.{DistanceIs, Measured, WithinIs, DistancePromises}

@@ -1,4 +1,4 @@
-pub mod Transposed
-pub mod Layers
-pub mod Answers
+pub mod RowsTransposed
+pub mod DistanceLayers
+pub mod DistancesAnswered
 pub mod DistancesKept

@@ -9,7 +9,7 @@ use lib.Bits.{bitOr}
 use lib.ListN.{getD, set as replaced}
 use Rattle.basics.specs.Bounds.{tabulate}
 use Rattle.model.specs.Sets.{maxStates, Set, member, states}
-use Rattle.core_table.specs.Rows.{rowIn}
+use Rattle.core_rows.specs.Rows.{rowIn}
 
 abbrev pub withBit : ℕ → Set → Set
 withBit s words = replaced words (s / 64) (bitOr (getD words (s / 64) 0) (1 * 2 ^ (s % 64) % 2 ^ 64))

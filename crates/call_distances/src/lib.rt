@@ -18,21 +18,21 @@ ghost use Rattle.model.specs.Sets.{WORDS, maxStates, empty};
 ghost use Rattle.model.specs.Paths.{distance};
 ghost use Rattle.model.specs.Calls.{overwrite};
 ghost use Rattle.core_state_set.specs.WordSets.{wordSet};
-ghost use Rattle.core_table.specs.Rows.{rowsWords, tableOn, mapAt};
+ghost use Rattle.core_rows.specs.Rows.{rowsWords, tableOn, mapAt};
 ghost use Rattle.call_paths.specs.Search.{HoldsTable};
 ghost use Rattle.call_distances.specs.Transposing.{withBit, predecessorRows};
 ghost use Rattle.call_distances.specs.Distances.{CalledDistances};
 use call_paths::stepping_into;
+use core_rows::Rows;
+use core_rows::forbidden;
+use core_rows::row_at;
+use core_rows::union_of;
 use core_state_set::MAX_STATES;
 use core_state_set::StateSet;
 use core_state_set::WORD_BITS;
 use core_state_set::WORDS;
 use core_table::ROWS_AT;
-use core_table::Rows;
-use core_table::forbidden;
 use core_table::refusal;
-use core_table::row_at;
-use core_table::union_of;
 
 // The distance of a state from which no forbidden state can be reached.
 pub const UNREACHABLE: u16 = 65535;

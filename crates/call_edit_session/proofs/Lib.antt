@@ -1,7 +1,7 @@
-pub mod Tables
-pub mod Reaching
-pub mod Answering
-pub mod Editing
-pub mod AnySet
-pub mod FrontWords
-pub mod Kept
+pub mod RowsEdited
+pub mod SessionReached
+pub mod SessionAnswered
+pub mod SessionEdits
+pub mod SessionAnySet
+pub mod SessionFirstWords
+pub mod SessionKept

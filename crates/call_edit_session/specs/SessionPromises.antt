@@ -1,5 +1,5 @@
 -- What is promised of an edit session, of calls and what they gave (`CalledOpen`, `CalledEdit`, their contracts). The proofs stand in
--- proofs/Kept.antt.
+-- proofs/SessionKept.antt.
 --
 --   inRow s i, names es i        word i is of row s; of a row that an edit of the list names
 --   stepAfter es a b was         whether a → b exists after a list of edits, if it did before or not: the last edit that names it decides

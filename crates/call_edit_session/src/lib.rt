@@ -15,17 +15,17 @@ ghost use Rattle.model.specs.Sets.{maxStates};
 ghost use Rattle.basics.specs.Refusals.{refuse};
 ghost use Rattle.model.specs.Stores.{storeWords, setAt};
 ghost use Rattle.model.specs.Promises.{IsLeast};
-ghost use Rattle.core_table.specs.Rows.{rowsOf};
+ghost use Rattle.core_rows.specs.Rows.{rowsOf};
 ghost use Rattle.core_reach.specs.Reached.{reachBy};
 ghost use Rattle.call_edit_session.specs.Edits.{add, remove, hasStep, edited, editGrounds};
 ghost use Rattle.call_edit_session.specs.SessionAnswers.{CalledOpen, editOf, CalledEdit};
 use core_reach::reached;
+use core_rows::row_at;
 use core_state_set::StateSet;
 use core_state_set::WORD_BITS;
 use core_state_set::WORDS;
 use core_table::ROWS_AT;
 use core_table::refusal;
-use core_table::row_at;
 use core_table::set_at;
 
 fn has_step(store: &[u64], from: usize, to: usize) -> bool

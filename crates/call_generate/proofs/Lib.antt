@@ -1,7 +1,7 @@
 pub mod Numbers
-pub mod Successors
+pub mod RowsGenerated
 pub mod Remainders
-pub mod Filled
-pub mod Generating
+pub mod StoresGenerated
+pub mod GenerateAnswered
 pub mod LoadsKept
 pub mod WorkedLoadKept

@@ -15,17 +15,17 @@ use Rattle.model.specs.Contents.{newForm, sets}
 use Rattle.model.specs.Calls.{overwrite, maxAllowance, pathGround, decideLimits, decideGrounds, decideAnswer, shortestGrounds, shortestAnswer}
 use Rattle.basics.proofs.BoundLaws.{any-find}
 use Rattle.basics.proofs.RefusalLaws.{clear-refuse, answer-none, answered-clear, refused-is}
-use Rattle.model.proofs.SetLaws.{setOf-in, empty-in, single-in}
-use Rattle.model.proofs.ListLaws.{length-overwrite, drop-overwrite}
-use Rattle.model.proofs.StoreLaws.{Holds, Laid, length-layout, overwrite-holds, below-beyond, Clean, clean-malformed, holds-sets, holds-clean}
+use Rattle.model.proofs.SetsMembers.{setOf-in, empty-in, single-in}
+use Rattle.model.proofs.ListsInParts.{length-overwrite, drop-overwrite}
+use Rattle.model.proofs.StoresTables.{Holds, Laid, length-layout, overwrite-holds, below-beyond, Clean, clean-malformed, holds-sets, holds-clean}
 use Rattle.model.proofs.CallLaws.{write-answer}
-use Rattle.model.proofs.Acceptance.{Store, store-accepted}
+use Rattle.model.proofs.StoresAccepted.{Store, store-accepted}
 use Rattle.call_generate.specs.Load.{longLag, numbers, remainders, successors, loadFrom, load, generateGrounds, generateAnswer, generateBuffer}
 use Rattle.call_generate.specs.declared.Generated.{Generated}
 use Rattle.call_generate.specs.GenerateAnswers.{generatedOf, CalledGenerate}
 use Rattle.call_generate.specs.Loads.{Accepts, Loads}
-use Rattle.call_generate.proofs.Filled.{laid}
-use Rattle.call_generate.proofs.Generating.{Accepted, accepted-load}
+use Rattle.call_generate.proofs.StoresGenerated.{laid}
+use Rattle.call_generate.proofs.GenerateAnswered.{Accepted, accepted-load}
 
 -- ---- the states of a load are states of the table
 

@@ -13,11 +13,11 @@ use Rattle.model.specs.Tables.{Table}
 use Rattle.model.specs.Rounds.{Outcome, safe, unsafe, undecided, run}
 use Rattle.model.specs.Stores.{setAt, dialogueOf, tableOf}
 use Rattle.model.specs.Calls.{release, decisionOf}
-use Rattle.core_table.specs.Rows.{groupsOf, rowsIn, groupsIn, tableOn}
-use Rattle.core_table.proofs.Parts.{groups-of}
+use Rattle.core_rows.specs.Rows.{groupsOf, rowsIn, groupsIn, tableOn}
+use Rattle.core_rows.proofs.RowsLent.{groups-of}
 use Rattle.call_paths.specs.Search.{HoldsTable}
 use Rattle.call_paths.specs.PathAnswers.{foundIn, pathWritten, stepsIn}
-use Rattle.call_paths.specs.declared.Found.{Found}
+use Rattle.call_paths.specs.declared.PathFound.{PathFound}
 use Rattle.core_rounds.specs.RunAnswers.{endsWith, outcomeOf, invariantOf}
 use Rattle.core_rounds.specs.declared.Ending.{Ending}
 use Rattle.core_rounds.specs.declared.Ending.the-variants.{Safe, Unsafe, Undecided}
@@ -64,7 +64,7 @@ module _ (store rows : List ℕ) (n : ℕ) (F : Set) {I : Set} (i : I ≡ setAt 
   pub holds-lent : HoldsTable rows n (setAt store 0) F → HoldsTable rows n I F
   holds-lent h = subst (λ (X : Set). HoldsTable rows n X F) (sym i) h
 
-  pub path-found : (path : List ℕ) {found : Found} {d : ℕ} {after : List ℕ}
+  pub path-found : (path : List ℕ) {found : PathFound} {d : ℕ} {after : List ℕ}
       → (found ≡ foundIn (tableOn n I F [] rows)) × (after ≡ pathWritten (tableOn n I F [] rows) path) → d ≡ stepsIn found
       → (d ≡ stepsIn (foundIn (tableOn n (setAt store 0) F [] rows))) × (after ≡ pathWritten (tableOn n (setAt store 0) F [] rows) path)
   path-found path both d = (

@@ -23,17 +23,17 @@ use Rattle.model.specs.Stores.{markedAt, rowAt, setAt, dialogueOf, tableOf, bey
 use Rattle.model.specs.Calls.{release, Decision, decisionOf}
 use Rattle.model.specs.Promises.{IsInvariant}
 use Rattle.basics.proofs.BoundLaws.{and-true, and-intro, or-false, any-none, by-cond, decided}
-use Rattle.model.proofs.SetLaws.{in-bound, in-firstStates, union-in, empty-in, _⊆_, subset-in}
+use Rattle.model.proofs.SetsMembers.{in-bound, in-firstStates, union-in, empty-in, _⊆_, subset-in}
 use Rattle.model.proofs.HangLaws.{hangs-within}
 use Rattle.model.specs.WellFormed.{WellFormed}
-use Rattle.model.proofs.StoreLaws.{beyond-below, malformed-clean}
-use Rattle.model.proofs.Acceptance.{well-formed}
+use Rattle.model.proofs.StoresTables.{beyond-below, malformed-clean}
+use Rattle.model.proofs.StoresAccepted.{well-formed}
 use Rattle.model.proofs.Fixpoints.{backward-is}
 use Rattle.model.proofs.RoundLaws.{undecided-short, unsafe-path, safe-invariant, safe-no-path}
 use Rattle.model.proofs.PathLaws.{has-path}
-use Rattle.core_table.specs.Rows.{rowIn, rowsIn}
+use Rattle.core_rows.specs.Rows.{rowIn, rowsIn}
 use Rattle.call_modal.specs.Modal.{possibleWords, certainRow, possibleRow, tableWith, modalForbidden, modalTable, malformedRows, certainImpossible, releaseCheck}
-use Rattle.call_modal.proofs.Grounds.{ModalHeld}
+use Rattle.call_modal.proofs.ModalGrounds.{ModalHeld}
 
 -- ---- the rows
 

@@ -9,7 +9,7 @@ use Rattle.model.specs.Sets.{WORDS, Set, member, empty}
 use Rattle.model.specs.Tables.{Dialogue, tableFrom}
 use Rattle.model.specs.Stores.{markedAt, restingAt, setAt, dialogueOf}
 use Rattle.model.proofs.HangLaws.{forbidden-is}
-use Rattle.core_table.specs.Rows.{rowsIn}
+use Rattle.core_rows.specs.Rows.{rowsIn}
 use Rattle.call_modal.specs.Modal.{possibleRow, tableWith, modalForbidden}
 use Rattle.call_modal.specs.Hangs.{HangsAre}
 

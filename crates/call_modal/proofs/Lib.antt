@@ -1,10 +1,10 @@
 pub mod HangsKept
-pub mod Grounds
+pub mod ModalGrounds
 pub mod Checking
 pub mod Choosing
-pub mod Deciding
-pub mod Ranges
-pub mod WordsRead
+pub mod ModalAnswered
+pub mod ModalRanges
+pub mod ModalFirstWords
 pub mod Verdicts
-pub mod EqualRows
+pub mod RowsEqual
 pub mod ModalKept

@@ -18,18 +18,18 @@ use Rattle.model.specs.Stores.{sharedGrounds, AcceptedStore}
 use Rattle.model.specs.Calls.{release, Decision, decideBuffer}
 use Rattle.basics.proofs.BoundLaws.{any-start}
 use Rattle.basics.proofs.RefusalLaws.{Clear, refuse-first, clear-refuse, refuse-clear, answer-refused, answer-clear, answered-clear, answered-value, refused-is}
-use Rattle.model.proofs.StoreLaws.{zero-nonZero}
-use Rattle.model.proofs.Acceptance.{accepted-store}
+use Rattle.model.proofs.StoresTables.{zero-nonZero}
+use Rattle.model.proofs.StoresAccepted.{accepted-store}
 use Rattle.model.proofs.Drafts.{draft}
-use Rattle.core_table.proofs.Laws.{non-zero-hit}
+use Rattle.core_table.proofs.StoresGrounds.{non-zero-hit}
 use Rattle.call_modal.specs.Modal.{possibleWords, certainTable, possibleTable, malformedRows, certainImpossible, releaseCheck, modalGrounds, ModalAnswer, modalOf, modalAnswer, modalWritten, modalBuffer}
 use Rattle.call_modal.specs.declared.ModalDecision.{ModalDecision}
 use Rattle.call_modal.specs.ModalAnswers.{modalDecidedOf, CalledModal}
 use Rattle.call_modal.specs.ModalPromises.{OfChoices, ComesWith, AsDecide, ModalPromises}
-use Rattle.call_modal.proofs.Grounds.{impossible-is, ModalHeld, behind-shared, accepting, accepted}
-use Rattle.call_modal.proofs.WordsRead.{first-words}
+use Rattle.call_modal.proofs.ModalGrounds.{impossible-is, ModalHeld, behind-shared, accepting, accepted}
+use Rattle.call_modal.proofs.ModalFirstWords.{first-words}
 use Rattle.call_modal.proofs.Verdicts.{of-choices, comes-with}
-use Rattle.call_modal.proofs.EqualRows.{as-decide, equal-clean}
+use Rattle.call_modal.proofs.RowsEqual.{as-decide, equal-clean}
 
 -- ---- the calls
 

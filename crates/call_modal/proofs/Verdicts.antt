@@ -18,14 +18,14 @@ use Rattle.model.specs.Tables.{Table}
 use Rattle.model.specs.Paths.{isPath, smallestPath}
 use Rattle.model.specs.Calls.{overwrite}
 use Rattle.model.specs.Promises.{IsInvariant}
-use Rattle.model.proofs.SetLaws.{_⊆_, subset-in, in-subset}
+use Rattle.model.proofs.SetsMembers.{_⊆_, subset-in, in-subset}
 use Rattle.model.specs.WellFormed.{WellFormed}
 use Rattle.model.proofs.PathLaws.{path-of, smallest-is, length-smallest}
 use Rattle.call_modal.specs.Modal.{certainRow, possibleRow, modalForbidden, modalTable, certainTable, possibleTable, releaseCheck, ModalAnswer, modalOf, modalWritten}
 use Rattle.call_modal.specs.ModalPromises.{Choice, Safe, Unsafe, OfChoices, GivesInvariant, GivesPath, ComesWith}
-use Rattle.call_modal.proofs.Grounds.{ModalHeld}
+use Rattle.call_modal.proofs.ModalGrounds.{ModalHeld}
 use Rattle.call_modal.proofs.Choosing.{certain-inside, modal-formed, path-more, invariant-less, SaysSafe, SaysUnsafe, released}
-use Rattle.call_modal.proofs.Deciding.{safe-of, unsafe-of, depends-of, small-for}
+use Rattle.call_modal.proofs.ModalAnswered.{safe-of, unsafe-of, depends-of, small-for}
 
 -- ---- the choices of a call that is answered
 

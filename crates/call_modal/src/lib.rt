@@ -13,7 +13,7 @@ ghost use Rattle.model.specs.Sets.{maxStates};
 ghost use Rattle.basics.specs.Refusals.{refuse};
 ghost use Rattle.model.specs.Stores.{storeWords, maxGroups, setAt};
 ghost use mathlib.Core.List.{[]};
-ghost use Rattle.core_table.specs.Rows.{rowsWords, rowsIn, tableOn};
+ghost use Rattle.core_rows.specs.Rows.{rowsWords, rowsIn, tableOn};
 ghost use Rattle.call_paths.specs.Search.{HoldsTable};
 ghost use Rattle.call_paths.specs.PathAnswers.{foundIn, pathWritten, stepsIn};
 ghost use Rattle.call_modal.specs.Modal.{possibleWords, tableWith, malformedRows, certainImpossible, modalGrounds};
@@ -23,16 +23,16 @@ use call_paths::steps_of;
 use core_rounds::Ending;
 use core_rounds::MAX_ALLOWANCE;
 use core_rounds::run;
+use core_rows::forbidden_by;
+use core_rows::row_at;
 use core_state_set::MAX_STATES;
 use core_state_set::StateSet;
 use core_state_set::WORDS;
 use core_table::GROUPS_AT;
 use core_table::ROWS_AT;
-use core_table::any_beyond;
-use core_table::forbidden_by;
-use core_table::non_zero;
+use core_table::any_stored_beyond;
+use core_table::non_zero_word;
 use core_table::refusal;
-use core_table::row_at;
 use core_table::set_at;
 
 // The words that the rows of possible steps take.
@@ -95,10 +95,10 @@ fn is_malformed(possible: &[u64], n: usize) -> bool
     requires { ⌜ (n ≤ maxStates) × (possibleWords ≤ length (now possible)) ⌝ }
     ensures { λ r. ⌜ r ≡ malformedRows (now (possible .entry)) n ⌝ }
 {
-    if any_beyond(possible, 0, n, n) {
+    if any_stored_beyond(possible, 0, n, n) {
         return true;
     }
-    non_zero(possible, WORDS * n, POSSIBLE_WORDS)
+    non_zero_word(possible, WORDS * n, POSSIBLE_WORDS)
 }
 
 // A certain step is not possible.

@@ -16,18 +16,18 @@ use Rattle.model.specs.Tables.{Table}
 use Rattle.model.specs.Rounds.{iterate}
 use Rattle.model.specs.Paths.{reaching, shortest, hasPath}
 use Rattle.basics.proofs.BoundLaws.{is-false, clash, decided, by-cond, same-test, first-is, first-none}
-use Rattle.model.proofs.SetLaws.{In, in-bound, empty-in, in-union, union-in, firstStates-in, _⊆_, ⊆-of-eq, in-image, image-in, in-meets, meets-in}
+use Rattle.model.proofs.SetsMembers.{In, in-bound, empty-in, in-union, union-in, firstStates-in, _⊆_, ⊆-of-eq, in-image, image-in, in-meets, meets-in}
 use Rattle.model.specs.WellFormed.{WellFormed}
 use Rattle.model.proofs.Fixpoints.{iterate-has}
 use Rattle.model.proofs.PathLaws.{in-reaching, reaching-in, reaching-suc, shortest-nearest}
-use Rattle.core_table.specs.Rows.{rowIn, successorsBy}
-use Rattle.core_table.proofs.Parts.{HasRows}
+use Rattle.core_rows.specs.Rows.{rowIn, successorsBy}
+use Rattle.core_rows.proofs.RowsLent.{HasRows}
 use Rattle.core_reach.specs.Reached.{reachBy}
-use Rattle.core_reach.proofs.Layers.{before, before-grows}
+use Rattle.core_reach.proofs.ReachLayers.{before, before-grows}
 use Rattle.call_paths.specs.Search.{metWithin, firstLayer, stepsWithin}
 use Rattle.call_paths.specs.PathAnswers.{foundIn}
 use Rattle.call_paths.specs.Within.{isWithin}
-use Rattle.call_paths.specs.declared.Found.{Found}
+use Rattle.call_paths.specs.declared.PathFound.{PathFound}
 use Rattle.call_paths.proofs.Nearness.{met-path, within-shortest}
 
 abbrev pub outward : List ℕ → Table → ℕ → Set
@@ -105,6 +105,6 @@ module _ {t : Table} (ok : WellFormed t) (rows : List ℕ) (r : HasRows t rows) 
     unfolding foundIn
     found-within k =
         let is = within-shortest ok small k in
-        by-cond (λ (f : Found). stepsWithin f k ≡ isWithin t k) (hasPath t) _ _
+        by-cond (λ (f : PathFound). stepsWithin f k ≡ isWithin t k) (hasPath t) _ _
         (λ e. same-test _ _ (λ l. is .1 (e, leb-true _ k l)) (λ y. le-leb _ k (is .0 y .1)))
         (λ e. sym (is-false _ (λ y. clash (is .0 y .0) e)))

@@ -18,13 +18,13 @@ use Rattle.model.specs.Paths.{reaching, shortest, hasPath, walk, smallestPath}
 use Rattle.model.specs.Stores.{setAt, tableOf}
 use Rattle.model.specs.Calls.{overwrite}
 use Rattle.model.specs.WellFormed.{WellFormed, _⊆_}
-use Rattle.model.proofs.Acceptance.{Store, well-formed}
-use Rattle.core_table.specs.Rows.{rowsOf, rowsIn, groupsOf, groupsIn, tableOn}
-use Rattle.core_table.proofs.Parts.{rows-long, table-on}
+use Rattle.model.proofs.StoresAccepted.{Store, well-formed}
+use Rattle.core_rows.specs.Rows.{rowsOf, rowsIn, groupsOf, groupsIn, tableOn}
+use Rattle.core_rows.proofs.RowsLent.{rows-long, table-on}
 use Rattle.call_paths.specs.Search.{HoldsTable}
 use Rattle.call_paths.specs.PathAnswers.{foundIn, pathWritten}
-use Rattle.call_paths.specs.declared.Found.{Found}
-use Rattle.call_paths.specs.declared.Found.the-variants.{Steps, Nothing}
+use Rattle.call_paths.specs.declared.PathFound.{PathFound}
+use Rattle.call_paths.specs.declared.PathFound.the-variants.{Steps, Nothing}
 
 module _ (n : ℕ) (I J F : Set) (G H : List Set) (rows : List ℕ) where
   pub reaching-alike : (k : ℕ) → reaching (tableOn n I F G rows) k ≡ reaching (tableOn n J F H rows) k
@@ -88,7 +88,7 @@ module _ (store : List ℕ) (n g : ℕ) where
       unfolding tableOf
       holds-table s = holds-states s (subst (λ (X : Set). X ⊆ firstStates n) (sym i) (well-formed store n g s .initial))
 
-      pub store-path : (path : List ℕ) {found : Found} {after : List ℕ}
+      pub store-path : (path : List ℕ) {found : PathFound} {after : List ℕ}
           → (found ≡ foundIn (tableOn n I F [] (rowsOf store))) × (after ≡ pathWritten (tableOn n I F [] (rowsOf store)) path)
           → (found ≡ foundIn (tableOf store n g)) × (after ≡ pathWritten (tableOf store n g) path)
       store-path path found = (

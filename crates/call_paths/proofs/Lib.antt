@@ -1,10 +1,10 @@
-pub mod Stepping
-pub mod Walks
+pub mod RowsStepping
+pub mod PathsWritten
 pub mod Nearness
 pub mod Groups
-pub mod Answers
+pub mod PathsAnswered
 pub mod Outward
 pub mod Duality
 pub mod Narrowing
-pub mod Find
-pub mod DemandsKept
+pub mod PathsFound
+pub mod PathDemandsKept

@@ -14,7 +14,7 @@ use Rattle.model.specs.Sets.{maxStates, member, meets}
 use Rattle.model.specs.Tables.{Table}
 use Rattle.model.specs.Paths.{reaching, unreachable, distance, shortest, hasPath}
 use Rattle.basics.proofs.BoundLaws.{and-true, and-intro, not-true, same-test, any-intro, any-find, lt-or-ge}
-use Rattle.model.proofs.SetLaws.{In, in-bound, in-meets, meets-in}
+use Rattle.model.proofs.SetsMembers.{In, in-bound, in-meets, meets-in}
 use Rattle.model.specs.WellFormed.{WellFormed}
 use Rattle.model.proofs.PathLaws.{at-lt, reaching-at, reaching-mono, distance-is, distance-unreachable, distance-reaching, reaching-distance, shortest-le, shortest-nearest}
 use Rattle.call_paths.specs.Within.{canReach, isWithin}

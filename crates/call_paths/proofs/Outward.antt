@@ -1,6 +1,6 @@
 -- The search outward by layers for a state of F (`first_layer`).
 --
---   Outward                      after k turns: the layers so far (reach, Layers), of which none before the last holds a state of F
+--   Outward                      after k turns: the layers so far (core_reach, ReachLayers), of which none before the last holds a state of F
 --   outward-start, outward-turn  where it starts; a turn
 --   outward-hit, outward-end     the first layer with a state of F is the last; there is none where the last brings nothing new
 --   PutDown                      a row for each layer before the last, as far as there is room
@@ -19,12 +19,12 @@ use lib.Seq.{getD-set-same, getD-set-other}
 use Rattle.model.specs.Sets.{maxStates, Set, empty, union, meet, difference, subset, meets}
 use Rattle.model.specs.Rounds.{iterate}
 use Rattle.basics.proofs.BoundLaws.{is-false, clash, below-suc, first-is, first-none}
-use Rattle.model.proofs.SetLaws.{Proper, setOf-proper, empty-in, in-difference, difference-in, _⊆_, subset-in, same-set, in-meets, meets-in}
-use Rattle.core_table.specs.Rows.{rowIn, successorsBy}
+use Rattle.model.proofs.SetsMembers.{Proper, setOf-proper, empty-in, in-difference, difference-in, _⊆_, subset-in, same-set, in-meets, meets-in}
+use Rattle.core_rows.specs.Rows.{rowIn, successorsBy}
 use Rattle.core_reach.specs.Reached.{reachBy}
-use Rattle.core_reach.proofs.Layers.{before, before-mono, Layered, layered-start, layered-turn, layered-below, layered-still}
+use Rattle.core_reach.proofs.ReachLayers.{before, before-mono, Layered, layered-start, layered-turn, layered-below, layered-still}
 use Rattle.call_paths.specs.Search.{layerOf, metWithin, firstLayer, LayersUpTo}
-use Rattle.call_paths.specs.declared.Found.the-variants.{Steps, Nothing}
+use Rattle.call_paths.specs.declared.PathFound.the-variants.{Steps, Nothing}
 
 pub record Outward (rows : List ℕ) (X F : Set) (k : ℕ) (found layer : Set) : Type 0 where
   pub layered : Layered (rowIn rows) X k found layer

@@ -13,16 +13,16 @@ use Rattle.basics.specs.Refusals.{Answered, refused, answered}
 use Rattle.model.specs.Tables.{Table}
 use Rattle.model.specs.Paths.{shortest, hasPath, smallestPath}
 use Rattle.model.specs.Calls.{overwrite, Shortest as Answer, shortestAnswer, shortestBuffer}
-use Rattle.call_paths.specs.declared.Found.{Found}
-use Rattle.call_paths.specs.declared.Found.the-variants.{Steps, Nothing}
+use Rattle.call_paths.specs.declared.PathFound.{PathFound}
+use Rattle.call_paths.specs.declared.PathFound.the-variants.{Steps, Nothing}
 use Rattle.call_paths.specs.declared.Shortest.{Shortest}
 use Rattle.call_paths.specs.declared.Shortest.the-variants.{Path as PathOf, NoPath, Refused}
 
-unfoldable pub foundIn : Table → Found
+unfoldable pub foundIn : Table → PathFound
 foundIn t = cond (hasPath t) (Steps (shortest t)) Nothing
 
 -- the steps of the path that find_path found, or 0
-abbrev pub stepsIn : Found → ℕ
+abbrev pub stepsIn : PathFound → ℕ
 stepsIn (Steps d) = d
 stepsIn Nothing = 0
 

@@ -11,7 +11,7 @@
 --   narrowedBack rows d layers     back from layer d, of each layer the states that step to a state kept of the next
 --   smallestIn layers i X          the smallest state of X in layer i
 --   walkBy rows layers at d s      the walk of d steps from s, which is in layer `at`, to the smallest successor in the next layer each time: where those
---                                  are the layers of the shortest paths, the model's walk (proofs/Find.antt)
+--                                  are the layers of the shortest paths, the model's walk (proofs/PathsFound.antt)
 --   Writable                       a walk that can be written: each state of it is one, and the buffer has room for all from `at` on
 use Prim.Native.Nat.{ℕ, zero, suc, _+_, _≤_, _<_}
 use mathlib.Core.Path.{_≡_}
@@ -23,10 +23,10 @@ use Rattle.basics.specs.Bounds.{first}
 use Rattle.model.specs.Sets.{maxStates, Set, member, setOf, empty, meet, difference, meets, smallest}
 use Rattle.model.specs.Rounds.{iterate}
 use Rattle.model.specs.WellFormed.{WellFormed}
-use Rattle.core_table.specs.Rows.{rowsWords, rowIn, tableOn}
+use Rattle.core_rows.specs.Rows.{rowsWords, rowIn, tableOn}
 use Rattle.core_reach.specs.Reached.{reachBy}
-use Rattle.call_paths.specs.declared.Found.{Found}
-use Rattle.call_paths.specs.declared.Found.the-variants.{Steps, Nothing}
+use Rattle.call_paths.specs.declared.PathFound.{PathFound}
+use Rattle.call_paths.specs.declared.PathFound.the-variants.{Steps, Nothing}
 
 pub record HoldsTable (rows : List ℕ) (n : ℕ) (initial forbidden : Set) : Type 0 where
   pub long : rowsWords ≤ length rows
@@ -40,14 +40,14 @@ layerOf rows X k = let found = iterate (reachBy rows X) empty in difference (fou
 unfoldable pub metWithin : List ℕ → Set → Set → ℕ → Bool
 metWithin rows X F k = meets (iterate (reachBy rows X) empty (suc k)) F
 
-unfoldable pub firstLayer : List ℕ → Set → Set → Found
+unfoldable pub firstLayer : List ℕ → Set → Set → PathFound
 firstLayer rows X F = let d = first maxStates (metWithin rows X F) in cond (ltb d maxStates) (Steps d) Nothing
 
-abbrev pub stepsWithin : Found → ℕ → Bool
+abbrev pub stepsWithin : PathFound → ℕ → Bool
 stepsWithin (Steps d) k = leb d k
 stepsWithin Nothing k = false
 
-abbrev pub LayersUpTo : List ℕ → Set → Set → ℕ → Found → List Set → Type 0
+abbrev pub LayersUpTo : List ℕ → Set → Set → ℕ → PathFound → List Set → Type 0
 LayersUpTo rows X F room (Steps d) layers =
     (length layers ≡ room)
     × ((i : ℕ) → i < d → i < room → getD layers i [] ≡ layerOf rows X i)

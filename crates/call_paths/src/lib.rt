@@ -16,21 +16,21 @@ ghost use lib.ListN.{length, set as replaced};
 ghost use lib.Seq.{sets as replacedFrom};
 ghost use mathlib.Core.List.{[]};
 ghost use Rattle.model.specs.Sets.{maxStates};
-ghost use Rattle.core_table.specs.Rows.{rowsWords, tableOn};
+ghost use Rattle.core_rows.specs.Rows.{rowsWords, tableOn};
 ghost use Rattle.call_paths.specs.Search.{HoldsTable, firstLayer, stepsWithin, LayersUpTo, steppingInto, narrowedBack, smallestIn, walkBy, Writable};
 ghost use Rattle.call_paths.specs.PathAnswers.{foundIn, pathWritten, stepsIn, CalledShortest};
 ghost use Rattle.call_paths.specs.Within.{CalledWithin};
 use core_reach::newly_reached;
+use core_rows::Rows;
+use core_rows::forbidden;
+use core_rows::meet_hold;
+use core_rows::row_at;
+use core_rows::row_of;
 use core_state_set::MAX_STATES;
 use core_state_set::StateSet;
 use core_state_set::WORDS;
 use core_table::ROWS_AT;
-use core_table::Rows;
-use core_table::forbidden;
-use core_table::meet_hold;
 use core_table::refusal;
-use core_table::row_at;
-use core_table::row_of;
 use core_table::set_at;
 
 // The states of x that step to a state of y: those that are not in hold of all other states.
@@ -45,7 +45,7 @@ pub fn stepping_into(rows: &[u64], x: StateSet, y: StateSet) -> StateSet
 // ---- the shortest path
 
 // The steps of a shortest path, if there is one.
-pub enum Found {
+pub enum PathFound {
     Steps(usize),
     Nothing,
 }
@@ -67,7 +67,7 @@ fn first_layer(
     from: StateSet,
     forbidden: StateSet,
     layers: &mut [[u64; WORDS]],
-) -> Found
+) -> PathFound
     requires { ⌜ rowsWords ≤ length (now rows) ⌝ }
     ensures { λ r. ⌜ (r ≡ firstLayer (now (rows .entry)) (from .words) (forbidden .words))
         × LayersUpTo (now (rows .entry)) (from .words) (forbidden .words) (length (now (layers .entry))) r (now (layers .exit)) ⌝ }
@@ -78,14 +78,14 @@ fn first_layer(
     while !layer.is_empty() {
         if layer.meets(forbidden) {
             put_row(layers, steps, layer.meet(forbidden));
-            return Found::Steps(steps);
+            return PathFound::Steps(steps);
         }
         put_row(layers, steps, layer);
         layer = newly_reached(rows, layer, found);
         found = found.union(layer);
         steps += 1;
     }
-    Found::Nothing
+    PathFound::Nothing
 }
 
 // Back from layer d: of each layer are kept the states that step to a state kept of the next.
@@ -130,7 +130,7 @@ pub fn find_path(
     initial: StateSet,
     forbidden: StateSet,
     path: &mut [u16],
-) -> Found
+) -> PathFound
     requires { ⌜ HoldsTable (now rows) n (initial .words) (forbidden .words) × (maxStates ≤ length (now path)) ⌝ }
     ensures { λ r. ⌜ (r ≡ foundIn (tableOn n (initial .words) (forbidden .words) [] (now (rows .entry))))
         × (now (path .exit) ≡ pathWritten (tableOn n (initial .words) (forbidden .words) [] (now (rows .entry))) (now (path .entry))) ⌝ }
@@ -138,23 +138,23 @@ pub fn find_path(
     let none = [0; WORDS];
     let mut layers = [none; MAX_STATES];
     match first_layer(rows, initial, forbidden, &mut layers) {
-        Found::Steps(d) => {
+        PathFound::Steps(d) => {
             narrow_back(rows, &mut layers, d);
             let first = smallest_in_layer(&layers, 0, initial);
             write_path(rows, &layers, first, d, path, 0);
-            Found::Steps(d)
+            PathFound::Steps(d)
         }
-        Found::Nothing => Found::Nothing,
+        PathFound::Nothing => PathFound::Nothing,
     }
 }
 
 // The steps of the path that was found, or 0.
-pub fn steps_of(found: Found) -> usize
+pub fn steps_of(found: PathFound) -> usize
     ensures { λ d. ⌜ d ≡ stepsIn found ⌝ }
 {
     match found {
-        Found::Steps(steps) => steps,
-        Found::Nothing => 0,
+        PathFound::Steps(steps) => steps,
+        PathFound::Nothing => 0,
     }
 }
 
@@ -182,8 +182,8 @@ pub fn shortest_path(store: &[u64], n: usize, g: usize, path: &mut [u16]) -> Sho
         forbidden(store, n),
         path,
     ) {
-        Found::Steps(steps) => Shortest::Path { steps },
-        Found::Nothing => Shortest::NoPath,
+        PathFound::Steps(steps) => Shortest::Path { steps },
+        PathFound::Nothing => Shortest::NoPath,
     }
 }
 
@@ -197,12 +197,12 @@ pub enum WithinAnswer {
 }
 
 // What was found is at most k steps away.
-fn is_within(found: Found, k: usize) -> bool
+fn is_within(found: PathFound, k: usize) -> bool
     ensures { λ b. ⌜ b ≡ stepsWithin found k ⌝ }
 {
     match found {
-        Found::Steps(d) => d <= k,
-        Found::Nothing => false,
+        PathFound::Steps(d) => d <= k,
+        PathFound::Nothing => false,
     }
 }
 

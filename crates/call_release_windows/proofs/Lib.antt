@@ -1,6 +1,6 @@
 pub mod Searches
 pub mod Waits
 pub mod Jumps
-pub mod Answering
+pub mod WindowsAnswered
 pub mod Weeks
-pub mod Kept
+pub mod WindowsKept

@@ -3,12 +3,12 @@
 --   some-mem, mem-some                 some passes exactly when a member does; some-none: else each fails; mem-at: an element is a member
 --   some-next                          the next element passes, or one after it
 --   Sought, sought-turn, sought-end    a loop that looks for one that passes, and looks at all of them
---   first-cong, first-or               tests that agree; the first that passes one test or the other
+--   first-or                           the first that passes one test or the other
 use Prim.Native.Nat.{ℕ, zero, suc, _+_, _≤_, _<_}
 use native.Mathlib.Nat.{le-of-suc-le-suc, not-suc-le-zero}
 use native.Mathlib.Numerals.{add-one}
 use native.Mathlib.Omega.{arith}
-use mathlib.Core.Path.{_≡_, refl, sym, ap, ap₂, _∙_}
+use mathlib.Core.Path.{_≡_, refl, sym, ap, _∙_}
 use mathlib.Core.Logic.{inl, inr, ⊎-elim}
 use mathlib.Core.Bool.{Bool, true, false, _||_, cond, or-assoc, or-false, false≢true}
 use mathlib.Core.List.{List, [], _∷_, List·Memᴰ, List·Memᴰ·head, List·Memᴰ·tail, List·Memᴰ·cases-cons, List·Memᴰ·not-nil}
@@ -60,12 +60,6 @@ module _ {p : ℕ → Bool} {xs : List ℕ} {found : Bool} {i : ℕ} (so : Sough
   sought-end h = sym (or-false found) ∙ rw (drop-of-length-le xs h) at (so .rest)
 
 -- ---- below a bound
-
-pub first-cong : (p q : ℕ → Bool) (n : ℕ) → ((k : ℕ) → p k ≡ q k) → first n p ≡ first n q
-unfolding first
-first-cong p q zero e = refl
-first-cong p q (suc n) e =
-    ap₂ (λ (a : Bool) (r : ℕ). cond a zero (suc r)) (e zero) (first-cong (λ k. p (suc k)) (λ k. q (suc k)) n (λ k. e (suc k)))
 
 pub first-or : (p q : ℕ → Bool) (n : ℕ) → first n (λ k. p k || q k) ≡ first (first n p) q
 unfolding first

@@ -12,9 +12,9 @@ use borrow.Author.Tests.{lt-ltb, le-ltb, ltb-false, eqb-false}
 use lib.Dec.{eqb, ltb}
 use lib.ListN.{length, getD, drop, drop-of-length-le}
 use Rattle.basics.specs.Bounds.{first}
-use Rattle.basics.proofs.BoundLaws.{or-false, first-is, first-none, first-before}
+use Rattle.basics.proofs.BoundLaws.{or-false, first-is, first-none, first-before, first-cong}
 use Rattle.call_release_windows.specs.Windows.{week, startOf, lengthOf, outside, some, inWindow, inSome}
-use Rattle.call_release_windows.proofs.Searches.{first-cong, first-or, some-next}
+use Rattle.call_release_windows.proofs.Searches.{first-or, some-next}
 
 -- ---- the range
 

@@ -19,11 +19,11 @@ use Rattle.model.specs.Sets.{WORDS, maxStates, Set, member, single, union}
 use Rattle.model.specs.Tables.{Table}
 use Rattle.model.specs.Stores.{storeWords, rowAt, setAt, tableOf}
 use Rattle.basics.proofs.BoundLaws.{below-suc, first-is, first-none}
-use Rattle.model.proofs.SetLaws.{Proper, setOf-proper, in-bound}
-use Rattle.model.proofs.StoreLaws.{row-is}
-use Rattle.core_state_set.proofs.Words.{with-bit}
+use Rattle.model.proofs.SetsMembers.{Proper, setOf-proper, in-bound}
+use Rattle.model.proofs.StoresTables.{row-is}
+use Rattle.core_state_set.proofs.SetsWords.{with-bit}
 use Rattle.call_replay.specs.Logs.{entryCount, entry, mayHold, followed, seen}
-use Rattle.call_replay.proofs.Walking.{breaks, seen-none, seen-more}
+use Rattle.call_replay.proofs.LogEntries.{breaks, seen-none, seen-more}
 
 -- the table of all rows of a store
 abbrev pub allRows : List ℕ → Table

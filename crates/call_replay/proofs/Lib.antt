@@ -1,7 +1,7 @@
-pub mod Walking
+pub mod LogEntries
 pub mod Following
-pub mod Answering
-pub mod Fronts
-pub mod Walks
-pub mod Kept
-pub mod Ranges
+pub mod ReplayAnswered
+pub mod LogFronts
+pub mod LogWalks
+pub mod ReplayKept
+pub mod ReplayRanges

@@ -1,2 +1,2 @@
-pub mod Rested
-pub mod Answers
+pub mod StoresRested
+pub mod RewriteAnswered

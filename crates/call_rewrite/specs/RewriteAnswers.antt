@@ -13,7 +13,7 @@ use Rattle.model.specs.Sets.{firstStates, empty}
 use Rattle.model.specs.Stores.{storeWords, restingAt}
 use Rattle.model.specs.Contents.{oldForm}
 use Rattle.model.specs.Calls.{overwrite, readGroundsAs}
-use Rattle.core_table.specs.Rows.{rowsOf, meetHold}
+use Rattle.core_rows.specs.Rows.{rowsOf, meetHold}
 use Rattle.core_table.specs.Writing.{overwriteFrom}
 use Rattle.file_writing.specs.declared.Written.{Written}
 use Rattle.file_writing.specs.WriteAnswers.{writtenOf}

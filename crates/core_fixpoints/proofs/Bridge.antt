@@ -18,13 +18,13 @@ use Rattle.model.specs.Sets.{maxStates, Set, member, empty, union, meet, differ
 use Rattle.model.specs.Tables.{Table, post, hold, coverOf, cover}
 use Rattle.model.specs.Rounds.{iterate, forwardStep, forward, backwardStep, backward}
 use Rattle.basics.proofs.BoundLaws.{and-true, and-intro, getD-tabulate}
-use Rattle.model.proofs.SetLaws.{Proper, setOf-proper, In, in-bound, in-setOf, setOf-in, in-or-out, in-union, union-in, in-meet, meet-in, in-difference, difference-in, firstStates-in, _⊆_, subset-in, in-subset, ⊆-of-eq, same-set, empty-in, in-image, image-in}
+use Rattle.model.proofs.SetsMembers.{Proper, setOf-proper, In, in-bound, in-setOf, setOf-in, in-or-out, in-union, union-in, in-meet, meet-in, in-difference, difference-in, firstStates-in, _⊆_, subset-in, in-subset, ⊆-of-eq, same-set, empty-in, in-image, image-in}
 use Rattle.model.specs.Promises.{IsLeast, IsGreatest}
 use Rattle.model.proofs.Fixpoints.{iterate-has, from-below, from-above, least-unique}
-use Rattle.model.proofs.CoverLaws.{image-mono, image-proper, coverOf-within, coverOf-self, coverOf-trans, in-hold, hold-in, forwardStep-within, backwardStep-within}
-use Rattle.model.proofs.ImageLaws.{image-bound, image-cong}
-use Rattle.core_table.specs.Rows.{rowIn, successorsBy, meetHold}
-use Rattle.core_table.proofs.Parts.{HasRows}
+use Rattle.model.proofs.SetsImages.{image-mono, image-proper, image-bound, image-cong}
+use Rattle.model.proofs.CoverLaws.{coverOf-within, coverOf-self, coverOf-trans, in-hold, hold-in, forwardStep-within, backwardStep-within}
+use Rattle.core_rows.specs.Rows.{rowIn, successorsBy, meetHold}
+use Rattle.core_rows.proofs.RowsLent.{HasRows}
 use Rattle.core_fixpoints.specs.Steps.{covers, coverBy, forwardBy, backwardBy, IsCover}
 
 -- ---- the cover

@@ -19,18 +19,18 @@ use Rattle.model.specs.Sets.{WORDS, maxStates, Set, member, empty, union, meet,
 use Rattle.basics.specs.Bounds.{concat}
 use Rattle.model.specs.Calls.{overwrite}
 use Rattle.model.specs.Promises.{IsLeast}
-use Rattle.model.proofs.SetLaws.{Proper, setOf-proper, empty-in, in-difference, difference-in, _⊆_, subset-in, in-subset, subset-not, ⊆-of-eq, same-set, in-image, image-in}
-use Rattle.model.proofs.Counting.{filter-le, size-bound, size-pos, size-most}
+use Rattle.model.proofs.SetsMembers.{Proper, setOf-proper, empty-in, in-difference, difference-in, _⊆_, subset-in, in-subset, subset-not, ⊆-of-eq, same-set, in-image, image-in, union-assoc, union-empty}
+use Rattle.model.proofs.SetsCounted.{filter-le, size-bound, size-pos, size-most}
 use Rattle.model.proofs.Fixpoints.{iterate-has}
-use Rattle.model.proofs.CoverLaws.{image-mono}
-use Rattle.model.proofs.ImageLaws.{image-none, image-union, union-assoc, union-empty}
+use Rattle.model.proofs.SetsImages.{image-mono, image-none, image-union}
 use Rattle.core_state_set.specs.WordSets.{wordSet, wordsBelow}
-use Rattle.core_state_set.proofs.WordSets.{word-lowest, word-least, word-rest, word-none, words-none, words-in, words-all}
-use Rattle.core_table.specs.Rows.{successorsBy}
+use Rattle.core_state_set.proofs.SetsByWord.{word-lowest, word-least, word-rest, word-none, words-none, words-in, words-all}
+use Rattle.core_rows.specs.Rows.{successorsBy}
 use Rattle.core_fixpoints.specs.Steps.{coverBy, forwardBy, IsCover}
 use Rattle.core_fixpoints.specs.Order.{passAt, orderOf, firstPassBy, laterPassBy, orderBy, padded}
 use Rattle.core_fixpoints.proofs.Bridge.{coverBy-within, coverBy-closed, forwardBy-proper, forward-least}
-use Rattle.core_fixpoints.proofs.Lists.{members-none, members-words, members-peel, size-apart, sets-append}
+use Rattle.core_fixpoints.proofs.SetsListed.{members-none, members-words, members-peel, size-apart}
+use Rattle.model.proofs.ListsInParts.{sets-append}
 use Rattle.core_fixpoints.proofs.Passes.{step-empty, step-union, frontier-new, order-next, order-long, pass-steps, pass-before, pass-still, iterate-done, order-still}
 
 -- ---- the bits of a word

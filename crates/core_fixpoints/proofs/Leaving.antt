@@ -16,12 +16,11 @@ use mir.Val.{Fits}
 use Rattle.model.specs.Sets.{WORDS, maxStates, Set, bit, member, empty, union, difference, subset, meets, firstStates}
 use Rattle.model.specs.Promises.{IsLeast}
 use Rattle.basics.proofs.BoundLaws.{and-true, and-intro, same-test, clash, getD-tabulate}
-use Rattle.model.proofs.SetLaws.{In, in-bound, in-or-out, in-union, in-difference, _⊆_, in-subset, ⊆-of-eq, member-at, in-meets, in-image}
-use Rattle.model.proofs.CoverLaws.{image-proper}
-use Rattle.model.proofs.ImageLaws.{union-comm, union-empty}
-use Rattle.core_state_set.proofs.Words.{word-is}
-use Rattle.core_state_set.proofs.WordSets.{in-wordSet}
-use Rattle.core_table.specs.Rows.{rowIn, successorsBy, meetHold}
+use Rattle.model.proofs.SetsMembers.{In, in-bound, in-or-out, in-union, in-difference, _⊆_, in-subset, ⊆-of-eq, member-at, in-meets, in-image, union-comm, union-empty}
+use Rattle.model.proofs.SetsImages.{image-proper}
+use Rattle.core_state_set.proofs.SetsWords.{word-is}
+use Rattle.core_state_set.proofs.SetsByWord.{in-wordSet}
+use Rattle.core_rows.specs.Rows.{rowIn, successorsBy, meetHold}
 use Rattle.core_fixpoints.specs.Steps.{forwardBy, stepsByWord, Leads, Prepared}
 use Rattle.core_fixpoints.proofs.Bridge.{meetHold-in, coverBy-within, forward-closed}
 

@@ -1,5 +1,5 @@
 pub mod Bridge
-pub mod Lists
+pub mod SetsListed
 pub mod Passes
 pub mod Expanding
 pub mod TableOrder

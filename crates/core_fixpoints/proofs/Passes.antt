@@ -20,12 +20,12 @@ use Rattle.model.specs.Sets.{maxStates, Set, member, empty, union, meet, differ
 use Rattle.model.specs.Tables.{Table, post, cover, coverOf}
 use Rattle.model.specs.Rounds.{iterate, forwardStep, forward}
 use Rattle.basics.proofs.BoundLaws.{is-false, same-test, or-intro, or-true, and-true, and-intro, decided, clash, not-true}
-use Rattle.model.proofs.SetLaws.{Proper, setOf-proper, In, in-or-out, empty-in, in-union, union-in, in-meet, meet-in, in-difference, difference-in, _⊆_, in-subset, ⊆-of-eq, same-set}
-use Rattle.model.proofs.ImageLaws.{image-none, image-union, union-assoc, union-comm, union-empty}
+use Rattle.model.proofs.SetsMembers.{Proper, setOf-proper, In, in-or-out, empty-in, in-union, union-in, in-meet, meet-in, in-difference, difference-in, _⊆_, in-subset, ⊆-of-eq, same-set, union-assoc, union-comm, union-empty}
+use Rattle.model.proofs.SetsImages.{image-none, image-union}
 use Rattle.model.proofs.Fixpoints.{iterate-still}
 use Rattle.model.proofs.CoverLaws.{forwardStep-proper}
 use Rattle.core_fixpoints.specs.Order.{Pass, passAt, orderOf, firstPass, laterPass, forwardOrder, times, frontierAt, InOrder}
-use Rattle.core_fixpoints.proofs.Lists.{members-none, size-apart, times-append, times-members, filter-rising}
+use Rattle.core_fixpoints.proofs.SetsListed.{members-none, size-apart, times-append, times-members, filter-rising}
 
 -- ---- R's step
 

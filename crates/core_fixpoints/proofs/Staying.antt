@@ -10,10 +10,10 @@ use mathlib.Core.List.{List}
 use Rattle.model.specs.Sets.{maxStates, Set, subset, same, size, firstStates}
 use Rattle.model.specs.Promises.{IsGreatest}
 use Rattle.basics.proofs.BoundLaws.{and-intro, clash}
-use Rattle.model.proofs.SetLaws.{Proper, setOf-proper, In, _⊆_, in-subset, ⊆-of-eq, same-set, same-eq}
-use Rattle.model.proofs.Counting.{all-or-fewer}
-use Rattle.model.proofs.CoverLaws.{image-proper}
-use Rattle.core_table.specs.Rows.{rowIn, meetHold}
+use Rattle.model.proofs.SetsMembers.{Proper, setOf-proper, In, _⊆_, in-subset, ⊆-of-eq, same-set, same-eq}
+use Rattle.model.proofs.SetsCounted.{all-or-fewer}
+use Rattle.model.proofs.SetsImages.{image-proper}
+use Rattle.core_rows.specs.Rows.{rowIn, meetHold}
 use Rattle.core_fixpoints.specs.Steps.{coverBy, backwardBy, IsCover}
 use Rattle.core_fixpoints.proofs.Bridge.{in-meetHold, meetHold-in, coverBy-mono, coverBy-within, coverBy-extends}
 

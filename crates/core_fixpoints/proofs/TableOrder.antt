@@ -6,9 +6,9 @@ use mathlib.Core.Path.{_≡_, refl, sym, ap, _∙_}
 use mathlib.Core.List.{List}
 use Rattle.model.specs.Sets.{maxStates, Set, meet, members, firstStates}
 use Rattle.model.specs.Tables.{Table}
-use Rattle.model.proofs.ListLaws.{concat-cong}
-use Rattle.model.proofs.SetLaws.{_⊆_, meet-in, difference-in}
-use Rattle.core_table.proofs.Parts.{HasRows}
+use Rattle.model.proofs.ListsInParts.{concat-cong}
+use Rattle.model.proofs.SetsMembers.{_⊆_, meet-in, difference-in}
+use Rattle.core_rows.proofs.RowsLent.{HasRows}
 use Rattle.core_fixpoints.specs.Steps.{covers, coverBy, forwardBy, IsCover}
 use Rattle.core_fixpoints.specs.Order.{Pass, passAt, orderOf, firstPass, laterPass, forwardOrder, firstPassBy, laterPassBy, orderBy}
 use Rattle.core_fixpoints.proofs.Bridge.{coverBy-is, successorsBy-is, coverBy-within, forwardBy-proper, forward-least}

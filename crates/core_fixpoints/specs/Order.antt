@@ -21,7 +21,7 @@ use Rattle.model.specs.Sets.{maxStates, Set, member, empty, union, meet, differ
 use Rattle.model.specs.Tables.{Table, post, cover}
 use Rattle.model.specs.Rounds.{forward}
 use Rattle.model.specs.Calls.{overwrite}
-use Rattle.core_table.specs.Rows.{successorsBy}
+use Rattle.core_rows.specs.Rows.{successorsBy}
 use Rattle.core_fixpoints.specs.Steps.{coverBy}
 
 pub record Pass : Type 0 where

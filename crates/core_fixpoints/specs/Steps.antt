@@ -16,7 +16,7 @@ use Rattle.model.specs.Sets.{WORDS, maxStates, Set, union, meet, image, firstSt
 use Rattle.model.specs.WellFormed.{In, _⊆_}
 use Rattle.model.specs.Tables.{coverOf}
 use Rattle.core_state_set.specs.WordSets.{wordSet}
-use Rattle.core_table.specs.Rows.{rowIn, successorsBy, meetHold}
+use Rattle.core_rows.specs.Rows.{rowIn, successorsBy, meetHold}
 
 unfoldable pub covers : ℕ → List Set → List Set
 covers n L = tabulate maxStates (coverOf n L)

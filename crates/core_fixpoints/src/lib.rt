@@ -13,19 +13,19 @@ ghost use lib.Seq.{sets as replacedFrom};
 ghost use Rattle.model.specs.Sets.{WORDS, maxStates, union, meet, difference, members, size};
 ghost use Rattle.core_state_set.specs.WordSets.{wordSet};
 ghost use Rattle.model.specs.Promises.{IsLeast, IsGreatest};
-ghost use Rattle.core_table.specs.Rows.{rowsWords, rowIn, successorsBy, meetHold};
+ghost use Rattle.core_rows.specs.Rows.{rowsWords, rowIn, successorsBy, meetHold};
 ghost use Rattle.core_fixpoints.specs.Steps.{stepsByWord, coverBy, forwardBy, backwardBy, IsCover, Leads};
 ghost use Rattle.core_fixpoints.specs.Order.{orderBy, padded};
+use core_rows::Rows;
+use core_rows::held_word;
+use core_rows::join_successors;
+use core_rows::row_at;
+use core_rows::row_of;
+use core_rows::union_of;
 use core_state_set::MAX_STATES;
 use core_state_set::StateSet;
 use core_state_set::WORD_BITS;
 use core_state_set::WORDS;
-use core_table::Rows;
-use core_table::held_word;
-use core_table::join_successors;
-use core_table::row_at;
-use core_table::row_of;
-use core_table::union_of;
 
 // ---- the cover
 

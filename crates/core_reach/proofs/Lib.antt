@@ -1,2 +1,2 @@
-pub mod Layers
-pub mod Walks
+pub mod ReachLayers
+pub mod ReachWalks

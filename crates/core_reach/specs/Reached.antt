@@ -19,7 +19,7 @@ use Rattle.model.specs.Rounds.{iterate}
 use Rattle.model.specs.Stores.{tableOf, AcceptedStore}
 use Rattle.model.specs.Promises.{IsLeast}
 use Rattle.model.specs.WellFormed.{WellFormed}
-use Rattle.core_table.specs.Rows.{rowsOf, successorsBy}
+use Rattle.core_rows.specs.Rows.{rowsOf, successorsBy}
 
 unfoldable pub reachStep : Table → Set → Set → Set
 reachStep t X Y = union X (post (t .n) (t .row) Y)

@@ -7,10 +7,10 @@ ghost use Prim.Native.Nat.{_≤_};
 ghost use lib.ListN.{length};
 ghost use Rattle.model.specs.Sets.{difference};
 ghost use Rattle.model.specs.Promises.{IsLeast};
-ghost use Rattle.core_table.specs.Rows.{rowsWords, successorsBy};
+ghost use Rattle.core_rows.specs.Rows.{rowsWords, successorsBy};
 ghost use Rattle.core_reach.specs.Reached.{reachBy};
+use core_rows::successors;
 use core_state_set::StateSet;
-use core_table::successors;
 
 // The successors of the states of the layer that are not among those found.
 pub fn newly_reached(rows: &[u64], layer: StateSet, found: StateSet) -> StateSet

@@ -1,4 +1,3 @@
-pub mod Putting
+pub mod TextsPut
 pub mod Turns
 pub mod Decimals
-pub mod Worked

@@ -15,10 +15,10 @@ use Rattle.model.specs.Sets.{WORDS, maxStates, Set, member, meet, difference, s
 use Rattle.model.specs.Tables.{coverOf, notForbidden}
 use Rattle.model.specs.Stores.{setAt}
 use Rattle.basics.proofs.BoundLaws.{is-false, clash, tabulate-const}
-use Rattle.model.proofs.SetLaws.{setOf-proper, in-difference, difference-in, same-set}
+use Rattle.model.proofs.SetsMembers.{setOf-proper, in-difference, difference-in, same-set}
 use Rattle.model.proofs.CoverLaws.{in-notForbidden, notForbidden-in, notForbidden-within}
-use Rattle.core_table.specs.Rows.{groupsIn}
-use Rattle.core_table.proofs.MapAt.{mapAt-tabulate}
+use Rattle.core_rows.specs.Rows.{groupsIn}
+use Rattle.core_rows.proofs.RowsMapped.{mapAt-tabulate}
 use Rattle.core_fixpoints.specs.Steps.{covers}
 use Rattle.core_rounds.specs.Adding.{narrowed, nextAdded}
 

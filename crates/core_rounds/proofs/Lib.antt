@@ -1,4 +1,2 @@
 pub mod Adding
-pub mod FirstCover
 pub mod Running
-pub mod OrderKept

@@ -23,12 +23,12 @@ use Rattle.model.specs.Tables.{Table, hold, notForbidden}
 use Rattle.model.specs.Rounds.{iterate, forwardStep, forward, backwardStep, backward, Round, roundOf, firstRound, nextRound, isSafe, isUnsafe, safe, unsafe, undecided, run}
 use Rattle.model.specs.Promises.{IsLeast, IsGreatest, roundAt, Continues}
 use Rattle.basics.proofs.BoundLaws.{below-suc, not-true}
-use Rattle.model.proofs.SetLaws.{empty-in, meet-in, _⊆_, ⊆-of-eq}
+use Rattle.model.proofs.SetsMembers.{empty-in, meet-in, _⊆_, ⊆-of-eq}
 use Rattle.model.proofs.Fixpoints.{iterate-has, greatest-unique}
 use Rattle.model.proofs.CoverLaws.{hold-within, notForbidden-within, forwardStep-within, backwardStep-within}
 use Rattle.model.proofs.RoundLaws.{first-stop}
-use Rattle.core_table.specs.Rows.{groupsIn, successorsBy, meetHold}
-use Rattle.core_table.proofs.Parts.{HasRows}
+use Rattle.core_rows.specs.Rows.{groupsIn, successorsBy, meetHold}
+use Rattle.core_rows.proofs.RowsLent.{HasRows}
 use Rattle.core_fixpoints.specs.Steps.{covers, forwardBy, backwardBy, IsCover}
 use Rattle.core_fixpoints.proofs.Bridge.{successorsBy-is, meetHold-is, backwardBy-proper, backward-greatest, least-is, backward-is}
 use Rattle.core_rounds.specs.Adding.{narrowed}

@@ -8,7 +8,7 @@ use mathlib.Core.List.{List, []}
 use lib.Dec.{eqb}
 use Rattle.model.specs.Sets.{WORDS, Set, meet}
 use Rattle.model.specs.Stores.{setAt}
-use Rattle.core_table.specs.Rows.{mapAt}
+use Rattle.core_rows.specs.Rows.{mapAt}
 
 unfoldable pub narrowed : List Set → Set → List Set
 narrowed cover Z = mapAt Z (λ row. meet row Z) [] cover

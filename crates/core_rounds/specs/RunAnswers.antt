@@ -10,7 +10,7 @@ use mathlib.Core.List.{List}
 use Rattle.model.specs.Sets.{Set, empty, union, subset}
 use Rattle.model.specs.Rounds.{Outcome, safe, unsafe, undecided}
 use Rattle.model.specs.Promises.{IsLeast, IsGreatest}
-use Rattle.core_table.specs.Rows.{successorsBy, meetHold}
+use Rattle.core_rows.specs.Rows.{successorsBy, meetHold}
 use Rattle.core_fixpoints.specs.Steps.{forwardBy, backwardBy}
 use Rattle.core_rounds.specs.declared.Conclusion.{Conclusion}
 use Rattle.core_rounds.specs.declared.Conclusion.the-variants.{Safe as ConcludesSafe, Unsafe as ConcludesUnsafe, Open}

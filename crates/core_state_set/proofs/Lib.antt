@@ -1,5 +1,5 @@
-pub mod Bits
-pub mod Words
-pub mod Tests
-pub mod Counts
-pub mod WordSets
+pub mod SetsBits
+pub mod SetsWords
+pub mod SetsTests
+pub mod SetsOnes
+pub mod SetsByWord

@@ -1,9 +1,4 @@
-pub mod Laws
-pub mod MapAt
-pub mod Joins
-pub mod Hold
-pub mod Parts
-pub mod States
-pub mod Overwriting
-pub mod Putting
-pub mod Filling
+pub mod StoresGrounds
+pub mod ListsOverwritten
+pub mod StoresPut
+pub mod StoresFilled

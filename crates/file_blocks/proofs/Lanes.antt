@@ -12,9 +12,9 @@ use lib.Seq.{length-take-le, getD-take, getD-drop}
 use Rattle.basics.specs.Bounds.{tabulate}
 use Rattle.model.specs.Calls.{overwrite}
 use Rattle.basics.proofs.BoundLaws.{length-tabulate, getD-tabulate}
-use Rattle.model.proofs.ListLaws.{overwrite-behind}
+use Rattle.model.proofs.ListsInParts.{overwrite-behind}
 use Rattle.file_blocks.specs.Lanes.{lanes, byteMost, plus, Most}
-use Rattle.core_table.proofs.Overwriting.{Over, over-none, over-next, over-all}
+use Rattle.core_table.proofs.ListsOverwritten.{Over, over-none, over-next, over-all}
 
 -- ---- a row added to another
 

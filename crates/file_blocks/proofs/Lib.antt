@@ -1,4 +1,4 @@
-pub mod BlockLaws
+pub mod ContentsLength
 mod Chunks
 mod Lanes
 mod Summing

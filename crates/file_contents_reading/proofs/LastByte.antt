@@ -18,9 +18,9 @@ use Rattle.model.specs.Sets.{maxStates, Set, bit, member}
 use Rattle.model.specs.Stores.{beyond}
 use Rattle.model.specs.Contents.{setWidth, headerBytes, setIn, setNumber}
 use Rattle.basics.proofs.BoundLaws.{clash, decided, first-passes, lt-or-ge}
-use Rattle.model.proofs.ContentLaws.{member-setIn, setIn-below}
-use Rattle.model.proofs.StoreLaws.{beyond-below, below-beyond}
-use Rattle.core_state_set.proofs.Bits.{bit-zero, first-bit}
+use Rattle.model.proofs.SetsBytes.{member-setIn, setIn-below}
+use Rattle.model.proofs.StoresTables.{beyond-below, below-beyond}
+use Rattle.core_state_set.proofs.SetsBits.{bit-zero, first-bit}
 
 bit-above : (x d i : ℕ) → bit (x / 2 ^ d) i ≡ bit x (d + i)
 unfolding bit

@@ -1,3 +1,3 @@
-pub mod Words
+pub mod ContentsWords
 pub mod LastByte
-pub mod Filling
+pub mod StoresRead

@@ -1,9 +1,9 @@
 // The contents of a file, which stand joined in a buffer: grounds 17 and 18, which concern its sets and its filler, and its table put into the store.
 //
-//   any_beyond, is_set_beyond        ground 17, of all sets and of one
-//   non_zero                         ground 18
-//   fill, fill_sets, fill_set        the table put into the store: its three parts; the sets of a part; one set
-//   word_in                          a word of a set in the contents
+//   any_content_beyond, is_set_beyond    ground 17, of all sets and of one
+//   non_zero_byte                        ground 18
+//   fill, fill_sets, fill_set            the table put into the store: its three parts; the sets of a part; one set
+//   word_in                              a word of a set in the contents
 ghost use mathlib.Core.Path.{_≡_};
 ghost use Prim.Native.Nat.{_+_, _*_, _≤_, _<_};
 ghost use lib.ListN.{length, getD};
@@ -32,7 +32,7 @@ use file_blocks::wide;
 // ---- grounds of the contents
 
 // A set of the table has a state from n up.
-pub fn any_beyond(form: Form, bytes: &[u8], n: usize, g: usize) -> bool
+pub fn any_content_beyond(form: Form, bytes: &[u8], n: usize, g: usize) -> bool
     requires { ⌜ TableInside (now bytes) n g × (0 < n) ⌝ }
     ensures { λ r. ⌜ r ≡ any (heads (formOf form) + g + n) (λ k. beyond n (setNumber (now (bytes .entry)) n k)) ⌝ }
 {
@@ -55,7 +55,7 @@ fn is_set_beyond(bytes: &[u8], n: usize, width: usize, k: usize) -> bool
 }
 
 // Some byte from `from` on and before `to` is not 0. They are joined and tested once, as the words of a store are.
-pub fn non_zero(bytes: &[u8], from: usize, to: usize) -> bool
+pub fn non_zero_byte(bytes: &[u8], from: usize, to: usize) -> bool
     requires { ⌜ (from ≤ to) × (to ≤ length (now bytes)) ⌝ }
     ensures { λ r. ⌜ r ≡ nonZero (now (bytes .entry)) from to ⌝ }
 {

@@ -1,3 +1,3 @@
-pub mod SetBytes
-pub mod Places
-pub mod Joining
+pub mod SetsBytesWritten
+pub mod StoresPlaces
+pub mod ContentsJoined

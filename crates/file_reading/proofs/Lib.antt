@@ -1,2 +1,2 @@
-pub mod Joining
-pub mod Grounds
+pub mod BlocksJoined
+pub mod ReadGrounds

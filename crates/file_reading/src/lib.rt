@@ -3,7 +3,7 @@
 //   TableRead, read                  n and g of the table that is now in the store, or why the file is refused
 //   read_old, read_as                the same of a file of the old form, and of either
 //   read_file, read_contents         the same of an input that has bytes, and of contents: each looks at its own grounds
-//   join, block_fault                the contents of the blocks joined, each once it is checked; the grounds of one block, on its own 512 bytes
+//   join_blocks, block_fault         the contents of the blocks joined, each once it is checked; the grounds of one block, on its own 512 bytes
 ghost use mathlib.Core.Path.{_≡_};
 ghost use Prim.Native.Nat.{_*_, _/_, _≤_, _<_};
 ghost use lib.ListN.{length};
@@ -31,9 +31,9 @@ use file_blocks::checksum_of;
 use file_blocks::content_length;
 use file_blocks::copy_content;
 use file_blocks::le16_at;
-use file_contents_reading::any_beyond;
+use file_contents_reading::any_content_beyond;
 use file_contents_reading::fill;
-use file_contents_reading::non_zero;
+use file_contents_reading::non_zero_byte;
 
 pub enum TableRead {
     // n and g of the table.
@@ -81,7 +81,7 @@ fn read_file(form: Form, input: &[u8], site: usize, store: &mut [u64]) -> TableR
         return TableRead::Refused(11);
     }
     let mut joined = [0u8; JOINED_ROOM];
-    let fault = join(input, site, &mut joined);
+    let fault = join_blocks(input, site, &mut joined);
     if fault != 0 {
         return TableRead::Refused(fault);
     }
@@ -120,10 +120,10 @@ fn read_contents(
     if blocks != blocks_for(size) {
         return TableRead::Refused(16);
     }
-    if any_beyond(form, bytes, n, g) {
+    if any_content_beyond(form, bytes, n, g) {
         return TableRead::Refused(17);
     }
-    if non_zero(bytes, size, CONTENT_BYTES * blocks) {
+    if non_zero_byte(bytes, size, CONTENT_BYTES * blocks) {
         return TableRead::Refused(18);
     }
     fill(form, bytes, n, g, store);
@@ -134,7 +134,7 @@ fn read_contents(
 
 // What is wrong with the first block that has a fault, or 0: then the contents of all blocks stand one behind the other at the front of
 // what is lent. A block is copied while its bytes are still near.
-fn join(input: &[u8], site: usize, out: &mut [u8]) -> u8
+fn join_blocks(input: &[u8], site: usize, out: &mut [u8]) -> u8
     requires { ⌜ (site ≤ maxSite) × (contentBytes * (length (now input) / blockBytes) ≤ length (now out)) ⌝ }
     ensures { λ r. ⌜ Joined (now (input .entry)) site r (now (out .entry)) (now (out .exit)) ⌝ }
 {

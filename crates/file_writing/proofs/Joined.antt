@@ -14,11 +14,11 @@ use Rattle.model.specs.Blocks.{contentBytes, blockOf}
 use Rattle.model.specs.Contents.{newForm, setWidth, contents, contentLength}
 use Rattle.model.specs.Calls.{overwrite}
 use Rattle.basics.proofs.BoundLaws.{length-tabulate}
-use Rattle.model.proofs.ListLaws.{concat-cong, length-overwrite}
+use Rattle.model.proofs.ListsInParts.{concat-cong, length-overwrite}
 use Rattle.model.proofs.BlockLaws.{block-unique, blockOf-is}
 use Rattle.model.proofs.ContentLaws.{length-contents}
 use Rattle.file_contents_writing.specs.Placed.{LongEnough}
-use Rattle.file_blocks.proofs.BlockLaws.{contents-le, getD-joined}
+use Rattle.file_blocks.proofs.ContentsLength.{contents-le, getD-joined}
 
 abbrev none : ℕ → List ℕ
 none m = replicate m 0

@@ -18,13 +18,13 @@ use Rattle.model.specs.Contents.{newForm, contents, contentLength}
 use Rattle.model.specs.Files.{blockFile, fileOf, fileLength}
 use Rattle.model.specs.Calls.{overwrite, outputGround, writeGrounds, writeBuffer}
 use Rattle.basics.proofs.BoundLaws.{length-tabulate}
-use Rattle.model.proofs.ListLaws.{overwrite-front}
+use Rattle.model.proofs.ListsInParts.{overwrite-front}
 use Rattle.basics.proofs.RefusalLaws.{refuse-first, refuse-append}
 use Rattle.model.proofs.BlockLaws.{checkOf-cong, block-unique, framed-is, blockOf-is}
 use Rattle.model.proofs.ContentLaws.{length-contents}
 use Rattle.model.proofs.FileLaws.{file-draft, file-blocks, length-draft, length-blocks}
 use Rattle.model.proofs.CallLaws.{Writable, write-over, write-behind, write-refused, write-answer, write-buffer}
-use Rattle.model.proofs.Acceptance.{Store, accepted-store, store-accepted}
+use Rattle.model.proofs.StoresAccepted.{Store, accepted-store, store-accepted}
 use Rattle.file_writing.specs.declared.Written.the-variants.{File, Refused}
 use Rattle.file_writing.specs.WriteAnswers.{CalledWrite}
 use Rattle.file_contents_writing.specs.Placed.{LongEnough}

@@ -29,7 +29,7 @@ use file_blocks::blocks_for;
 use file_blocks::checksum_of;
 use file_blocks::content_length;
 use file_blocks::copy_content;
-use file_contents_writing::join;
+use file_contents_writing::join_contents;
 use file_contents_writing::write_le16;
 
 pub enum Written {
@@ -71,7 +71,7 @@ fn write_file(store: &[u64], n: usize, g: usize, site: usize, blocks: usize, out
     ensures { λ r. ⌜ now (out .exit) ≡ overwrite (concat blocks (blockOf site (contents newForm (dialogueOf (now (store .entry)) n g)))) (now (out .entry)) ⌝ }
 {
     let mut bytes = [0u8; JOINED_ROOM];
-    join(store, n, g, &mut bytes);
+    join_contents(store, n, g, &mut bytes);
     write_blocks(&bytes, site, blocks, out);
 }
 

@@ -25,7 +25,7 @@ use Rattle.basics.specs.Refusals.{refuse}
 use Rattle.model.specs.Blocks.{blockBytes, checkAt, modulus, le16At, weighted, checkOf, blockGrounds}
 use Rattle.model.specs.Intact.{Intact, Block, DifferInOne, Exchanged, Detects}
 use Rattle.basics.proofs.BoundLaws.{or-true, not-true, is-false, decided, by-cond, lt-or-ge, below-suc, all-at}
-use Rattle.model.proofs.ListLaws.{getD-past}
+use Rattle.model.proofs.ListsInParts.{getD-past}
 
 -- ---- multiples of the modulus
 

@@ -24,7 +24,7 @@ use Rattle.basics.specs.Bounds.{concat}
 use Rattle.model.specs.Blocks.{blockBytes, contentBytes, contentAt, checkAt, modulus, le16, le16At, weighted, checkOf, blockOf, part, contentsOf}
 use Rattle.model.specs.RoundTrip.{Bounded}
 use Rattle.basics.proofs.BoundLaws.{lt-or-ge}
-use Rattle.model.proofs.ListLaws.{getD-behind, getD-past, Wide, length-concat, getD-concat, concat-cong, concat-parts}
+use Rattle.model.proofs.ListsInParts.{getD-behind, getD-past, Wide, length-concat, getD-concat, concat-cong, concat-parts}
 
 -- ---- numbers below a bound
 

@@ -34,8 +34,8 @@ use Rattle.model.specs.Files.{fileOf, fileLength, maxFile}
 use Rattle.model.specs.Calls.{overwrite, TableRead, statesIn, secondIn, groupsIn, badLength, badSecond, blocksGrounds, contentGrounds, fileGrounds, readGroundsAs, readAnswerAs, readBufferAs, outputGround, writeGrounds, writeAnswer, writeBuffer}
 use Rattle.basics.proofs.BoundLaws.{by-cond, decided, any-none, or-false, no-any}
 use Rattle.basics.proofs.RefusalLaws.{refuse-first, Clear, refuse-behind, clear-refuse, numbered, refuse-clear, clear-append, clear-concat, concat-clear, numbered-append, numbered-concat, answer-refused, answer-none, answered-clear, answered-value}
-use Rattle.model.proofs.StoreLaws.{nonZero-zero, zero-nonZero}
-use Rattle.model.proofs.Acceptance.{Store, accepted-store, store-accepted}
+use Rattle.model.proofs.StoresTables.{nonZero-zero, zero-nonZero}
+use Rattle.model.proofs.StoresAccepted.{Store, accepted-store, store-accepted}
 
 -- ---- write
 

@@ -1,12 +1,6 @@
--- Laws of contents: the bytes of a set and of a table, and what is read back from them. Bytes are read with 0 past the end, so that filler
--- is no special case.
+-- Laws of contents: the bytes of a table, and what is read back from them. Bytes are read with 0 past the end, so
+-- that filler is no special case.
 --
---   length-setBytes, getD-setBytes            the bytes of a set
---   number-none, number-append                a number made of tests none of which passes; in two parts
---   word-number, byte-number                  the words of a set, and a byte of a word, by the states
---   setIn-proper, member-setIn, setIn-below   the set that w bytes hold: its states, all of them below 8 w
---   number-setIn                              its bytes are those that it was read from
---   setIn-is                                  it is the set whose bytes they are
 --   heads-least, heads-most, added-most       how many sets stand before the groups, and what is added to g
 --   length-heads, heads-each                  those sets: how many, and a fact about each
 --   by-resting                                the resting states that contents hold: the third set of the new form
@@ -17,128 +11,26 @@
 --   header-pairs                              the two numbers read from a header make it again
 --   by-content                                a place in contents, by cases
 --   dialogueIn-row                               a state of the table has its row in the contents
-use Prim.Native.Nat.{ℕ, zero, suc, _+_, _*_, _-_, _/_, _%_, _^_, _≤_, _<_}
-use native.Mathlib.Nat.{le-refl, not-le-of-lt, suc-add, pow-succ', mul-assoc, mod-lt, add-zero, zero-add, add-assoc, div-add-mod}
+use Prim.Native.Nat.{ℕ, zero, suc, _+_, _*_, _-_, _/_, _%_, _≤_, _<_}
+use native.Mathlib.Nat.{add-assoc, div-add-mod}
 use native.Mathlib.Omega.{arith}
-use mathlib.Core.Path.{_≡_, refl, sym, ap, ap₂, _∙_, subst}
+use mathlib.Core.Path.{_≡_, refl, sym, ap, _∙_, subst}
 use mathlib.Core.Logic.{⊎-elim}
-use mathlib.Core.Bool.{Bool, false}
 use mathlib.Core.List.{List, [], _++_}
-use borrow.Author.Tests.{ltb-true, lt-ltb}
-use lib.Dec.{eqb, ltb}
-use lib.Pow.{field, mod-mod-pow, shr-shr}
+use borrow.Author.Tests.{lt-ltb}
 use lib.ListN.{length, getD, length-append, List·getD-append}
 use lib.Seq.{getD-append-add}
 use Rattle.basics.specs.Bounds.{tabulate, concat}
-use Rattle.model.specs.Sets.{WORDS, maxStates, Set, bit, member, number, empty}
+use Rattle.model.specs.Sets.{Set, member, number, empty}
 use Rattle.model.specs.Tables.{Dialogue}
 use Rattle.model.specs.Stores.{headSets, maxGroups}
 use Rattle.model.specs.Blocks.{le16, le16At}
-use Rattle.model.specs.Contents.{Form, oldForm, newForm, heads, added, setWidth, setBytes, headsOf, sets, headerBytes, contents, contentLength, setIn, setNumber, restingIn, dialogueIn}
+use Rattle.model.specs.Contents.{Form, oldForm, newForm, heads, added, setWidth, setBytes, headsOf, sets, headerBytes, contents, contentLength, setNumber, restingIn, dialogueIn}
 use Rattle.model.specs.RoundTrip.{Bounded}
-use Rattle.basics.proofs.BoundLaws.{and-true, is-false, lt-or-ge, length-tabulate, getD-tabulate}
-use Rattle.model.proofs.SetLaws.{bit-number, number-lt, member-setOf, Proper, setOf-proper, bits-eq, member-at, ext, In, setOf-in}
-use Rattle.model.proofs.ListLaws.{div-below, mod-below, Wide, length-concat, getD-concat}
+use Rattle.basics.proofs.BoundLaws.{lt-or-ge, length-tabulate, getD-tabulate}
+use Rattle.model.proofs.ListsInParts.{div-below, mod-below, Wide, length-concat, getD-concat}
 use Rattle.model.proofs.BlockLaws.{le16-le16At}
-
--- ---- the bytes of a set
-
-module _ (w : ℕ) (X : Set) where
-  pub length-setBytes : length (setBytes w X) ≡ w
-  unfolding setBytes
-  length-setBytes = length-tabulate _ w
-
-  pub getD-setBytes : (j : ℕ) → j < w → getD (setBytes w X) j 0 ≡ number (member X) (8 * j) 8
-  unfolding setBytes
-  getD-setBytes j h = getD-tabulate _ w j 0 h
-
--- ---- words and bytes
-
-pub number-none : (p : ℕ → Bool) (from count : ℕ) → ((s : ℕ) → from ≤ s → p s ≡ false) → number p from count ≡ 0
-unfolding number
-number-none p from zero f = refl
-number-none p from (suc count) f = rw (f from (le-refl from)) (omega (arith, number-none p (suc from) count (λ s h. f s (omega arith))))
-
-pub number-append : (p : ℕ → Bool) (from a b : ℕ) → number p from (a + b) ≡ number p from a + 2 ^ a * number p (from + a) b
-unfolding number
-number-append p from zero b = ap₂ (number p) (sym (add-zero from)) (zero-add b) ∙ omega arith
-number-append p from (suc a) b =
-    let rest = number p (from + suc a) b in
-    let place : suc from + a ≡ from + suc a = omega arith in
-    let power : 2 ^ suc a * rest ≡ 2 * (2 ^ a * rest) = ap (λ (x : ℕ). x * rest) (pow-succ' 2 a) ∙ mul-assoc 2 (2 ^ a) rest in
-    ap (number p from) (suc-add a b)
-    ∙ omega (arith, number-append p (suc from) a b, ap (λ (f : ℕ). 2 ^ a * number p f b) place)
-
--- the bits of c digits from a on
-bit-field : (x a c i : ℕ) → i < c → bit (x / 2 ^ a % 2 ^ c) i ≡ bit x (a + i)
-unfolding bit
-bit-field x a c i h =
-    let d = c - (i + 1) in
-    let digits : (d + 1) + i ≡ c = omega arith in
-    ap (λ (y : ℕ). eqb (y % 2) 1)
-    (ap (λ (m : ℕ). x / 2 ^ a % 2 ^ m / 2 ^ i) (sym digits) ∙ field (x / 2 ^ a) (d + 1) i)
-    ∙ ap (λ (y : ℕ). eqb y 1) (mod-mod-pow (x / 2 ^ a / 2 ^ i) d 1)
-    ∙ ap (λ (y : ℕ). eqb (y % 2) 1) (shr-shr x a i)
-
-pub word-number : (X : Set) → Proper X → (v : ℕ) → v < WORDS → getD X v 0 ≡ number (member X) (64 * v) 64
-word-number X x v h =
-    bits-eq 64 (getD X v 0) _ (x .fits v h) (number-lt (member X) (64 * v) 64)
-    (λ i l. sym (member-at X v i h l) ∙ sym (bit-number (member X) (64 * v) 64 i l))
-
-pub byte-number : (X : Set) (j : ℕ) → j < 8 * WORDS → getD X (j / 8) 0 / 2 ^ (8 * (j % 8)) % 256 ≡ number (member X) (8 * j) 8
-byte-number X j h =
-    let x = getD X (j / 8) 0 in
-    let a = 8 * (j % 8) in
-    bits-eq 8 (x / 2 ^ a % 256) _ (mod-lt (x / 2 ^ a) (omega arith)) (number-lt (member X) (8 * j) 8)
-    (λ i l.
-    let place : 64 * (j / 8) + (a + i) ≡ 8 * j + i = omega arith in
-    bit-field x a 8 i l
-    ∙ sym (member-at X (j / 8) (a + i) (omega arith) (omega arith))
-    ∙ ap (member X) place
-    ∙ sym (bit-number (member X) (8 * j) 8 i l))
-
--- ---- the set that bytes hold
-
--- a set of states below n has none from n up
-member-past : (X : Set) (n : ℕ) → ((r : ℕ) → In X r → r < n) → (s : ℕ) → n ≤ s → member X s ≡ false
-member-past X n below s h = is-false (member X s) (λ e. not-le-of-lt (below s (record { is = e })) h)
-
-module _ (bytes : List ℕ) (w at : ℕ) where
-  pub setIn-proper : Proper (setIn bytes w at)
-  unfolding setIn
-  setIn-proper = setOf-proper _
-
-  pub member-setIn : (s : ℕ) → s < maxStates → s < 8 * w → member (setIn bytes w at) s ≡ bit (getD bytes (at + s / 8) 0) (s % 8)
-  unfolding setIn
-  member-setIn s h l = member-setOf _ s ∙ rw (lt-ltb s maxStates h, lt-ltb s (8 * w) l)
-
-  pub setIn-below : (s : ℕ) → In (setIn bytes w at) s → s < 8 * w
-  unfolding setIn
-  setIn-below s h = ltb-true s (8 * w) (and-true (ltb s (8 * w)) _ (setOf-in _ h) .0)
-
-  -- the bytes of the set are those that it was read from
-  pub number-setIn : 8 * w ≤ maxStates → Bounded 256 bytes → (j : ℕ) → j < w → number (member (setIn bytes w at)) (8 * j) 8 ≡ getD bytes (at + j) 0
-  number-setIn fits u j h =
-      bits-eq 8 _ _ (number-lt (member (setIn bytes w at)) (8 * j) 8) (u (at + j))
-      (λ i l.
-      let byte : (8 * j + i) / 8 ≡ j = omega arith in
-      let place : (8 * j + i) % 8 ≡ i = omega arith in
-      bit-number (member (setIn bytes w at)) (8 * j) 8 i l
-      ∙ member-setIn (8 * j + i) (omega arith) (omega arith)
-      ∙ ap₂ (λ (b p : ℕ). bit (getD bytes (at + b) 0) p) byte place)
-
-  -- the set is the one whose bytes they are
-  pub setIn-is : (X : Set) → Proper X → ((s : ℕ) → In X s → s < 8 * w) → ((j : ℕ) → j < w → getD bytes (at + j) 0 ≡ number (member X) (8 * j) 8) → setIn bytes w at ≡ X
-  setIn-is X x below e =
-      ext (setIn bytes w at) X setIn-proper x
-      (λ s h. ⊎-elim
-      (λ l.
-      member-setIn s h l
-      ∙ ap (λ (b : ℕ). bit b (s % 8)) (e (s / 8) (omega arith))
-      ∙ bit-number (member X) (8 * (s / 8)) 8 (s % 8) (omega arith)
-      ∙ ap (member X) (div-add-mod s 8))
-      (λ l. member-past (setIn bytes w at) (8 * w) setIn-below s l ∙ sym (member-past X (8 * w) below s l))
-      (lt-or-ge s (8 * w)))
+use Rattle.model.proofs.SetsBytes.{length-setBytes, getD-setBytes}
 
 -- ---- the forms
 

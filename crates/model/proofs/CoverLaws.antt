@@ -1,7 +1,6 @@
 -- Laws of post, hold and covers: each by its members, and a cover as a closure.
 --
 --   in-notForbidden, notForbidden-in   the states not forbidden; notForbidden-within: they are states of the table
---   image-mono, image-proper           an image grows with the set, and is proper; image-inside: it is where all of its parts are
 --   in-post, post-in, post-mono        post by its members
 --   in-hold, hold-in, hold-mono        hold by its members; hold-within: they are states of the table
 --   cover-add-in, cover-add-out        adding Z to the list changes the cover of each state in Z to its meet with Z, and no other cover
@@ -13,18 +12,19 @@
 --   listed-closed, cover-closed        each listed set is closed, and so is each cover
 --   cover-extensive, cover-minimal     the cover of X is the least closed set around X; cover-mono, cover-proper, cover-within
 --   forwardStep-*, backwardStep-*      the steps of R and S are monotone, proper and within the states of the table
-use Prim.Native.Nat.{ℕ, zero, suc, _≤_, _<_}
+use Prim.Native.Nat.{ℕ, _≤_, _<_}
 use native.Mathlib.Omega.{arith}
 use mathlib.Core.Path.{_≡_, refl, sym, ap, subst}
 use mathlib.Core.Logic.{inl, inr, ⊎-elim}
 use mathlib.Core.Bool.{true, false, not}
 use mathlib.Core.List.{List, [], _∷_, List·Memᴰ, List·Memᴰ·head, List·Memᴰ·tail, List·Memᴰ·cases-cons, List·Memᴰ·not-nil}
-use Rattle.model.specs.Sets.{maxStates, Set, member, empty, union, meet, firstStates, image}
+use Rattle.model.specs.Sets.{maxStates, Set, member, meet, firstStates}
 use Rattle.model.specs.Tables.{Table, post, hold, coverOf, cover, notForbidden}
 use Rattle.model.specs.Rounds.{forwardStep, backwardStep}
 use Rattle.model.specs.Promises.{CoverIs}
 use Rattle.basics.proofs.BoundLaws.{not-true, by-cond, clash}
-use Rattle.model.proofs.SetLaws.{Proper, setOf-proper, In, in-bound, in-union, union-in, in-meet, meet-in, in-states, states-in, states-within, in-firstStates, firstStates-in, _⊆_, subset-in, in-subset, in-image, image-in}
+use Rattle.model.proofs.SetsMembers.{Proper, In, in-bound, in-union, union-in, in-meet, meet-in, in-states, states-in, states-within, in-firstStates, firstStates-in, _⊆_, subset-in, in-subset, in-image, image-in}
+use Rattle.model.proofs.SetsImages.{image-mono, image-inside, image-proper}
 
 -- ---- the states of the table
 
@@ -40,24 +40,6 @@ module _ (n : ℕ) (F : Set) where
   pub notForbidden-within : notForbidden n F ⊆ firstStates n
   unfolding notForbidden
   notForbidden-within = states-within n _
-
--- ---- images
-
-module _ (n : ℕ) (f : ℕ → Set) where
-  pub image-mono : (X Y : Set) → X ⊆ Y → image n f X ⊆ image n f Y
-  image-mono X Y i s h =
-      let w = image-in f X n h in
-      in-image f Y n (w .1) (i (w .0) (w .2)) (w .3)
-
-  pub image-inside : (X Y : Set) → ((x : ℕ) → In X x → f x ⊆ Y) → image n f X ⊆ Y
-  image-inside X Y i s h =
-      let w = image-in f X n h in
-      i (w .0) (w .2) s (w .3)
-
-pub image-proper : (n : ℕ) (f : ℕ → Set) (X : Set) → Proper (image n f X)
-unfolding image empty union
-image-proper zero f X = setOf-proper _
-image-proper (suc n) f X = by-cond Proper (member X n) _ _ (λ e. setOf-proper _) (λ e. image-proper n f X)
 
 -- ---- post and hold
 

@@ -7,14 +7,14 @@ use Prim.Native.Nat.{ℕ, zero, suc, _+_, _≤_, zero-le}
 use native.Mathlib.Nat.{not-suc-le-zero}
 use native.Mathlib.Omega.{arith}
 use mathlib.Core.Path.{_≡_, refl, sym, ap, ap₂, _∙_}
-use mathlib.Core.Bool.{Bool, true, false, cond}
+use mathlib.Core.Bool.{true, false, cond}
 use mathlib.Core.List.{List, [], _++_, append-nil}
 use borrow.Author.Tests.{le-ltb, eq-eqb, ne-eqb}
 use lib.Dec.{eqb}
 use lib.ListN.{length}
 use lib.Seq.{take-all}
-use Rattle.basics.specs.Bounds.{filter, tabulate}
-use Rattle.model.specs.Sets.{WORDS, maxStates, Set, member, empty, image, members, size}
+use Rattle.basics.specs.Bounds.{tabulate}
+use Rattle.model.specs.Sets.{WORDS, Set, empty, image, size}
 use Rattle.model.specs.Tables.{post}
 use Rattle.model.specs.Rounds.{iterate, forward, isSafe, roundOf, firstRound, safe, settle, rounds, run}
 use Rattle.model.specs.Paths.{shortest, hasPath, smallestPath}
@@ -24,18 +24,19 @@ use Rattle.model.specs.Blocks.{contentsOf}
 use Rattle.model.specs.Contents.{Form, newForm, heads, setIn, setNumber, dialogueIn}
 use Rattle.model.specs.Calls.{overwrite, Decision, decisionOf, decideBuffer, Shortest, pathFound, shortestGrounds, shortestAnswer, shortestBuffer, statesIn, blocksGrounds, contentGrounds, readGrounds, readAnswer, readBuffer}
 use Rattle.model.specs.Draft.{Draft}
-use Rattle.basics.proofs.BoundLaws.{is-false, length-tabulate, getD-tabulate}
-use Rattle.model.proofs.SetLaws.{setOf-cong, empty-in, firstStates-in}
+use Rattle.basics.proofs.BoundLaws.{length-tabulate, getD-tabulate}
+use Rattle.model.proofs.SetsMembers.{setOf-cong, empty-in, firstStates-in}
 use Rattle.model.proofs.Fixpoints.{backward-is}
-use Rattle.model.proofs.ListLaws.{getD-past}
+use Rattle.model.proofs.ListsInParts.{getD-past}
 use Rattle.basics.proofs.RefusalLaws.{refuse-first, refuse-behind, clear-refuse, answered-value}
 use Rattle.model.proofs.ContentLaws.{by-resting}
-use Rattle.model.proofs.StoreLaws.{setAt-empty, Holds, holds-layout}
+use Rattle.model.proofs.StoresTables.{setAt-empty, Holds, holds-layout}
 use Rattle.model.proofs.FileLaws.{file-draft, length-draft}
 use Rattle.model.proofs.RoundLaws.{isSafe-intro}
-use Rattle.model.proofs.Acceptance.{Store, accepted-store, store-accepted, well-formed, check-of}
+use Rattle.model.proofs.StoresAccepted.{Store, accepted-store, store-accepted, well-formed, check-of}
 use Rattle.model.proofs.CallLaws.{Writable, written, write-refused, write-behind, write-answer, write-buffer, blocks-clear, read-refused, behind-length, draft-refusal, read-answer, read-buffer, draft-says}
 use Rattle.model.proofs.RoundTrips.{round-trips}
+use Rattle.model.proofs.SetsCounted.{size-empty}
 
 -- ---- words that are 0
 
@@ -69,15 +70,6 @@ pub draft-layout : (form : Form) (bytes : List ℕ) → layout (dialogueIn form 
 draft-layout form bytes = holds-layout zeros (dialogueIn form bytes 0 0) (zeros-hold form bytes) ∙ take-all storeWords zeros (omega (arith, zeros-long))
 
 -- ---- the rounds and the path
-
-filter-none : (n : ℕ) (p : ℕ → Bool) → ((k : ℕ) → p k ≡ false) → filter n p ≡ []
-unfolding filter
-filter-none zero p f = refl
-filter-none (suc n) p f = rw (filter-none n p f, f n)
-
-size-empty : size empty ≡ 0
-unfolding size members
-size-empty = ap length (filter-none maxStates (member empty) (λ s. is-false (member empty s) (λ e. empty-in (record { is = e }))))
 
 module _ (store : List ℕ) (held : Store store 0 0) where
   draft-safe : isSafe (tableOf store 0 0) (firstRound (tableOf store 0 0)) ≡ true

@@ -21,7 +21,7 @@ use Rattle.model.specs.Blocks.{blockBytes, contentBytes, contentAt, bloc
 use Rattle.model.specs.Contents.{Form, heads, setWidth, contents, contentLength}
 use Rattle.model.specs.Files.{blockFile, blockFileLength, fileOf, fileLength, maxFile}
 use Rattle.basics.proofs.BoundLaws.{by-cond, decided, lt-or-ge}
-use Rattle.model.proofs.ListLaws.{getD-past, Wide, length-concat, part-concat}
+use Rattle.model.proofs.ListsInParts.{getD-past, Wide, length-concat, part-concat}
 use Rattle.model.proofs.BlockLaws.{blockOf-is, length-contentsOf, getD-contentsOf}
 use Rattle.model.proofs.ContentLaws.{heads-most, length-contents}
 

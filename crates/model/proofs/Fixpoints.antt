@@ -19,8 +19,8 @@ use Rattle.model.specs.Tables.{Table, notForbidden}
 use Rattle.model.specs.Rounds.{iterate, eliminationStep, eliminated, backwardNumber}
 use Rattle.model.specs.Promises.{IsLeast, IsGreatest, BackwardIs}
 use Rattle.basics.proofs.BoundLaws.{first-found, first-before, first-le}
-use Rattle.model.proofs.SetLaws.{Proper, setOf-proper, empty-in, meet-in, _⊆_, subset-in, in-subset, same-set, same-eq, eq-same, ⊆-of-eq, states-within}
-use Rattle.model.proofs.Counting.{size-bound, all-or-fewer}
+use Rattle.model.proofs.SetsMembers.{Proper, setOf-proper, empty-in, meet-in, _⊆_, subset-in, in-subset, same-set, same-eq, eq-same, ⊆-of-eq, states-within}
+use Rattle.model.proofs.SetsCounted.{size-bound, all-or-fewer}
 
 -- ---- chains
 

@@ -14,7 +14,7 @@ use Rattle.model.specs.Sets.{maxStates, Set, member, single, union, firs
 use Rattle.model.specs.Tables.{Dialogue, isDeadEnd, isHang, hangs, tableFrom}
 use Rattle.model.specs.Resting.{Dead, rested, ForbiddenIs}
 use Rattle.basics.proofs.BoundLaws.{and-true, and-intro, not-true, is-false, clash, decided, same-test, any-intro, no-any}
-use Rattle.model.proofs.SetLaws.{Proper, setOf-proper, In, in-bound, single-in, in-union, union-in, in-states, states-in, states-within, same-set, _⊆_}
+use Rattle.model.proofs.SetsMembers.{In, in-bound, single-in, in-union, union-in, in-states, states-in, states-within, same-set, _⊆_, union-proper}
 
 -- ---- dead ends and hangs
 
@@ -46,10 +46,6 @@ module _ (n : ℕ) (row : ℕ → Set) (resting : Set) where
       (parts .0, both .0, not-true (member resting s) (both .1))
 
 -- ---- the forbidden states of a dialogue's table
-
-union-proper : (X Y : Set) → Proper (union X Y)
-unfolding union
-union-proper X Y = setOf-proper _
 
 module _ (d : Dialogue) where
   abbrev forbiddenWith : Set → Set

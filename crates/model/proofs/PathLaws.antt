@@ -32,8 +32,8 @@ use Rattle.model.specs.Tables.{Table}
 use Rattle.model.specs.Paths.{leads, isPath, reaching, unreachable, distance, shortest, hasPath, walk, smallestPath}
 use Rattle.model.specs.Promises.{LexLe, IsSmallest}
 use Rattle.basics.proofs.BoundLaws.{and-true, and-intro, is-false, clash, by-cond, first-passes, first-least, lt-or-ge}
-use Rattle.model.proofs.SetLaws.{In, in-bound, in-or-out, in-union, union-in, in-meet, meet-in, in-states, states-in, in-firstStates, firstStates-in, _⊆_, in-meets, meets-in, smallest-le, smallest-in}
-use Rattle.model.proofs.Counting.{size-lt, size-bound, size-pos}
+use Rattle.model.proofs.SetsMembers.{In, in-bound, in-or-out, in-union, union-in, in-meet, meet-in, in-states, states-in, in-firstStates, firstStates-in, _⊆_, in-meets, meets-in, smallest-le, smallest-in}
+use Rattle.model.proofs.SetsCounted.{size-lt, size-bound, size-pos}
 use Rattle.model.specs.WellFormed.{WellFormed}
 
 -- ---- general laws

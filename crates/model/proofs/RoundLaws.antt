@@ -34,7 +34,7 @@ use Rattle.model.specs.Rounds.{iterate, forwardStep, forward, backwardSt
 use Rattle.model.specs.Paths.{leads, isPath}
 use Rattle.model.specs.Promises.{IsLeast, IsGreatest, roundAt, IsFirst, IsNext, IsRound, Continues, FirstStop, IsInvariant}
 use Rattle.basics.proofs.BoundLaws.{and-true, and-intro, not-true, is-false, clash, decided, by-cond, lt-or-ge, below-suc}
-use Rattle.model.proofs.SetLaws.{In, in-or-out, in-union, union-in, in-meet, meet-in, in-firstStates, firstStates-in, _⊆_, ⊆-of-eq, subset-in, in-subset, subset-not}
+use Rattle.model.proofs.SetsMembers.{In, in-or-out, in-union, union-in, in-meet, meet-in, in-firstStates, firstStates-in, _⊆_, ⊆-of-eq, subset-in, in-subset, subset-not}
 use Rattle.model.proofs.Fixpoints.{from-below, from-above, greatest-post, eliminated-mono, eliminated-within, backward-is}
 use Rattle.model.proofs.CoverLaws.{in-notForbidden, notForbidden-in, notForbidden-within, in-post, post-in, in-hold, hold-in, hold-within, Closed, listed-closed, cover-closed, cover-extensive, cover-minimal, forwardStep-mono, forwardStep-proper, forwardStep-within, backwardStep-mono, backwardStep-proper, backwardStep-within}
 use Rattle.model.specs.WellFormed.{WellFormed}

@@ -32,13 +32,14 @@ use Rattle.model.specs.Files.{blockFile, blockFileLength, fileOf, fileLe
 use Rattle.model.specs.Calls.{overwrite, TableRead, statesIn, secondIn, groupsIn, readGroundsAs, readGrounds, readAnswerAs, readBufferAs, readBuffer, writeBuffer}
 use Rattle.model.specs.RoundTrip.{Bounded, WriteRead, ReadWrite, RoundTrips, FileSizes}
 use Rattle.basics.proofs.BoundLaws.{by-cond, lt-or-ge, length-tabulate, getD-tabulate}
-use Rattle.model.proofs.SetLaws.{In, empty-in}
-use Rattle.model.proofs.ListLaws.{getD-past, concat-cong, length-overwrite, take-overwrite}
+use Rattle.model.proofs.SetsMembers.{In, empty-in, empty-proper}
+use Rattle.model.proofs.ListsInParts.{getD-past, concat-cong, length-overwrite, take-overwrite}
 use Rattle.model.proofs.BlockLaws.{le16At-le16, IsBlock, block-unique, block-number, block-check, is-block, blockOf-is, length-part, part-bounded, concat-part, length-contentsOf, getD-contentsOf, contentsOf-bounded}
-use Rattle.model.proofs.ContentLaws.{setIn-proper, setIn-below, dialogueIn-row, number-setIn, setIn-is, added-most, heads-least, heads-each, sets-group, sets-row, sets-each, by-resting, length-contents, contents-header, contents-set, contents-cong, header-pairs, by-content}
+use Rattle.model.proofs.SetsBytes.{setIn-proper, setIn-below, number-setIn, setIn-is}
+use Rattle.model.proofs.ContentLaws.{dialogueIn-row, added-most, heads-least, heads-each, sets-group, sets-row, sets-each, by-resting, length-contents, contents-header, contents-set, contents-cong, header-pairs, by-content}
 use Rattle.model.proofs.FileLaws.{length-blockFile, part-blockFile, contentsOf-blockFile, file-draft, file-blocks, length-draft, length-blocks, length-fileOf, fileLength-most}
-use Rattle.model.proofs.StoreLaws.{setAt-proper, dialogueOf-row, empty-proper, setAt-empty, Holds, holds-layout, Laid, length-layout, overwrite-holds, holds-sets, Within, beyond-below, below-beyond, malformed-clean, clean-malformed, holds-clean}
-use Rattle.model.proofs.Acceptance.{Store}
+use Rattle.model.proofs.StoresTables.{setAt-proper, dialogueOf-row, setAt-empty, Holds, holds-layout, Laid, length-layout, overwrite-holds, holds-sets, Within, beyond-below, below-beyond, malformed-clean, clean-malformed, holds-clean}
+use Rattle.model.proofs.StoresAccepted.{Store}
 use Rattle.model.proofs.CallLaws.{Writable, written, write-answer, write-buffer, Readable, read-none, readable, draft-refusal, readable-refusal, read-answer, read-buffer, no-bytes, draft-says}
 
 -- ---- the file of a table, read

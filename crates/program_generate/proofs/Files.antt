@@ -24,7 +24,7 @@ use Rattle.call_generate.specs.declared.Generated.{Generated}
 use Rattle.call_generate.specs.declared.Generated.the-variants.{Filled, Refused}
 use Rattle.call_generate.specs.Load.{loadFrom, load, generateGrounds, generateAnswer}
 use Rattle.call_generate.specs.GenerateAnswers.{generatedOf, CalledGenerate}
-use Rattle.call_generate.proofs.Generating.{accepted-load}
+use Rattle.call_generate.proofs.GenerateAnswered.{accepted-load}
 use Rattle.call_generate.proofs.LoadsKept.{loads}
 use Rattle.program_generate.specs.LoadFile.{fileMade, fileBuffer}
 

@@ -15,7 +15,7 @@ use Rattle.core_report.specs.Text.{refusedText, textOf}
 use Rattle.core_report.specs.Put.{Front}
 use Rattle.theorems_rewriting.specs.Rewriting.{newFile}
 use Rattle.call_rewrite.specs.RewriteAnswers.{rewriteAnswer, rewriteBuffer}
-use Rattle.call_rewrite.proofs.Answers.{answered-old, refused-old}
+use Rattle.call_rewrite.proofs.RewriteAnswered.{answered-old, refused-old}
 use Rattle.program_rewrite.specs.RewriteText.{rewriteText}
 
 module _ (input before : List ℕ) {after : List ℕ} (b : after ≡ rewriteBuffer input before) where

@@ -15,16 +15,16 @@ use Rattle.model.specs.Blocks.{maxSite}
 use Rattle.model.specs.Contents.{oldForm}
 use Rattle.model.specs.Calls.{decideGrounds, decideAnswer, shortestGrounds, shortestAnswer, readAnswerAs, readGroundsAs, writeGrounds, writeAnswer}
 use Rattle.model.proofs.CallLaws.{read-numbered}
-use Rattle.model.proofs.Ranges.{read-range}
+use Rattle.model.proofs.RangesOfAnswers.{read-range}
 use Rattle.call_paths.specs.Within.{withinAnswer}
 use Rattle.call_distances.specs.Distances.{distancesGrounds, distancesAnswer}
-use Rattle.core_rounds.specs.OrderAnswers.{orderAnswer}
+use Rattle.call_first_order.specs.OrderAnswers.{orderAnswer}
 use Rattle.call_generate.specs.Load.{generateGrounds, generateAnswer}
 use Rattle.call_replay.specs.Logs.{replayGrounds, replayAnswer}
 use Rattle.call_edit_session.specs.Edits.{editGrounds, openAnswer, editAnswer}
 use Rattle.call_modal.specs.Modal.{possibleWords, modalGrounds, modalAnswer}
 use Rattle.call_release_windows.specs.WindowAnswers.{Opening, minute, never, span, grounds, waiting, nextOpenAnswer}
-use Rattle.call_release_windows.proofs.Answering.{sound-answer, opens, shuts}
+use Rattle.call_release_windows.proofs.WindowsAnswered.{sound-answer, opens, shuts}
 use Rattle.call_check.specs.CheckAnswers.{checkAnswer}
 use Rattle.call_rewrite.specs.RewriteAnswers.{rewriteGrounds, rewriteAnswer}
 use Rattle.shuntberry_fields.specs.Fields.{noTable, noMinute}

@@ -1,3 +1,3 @@
-pub mod Answering
+pub mod FieldsAnswered
 pub mod FailsSafeKept
 pub mod FiguresKept

@@ -20,7 +20,7 @@ use Rattle.model.specs.Contents.{Form}
 use Rattle.model.specs.Calls.{decideAnswer, shortestAnswer, TableRead, readAnswerAs, readAnswer, writeAnswer}
 use Rattle.call_paths.specs.Within.{withinAnswer}
 use Rattle.call_distances.specs.Distances.{distancesAnswer}
-use Rattle.core_rounds.specs.OrderAnswers.{orderAnswer}
+use Rattle.call_first_order.specs.OrderAnswers.{orderAnswer}
 use Rattle.call_generate.specs.Load.{generateAnswer}
 use Rattle.call_replay.specs.Logs.{replayAnswer}
 use Rattle.call_edit_session.specs.Edits.{Edit, openAnswer, editAnswer}

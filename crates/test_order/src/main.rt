@@ -4,9 +4,9 @@
 ghost use Prim.Native.Nat.{_/_, _<_};
 ghost use Rattle.model.specs.Sets.{maxStates};
 ghost use Rattle.model.specs.Stores.{maxGroups};
+use call_first_order::Expansion;
+use call_first_order::first_order;
 use core_fixpoints::Order;
-use core_rounds::Expansion;
-use core_rounds::first_order;
 use core_state_set::MAX_STATES;
 use core_table::MAX_GROUPS;
 use core_table::STORE_WORDS;

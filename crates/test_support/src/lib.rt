@@ -102,7 +102,7 @@ fn digit(digits: &[u8], i: usize) -> usize {
     b - 48
 }
 
-fn put_set(store: &mut [u64], at: usize, digits: &[u8]) {
+fn put_digits(store: &mut [u64], at: usize, digits: &[u8]) {
     for i in 0..digits.len() {
         add(store, at, digit(digits, i));
     }
@@ -119,8 +119,8 @@ fn put_steps(store: &mut [u64], pairs: &[u8]) {
 
 // A table of at most ten states, without groups and resting states: its initial and its marked states, as b"03", and its steps, as b"01 12".
 pub fn put_table(store: &mut [u64], first: &[u8], last: &[u8], steps: &[u8]) {
-    put_set(store, 0, first);
-    put_set(store, MARKED_AT, last);
+    put_digits(store, 0, first);
+    put_digits(store, MARKED_AT, last);
     put_steps(store, steps);
 }
 

@@ -16,17 +16,17 @@ use Rattle.model.specs.Paths.{distance}
 use Rattle.model.specs.Stores.{tableOf, sharedGrounds, AcceptedStore}
 use Rattle.model.specs.Contents.{newForm}
 use Rattle.model.specs.Calls.{overwrite, TableRead as ReadAnswer, statesIn, groupsIn}
-use Rattle.model.proofs.Acceptance.{Store, accepted-store, store-accepted}
+use Rattle.model.proofs.StoresAccepted.{Store, accepted-store, store-accepted}
 use Rattle.model.proofs.CallLaws.{readable, read-none, read-buffer}
 use Rattle.model.proofs.RoundTrips.{taken, filled-held}
 use Rattle.call_paths.specs.Within.{withinAnswer}
 use Rattle.call_distances.specs.Distances.{distancesGrounds, distancesAnswer, distancesBuffer}
-use Rattle.core_rounds.specs.OrderAnswers.{orderAnswer}
+use Rattle.call_first_order.specs.OrderAnswers.{orderAnswer}
 use Rattle.call_generate.proofs.LoadsKept.{accepts, loads}
 use Rattle.call_replay.specs.Logs.{entryBytes, maxLog, logGrounds, replayGrounds, replayAnswer}
 use Rattle.call_edit_session.specs.Edits.{source, target, stateGround, editGrounds, openAnswer, editAnswer}
 use Rattle.call_modal.specs.Modal.{modalGrounds, modalAnswer}
-use Rattle.call_modal.proofs.Grounds.{accepting as modal-clear}
+use Rattle.call_modal.proofs.ModalGrounds.{accepting as modal-clear}
 use Rattle.theorems_calls.specs.Accepting.{Accepting, EveryCall, ExactPlaces}
 
 module _ (store : List ℕ) (n g : ℕ) (e : AcceptedStore store n g) where

@@ -7,10 +7,10 @@ use Rattle.basics.specs.Refusals.{Ground, refuse, answer}
 use Rattle.model.specs.Stores.{malformed, badStates, storeGround, sharedGrounds}
 use Rattle.model.specs.Blocks.{siteGround, blockGrounds}
 use Rattle.model.specs.Calls.{decideGrounds, decideAnswer, shortestGrounds, shortestAnswer, badLength, badSecond, blocksGrounds, contentGrounds, fileGrounds, readGroundsAs, readAnswerAs, writeGrounds, writeAnswer}
-use Rattle.model.proofs.StoreLaws.{beyond-below, below-beyond, nonZero-zero, zero-nonZero}
+use Rattle.model.proofs.StoresTables.{beyond-below, below-beyond, nonZero-zero, zero-nonZero}
 use Rattle.call_paths.specs.Within.{withinAnswer}
 use Rattle.call_distances.specs.Distances.{distancesGrounds, distancesAnswer}
-use Rattle.core_rounds.specs.OrderAnswers.{orderAnswer}
+use Rattle.call_first_order.specs.OrderAnswers.{orderAnswer}
 use Rattle.call_generate.specs.Load.{generateGrounds, generateAnswer}
 use Rattle.call_replay.specs.Logs.{replayGrounds, replayAnswer}
 use Rattle.call_edit_session.specs.Edits.{source, target, openAnswer, editGrounds, editAnswer}

@@ -10,7 +10,7 @@ use Rattle.model.specs.Sets.{maxStates}
 use Rattle.model.specs.Stores.{storeWords}
 use Rattle.model.specs.Contents.{oldForm}
 use Rattle.model.specs.Calls.{overwrite, release, Decision, TableRead, statesIn, groupsIn, readGroundsAs, readAnswer, readBuffer, decideAnswer, decideBuffer}
-use Rattle.model.proofs.ListLaws.{length-overwrite, take-overwrite, drop-overwrite}
+use Rattle.model.proofs.ListsInParts.{length-overwrite, take-overwrite, drop-overwrite}
 use Rattle.model.proofs.CallLaws.{read-numbered}
 use Rattle.file_writing.specs.declared.Written.{Written}
 use Rattle.file_writing.specs.WriteAnswers.{writtenOf}
@@ -18,7 +18,7 @@ use Rattle.call_check.specs.CheckText.{zeroStore, zeroPath, andThen, checkTable
 use Rattle.theorems_rewriting.specs.Rewriting.{OldFile, newFile}
 use Rattle.theorems_rewriting.proofs.Rewritten.{rewriting}
 use Rattle.call_rewrite.specs.RewriteAnswers.{rewriteGrounds, rewriteAnswer, rewriteBuffer, CalledRewrite}
-use Rattle.call_rewrite.proofs.Answers.{answered-old}
+use Rattle.call_rewrite.proofs.RewriteAnswered.{answered-old}
 use Rattle.theorems_calls.specs.RewriteCalls.{oldDecision, pathAfter, Rewrites, RewriteCalls}
 
 -- ---- what rewrite gave

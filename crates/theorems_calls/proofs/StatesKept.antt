@@ -6,9 +6,9 @@ use borrow.Author.Tests.{lt-ltb}
 use lib.ListN.{length}
 use Rattle.model.specs.Sets.{WORDS, maxStates, Set}
 use Rattle.model.specs.RoundTrip.{Bounded}
-use Rattle.model.proofs.SetLaws.{Proper, member-setOf, ext}
+use Rattle.model.proofs.SetsMembers.{Proper, member-setOf, ext}
 use Rattle.model.proofs.HangLaws.{forbidden-is}
-use Rattle.core_state_set.proofs.Counts.{size-ones}
+use Rattle.core_state_set.proofs.SetsOnes.{size-ones}
 use Rattle.theorems_calls.specs.States.{States}
 
 proper : {X : Set} → length X ≡ WORDS → Bounded (2 ^ 64) X → Proper X

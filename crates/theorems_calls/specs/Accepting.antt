@@ -18,7 +18,7 @@ use Rattle.model.specs.Calls.{TableRead as ReadAnswer}
 use Rattle.call_paths.specs.Within.{withinAnswer}
 use Rattle.call_distances.specs.declared.DistancesAnswer.{DistancesAnswer}
 use Rattle.call_distances.specs.Distances.{distancesAnswer, distancesOf, CalledDistances}
-use Rattle.core_rounds.specs.OrderAnswers.{OrderAnswer, orderAnswer}
+use Rattle.call_first_order.specs.OrderAnswers.{OrderAnswer, orderAnswer}
 use Rattle.file_reading.specs.declared.TableRead.{TableRead}
 use Rattle.file_reading.specs.ReadAnswers.{readOf, CalledRead}
 use Rattle.call_generate.specs.declared.Generated.{Generated}

@@ -22,7 +22,7 @@ use Rattle.model.specs.Files.{fileLength}
 use Rattle.model.specs.Calls.{decideGrounds, decideAnswer, shortestGrounds, shortestAnswer, statesIn, secondIn, blocksGrounds, readGroundsAs, readAnswerAs, writeGrounds, writeAnswer}
 use Rattle.call_paths.specs.Within.{withinAnswer}
 use Rattle.call_distances.specs.Distances.{distancesGrounds, distancesAnswer}
-use Rattle.core_rounds.specs.OrderAnswers.{orderAnswer}
+use Rattle.call_first_order.specs.OrderAnswers.{orderAnswer}
 use Rattle.call_generate.specs.Load.{generateGrounds, generateAnswer}
 use Rattle.call_replay.specs.Logs.{replayGrounds, replayAnswer}
 use Rattle.call_edit_session.specs.Edits.{Edit, source, target, openAnswer, editGrounds, editAnswer}

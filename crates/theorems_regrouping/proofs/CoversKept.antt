@@ -14,7 +14,7 @@ use mathlib.Core.List.{List, [], _∷_, _++_, List·Memᴰ, List·Memᴰ·head, 
 use Rattle.model.specs.Sets.{Set, member, union, meet, states, firstStates}
 use Rattle.model.specs.Tables.{coverOf}
 use Rattle.basics.proofs.BoundLaws.{by-cond}
-use Rattle.model.proofs.SetLaws.{Proper, setOf-proper, in-union, union-in, in-meet, meet-in, _⊆_, same-set}
+use Rattle.model.proofs.SetsMembers.{Proper, setOf-proper, in-union, union-in, in-meet, meet-in, _⊆_, same-set}
 use Rattle.model.proofs.CoverLaws.{in-coverOf, coverOf-within, Closed, listed-closed}
 use Rattle.theorems_regrouping.specs.Regrouping.{SameCovers, Rewriting, reordered, repeated, with-union, with-overlap, undone, followed}
 

@@ -22,8 +22,8 @@ use Rattle.model.specs.Stores.{tableOf, AcceptedStore}
 use Rattle.model.specs.Calls.{overwrite, Decision, decideLimits, decideGrounds, decisionOf, decideAnswer, decideBuffer}
 use Rattle.model.specs.Promises.{Carries, SameAnswer}
 use Rattle.basics.proofs.RefusalLaws.{answer-cong}
-use Rattle.model.proofs.Acceptance.{accepted-store, store-accepted}
-use Rattle.model.proofs.Kept.{promises}
+use Rattle.model.proofs.StoresAccepted.{accepted-store, store-accepted}
+use Rattle.model.proofs.PromisesKept.{promises}
 use Rattle.theorems_regrouping.specs.Regrouping.{Alike, SameCovers, firstList, SameDecisions, Regrouping}
 use Rattle.theorems_regrouping.proofs.CoversKept.{rewriting-same}
 use Rattle.theorems_regrouping.proofs.RoundsKept.{regroup, covers-add, run-same, shortest-same, smallest-same}

@@ -15,7 +15,7 @@ use Rattle.model.specs.Sets.{Set, member, empty, union, meet, meets, states, sm
 use Rattle.model.specs.Tables.{Table, hold, coverOf, cover}
 use Rattle.model.specs.Rounds.{iterate, Round, forwardStep, forward, backwardStep, backward, roundOf, firstRound, nextRound, isSafe, isUnsafe, Outcome, undecided, settle, rounds, run}
 use Rattle.model.specs.Paths.{reaching, shortest, walk, smallestPath}
-use Rattle.model.proofs.ImageLaws.{image-cong}
+use Rattle.model.proofs.SetsImages.{image-cong}
 use Rattle.theorems_regrouping.specs.Regrouping.{SameCovers, firstList}
 
 abbrev pub regroup : Table → List Set → Table

@@ -28,13 +28,14 @@ use Rattle.model.specs.Calls.{overwrite, maxAllowance, Decision, decideGrounds,
 use Rattle.model.specs.Resting.{Dead}
 use Rattle.model.specs.RoundTrip.{WriteRead}
 use Rattle.basics.proofs.BoundLaws.{clash, same-test, getD-tabulate}
-use Rattle.model.proofs.SetLaws.{Proper, setOf-proper, In, in-bound, in-union, union-in, in-states, states-in, same-set}
+use Rattle.model.proofs.SetsMembers.{Proper, setOf-proper, In, in-bound, in-union, union-in, in-states, states-in, same-set}
 use Rattle.model.proofs.HangLaws.{dead-none, none-dead, hangs-in}
-use Rattle.model.proofs.ListLaws.{length-overwrite}
+use Rattle.model.proofs.ListsInParts.{length-overwrite}
 use Rattle.basics.proofs.RefusalLaws.{clear-refuse, answer-none}
-use Rattle.model.proofs.ContentLaws.{setIn-proper, dialogueIn-row, heads-each, sets-each}
-use Rattle.model.proofs.StoreLaws.{Holds, Laid, length-layout, overwrite-holds, holds-layout, Within, beyond-below, below-beyond, clean-malformed, holds-clean, holds-dialogue}
-use Rattle.model.proofs.Acceptance.{Store, accepted-store, store-accepted}
+use Rattle.model.proofs.SetsBytes.{setIn-proper}
+use Rattle.model.proofs.ContentLaws.{dialogueIn-row, heads-each, sets-each}
+use Rattle.model.proofs.StoresTables.{Holds, Laid, length-layout, overwrite-holds, holds-layout, Within, beyond-below, below-beyond, clean-malformed, holds-clean, holds-dialogue}
+use Rattle.model.proofs.StoresAccepted.{Store, accepted-store, store-accepted}
 use Rattle.model.proofs.RoundTrips.{Storable, Taken, taken, many-groups, laid, file-read, new-read, storable as form-storable}
 use Rattle.theorems_rewriting.specs.Rewriting.{deadEnds, rewritten, oldTable, OldFile, oldDialogue, newFile, OldFileDecisions, OldFileRewriting}
 

@@ -12,8 +12,8 @@ use Rattle.model.specs.Contents.{Form, newForm, dialogueIn}
 use Rattle.model.specs.Files.{fileOf, fileLength}
 use Rattle.model.specs.Calls.{overwrite, TableRead as ReadAnswer, readAnswerAs, readBufferAs, writeAnswer, writeBuffer}
 use Rattle.basics.proofs.BoundLaws.{length-tabulate}
-use Rattle.model.proofs.ListLaws.{length-overwrite, take-overwrite, drop-overwrite}
-use Rattle.model.proofs.StoreLaws.{length-layout}
+use Rattle.model.proofs.ListsInParts.{length-overwrite, take-overwrite, drop-overwrite}
+use Rattle.model.proofs.StoresTables.{length-layout}
 use Rattle.model.proofs.CallLaws.{written, write-buffer, readable, read-none}
 use Rattle.model.proofs.RoundTrips.{laid, file-sizes}
 use Rattle.theorems_round_trip.specs.Buffers.{CallsFill}

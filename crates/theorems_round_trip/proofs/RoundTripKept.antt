@@ -11,7 +11,7 @@ use Rattle.model.specs.Calls.{readGroundsAs, readAnswerAs, readBufferAs, readAn
 use Rattle.model.proofs.BlockLaws.{length-part}
 use Rattle.model.proofs.CallLaws.{written}
 use Rattle.model.proofs.RoundTrips.{round-trips}
-use Rattle.model.proofs.Kept.{untouched}
+use Rattle.model.proofs.PromisesKept.{untouched}
 use Rattle.model.proofs.SiteLaws.{sites}
 use Rattle.theorems_round_trip.specs.RoundTripCalls.{CallsRoundTrip, CallsForeign, CallsRefused}
 

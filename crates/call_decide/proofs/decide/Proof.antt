@@ -5,11 +5,11 @@ use native.Mathlib.Omega.{arith}
 use borrow.Author.Needs.{needs}
 use lib.ListN.{length}
 use Rattle.model.specs.Sets.{maxStates}
-use Rattle.model.proofs.Acceptance.{Store}
-use Rattle.core_table.proofs.Parts.{rows-long, groups-long}
+use Rattle.model.proofs.StoresAccepted.{Store}
+use Rattle.core_rows.proofs.RowsLent.{rows-long, groups-long}
 use Rattle.call_paths.proofs.Groups.{holds-table, store-path}
 use Rattle.core_rounds.specs.declared.Ending.the-variants.{Safe, Unsafe, Undecided}
-use Rattle.call_decide.proofs.Deciding.{ended-is, refused-answer, accepted, safe-answer, unsafe-answer, undecided-answer}
+use Rattle.call_decide.proofs.DecideAnswered.{ended-is, refused-answer, accepted, safe-answer, unsafe-answer, undecided-answer}
 use Rattle.call_decide.proofs.decide.Statement.{statement}
 use Rattle.call_decide.proofs.decide.Tie as tie
 

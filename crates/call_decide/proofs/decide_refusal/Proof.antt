@@ -2,7 +2,7 @@
 use borrow.Author.Needs.{needs}
 use borrow.Author.Tests.{lt-ltb, le-ltb}
 use Rattle.basics.proofs.RefusalLaws.{refuse-first}
-use Rattle.call_decide.proofs.Deciding.{refuse-shared, behind-shared}
+use Rattle.call_decide.proofs.DecideAnswered.{refuse-shared, behind-shared}
 use Rattle.call_decide.proofs.decide_refusal.Statement.{statement}
 use Rattle.call_decide.proofs.decide_refusal.Tie as tie
 

@@ -6,12 +6,12 @@ use borrow.Author.Needs.{needs}
 use borrow.Author.Tests.{not-false}
 use Rattle.model.specs.Sets.{maxStates, empty, difference}
 use Rattle.basics.proofs.BoundLaws.{not-true}
-use Rattle.core_state_set.proofs.Words.{proper}
-use Rattle.core_table.specs.Rows.{tableOn}
-use Rattle.core_table.proofs.Parts.{row-in}
+use Rattle.core_state_set.proofs.SetsWords.{proper}
+use Rattle.core_rows.specs.Rows.{tableOn}
+use Rattle.core_rows.proofs.RowsLent.{row-in}
 use Rattle.call_paths.specs.Search.{steppingInto}
-use Rattle.call_distances.proofs.Transposed.{stepping-new}
-use Rattle.call_distances.proofs.Layers.{Swept, swept-start, swept-turn, swept-end}
+use Rattle.call_distances.proofs.RowsTransposed.{stepping-new}
+use Rattle.call_distances.proofs.DistanceLayers.{Swept, swept-start, swept-turn, swept-end}
 use Rattle.call_distances.proofs.all_distances.Statement.{statement}
 use Rattle.call_distances.proofs.all_distances.Tie as tie
 

@@ -1,11 +1,11 @@
 -- `distances`: the grounds in their order, then the distances of the first n states.
 use native.Mathlib.Omega.{arith}
 use borrow.Author.Needs.{needs}
-use Rattle.model.proofs.SetLaws.{empty-in}
-use Rattle.model.proofs.Acceptance.{Store}
+use Rattle.model.proofs.SetsMembers.{empty-in}
+use Rattle.model.proofs.StoresAccepted.{Store}
 use Rattle.call_paths.proofs.Groups.{holds-states}
-use Rattle.call_paths.proofs.Answers.{accepted}
-use Rattle.call_distances.proofs.Answers.{distances-refused, distances-short, distances-written}
+use Rattle.call_paths.proofs.PathsAnswered.{accepted}
+use Rattle.call_distances.proofs.DistancesAnswered.{distances-refused, distances-short, distances-written}
 use Rattle.call_distances.proofs.distances.Statement.{statement}
 use Rattle.call_distances.proofs.distances.Tie as tie
 

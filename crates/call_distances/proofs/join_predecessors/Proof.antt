@@ -4,7 +4,7 @@ use native.Mathlib.Nat.{le-antisymm}
 use mathlib.Core.Path.{_≡_, ap, _∙_}
 use borrow.Author.Needs.{needs}
 use Rattle.call_distances.specs.Transposing.{predecessorRows}
-use Rattle.call_distances.proofs.Transposed.{transposed-turn}
+use Rattle.call_distances.proofs.RowsTransposed.{transposed-turn}
 use Rattle.call_distances.proofs.join_predecessors.Statement.{statement}
 use Rattle.call_distances.proofs.join_predecessors.Tie as tie
 

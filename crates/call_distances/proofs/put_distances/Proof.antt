@@ -4,7 +4,7 @@ use mathlib.Core.Path.{refl}
 use borrow.Author.Needs.{needs}
 use lib.ListN.{getD}
 use Rattle.basics.specs.Bounds.{tabulate}
-use Rattle.core_table.proofs.Overwriting.{Over, over-none, over-next, over-all}
+use Rattle.core_table.proofs.ListsOverwritten.{Over, over-none, over-next, over-all}
 use Rattle.call_distances.proofs.put_distances.Statement.{statement}
 use Rattle.call_distances.proofs.put_distances.Tie as tie
 

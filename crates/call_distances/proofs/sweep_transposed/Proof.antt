@@ -6,11 +6,11 @@ use borrow.Author.Needs.{needs}
 use borrow.Author.Tests.{not-false}
 use Rattle.model.specs.Sets.{maxStates, empty, difference}
 use Rattle.basics.proofs.BoundLaws.{not-true}
-use Rattle.core_state_set.proofs.Words.{proper}
-use Rattle.core_table.specs.Rows.{tableOn}
-use Rattle.core_table.proofs.Parts.{row-in}
-use Rattle.call_distances.proofs.Transposed.{transposed-start, transposed-image}
-use Rattle.call_distances.proofs.Layers.{Swept, swept-start, swept-turn, swept-end}
+use Rattle.core_state_set.proofs.SetsWords.{proper}
+use Rattle.core_rows.specs.Rows.{tableOn}
+use Rattle.core_rows.proofs.RowsLent.{row-in}
+use Rattle.call_distances.proofs.RowsTransposed.{transposed-start, transposed-image}
+use Rattle.call_distances.proofs.DistanceLayers.{Swept, swept-start, swept-turn, swept-end}
 use Rattle.call_distances.proofs.sweep_transposed.Statement.{statement}
 use Rattle.call_distances.proofs.sweep_transposed.Tie as tie
 

@@ -1,6 +1,6 @@
 -- `clear_step`: the bit of the step, cleared in its word.
 use borrow.Author.Needs.{needs}
-use Rattle.call_edit_session.proofs.Tables.{clear-step-word}
+use Rattle.call_edit_session.proofs.RowsEdited.{clear-step-word}
 use Rattle.call_edit_session.proofs.clear_step.Statement.{statement}
 use Rattle.call_edit_session.proofs.clear_step.Tie as tie
 

@@ -5,13 +5,13 @@ use native.Mathlib.Omega.{arith}
 use mathlib.Core.Path.{refl, sym, _∙_}
 use borrow.Author.Needs.{needs}
 use borrow.Author.Tests.{not-true, not-false}
-use Rattle.model.proofs.Acceptance.{Store}
+use Rattle.model.proofs.StoresAccepted.{Store}
 use Rattle.call_edit_session.specs.declared.Change.the-variants.{Add, Remove}
 use Rattle.call_edit_session.specs.declared.Status.the-variants.{Accepted}
 use Rattle.call_edit_session.specs.Edits.{add, remove}
 use Rattle.call_edit_session.specs.SessionAnswers.{editOf}
-use Rattle.call_edit_session.proofs.Tables.{edited-longer, edited-rows}
-use Rattle.call_edit_session.proofs.Answering.{accepted, after-added, after-removed, after-unreached, added-nothing, added-changes, removed-nothing, removed-changes, edit-refused, edit-nothing, edit-changes, grounds-of, called-of}
+use Rattle.call_edit_session.proofs.RowsEdited.{edited-longer, edited-rows}
+use Rattle.call_edit_session.proofs.SessionAnswered.{accepted, after-added, after-removed, after-unreached, added-nothing, added-changes, removed-nothing, removed-changes, edit-refused, edit-nothing, edit-changes, grounds-of, called-of}
 use Rattle.call_edit_session.proofs.edit.Statement.{statement}
 use Rattle.call_edit_session.proofs.edit.Tie as tie
 

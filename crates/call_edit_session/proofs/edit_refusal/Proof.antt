@@ -3,7 +3,7 @@ use borrow.Author.Needs.{needs}
 use borrow.Author.Tests.{le-leb, lt-leb}
 use Rattle.basics.proofs.BoundLaws.{or-left, or-right, or-none}
 use Rattle.basics.proofs.RefusalLaws.{refuse-first}
-use Rattle.call_edit_session.proofs.Answering.{refuse-shared, behind-shared}
+use Rattle.call_edit_session.proofs.SessionAnswered.{refuse-shared, behind-shared}
 use Rattle.call_edit_session.proofs.edit_refusal.Statement.{statement}
 use Rattle.call_edit_session.proofs.edit_refusal.Tie as tie
 

@@ -1,6 +1,6 @@
 -- `from_initial`: what the first set of the store reaches.
 use borrow.Author.Needs.{needs}
-use Rattle.call_edit_session.proofs.Answering.{from-initial-is}
+use Rattle.call_edit_session.proofs.SessionAnswered.{from-initial-is}
 use Rattle.call_edit_session.proofs.from_initial.Statement.{statement}
 use Rattle.call_edit_session.proofs.from_initial.Tie as tie
 

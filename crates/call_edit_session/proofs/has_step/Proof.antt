@@ -1,6 +1,6 @@
 -- `has_step`: the row of the state, and the other among it.
 use borrow.Author.Needs.{needs}
-use Rattle.call_edit_session.proofs.Answering.{has-step-is}
+use Rattle.call_edit_session.proofs.SessionAnswered.{has-step-is}
 use Rattle.call_edit_session.proofs.has_step.Statement.{statement}
 use Rattle.call_edit_session.proofs.has_step.Tie as tie
 

@@ -1,7 +1,7 @@
 -- `open`: the grounds, then what the initial states reach.
 use mathlib.Core.Path.{refl}
 use borrow.Author.Needs.{needs}
-use Rattle.call_edit_session.proofs.Answering.{accepted-open, reached-opened, open-refused, open-answered}
+use Rattle.call_edit_session.proofs.SessionAnswered.{accepted-open, reached-opened, open-refused, open-answered}
 use Rattle.call_edit_session.proofs.open.Statement.{statement}
 use Rattle.call_edit_session.proofs.open.Tie as tie
 

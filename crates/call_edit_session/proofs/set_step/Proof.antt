@@ -1,6 +1,6 @@
 -- `set_step`: the bit of the step, set in its word.
 use borrow.Author.Needs.{needs}
-use Rattle.call_edit_session.proofs.Tables.{set-step-word}
+use Rattle.call_edit_session.proofs.RowsEdited.{set-step-word}
 use Rattle.call_edit_session.proofs.set_step.Statement.{statement}
 use Rattle.call_edit_session.proofs.set_step.Tie as tie
 

@@ -1,6 +1,6 @@
 -- `fill`: the store cleared, then initial set, marked set and rows, one after the other.
 use borrow.Author.Needs.{needs}
-use Rattle.call_generate.proofs.Filled.{filled}
+use Rattle.call_generate.proofs.StoresGenerated.{filled}
 use Rattle.call_generate.proofs.fill.Statement.{statement}
 use Rattle.call_generate.proofs.fill.Tie as tie
 

@@ -4,7 +4,7 @@ use native.Mathlib.Omega.{arith}
 use mathlib.Core.Path.{sym}
 use borrow.Author.Needs.{needs}
 use Rattle.call_generate.proofs.Numbers.{front-long}
-use Rattle.call_generate.proofs.Generating.{accepted-load, refused-load, filled-load}
+use Rattle.call_generate.proofs.GenerateAnswered.{accepted-load, refused-load, filled-load}
 use Rattle.call_generate.proofs.generate.Statement.{statement}
 use Rattle.call_generate.proofs.generate.Tie as tie
 

@@ -5,7 +5,7 @@ use mathlib.Core.Path.{_≡_, _∙_}
 use borrow.Author.Needs.{needs}
 use lib.ListN.{length}
 use Rattle.model.specs.Sets.{maxStates}
-use Rattle.call_generate.proofs.Successors.{remainder-state, Reducing, reducing-none, reducing-more, reducing-all}
+use Rattle.call_generate.proofs.RowsGenerated.{remainder-state, Reducing, reducing-none, reducing-more, reducing-all}
 use Rattle.call_generate.proofs.put_remainders.Statement.{statement}
 use Rattle.call_generate.proofs.put_remainders.Tie as tie
 

@@ -6,9 +6,9 @@ use mathlib.Core.Path.{refl}
 use borrow.Author.Needs.{needs}
 use lib.ListN.{length, length-take, length-drop}
 use Rattle.model.specs.Stores.{rowAt}
-use Rattle.core_table.proofs.Filling.{Filling, filling-none, filling-more, filling-all}
+use Rattle.core_table.proofs.StoresFilled.{Filling, filling-none, filling-more, filling-all}
 use Rattle.call_generate.specs.Load.{longLag, successors}
-use Rattle.call_generate.proofs.Successors.{row-put}
+use Rattle.call_generate.proofs.RowsGenerated.{row-put}
 use Rattle.call_generate.proofs.put_rows.Statement.{statement}
 use Rattle.call_generate.proofs.put_rows.Tie as tie
 

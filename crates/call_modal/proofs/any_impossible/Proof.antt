@@ -6,7 +6,7 @@ use borrow.Author.Needs.{needs}
 use borrow.Author.Tests.{not-false}
 use Rattle.basics.proofs.BoundLaws.{not-true}
 use Rattle.call_modal.specs.Modal.{certainImpossible}
-use Rattle.call_modal.proofs.Grounds.{impossible-start, impossible-hit, impossible-pass, impossible-end}
+use Rattle.call_modal.proofs.ModalGrounds.{impossible-start, impossible-hit, impossible-pass, impossible-end}
 use Rattle.call_modal.proofs.any_impossible.Statement.{statement}
 use Rattle.call_modal.proofs.any_impossible.Tie as tie
 

@@ -7,9 +7,9 @@ use borrow.Author.Tests.{not-false}
 use lib.ListN.{length}
 use Rattle.model.specs.Sets.{maxStates}
 use Rattle.basics.proofs.BoundLaws.{not-true}
-use Rattle.core_table.proofs.Parts.{rows-long}
-use Rattle.call_modal.proofs.Grounds.{ModalHeld, accepted}
-use Rattle.call_modal.proofs.Deciding.{certain-formed, possible-formed, ready, possible-rows, forbidden-is, certain-rows, refused-answer, safe-answer, unsafe-answer, depends-answer}
+use Rattle.core_rows.proofs.RowsLent.{rows-long}
+use Rattle.call_modal.proofs.ModalGrounds.{ModalHeld, accepted}
+use Rattle.call_modal.proofs.ModalAnswered.{certain-formed, possible-formed, ready, possible-rows, forbidden-is, certain-rows, refused-answer, safe-answer, unsafe-answer, depends-answer}
 use Rattle.call_modal.proofs.decide_modal.Statement.{statement}
 use Rattle.call_modal.proofs.decide_modal.Tie as tie
 

@@ -4,8 +4,8 @@ use mathlib.Core.List.{[]}
 use borrow.Author.Needs.{needs}
 use borrow.Author.Tests.{lt-ltb, le-ltb}
 use Rattle.basics.proofs.RefusalLaws.{refuse-first}
-use Rattle.model.proofs.Acceptance.{Store, accepted-store}
-use Rattle.call_modal.proofs.Grounds.{short-possible, refuse-shared, behind-shared}
+use Rattle.model.proofs.StoresAccepted.{Store, accepted-store}
+use Rattle.call_modal.proofs.ModalGrounds.{short-possible, refuse-shared, behind-shared}
 use Rattle.call_modal.proofs.refusal_of.Statement.{statement}
 use Rattle.call_modal.proofs.refusal_of.Tie as tie
 

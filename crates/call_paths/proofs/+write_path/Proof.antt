@@ -8,12 +8,12 @@ use borrow.Fn.Kinds.{In}
 use borrow.Fn.PlainCycle.{Measures, is, falls, and}
 use lib.ListN.{length, length-set}
 use lib.Seq.{length-sets}
-use Rattle.call_paths.proofs.Walks.{walkBy-last, walkBy-step, writable-first, writable-rest}
+use Rattle.call_paths.proofs.PathsWritten.{walkBy-last, walkBy-step, writable-first, writable-rest}
 use Rattle.call_paths.proofs.write_path.Reads as write-path
 use Rattle.call_paths.proofs.write_path.Kinds as write-path-kinds
 use Rattle.call_paths.proofs.+write_path.Lts-write_path as write-path-lts
 use Rattle.call_paths.proofs.smallest_in_layer.Reads as smallest-in-layer-reads
-use Rattle.core_table.proofs.row_at.Reads as row-at-reads
+use Rattle.core_rows.proofs.row_at.Reads as row-at-reads
 use Rattle.call_paths.proofs.+write_path.{statement}
 use Rattle.call_paths.proofs.+write_path.Tie.{close}
 

@@ -1,7 +1,7 @@
 -- `find_path`: where no layer holds a forbidden state, there is no path; else the walk through what is kept of the layers is it.
 use mathlib.Core.Path.{refl, sym, _∙_}
 use borrow.Author.Needs.{needs}
-use Rattle.call_paths.proofs.Find.{find-none, find-short, find-writable, find-some}
+use Rattle.call_paths.proofs.PathsFound.{find-none, find-short, find-writable, find-some}
 use Rattle.call_paths.proofs.find_path.Statement.{statement}
 use Rattle.call_paths.proofs.find_path.Tie as tie
 

@@ -7,7 +7,7 @@ use borrow.Author.Tests.{not-false}
 use lib.ListN.{length, length-set}
 use Rattle.model.specs.Sets.{maxStates}
 use Rattle.basics.proofs.BoundLaws.{not-true}
-use Rattle.core_state_set.proofs.Words.{proper}
+use Rattle.core_state_set.proofs.SetsWords.{proper}
 use Rattle.call_paths.proofs.Outward.{Outward, outward-start, outward-turn, outward-hit, outward-end, PutDown, put-start, put-turn, put-hit}
 use Rattle.call_paths.proofs.first_layer.Statement.{statement}
 use Rattle.call_paths.proofs.first_layer.Tie as tie

@@ -1,10 +1,10 @@
 -- `shortest_path`: the grounds in their order, then what find_path found.
 use native.Mathlib.Omega.{arith}
 use borrow.Author.Needs.{needs}
-use Rattle.model.proofs.Acceptance.{Store}
-use Rattle.call_paths.specs.declared.Found.the-variants.{Steps, Nothing}
+use Rattle.model.proofs.StoresAccepted.{Store}
+use Rattle.call_paths.specs.declared.PathFound.the-variants.{Steps, Nothing}
 use Rattle.call_paths.proofs.Groups.{holds-table, store-path}
-use Rattle.call_paths.proofs.Answers.{accepted, shortest-refused, shortest-short, shortest-found}
+use Rattle.call_paths.proofs.PathsAnswered.{accepted, shortest-refused, shortest-short, shortest-found}
 use Rattle.call_paths.proofs.shortest_path.Statement.{statement}
 use Rattle.call_paths.proofs.shortest_path.Tie as tie
 

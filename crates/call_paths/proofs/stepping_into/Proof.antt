@@ -2,8 +2,8 @@
 use mathlib.Core.Path.{refl, ap₂, _∙_}
 use borrow.Author.Needs.{needs}
 use Rattle.model.specs.Sets.{difference}
-use Rattle.core_table.specs.Rows.{meetHold}
-use Rattle.call_paths.proofs.Stepping.{stepping-is}
+use Rattle.core_rows.specs.Rows.{meetHold}
+use Rattle.call_paths.proofs.RowsStepping.{stepping-is}
 use Rattle.call_paths.proofs.stepping_into.Statement.{statement}
 use Rattle.call_paths.proofs.stepping_into.Tie as tie
 

@@ -5,14 +5,14 @@ use mathlib.Core.Bool.{Bool}
 use borrow.Author.Needs.{needs}
 use Rattle.basics.specs.Refusals.{answered}
 use Rattle.model.specs.Stores.{tableOf}
-use Rattle.model.proofs.Acceptance.{Store, well-formed}
-use Rattle.core_table.specs.Rows.{rowsOf}
-use Rattle.core_table.proofs.Parts.{rows-long, store-rows}
+use Rattle.model.proofs.StoresAccepted.{Store, well-formed}
+use Rattle.core_rows.specs.Rows.{rowsOf}
+use Rattle.core_rows.proofs.RowsLent.{rows-long, store-rows}
 use Rattle.call_paths.specs.Search.{firstLayer, stepsWithin}
 use Rattle.call_paths.specs.Within.{withinAnswer}
-use Rattle.call_paths.specs.declared.Found.{Found}
+use Rattle.call_paths.specs.declared.PathFound.{PathFound}
 use Rattle.call_paths.proofs.Duality.{first-found, found-within}
-use Rattle.call_paths.proofs.Answers.{accepted, within-refused, within-answered}
+use Rattle.call_paths.proofs.PathsAnswered.{accepted, within-refused, within-answered}
 use Rattle.call_paths.proofs.within.Statement.{statement}
 use Rattle.call_paths.proofs.within.Tie as tie
 
@@ -34,7 +34,7 @@ answers c q =
     within-answered _ _ _ _ (e .before .refusal .ensures) (e .if1 .left)
     (sym q
     ∙ c .is-within .ensures
-    ∙ ap (λ (r : Found). stepsWithin r (a .k))
+    ∙ ap (λ (r : PathFound). stepsWithin r (a .k))
     (found .first-layer .ensures .0
     ∙ ap₂ (firstLayer (rowsOf (a .store .now))) (f .before .set-at .ensures) (f .forbidden .ensures)
     ∙ first-found ok _ (store-rows _ _ 0) (held e .small))

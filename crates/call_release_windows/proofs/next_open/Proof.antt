@@ -2,7 +2,7 @@
 use native.Mathlib.Omega.{arith}
 use mathlib.Core.Path.{sym, _∙_}
 use borrow.Author.Needs.{needs}
-use Rattle.call_release_windows.proofs.Answering.{Sound, sound, refuses, opened, never-opens}
+use Rattle.call_release_windows.proofs.WindowsAnswered.{Sound, sound, refuses, opened, never-opens}
 use Rattle.call_release_windows.proofs.next_open.Statement.{statement}
 use Rattle.call_release_windows.proofs.next_open.Tie as tie
 

@@ -1,6 +1,6 @@
 -- `entry_at`: the two bytes of the entry.
 use borrow.Author.Needs.{needs}
-use Rattle.call_replay.proofs.Walking.{entry-bytes}
+use Rattle.call_replay.proofs.LogEntries.{entry-bytes}
 use Rattle.call_replay.proofs.entry_at.Statement.{statement}
 use Rattle.call_replay.proofs.entry_at.Tie as tie
 

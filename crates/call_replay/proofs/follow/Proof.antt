@@ -7,7 +7,7 @@ use borrow.Author.Needs.{needs}
 use borrow.Author.Tests.{not-true, not-false}
 use Rattle.model.specs.Sets.{maxStates, member}
 use Rattle.model.specs.Stores.{setAt}
-use Rattle.model.proofs.SetLaws.{in-bound}
+use Rattle.model.proofs.SetsMembers.{in-bound}
 use Rattle.call_replay.specs.Logs.{entryCount}
 use Rattle.call_replay.proofs.Following.{Following, following-start, following-bit, following-turn, following-stop, following-end}
 use Rattle.call_replay.proofs.follow.Statement.{statement}

@@ -1,6 +1,6 @@
 -- `holds_at`: the lowest bit of the shifted word is the state's.
 use borrow.Author.Needs.{needs}
-use Rattle.call_replay.proofs.Walking.{holds-word, holds-past}
+use Rattle.call_replay.proofs.LogEntries.{holds-word, holds-past}
 use Rattle.call_replay.proofs.holds_at.Statement.{statement}
 use Rattle.call_replay.proofs.holds_at.Tie as tie
 

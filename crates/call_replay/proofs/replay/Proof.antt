@@ -1,10 +1,10 @@
 -- `replay`: the grounds in their order, then what was followed of the log beside what can be reached.
 use native.Mathlib.Omega.{arith}
 use borrow.Author.Needs.{needs}
-use Rattle.model.proofs.Acceptance.{Store}
-use Rattle.model.proofs.Counting.{size-most}
-use Rattle.core_table.proofs.Parts.{rows-long}
-use Rattle.call_replay.proofs.Answering.{accepted, refused-answer, walk-answer}
+use Rattle.model.proofs.StoresAccepted.{Store}
+use Rattle.model.proofs.SetsCounted.{size-most}
+use Rattle.core_rows.proofs.RowsLent.{rows-long}
+use Rattle.call_replay.proofs.ReplayAnswered.{accepted, refused-answer, walk-answer}
 use Rattle.call_replay.proofs.replay.Statement.{statement}
 use Rattle.call_replay.proofs.replay.Tie as tie
 

@@ -4,7 +4,7 @@ use mathlib.Core.Bool.{not}
 use borrow.Author.Needs.{needs}
 use borrow.Author.Tests.{lt-ltb, le-ltb, eq-eqb, ne-eqb}
 use Rattle.basics.proofs.RefusalLaws.{refuse-first}
-use Rattle.call_replay.proofs.Answering.{refuse-shared, behind-shared}
+use Rattle.call_replay.proofs.ReplayAnswered.{refuse-shared, behind-shared}
 use Rattle.call_replay.proofs.replay_refusal.Statement.{statement}
 use Rattle.call_replay.proofs.replay_refusal.Tie as tie
 

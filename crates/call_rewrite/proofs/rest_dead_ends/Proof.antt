@@ -1,6 +1,6 @@
 -- `rest_dead_ends`: the states in hold of the empty set.
 use borrow.Author.Needs.{needs}
-use Rattle.call_rewrite.proofs.Rested.{rested-by}
+use Rattle.call_rewrite.proofs.StoresRested.{rested-by}
 use Rattle.call_rewrite.proofs.rest_dead_ends.Statement.{statement}
 use Rattle.call_rewrite.proofs.rest_dead_ends.Tie as tie
 

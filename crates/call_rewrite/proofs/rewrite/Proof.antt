@@ -2,7 +2,7 @@
 use mathlib.Core.Path.{sym, ap, _∙_}
 use borrow.Author.Needs.{needs}
 use Rattle.file_reading.specs.ReadAnswers.{readOf}
-use Rattle.call_rewrite.proofs.Answers.{rewrite-refused, rewrite-written}
+use Rattle.call_rewrite.proofs.RewriteAnswered.{rewrite-refused, rewrite-written}
 use Rattle.call_rewrite.proofs.rewrite.Statement.{statement}
 use Rattle.call_rewrite.proofs.rewrite.Tie as tie
 

@@ -2,7 +2,7 @@
 use mathlib.Core.Path.{sym, _∙_}
 use borrow.Author.Needs.{needs}
 use Rattle.model.specs.Sets.{size}
-use Rattle.core_state_set.proofs.Words.{proper}
+use Rattle.core_state_set.proofs.SetsWords.{proper}
 use Rattle.core_fixpoints.specs.Steps.{Leads}
 use Rattle.core_fixpoints.proofs.Leaving.{leads-again}
 use Rattle.core_fixpoints.proofs.Staying.{Staying, staying-start, staying-less, staying-turn, staying-greatest, staying-next}

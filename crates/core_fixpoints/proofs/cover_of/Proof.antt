@@ -4,8 +4,8 @@ use mathlib.Core.Path.{sym, ap, _∙_}
 use borrow.Author.Needs.{needs}
 use Rattle.model.specs.Sets.{member, smallest, maxStates, union, difference}
 use Rattle.basics.proofs.BoundLaws.{first-passes}
-use Rattle.model.proofs.SetLaws.{In, in-bound, in-subset, smallest-le}
-use Rattle.model.proofs.ImageLaws.{image-none}
+use Rattle.model.proofs.SetsMembers.{In, in-bound, in-subset, smallest-le}
+use Rattle.model.proofs.SetsImages.{image-none}
 use Rattle.core_fixpoints.specs.Steps.{coverBy}
 use Rattle.core_fixpoints.proofs.Bridge.{coverBy-rest}
 use Rattle.core_fixpoints.proofs.cover_of.Statement.{statement}

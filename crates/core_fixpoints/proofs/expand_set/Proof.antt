@@ -2,9 +2,9 @@
 use Prim.Native.Nat.{_-_}
 use borrow.Author.Needs.{needs}
 use Rattle.model.specs.Sets.{WORDS}
-use Rattle.core_state_set.proofs.Words.{proper}
-use Rattle.core_table.specs.Rows.{rowIn, successorsBy}
-use Rattle.core_table.proofs.Joins.{WordsJoining, words-start, words-turn, words-end}
+use Rattle.core_state_set.proofs.SetsWords.{proper}
+use Rattle.core_rows.specs.Rows.{rowIn, successorsBy}
+use Rattle.core_rows.proofs.SetsJoined.{WordsJoining, words-start, words-turn, words-end}
 use Rattle.core_fixpoints.proofs.Expanding.{WordsRecording, recording-start, recording-room, recording-turn, recording-end}
 use Rattle.core_fixpoints.proofs.expand_set.Statement.{statement}
 use Rattle.core_fixpoints.proofs.expand_set.Tie as tie

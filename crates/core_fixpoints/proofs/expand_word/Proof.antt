@@ -7,11 +7,11 @@ use lib.Count.{trailing-le}
 use lib.Seq.{sets}
 use Rattle.model.specs.Sets.{maxStates, union, members, size, image}
 use Rattle.core_state_set.specs.WordSets.{wordSet}
-use Rattle.core_state_set.proofs.Words.{proper}
-use Rattle.core_state_set.proofs.Counts.{bits-fit, states-fit}
-use Rattle.core_state_set.proofs.WordSets.{word-less}
-use Rattle.core_table.specs.Rows.{rowIn, successorsBy}
-use Rattle.core_table.proofs.Joins.{WordJoining, bits-start, bits-bound, bits-turn, bits-end}
+use Rattle.core_state_set.proofs.SetsWords.{proper}
+use Rattle.core_state_set.proofs.SetsOnes.{bits-fit, states-fit}
+use Rattle.core_state_set.proofs.SetsByWord.{word-less}
+use Rattle.core_rows.specs.Rows.{rowIn, successorsBy}
+use Rattle.core_rows.proofs.SetsJoined.{WordJoining, bits-start, bits-bound, bits-turn, bits-end}
 use Rattle.core_fixpoints.proofs.Expanding.{Recording, record-room, record-turn, record-end}
 use Rattle.core_fixpoints.proofs.expand_word.Statement.{statement}
 use Rattle.core_fixpoints.proofs.expand_word.Tie as tie

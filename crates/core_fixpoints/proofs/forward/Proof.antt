@@ -6,7 +6,7 @@ use borrow.Author.Needs.{needs}
 use borrow.Author.Tests.{not-false}
 use Rattle.model.specs.Sets.{maxStates, empty, subset}
 use Rattle.basics.proofs.BoundLaws.{not-true}
-use Rattle.core_state_set.proofs.Words.{proper}
+use Rattle.core_state_set.proofs.SetsWords.{proper}
 use Rattle.core_fixpoints.specs.Steps.{coverBy}
 use Rattle.core_fixpoints.proofs.Expanding.{Passing, passing-start, passing-room, passing-less, passing-turn, passing-least, passing-order, passing-count, passing-entered}
 use Rattle.core_fixpoints.proofs.forward.Statement.{statement}

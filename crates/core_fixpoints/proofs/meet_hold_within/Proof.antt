@@ -2,9 +2,9 @@
 use Prim.Native.Nat.{_-_}
 use borrow.Author.Needs.{needs}
 use Rattle.model.specs.Sets.{WORDS}
-use Rattle.core_state_set.proofs.Words.{Filling, filling-none, filling-more, filling-all}
-use Rattle.core_table.specs.Rows.{meetHold}
-use Rattle.core_table.proofs.Hold.{meetHold-proper}
+use Rattle.core_state_set.proofs.SetsWords.{Filling, filling-none, filling-more, filling-all}
+use Rattle.core_rows.specs.Rows.{meetHold}
+use Rattle.core_rows.proofs.SetsHeld.{meetHold-proper}
 use Rattle.core_fixpoints.proofs.meet_hold_within.Statement.{statement}
 use Rattle.core_fixpoints.proofs.meet_hold_within.Tie as tie
 

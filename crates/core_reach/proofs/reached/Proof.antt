@@ -7,11 +7,11 @@ use borrow.Author.Needs.{needs}
 use borrow.Author.Tests.{not-false}
 use Rattle.model.specs.Sets.{maxStates, empty, difference, subset, size}
 use Rattle.basics.proofs.BoundLaws.{not-true}
-use Rattle.model.proofs.Counting.{size-most}
-use Rattle.core_state_set.proofs.Words.{proper}
-use Rattle.core_table.specs.Rows.{rowIn, successorsBy}
+use Rattle.model.proofs.SetsCounted.{size-most}
+use Rattle.core_state_set.proofs.SetsWords.{proper}
+use Rattle.core_rows.specs.Rows.{rowIn, successorsBy}
 use Rattle.core_reach.specs.Reached.{reachBy}
-use Rattle.core_reach.proofs.Layers.{Layered, layered-start, layered-turn, layered-less, layered-expanded, layered-end}
+use Rattle.core_reach.proofs.ReachLayers.{Layered, layered-start, layered-turn, layered-less, layered-expanded, layered-end}
 use Rattle.core_reach.proofs.reached.Statement.{statement}
 use Rattle.core_reach.proofs.reached.Tie as tie
 

@@ -8,7 +8,7 @@ use borrow.Fn.PlainCycle.{Measures, is, falls, and}
 use lib.ListN.{length, length-append}
 use Rattle.core_report.specs.Text.{digit, decimal}
 use Rattle.core_report.proofs.Decimals.{decimal-one, decimal-more, decimal-long}
-use Rattle.core_report.proofs.Putting.{put-most, put-then}
+use Rattle.core_report.proofs.TextsPut.{put-most, put-then}
 use Rattle.core_report.proofs.put_digit.Reads as put-digit-reads
 use Rattle.core_report.proofs.put_decimal.Reads as put-decimal
 use Rattle.core_report.proofs.put_decimal.Kinds as put-decimal-kinds

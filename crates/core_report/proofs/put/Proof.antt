@@ -5,7 +5,7 @@ use borrow.Author.Needs.{needs}
 use lib.ListN.{length, take}
 use lib.Seq.{take-all}
 use Rattle.core_report.specs.Put.{Put}
-use Rattle.core_report.proofs.Putting.{put-none, put-byte, put-then, put-most}
+use Rattle.core_report.proofs.TextsPut.{put-none, put-byte, put-then, put-most}
 use Rattle.core_report.proofs.Turns.{take-more}
 use Rattle.core_report.proofs.put.Statement.{statement}
 use Rattle.core_report.proofs.put.Tie as tie

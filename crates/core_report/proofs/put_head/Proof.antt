@@ -1,6 +1,6 @@
 -- `core_report::put_head` meets its contract: its lines one after the other.
 use borrow.Author.Needs.{needs}
-use Rattle.core_report.proofs.Putting.{put-then}
+use Rattle.core_report.proofs.TextsPut.{put-then}
 use Rattle.core_report.proofs.put_head.Statement.{statement}
 use Rattle.core_report.proofs.put_head.Tie as tie
 

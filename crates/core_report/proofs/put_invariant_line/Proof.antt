@@ -3,8 +3,8 @@ use native.Mathlib.Omega.{arith}
 use mathlib.Core.List.{append-assoc}
 use borrow.Author.Needs.{needs}
 use Rattle.core_report.specs.Text.{ascii, invariantLine}
-use Rattle.core_report.proofs.Putting.{put-then}
-use Rattle.model.proofs.Counting.{size-most}
+use Rattle.core_report.proofs.TextsPut.{put-then}
+use Rattle.model.proofs.SetsCounted.{size-most}
 use Rattle.core_report.proofs.put_invariant_line.Statement.{statement}
 use Rattle.core_report.proofs.put_invariant_line.Tie as tie
 

@@ -3,7 +3,7 @@ use native.Mathlib.Omega.{arith}
 use mathlib.Core.Path.{_∙_, sym}
 use borrow.Author.Needs.{needs}
 use Rattle.core_report.specs.Text.{spaced}
-use Rattle.core_report.proofs.Putting.{put-none, put-most}
+use Rattle.core_report.proofs.TextsPut.{put-none, put-most}
 use Rattle.core_report.proofs.put_member.Statement.{statement}
 use Rattle.core_report.proofs.put_member.Tie as tie
 

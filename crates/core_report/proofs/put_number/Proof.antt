@@ -5,7 +5,7 @@ use borrow.Author.Needs.{needs}
 use lib.ListN.{length}
 use Rattle.core_report.specs.Text.{decimal}
 use Rattle.core_report.specs.Put.{numberLimit, numberBytes}
-use Rattle.core_report.proofs.Putting.{put-most, put-then}
+use Rattle.core_report.proofs.TextsPut.{put-most, put-then}
 use Rattle.core_report.proofs.Decimals.{decimal-short}
 use Rattle.core_report.proofs.put_number.Statement.{statement}
 use Rattle.core_report.proofs.put_number.Tie as tie

@@ -6,7 +6,7 @@ use lib.ListN.{length, take}
 use lib.Seq.{take-all}
 use Rattle.core_report.specs.Text.{spaced}
 use Rattle.core_report.specs.Put.{spacedBytes, Put}
-use Rattle.core_report.proofs.Putting.{put-none, put-then, put-most}
+use Rattle.core_report.proofs.TextsPut.{put-none, put-then, put-most}
 use Rattle.core_report.proofs.Turns.{take-more, spaced-append}
 use Rattle.core_report.proofs.put_path.Statement.{statement}
 use Rattle.core_report.proofs.put_path.Tie as tie

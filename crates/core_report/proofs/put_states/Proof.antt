@@ -7,7 +7,7 @@ use Rattle.basics.specs.Bounds.{filter}
 use Rattle.model.specs.Sets.{maxStates, member, members}
 use Rattle.core_report.specs.Text.{spaced}
 use Rattle.core_report.specs.Put.{spacedBytes, Put}
-use Rattle.core_report.proofs.Putting.{put-none, put-then, put-most}
+use Rattle.core_report.proofs.TextsPut.{put-none, put-then, put-most}
 use Rattle.core_report.proofs.Turns.{filter-more, spaced-append}
 use Rattle.core_report.proofs.put_states.Statement.{statement}
 use Rattle.core_report.proofs.put_states.Tie as tie

@@ -2,7 +2,7 @@
 use mathlib.Core.List.{append-assoc}
 use borrow.Author.Needs.{needs}
 use Rattle.core_report.specs.Text.{ascii, statesLine}
-use Rattle.core_report.proofs.Putting.{put-then}
+use Rattle.core_report.proofs.TextsPut.{put-then}
 use Rattle.core_report.proofs.put_states_line.Statement.{statement}
 use Rattle.core_report.proofs.put_states_line.Tie as tie
 

@@ -3,7 +3,7 @@ use native.Mathlib.Omega.{arith}
 use borrow.Author.Needs.{needs}
 use borrow.Author.Tests.{eq-eqb, ne-eqb}
 use Rattle.core_report.specs.Text.{ascii}
-use Rattle.core_report.proofs.Putting.{put-most}
+use Rattle.core_report.proofs.TextsPut.{put-most}
 use Rattle.core_report.proofs.put_states_or_none.Statement.{statement}
 use Rattle.core_report.proofs.put_states_or_none.Tie as tie
 

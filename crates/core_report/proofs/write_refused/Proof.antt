@@ -1,7 +1,7 @@
 -- `core_report::write_refused` meets its contract: its pieces one after the other, at the front.
 use borrow.Author.Needs.{needs}
 use Rattle.core_report.specs.Text.{ascii, refusedText}
-use Rattle.core_report.proofs.Putting.{put-then, put-front}
+use Rattle.core_report.proofs.TextsPut.{put-then, put-front}
 use Rattle.core_report.proofs.write_refused.Statement.{statement}
 use Rattle.core_report.proofs.write_refused.Tie as tie
 

@@ -1,7 +1,7 @@
 -- `core_report::write_undecided` meets its contract: the first two lines, at the front.
 use borrow.Author.Needs.{needs}
 use Rattle.core_report.specs.Text.{ascii, undecidedText}
-use Rattle.core_report.proofs.Putting.{put-front}
+use Rattle.core_report.proofs.TextsPut.{put-front}
 use Rattle.core_report.proofs.write_undecided.Statement.{statement}
 use Rattle.core_report.proofs.write_undecided.Tie as tie
 

@@ -2,7 +2,7 @@
 use mathlib.Core.Path.{_≡_, refl, ap, _∙_}
 use borrow.Author.Needs.{needs}
 use Rattle.model.specs.Sets.{Set, union, subset}
-use Rattle.core_table.specs.Rows.{successorsBy}
+use Rattle.core_rows.specs.Rows.{successorsBy}
 use Rattle.core_fixpoints.proofs.Bridge.{forward-closed, backward-greatest}
 use Rattle.core_fixpoints.proofs.Leaving.{leads-start}
 use Rattle.core_rounds.specs.RunAnswers.{setBeside}

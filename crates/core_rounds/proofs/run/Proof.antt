@@ -9,14 +9,14 @@ use lib.ListN.{getD}
 use Rattle.model.specs.Sets.{WORDS, Set, meet}
 use Rattle.model.specs.Tables.{Table, notForbidden}
 use Rattle.model.specs.Stores.{maxGroups}
-use Rattle.model.proofs.SetLaws.{Proper, In, in-bound}
+use Rattle.model.proofs.SetsMembers.{Proper, In, in-bound}
 use Rattle.core_state_set.specs.WordSets.{wordSet, wordsBelow}
-use Rattle.core_state_set.proofs.Words.{proper}
-use Rattle.core_state_set.proofs.Counts.{bits-fit, states-fit}
-use Rattle.core_state_set.proofs.WordSets.{word-lowest, word-less}
-use Rattle.core_table.specs.Rows.{groupsIn, tableOn, mapAt}
-use Rattle.core_table.proofs.Parts.{on-rows}
-use Rattle.core_table.proofs.MapAt.{Mapping, mapping-turn, mapping-end, map-start, map-word, map-all}
+use Rattle.core_state_set.proofs.SetsWords.{proper}
+use Rattle.core_state_set.proofs.SetsOnes.{bits-fit, states-fit}
+use Rattle.core_state_set.proofs.SetsByWord.{word-lowest, word-less}
+use Rattle.core_rows.specs.Rows.{groupsIn, tableOn, mapAt}
+use Rattle.core_rows.proofs.RowsLent.{on-rows}
+use Rattle.core_rows.proofs.RowsMapped.{Mapping, mapping-turn, mapping-end, map-start, map-word, map-all}
 use Rattle.core_fixpoints.specs.Steps.{stepsByWord}
 use Rattle.core_rounds.specs.Adding.{narrowed, nextAdded}
 use Rattle.core_rounds.proofs.Adding.{covers-none, group-added, Z-added}

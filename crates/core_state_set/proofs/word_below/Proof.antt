@@ -4,7 +4,7 @@ use native.Mathlib.Omega.{arith}
 use mathlib.Core.Path.{_≡_, sym, ap, _∙_, subst}
 use borrow.Author.Needs.{needs}
 use lib.Pow.{pow-pos}
-use Rattle.core_state_set.proofs.Bits.{one-shl}
+use Rattle.core_state_set.proofs.SetsBits.{one-shl}
 use Rattle.core_state_set.proofs.word_below.Statement.{statement}
 use Rattle.core_state_set.proofs.word_below.Tie as tie
 

@@ -5,7 +5,7 @@ use borrow.Author.Needs.{needs}
 use Rattle.basics.specs.Bounds.{tabulate}
 use Rattle.model.specs.Stores.{storeWords}
 use Rattle.core_table.specs.Writing.{cleared}
-use Rattle.core_table.proofs.Overwriting.{Over, over-none, over-next, over-all}
+use Rattle.core_table.proofs.ListsOverwritten.{Over, over-none, over-next, over-all}
 use Rattle.core_table.proofs.clear.Statement.{statement}
 use Rattle.core_table.proofs.clear.Tie as tie
 

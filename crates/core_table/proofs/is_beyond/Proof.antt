@@ -2,7 +2,7 @@
 use mathlib.Core.Path.{_∙_, ap}
 use mathlib.Core.Bool.{not}
 use Rattle.model.specs.Sets.{subset}
-use Rattle.core_table.proofs.Laws.{beyond-is}
+use Rattle.core_table.proofs.StoresGrounds.{beyond-is}
 use Rattle.core_table.proofs.is_beyond.Statement.{statement}
 use Rattle.core_table.proofs.is_beyond.Tie as tie
 

@@ -21,13 +21,13 @@ is-malformed-spec =
     (λ c κs. search needs)
     (λ c. sym (search (sym (c .before .is-beyond3 .ensures ∙ ap (beyond _) (c .before .before .set-at3 .ensures)) ∙ c .if3 .taken, or-left, or-right)))
     (λ c κs. search needs)
-    (λ c. sym (search (sym (c .before .any-beyond .ensures) ∙ c .if4 .taken, or-left, or-right)))
+    (λ c. sym (search (sym (c .before .any-stored-beyond .ensures) ∙ c .if4 .taken, or-left, or-right)))
     (λ c κs. search needs)
-    (λ c. sym (search (sym (c .before .any-beyond2 .ensures) ∙ c .if5 .taken, or-left, or-right)))
+    (λ c. sym (search (sym (c .before .any-stored-beyond2 .ensures) ∙ c .if5 .taken, or-left, or-right)))
     (λ c. search needs)
     (λ c. search needs)
     (λ c κs. search needs)
-    (λ c. sym (search (sym (c .before .non-zero .ensures) ∙ c .if6 .taken, or-left, or-right)))
+    (λ c. sym (search (sym (c .before .non-zero-word .ensures) ∙ c .if6 .taken, or-left, or-right)))
     (λ c. search needs)
     (λ c. search needs)
     (λ c κs. search needs)
@@ -42,7 +42,7 @@ is-malformed-spec =
       sym (e1 .before .is-beyond .ensures ∙ ap (beyond _) (e1 .before .before .set-at .ensures)) ∙ e1 .if1 .left,
       sym (e2 .before .is-beyond2 .ensures ∙ ap (beyond _) (e2 .before .before .set-at2 .ensures)) ∙ e2 .if2 .left,
       sym (e3 .before .is-beyond3 .ensures ∙ ap (beyond _) (e3 .before .before .set-at3 .ensures)) ∙ e3 .if3 .left,
-      sym (e4 .before .any-beyond .ensures) ∙ e4 .if4 .left,
-      sym (e5 .before .any-beyond2 .ensures) ∙ e5 .if5 .left,
-      sym (e6 .before .non-zero .ensures) ∙ e6 .if6 .left,
-    ) (c .non-zero2 .ensures)))
+      sym (e4 .before .any-stored-beyond .ensures) ∙ e4 .if4 .left,
+      sym (e5 .before .any-stored-beyond2 .ensures) ∙ e5 .if5 .left,
+      sym (e6 .before .non-zero-word .ensures) ∙ e6 .if6 .left,
+    ) (c .non-zero-word2 .ensures)))

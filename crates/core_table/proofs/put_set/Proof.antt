@@ -2,7 +2,7 @@
 use Prim.Native.Nat.{_-_}
 use borrow.Author.Needs.{needs}
 use Rattle.model.specs.Sets.{WORDS}
-use Rattle.core_table.proofs.Putting.{Putting, putting-none, putting-more, putting-all}
+use Rattle.core_table.proofs.StoresPut.{Putting, putting-none, putting-more, putting-all}
 use Rattle.core_table.proofs.put_set.Statement.{statement}
 use Rattle.core_table.proofs.put_set.Tie as tie
 

@@ -3,7 +3,7 @@ use borrow.Author.Needs.{needs}
 use borrow.Author.Tests.{lt-ltb, le-ltb}
 use mathlib.Core.Path.{sym, _∙_}
 use Rattle.basics.proofs.RefusalLaws.{refuse-first}
-use Rattle.core_table.proofs.States.{bad-many, bad-alone, not-bad}
+use Rattle.core_table.proofs.StoresGrounds.{bad-many, bad-alone, not-bad}
 use Rattle.core_table.proofs.refusal.Statement.{statement}
 use Rattle.core_table.proofs.refusal.Tie as tie
 

@@ -4,8 +4,8 @@ use mathlib.Core.Path.{sym}
 use borrow.Author.Needs.{needs}
 use Rattle.model.specs.Sets.{WORDS}
 use Rattle.model.specs.Stores.{setAt}
-use Rattle.model.proofs.StoreLaws.{length-setAt, getD-setAt}
-use Rattle.core_state_set.proofs.Words.{Filling, filling-none, filling-more, filling-all}
+use Rattle.model.proofs.StoresTables.{length-setAt, getD-setAt}
+use Rattle.core_state_set.proofs.SetsWords.{Filling, filling-none, filling-more, filling-all}
 use Rattle.core_table.proofs.set_at.Statement.{statement}
 use Rattle.core_table.proofs.set_at.Tie as tie
 

@@ -1,6 +1,6 @@
 -- `content_length`: no factor is large, so the product fits.
 use borrow.Author.Needs.{needs}
-use Rattle.file_blocks.proofs.BlockLaws.{sets-fit, contents-fit, contents-le}
+use Rattle.file_blocks.proofs.ContentsLength.{sets-fit, contents-fit, contents-le}
 use Rattle.file_blocks.proofs.content_length.Statement.{statement}
 use Rattle.file_blocks.proofs.content_length.Tie as tie
 

@@ -7,7 +7,7 @@ use lib.ListN.{getD, take, drop, length-drop}
 use lib.Seq.{length-take-le, getD-take, getD-drop}
 use Rattle.model.specs.Blocks.{contentBytes}
 use Rattle.basics.specs.Bounds.{tabulate}
-use Rattle.core_table.proofs.Overwriting.{Over, over-none, over-next, over-list}
+use Rattle.core_table.proofs.ListsOverwritten.{Over, over-none, over-next, over-list}
 use Rattle.file_blocks.proofs.copy_content.Statement.{statement}
 use Rattle.file_blocks.proofs.copy_content.Tie as tie
 

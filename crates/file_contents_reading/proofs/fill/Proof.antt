@@ -1,6 +1,6 @@
 -- `fill`: the three parts of the store, one behind the other.
 use borrow.Author.Needs.{needs}
-use Rattle.file_contents_reading.proofs.Filling.{filled}
+use Rattle.file_contents_reading.proofs.StoresRead.{filled}
 use Rattle.file_contents_reading.proofs.fill.Statement.{statement}
 use Rattle.file_contents_reading.proofs.fill.Tie as tie
 

@@ -5,11 +5,11 @@ use lib.ListN.{getD}
 use Rattle.basics.specs.Bounds.{tabulate}
 use Rattle.model.specs.Sets.{WORDS, meet}
 use Rattle.model.specs.Contents.{setIn}
-use Rattle.model.proofs.SetLaws.{setOf-proper}
-use Rattle.model.proofs.ContentLaws.{setIn-proper}
-use Rattle.core_state_set.proofs.Words.{proper}
-use Rattle.core_table.proofs.Overwriting.{Over, over-none, over-next, over-list}
-use Rattle.file_contents_reading.proofs.Words.{cut-word}
+use Rattle.model.proofs.SetsMembers.{setOf-proper}
+use Rattle.model.proofs.SetsBytes.{setIn-proper}
+use Rattle.core_state_set.proofs.SetsWords.{proper}
+use Rattle.core_table.proofs.ListsOverwritten.{Over, over-none, over-next, over-list}
+use Rattle.file_contents_reading.proofs.ContentsWords.{cut-word}
 use Rattle.file_contents_reading.proofs.fill_set.Statement.{statement}
 use Rattle.file_contents_reading.proofs.fill_set.Tie as tie
 

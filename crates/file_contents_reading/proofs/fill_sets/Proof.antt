@@ -6,11 +6,11 @@ use mathlib.Core.Logic.{⊎-elim}
 use borrow.Author.Needs.{needs}
 use lib.ListN.{length-take, length-drop}
 use Rattle.basics.specs.Bounds.{concat}
-use Rattle.file_blocks.proofs.BlockLaws.{sets-fit, contents-fit}
-use Rattle.core_table.proofs.Overwriting.{Over, parts-none, parts-all}
+use Rattle.file_blocks.proofs.ContentsLength.{sets-fit, contents-fit}
+use Rattle.core_table.proofs.ListsOverwritten.{Over, parts-none, parts-all}
 use Rattle.file_contents_reading.specs.Parts.{partSet}
-use Rattle.file_contents_reading.proofs.Words.{set-inside}
-use Rattle.file_contents_reading.proofs.Filling.{part-set, part-unused}
+use Rattle.file_contents_reading.proofs.ContentsWords.{set-inside}
+use Rattle.file_contents_reading.proofs.StoresRead.{part-set, part-unused}
 use Rattle.file_contents_reading.proofs.fill_sets.Statement.{statement}
 use Rattle.file_contents_reading.proofs.fill_sets.Tie as tie
 

@@ -2,7 +2,7 @@
 use Prim.Native.Nat.{_-_, _≤_}
 use mathlib.Core.Path.{_≡_}
 use borrow.Author.Needs.{needs}
-use Rattle.file_contents_reading.proofs.Words.{lowBytes, word-none, word-more, word-all}
+use Rattle.file_contents_reading.proofs.ContentsWords.{lowBytes, word-none, word-more, word-all}
 use Rattle.file_contents_reading.proofs.word_in.Statement.{statement}
 use Rattle.file_contents_reading.proofs.word_in.Tie as tie
 

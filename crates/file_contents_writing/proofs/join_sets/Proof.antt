@@ -6,9 +6,9 @@ use lib.ListN.{length-take, length-drop}
 use Rattle.basics.specs.Bounds.{concat}
 use Rattle.model.specs.Stores.{headSets}
 use Rattle.file_contents_writing.specs.Placed.{placedSet}
-use Rattle.core_table.proofs.Overwriting.{Over, parts-none}
-use Rattle.file_blocks.proofs.BlockLaws.{sets-fit}
-use Rattle.file_contents_writing.proofs.Joining.{sets-more, sets-all, set-room}
+use Rattle.core_table.proofs.ListsOverwritten.{Over, parts-none}
+use Rattle.file_blocks.proofs.ContentsLength.{sets-fit}
+use Rattle.file_contents_writing.proofs.ContentsJoined.{sets-more, sets-all, set-room}
 use Rattle.file_contents_writing.proofs.join_sets.Statement.{statement}
 use Rattle.file_contents_writing.proofs.join_sets.Tie as tie
 
@@ -46,6 +46,6 @@ join-sets-spec =
     (λ c. search needs)
     (λ c.
     let place = c .before .before .before .before .before in
-    (search needs, sets-more _ _ _ _ _ _ _ (place .place-of .ensures .0) (place .before .before .loop .inv .1) (c .before .before .put-set .ensures) (search needs)))
+    (search needs, sets-more _ _ _ _ _ _ _ (place .place-of .ensures .0) (place .before .before .loop .inv .1) (c .before .before .put-set-bytes .ensures) (search needs)))
     (λ c. search needs)
     (λ c. sets-all _ _ _ _ _ _ _ (c .before .before .before .set-width .ensures) (search needs) (search needs) (c .before .loop .inv .1)))

@@ -1,6 +1,6 @@
 -- `place_of`: before the groups, among them, or among the rows.
 use borrow.Author.Needs.{needs}
-use Rattle.file_contents_writing.proofs.Places.{head-place, group-place, row-place}
+use Rattle.file_contents_writing.proofs.StoresPlaces.{head-place, group-place, row-place}
 use Rattle.file_contents_writing.proofs.place_of.Statement.{statement}
 use Rattle.file_contents_writing.proofs.place_of.Tie as tie
 

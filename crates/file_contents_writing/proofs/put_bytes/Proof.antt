@@ -3,8 +3,8 @@ use Prim.Native.Nat.{_-_, _≤_}
 use mathlib.Core.Path.{refl}
 use borrow.Author.Needs.{needs}
 use Rattle.file_contents_writing.specs.Placed.{wordBytes}
-use Rattle.core_table.proofs.Overwriting.{Over, over-all}
-use Rattle.file_contents_writing.proofs.SetBytes.{bytes-none, bytes-more}
+use Rattle.core_table.proofs.ListsOverwritten.{Over, over-all}
+use Rattle.file_contents_writing.proofs.SetsBytesWritten.{bytes-none, bytes-more}
 use Rattle.file_contents_writing.proofs.put_bytes.Statement.{statement}
 use Rattle.file_contents_writing.proofs.put_bytes.Tie as tie
 

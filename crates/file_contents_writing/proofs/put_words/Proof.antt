@@ -3,8 +3,8 @@ use Prim.Native.Nat.{_-_, _≤_}
 use borrow.Author.Needs.{needs}
 use Rattle.basics.specs.Bounds.{concat}
 use Rattle.file_contents_writing.specs.Placed.{wordsBytes}
-use Rattle.core_table.proofs.Overwriting.{Over, parts-none, parts-all}
-use Rattle.file_contents_writing.proofs.SetBytes.{words-more}
+use Rattle.core_table.proofs.ListsOverwritten.{Over, parts-none, parts-all}
+use Rattle.file_contents_writing.proofs.SetsBytesWritten.{words-more}
 use Rattle.file_contents_writing.proofs.put_words.Statement.{statement}
 use Rattle.file_contents_writing.proofs.put_words.Tie as tie
 

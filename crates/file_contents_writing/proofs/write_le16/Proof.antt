@@ -1,6 +1,6 @@
 -- `write_le16`: both bytes.
 use borrow.Author.Needs.{needs}
-use Rattle.file_contents_writing.proofs.Joining.{le16-written}
+use Rattle.file_contents_writing.proofs.ContentsJoined.{le16-written}
 use Rattle.file_contents_writing.proofs.write_le16.Statement.{statement}
 use Rattle.file_contents_writing.proofs.write_le16.Tie as tie
 

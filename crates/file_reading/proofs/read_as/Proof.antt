@@ -3,7 +3,7 @@ use native.Mathlib.Omega.{arith}
 use borrow.Author.Needs.{needs}
 use borrow.Author.Tests.{lt-ltb, le-ltb}
 use Rattle.model.specs.Calls.{readGroundsAs}
-use Rattle.file_reading.proofs.Grounds.{reads-first, reads-call, draft-read, file-read}
+use Rattle.file_reading.proofs.ReadGrounds.{reads-first, reads-call, draft-read, file-read}
 use Rattle.file_reading.proofs.read_as.Statement.{statement}
 use Rattle.file_reading.proofs.read_as.Tie as tie
 

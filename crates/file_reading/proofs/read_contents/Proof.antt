@@ -14,7 +14,7 @@ use Rattle.model.specs.Calls.{badSecond}
 use Rattle.model.proofs.CallLaws.{second-pass}
 use Rattle.file_blocks.specs.Forms.{formOf}
 use Rattle.file_reading.specs.Reading.{bytesGrounds}
-use Rattle.file_reading.proofs.Grounds.{reads-first, reads-table, second-is, second-low, second-high, reads-contents}
+use Rattle.file_reading.proofs.ReadGrounds.{reads-first, reads-table, second-is, second-low, second-high, reads-contents}
 use Rattle.file_reading.proofs.read_contents.Statement.{statement}
 use Rattle.file_reading.proofs.read_contents.Tie as tie
 
@@ -66,7 +66,7 @@ read-contents-spec =
     let five = c .before .before in
     let h = header (tested (five .before)) in
     reads-contents _ _ _ _ _ (least (tested (five .before)) .added .ensures .0)
-    (reads-first 3 _ (h .0, (h .1, (whole five, sym (c .before .any-beyond .ensures) ∙ c .if6 .taken))) (λ x. omega arith)))
+    (reads-first 3 _ (h .0, (h .1, (whole five, sym (c .before .any-content-beyond .ensures) ∙ c .if6 .taken))) (λ x. omega arith)))
     (λ c. search needs)
     (λ c κs. search needs)
     (λ c.
@@ -74,7 +74,7 @@ read-contents-spec =
     let five = six .before .before in
     let h = header (tested (five .before)) in
     reads-contents _ _ _ _ _ (least (tested (five .before)) .added .ensures .0)
-    (reads-first 4 _ (h .0, (h .1, (whole five, (sym (six .before .any-beyond .ensures) ∙ six .if6 .left, cc (five .before .before .content-length .ensures .0, c .before .non-zero .ensures, c .if7 .taken))))) (λ x. omega arith)))
+    (reads-first 4 _ (h .0, (h .1, (whole five, (sym (six .before .any-content-beyond .ensures) ∙ six .if6 .left, cc (five .before .before .content-length .ensures .0, c .before .non-zero-byte .ensures, c .if7 .taken))))) (λ x. omega arith)))
     (λ c κs. search needs)
     (λ c. search needs)
     (λ c.
@@ -83,4 +83,4 @@ read-contents-spec =
     let five = six .before .before in
     let h = header (tested (five .before)) in
     reads-contents _ _ _ _ _ (least (tested (five .before)) .added .ensures .0)
-    (reads-table _ (h .0, (h .1, (whole five, (sym (six .before .any-beyond .ensures) ∙ six .if6 .left, (cc (five .before .before .content-length .ensures .0, seven .before .non-zero .ensures, seven .if7 .left), tt))))) refl refl (c .before .before .fill .ensures))))
+    (reads-table _ (h .0, (h .1, (whole five, (sym (six .before .any-content-beyond .ensures) ∙ six .if6 .left, (cc (five .before .before .content-length .ensures .0, seven .before .non-zero-byte .ensures, seven .if7 .left), tt))))) refl refl (c .before .before .fill .ensures))))

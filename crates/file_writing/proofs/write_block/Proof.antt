@@ -2,7 +2,7 @@
 use mathlib.Core.Path.{refl, _∙_}
 use borrow.Author.Needs.{needs}
 use Rattle.model.specs.Blocks.{checkAt}
-use Rattle.core_table.proofs.Overwriting.{overwrite-lent}
+use Rattle.core_table.proofs.ListsOverwritten.{overwrite-lent}
 use Rattle.file_writing.proofs.WriteLaws.{length-blockFront, block-written}
 use Rattle.file_writing.proofs.write_block.Statement.{statement}
 use Rattle.file_writing.proofs.write_block.Tie as tie

@@ -4,7 +4,7 @@ use borrow.Author.Needs.{needs}
 use Rattle.basics.specs.Bounds.{concat}
 use Rattle.model.specs.Blocks.{blockOf}
 use Rattle.model.proofs.BlockLaws.{blockOf-is}
-use Rattle.core_table.proofs.Overwriting.{Over, parts-none, parts-more, parts-all}
+use Rattle.core_table.proofs.ListsOverwritten.{Over, parts-none, parts-more, parts-all}
 use Rattle.file_writing.proofs.write_blocks.Statement.{statement}
 use Rattle.file_writing.proofs.write_blocks.Tie as tie
 

@@ -16,6 +16,6 @@ write-file-spec =
     (λ c κs.
     let join = c .before .before .before in
     let pre = join .before .before .before .before .pre in
-    (omega (arith, pre .2, length-joined (pre .0) joinedRoom (omega arith) (join .join .ensures)), pre .1, omega (arith, pre .2), search needs))
+    (omega (arith, pre .2, length-joined (pre .0) joinedRoom (omega arith) (join .join-contents .ensures)), pre .1, omega (arith, pre .2), search needs))
     (λ c. search needs)
-    (λ c. blocks-joined _ joinedRoom _ _ _ _ (c .before .before .before .before .before .before .join .ensures) (c .before .before .write-blocks .ensures)))
+    (λ c. blocks-joined _ joinedRoom _ _ _ _ (c .before .before .before .before .before .before .join-contents .ensures) (c .before .before .write-blocks .ensures)))

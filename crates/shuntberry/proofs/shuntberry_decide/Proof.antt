@@ -1,9 +1,9 @@
 -- `shuntberry_decide`: the answer of `decide`, whose numbers are small, laid out.
 use mathlib.Core.Path.{ap, _∙_}
 use borrow.Author.Needs.{needs}
-use Rattle.model.proofs.Ranges.{DecisionRange, decide-range}
+use Rattle.model.proofs.RangesOfAnswers.{DecisionRange, decide-range}
 use Rattle.shuntberry_fields.specs.Fields.{decisionFields}
-use Rattle.shuntberry_fields.proofs.Answering.{where-answered}
+use Rattle.shuntberry_fields.proofs.FieldsAnswered.{where-answered}
 use Rattle.shuntberry.proofs.shuntberry_decide.Statement.{statement}
 use Rattle.shuntberry.proofs.shuntberry_decide.Tie as tie
 

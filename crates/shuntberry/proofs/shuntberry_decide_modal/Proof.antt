@@ -1,9 +1,9 @@
 -- `shuntberry_decide_modal`: the answer of `decide_modal`, whose numbers are small, laid out.
 use mathlib.Core.Path.{ap, _∙_}
 use borrow.Author.Needs.{needs}
-use Rattle.call_modal.proofs.Ranges.{ModalRange, modal-range}
+use Rattle.call_modal.proofs.ModalRanges.{ModalRange, modal-range}
 use Rattle.shuntberry_fields.specs.Fields.{modalFields}
-use Rattle.shuntberry_fields.proofs.Answering.{where-answered}
+use Rattle.shuntberry_fields.proofs.FieldsAnswered.{where-answered}
 use Rattle.shuntberry.proofs.shuntberry_decide_modal.Statement.{statement}
 use Rattle.shuntberry.proofs.shuntberry_decide_modal.Tie as tie
 

@@ -2,7 +2,7 @@
 use mathlib.Core.Path.{_∙_}
 use borrow.Author.Needs.{needs}
 use Rattle.model.specs.Sets.{empty}
-use Rattle.shuntberry_fields.proofs.Answering.{beside}
+use Rattle.shuntberry_fields.proofs.FieldsAnswered.{beside}
 use Rattle.shuntberry.proofs.shuntberry_open.Statement.{statement}
 use Rattle.shuntberry.proofs.shuntberry_open.Tie as tie
 

@@ -1,9 +1,9 @@
 -- `shuntberry_read`: the answer of `read`, whose numbers are small, laid out.
 use mathlib.Core.Path.{ap, _∙_}
 use borrow.Author.Needs.{needs}
-use Rattle.model.proofs.Ranges.{ReadRange, read-range}
+use Rattle.model.proofs.RangesOfAnswers.{ReadRange, read-range}
 use Rattle.shuntberry_fields.specs.Fields.{tableFields}
-use Rattle.shuntberry_fields.proofs.Answering.{where-answered}
+use Rattle.shuntberry_fields.proofs.FieldsAnswered.{where-answered}
 use Rattle.shuntberry.proofs.shuntberry_read.Statement.{statement}
 use Rattle.shuntberry.proofs.shuntberry_read.Tie as tie
 

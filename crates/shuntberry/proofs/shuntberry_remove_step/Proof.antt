@@ -1,7 +1,7 @@
 -- `shuntberry_remove_step`: the answer of `remove_step`, laid out.
 use mathlib.Core.Path.{_∙_}
 use borrow.Author.Needs.{needs}
-use Rattle.shuntberry_fields.proofs.Answering.{beside}
+use Rattle.shuntberry_fields.proofs.FieldsAnswered.{beside}
 use Rattle.shuntberry.proofs.shuntberry_remove_step.Statement.{statement}
 use Rattle.shuntberry.proofs.shuntberry_remove_step.Tie as tie
 

@@ -1,9 +1,9 @@
 -- `shuntberry_replay`: the answer of `replay`, whose numbers are small, laid out.
 use mathlib.Core.Path.{ap, _∙_}
 use borrow.Author.Needs.{needs}
-use Rattle.call_replay.proofs.Ranges.{ReplayRange, replay-range}
+use Rattle.call_replay.proofs.ReplayRanges.{ReplayRange, replay-range}
 use Rattle.shuntberry_fields.specs.Fields.{replayFields}
-use Rattle.shuntberry_fields.proofs.Answering.{where-answered}
+use Rattle.shuntberry_fields.proofs.FieldsAnswered.{where-answered}
 use Rattle.shuntberry.proofs.shuntberry_replay.Statement.{statement}
 use Rattle.shuntberry.proofs.shuntberry_replay.Tie as tie
 

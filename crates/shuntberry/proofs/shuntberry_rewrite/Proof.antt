@@ -14,9 +14,9 @@ use Rattle.model.proofs.FileLaws.{fileLength-most}
 use Rattle.model.proofs.CallLaws.{read-none}
 use Rattle.model.proofs.RoundTrips.{taken}
 use Rattle.call_rewrite.specs.RewriteAnswers.{rewriteAnswer}
-use Rattle.call_rewrite.proofs.Answers.{new-long, answered-old}
+use Rattle.call_rewrite.proofs.RewriteAnswered.{new-long, answered-old}
 use Rattle.shuntberry_fields.specs.Fields.{fileFields}
-use Rattle.shuntberry_fields.proofs.Answering.{where-answered}
+use Rattle.shuntberry_fields.proofs.FieldsAnswered.{where-answered}
 use Rattle.shuntberry.proofs.shuntberry_rewrite.Statement.{statement}
 use Rattle.shuntberry.proofs.shuntberry_rewrite.Tie as tie
 

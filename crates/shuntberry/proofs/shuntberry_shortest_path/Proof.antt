@@ -4,9 +4,9 @@ use borrow.Author.Needs.{needs}
 use Prim.Native.Nat.{_≤_}
 use Rattle.model.specs.Sets.{maxStates}
 use Rattle.model.specs.Calls.{Shortest}
-use Rattle.model.proofs.Ranges.{shortest-range}
+use Rattle.model.proofs.RangesOfAnswers.{shortest-range}
 use Rattle.shuntberry_fields.specs.Fields.{shortestFields}
-use Rattle.shuntberry_fields.proofs.Answering.{where-answered}
+use Rattle.shuntberry_fields.proofs.FieldsAnswered.{where-answered}
 use Rattle.shuntberry.proofs.shuntberry_shortest_path.Statement.{statement}
 use Rattle.shuntberry.proofs.shuntberry_shortest_path.Tie as tie
 

@@ -3,9 +3,9 @@ use mathlib.Core.Path.{ap, _∙_}
 use borrow.Author.Needs.{needs}
 use Prim.Native.Nat.{ℕ, _≤_}
 use Rattle.model.specs.Files.{maxFile}
-use Rattle.model.proofs.Ranges.{write-range}
+use Rattle.model.proofs.RangesOfAnswers.{write-range}
 use Rattle.shuntberry_fields.specs.Fields.{fileFields}
-use Rattle.shuntberry_fields.proofs.Answering.{where-answered}
+use Rattle.shuntberry_fields.proofs.FieldsAnswered.{where-answered}
 use Rattle.shuntberry.proofs.shuntberry_write.Statement.{statement}
 use Rattle.shuntberry.proofs.shuntberry_write.Tie as tie
 

@@ -3,7 +3,7 @@ use mathlib.Core.Path.{_≡_, refl}
 use native.Mathlib.Omega.{arith}
 use borrow.Author.Needs.{needs}
 use Rattle.model.specs.Sets.{Set}
-use Rattle.model.proofs.Ranges.{DecisionRange}
+use Rattle.model.proofs.RangesOfAnswers.{DecisionRange}
 use Rattle.call_decide.specs.declared.Verdict.{Verdict}
 use Rattle.call_decide.specs.DecideAnswers.{decidedWith}
 use Rattle.shuntberry_fields.specs.Small.{WhereAnswered}

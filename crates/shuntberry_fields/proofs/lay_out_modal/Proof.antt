@@ -3,7 +3,7 @@ use mathlib.Core.Path.{_≡_, refl}
 use native.Mathlib.Omega.{arith}
 use borrow.Author.Needs.{needs}
 use Rattle.model.specs.Sets.{Set}
-use Rattle.call_modal.proofs.Ranges.{ModalRange}
+use Rattle.call_modal.proofs.ModalRanges.{ModalRange}
 use Rattle.call_modal.specs.declared.ModalVerdict.{ModalVerdict}
 use Rattle.call_modal.specs.ModalAnswers.{modalDecidedWith}
 use Rattle.shuntberry_fields.specs.Small.{WhereAnswered}

@@ -1,6 +1,6 @@
 -- `StateSet::contains`: the lowest bit of the shifted word is the state's.
 use borrow.Author.Needs.{needs}
-use Rattle.core_state_set.proofs.Words.{member-word, member-past}
+use Rattle.core_state_set.proofs.SetsWords.{member-word, member-past}
 use Rattle.core_state_set.proofs.StateSet.contains.Statement.{statement}
 use Rattle.core_state_set.proofs.StateSet.contains.Tie as tie
 

@@ -2,8 +2,8 @@
 use Prim.Native.Nat.{_-_}
 use borrow.Author.Needs.{needs}
 use Rattle.model.specs.Sets.{WORDS}
-use Rattle.core_state_set.proofs.Words.{proper}
-use Rattle.core_state_set.proofs.Counts.{bits-fit, states-fit, word-ones, Counting, counting-none, counting-more, counting-all}
+use Rattle.core_state_set.proofs.SetsWords.{proper}
+use Rattle.core_state_set.proofs.SetsOnes.{bits-fit, states-fit, word-ones, Counting, counting-none, counting-more, counting-all}
 use Rattle.core_state_set.proofs.StateSet.count.Statement.{statement}
 use Rattle.core_state_set.proofs.StateSet.count.Tie as tie
 

@@ -3,7 +3,7 @@ use Prim.Native.Nat.{_-_}
 use mathlib.Core.Bool.{not, _&&_}
 use borrow.Author.Needs.{needs}
 use Rattle.model.specs.Sets.{WORDS, difference}
-use Rattle.core_state_set.proofs.Words.{proper, and-not-wise, Combining, combining-none, combining-more, combining-all}
+use Rattle.core_state_set.proofs.SetsWords.{proper, and-not-wise, Combining, combining-none, combining-more, combining-all}
 use Rattle.core_state_set.proofs.StateSet.difference.Statement.{statement}
 use Rattle.core_state_set.proofs.StateSet.difference.Tie as tie
 

@@ -5,8 +5,8 @@ use borrow.Author.Count.{below-none, below-more}
 use borrow.Author.Needs.{needs}
 use lib.ListN.{getD}
 use Rattle.model.specs.Sets.{WORDS}
-use Rattle.core_state_set.proofs.Words.{proper}
-use Rattle.core_state_set.proofs.Tests.{same-words, other-word}
+use Rattle.core_state_set.proofs.SetsWords.{proper}
+use Rattle.core_state_set.proofs.SetsTests.{same-words, other-word}
 use Rattle.core_state_set.proofs.StateSet.equals.Statement.{statement}
 use Rattle.core_state_set.proofs.StateSet.equals.Tie as tie
 

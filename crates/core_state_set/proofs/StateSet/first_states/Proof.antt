@@ -3,8 +3,8 @@ use Prim.Native.Nat.{_-_}
 use mathlib.Core.Path.{_∙_}
 use borrow.Author.Needs.{needs}
 use Rattle.model.specs.Sets.{WORDS, states, firstStates}
-use Rattle.model.proofs.SetLaws.{setOf-proper}
-use Rattle.core_state_set.proofs.Words.{first-word, Filling, filling-none, filling-more, filling-all}
+use Rattle.model.proofs.SetsMembers.{setOf-proper}
+use Rattle.core_state_set.proofs.SetsWords.{first-word, Filling, filling-none, filling-more, filling-all}
 use Rattle.core_state_set.proofs.StateSet.first_states.Statement.{statement}
 use Rattle.core_state_set.proofs.StateSet.first_states.Tie as tie
 

@@ -2,8 +2,8 @@
 use Prim.Native.Nat.{_-_}
 use borrow.Author.Needs.{needs}
 use Rattle.model.specs.Sets.{WORDS}
-use Rattle.core_state_set.proofs.Words.{proper}
-use Rattle.core_state_set.proofs.Tests.{Joined, joined-none, joined-more, joined-all}
+use Rattle.core_state_set.proofs.SetsWords.{proper}
+use Rattle.core_state_set.proofs.SetsTests.{Joined, joined-none, joined-more, joined-all}
 use Rattle.core_state_set.proofs.StateSet.is_empty.Statement.{statement}
 use Rattle.core_state_set.proofs.StateSet.is_empty.Tie as tie
 

@@ -2,7 +2,7 @@
 use mathlib.Core.Path.{ap, _∙_}
 use borrow.Author.Needs.{needs}
 use Rattle.model.specs.Sets.{empty, subset}
-use Rattle.core_state_set.proofs.Tests.{subset-difference}
+use Rattle.core_state_set.proofs.SetsTests.{subset-difference}
 use Rattle.core_state_set.proofs.StateSet.is_subset.Statement.{statement}
 use Rattle.core_state_set.proofs.StateSet.is_subset.Tie as tie
 

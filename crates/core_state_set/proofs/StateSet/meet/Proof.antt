@@ -3,7 +3,7 @@ use Prim.Native.Nat.{_-_}
 use mathlib.Core.Bool.{_&&_}
 use borrow.Author.Needs.{needs}
 use Rattle.model.specs.Sets.{WORDS, meet}
-use Rattle.core_state_set.proofs.Words.{proper, and-wise, Combining, combining-none, combining-more, combining-all}
+use Rattle.core_state_set.proofs.SetsWords.{proper, and-wise, Combining, combining-none, combining-more, combining-all}
 use Rattle.core_state_set.proofs.StateSet.meet.Statement.{statement}
 use Rattle.core_state_set.proofs.StateSet.meet.Tie as tie
 

@@ -3,7 +3,7 @@ use mathlib.Core.Bool.{not}
 use mathlib.Core.Path.{ap, _∙_}
 use borrow.Author.Needs.{needs}
 use Rattle.model.specs.Sets.{empty, subset}
-use Rattle.core_state_set.proofs.Tests.{meets-meet}
+use Rattle.core_state_set.proofs.SetsTests.{meets-meet}
 use Rattle.core_state_set.proofs.StateSet.meets.Statement.{statement}
 use Rattle.core_state_set.proofs.StateSet.meets.Tie as tie
 

@@ -1,8 +1,7 @@
 -- `StateSet::single`: what is joined to the empty set.
 use mathlib.Core.Path.{_∙_, ap}
 use Rattle.model.specs.Sets.{Set, empty, single, union}
-use Rattle.model.proofs.SetLaws.{setOf-proper}
-use Rattle.model.proofs.ImageLaws.{union-comm, union-empty}
+use Rattle.model.proofs.SetsMembers.{setOf-proper, union-comm, union-empty}
 use Rattle.core_state_set.proofs.StateSet.single.Statement.{statement}
 use Rattle.core_state_set.proofs.StateSet.single.Tie as tie
 

@@ -6,9 +6,9 @@ use borrow.Author.Needs.{needs}
 use lib.Count.{trailing-le}
 use lib.ListN.{getD}
 use Rattle.model.specs.Sets.{WORDS}
-use Rattle.core_state_set.proofs.Words.{proper}
-use Rattle.core_state_set.proofs.Counts.{bits-fit, states-fit}
-use Rattle.core_state_set.proofs.WordSets.{smallest-word, smallest-none}
+use Rattle.core_state_set.proofs.SetsWords.{proper}
+use Rattle.core_state_set.proofs.SetsOnes.{bits-fit, states-fit}
+use Rattle.core_state_set.proofs.SetsByWord.{smallest-word, smallest-none}
 use Rattle.core_state_set.proofs.StateSet.smallest.Statement.{statement}
 use Rattle.core_state_set.proofs.StateSet.smallest.Tie as tie
 

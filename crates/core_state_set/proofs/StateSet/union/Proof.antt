@@ -3,7 +3,7 @@ use Prim.Native.Nat.{_-_}
 use mathlib.Core.Bool.{_||_}
 use borrow.Author.Needs.{needs}
 use Rattle.model.specs.Sets.{WORDS, union}
-use Rattle.core_state_set.proofs.Words.{proper, or-wise, Combining, combining-none, combining-more, combining-all}
+use Rattle.core_state_set.proofs.SetsWords.{proper, or-wise, Combining, combining-none, combining-more, combining-all}
 use Rattle.core_state_set.proofs.StateSet.union.Statement.{statement}
 use Rattle.core_state_set.proofs.StateSet.union.Tie as tie
 

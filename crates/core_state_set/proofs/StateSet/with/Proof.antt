@@ -1,6 +1,6 @@
 -- `StateSet::with`: the bit of s in its word, or no change where s is past the words.
 use borrow.Author.Needs.{needs}
-use Rattle.core_state_set.proofs.Words.{proper, with-bit, with-past}
+use Rattle.core_state_set.proofs.SetsWords.{proper, with-bit, with-past}
 use Rattle.core_state_set.proofs.StateSet.with.Statement.{statement}
 use Rattle.core_state_set.proofs.StateSet.with.Tie as tie
 

@@ -1,0 +1,2 @@
+pub mod FirstCover
+pub mod OrderKept

@@ -1,0 +1,2 @@
+pub mod OrderAnswers
+pub mod OrderPromises

@@ -1,0 +1,4 @@
+pub mod RowsMapped
+pub mod SetsJoined
+pub mod SetsHeld
+pub mod RowsLent

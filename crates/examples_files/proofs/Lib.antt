@@ -1,0 +1,2 @@
+pub mod WorkedTextsKept
+pub mod WorkedFilesKept

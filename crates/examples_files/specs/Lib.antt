@@ -1,0 +1,2 @@
+pub mod WorkedTexts
+pub mod WorkedFiles
