@@ -91,8 +91,8 @@ extern "C" {
  * From 6 on, shuntberry_is_safe and shuntberry_modal_is_safe are also given n, and are 0 for a draft, as
  * shuntberry_checked_is_safe is. Nothing else changed for a program that compiles.
  */
-#define SHUNTBERRY_VERSION 5
-#define SHUNTBERRY_VERSION_TEXT "5.1.0" /* all of it: that number, then one for what is new, and one for the rest */
+#define SHUNTBERRY_VERSION 6
+#define SHUNTBERRY_VERSION_TEXT "6.0.0" /* all of it: that number, then one for what is new, and one for the rest */
 
 /* ---- Sizes ---- */
 

@@ -12,7 +12,7 @@ _shuntberry() {
   elif [[ $word == -* ]]; then
     case $command in
     check) words='--site --explain --quiet --json --allowance --text --names --' ;;
-    check-all) words='--site --from -0 --json --' ;;
+    check-all) words='--site --from -0 --count --json --' ;;
     release) words='--site --even-if-vacuous --' ;;
     report) words='-o --site --names --' ;;
     inspect | within) words='--site --text --names --json --' ;;
@@ -26,7 +26,7 @@ _shuntberry() {
     esac
   else
     case $before in
-    --site | --allowance | --at) return ;;
+    --site | --allowance | --at | --count) return ;;
     esac
     compopt -o filenames
     mapfile -t COMPREPLY < <(compgen -f -- "$word")

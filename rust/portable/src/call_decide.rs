@@ -9,11 +9,11 @@ use crate::call_paths::steps_of;
 use crate::core_rounds::Ending;
 use crate::core_rounds::MAX_ALLOWANCE;
 use crate::core_rounds::run;
+use crate::core_rows::forbidden;
 use crate::core_state_set::MAX_STATES;
 use crate::core_state_set::StateSet;
 use crate::core_table::GROUPS_AT;
 use crate::core_table::ROWS_AT;
-use crate::core_table::forbidden;
 use crate::core_table::refusal;
 use crate::core_table::set_at;
 

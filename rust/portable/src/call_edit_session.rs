@@ -11,12 +11,12 @@
 //   edit                         a step added or removed
 //   open, add_step, remove_step  the calls
 use crate::core_reach::reached;
+use crate::core_rows::row_at;
 use crate::core_state_set::StateSet;
 use crate::core_state_set::WORD_BITS;
 use crate::core_state_set::WORDS;
 use crate::core_table::ROWS_AT;
 use crate::core_table::refusal;
-use crate::core_table::row_at;
 use crate::core_table::set_at;
 
 fn has_step(store: &[u64], from: usize, to: usize) -> bool

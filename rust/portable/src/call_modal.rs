@@ -13,16 +13,16 @@ use crate::call_paths::steps_of;
 use crate::core_rounds::Ending;
 use crate::core_rounds::MAX_ALLOWANCE;
 use crate::core_rounds::run;
+use crate::core_rows::forbidden_by;
+use crate::core_rows::row_at;
 use crate::core_state_set::MAX_STATES;
 use crate::core_state_set::StateSet;
 use crate::core_state_set::WORDS;
 use crate::core_table::GROUPS_AT;
 use crate::core_table::ROWS_AT;
-use crate::core_table::any_beyond;
-use crate::core_table::forbidden_by;
-use crate::core_table::non_zero;
+use crate::core_table::any_stored_beyond;
+use crate::core_table::non_zero_word;
 use crate::core_table::refusal;
-use crate::core_table::row_at;
 use crate::core_table::set_at;
 
 // The words that the rows of possible steps take.
@@ -77,10 +77,10 @@ fn path_on(store: &[u64], n: usize, forbidden: StateSet, rows: &[u64], path: &mu
 // A 1 bit for a state from n up, or a word of an unused row not 0.
 fn is_malformed(possible: &[u64], n: usize) -> bool
 {
-    if any_beyond(possible, 0, n, n) {
+    if any_stored_beyond(possible, 0, n, n) {
         return true;
     }
-    non_zero(possible, WORDS * n, POSSIBLE_WORDS)
+    non_zero_word(possible, WORDS * n, POSSIBLE_WORDS)
 }
 
 // A certain step is not possible.

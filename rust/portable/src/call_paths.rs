@@ -13,16 +13,16 @@
 // What works on a table is lent its rows, and its sets by value; find_path asks that the table is well formed. The calls are lent a store, work out its
 // forbidden states once, and ask for nothing.
 use crate::core_reach::newly_reached;
+use crate::core_rows::Rows;
+use crate::core_rows::forbidden;
+use crate::core_rows::meet_hold;
+use crate::core_rows::row_at;
+use crate::core_rows::row_of;
 use crate::core_state_set::MAX_STATES;
 use crate::core_state_set::StateSet;
 use crate::core_state_set::WORDS;
 use crate::core_table::ROWS_AT;
-use crate::core_table::Rows;
-use crate::core_table::forbidden;
-use crate::core_table::meet_hold;
 use crate::core_table::refusal;
-use crate::core_table::row_at;
-use crate::core_table::row_of;
 use crate::core_table::set_at;
 
 // The states of x that step to a state of y: those that are not in hold of all other states.
@@ -36,7 +36,7 @@ pub fn stepping_into(rows: &[u64], x: StateSet, y: StateSet) -> StateSet
 
 // The steps of a shortest path, if there is one.
 #[derive(Clone, Copy)]
-pub enum Found {
+pub enum PathFound {
     Steps(usize),
     Nothing,
 }
@@ -57,7 +57,7 @@ fn first_layer(
     from: StateSet,
     forbidden: StateSet,
     layers: &mut [[u64; WORDS]],
-) -> Found
+) -> PathFound
 {
     let mut found = from;
     let mut layer = from;
@@ -65,14 +65,14 @@ fn first_layer(
     while !layer.is_empty() {
         if layer.meets(forbidden) {
             put_row(layers, steps, layer.meet(forbidden));
-            return Found::Steps(steps);
+            return PathFound::Steps(steps);
         }
         put_row(layers, steps, layer);
         layer = newly_reached(rows, layer, found);
         found = found.union(layer);
         steps += 1;
     }
-    Found::Nothing
+    PathFound::Nothing
 }
 
 // Back from layer d: of each layer are kept the states that step to a state kept of the next.
@@ -111,27 +111,27 @@ pub fn find_path(
     initial: StateSet,
     forbidden: StateSet,
     path: &mut [u16],
-) -> Found
+) -> PathFound
 {
     let none = [0; WORDS];
     let mut layers = [none; MAX_STATES];
     match first_layer(rows, initial, forbidden, &mut layers) {
-        Found::Steps(d) => {
+        PathFound::Steps(d) => {
             narrow_back(rows, &mut layers, d);
             let first = smallest_in_layer(&layers, 0, initial);
             write_path(rows, &layers, first, d, path, 0);
-            Found::Steps(d)
+            PathFound::Steps(d)
         }
-        Found::Nothing => Found::Nothing,
+        PathFound::Nothing => PathFound::Nothing,
     }
 }
 
 // The steps of the path that was found, or 0.
-pub fn steps_of(found: Found) -> usize
+pub fn steps_of(found: PathFound) -> usize
 {
     match found {
-        Found::Steps(steps) => steps,
-        Found::Nothing => 0,
+        PathFound::Steps(steps) => steps,
+        PathFound::Nothing => 0,
     }
 }
 
@@ -159,8 +159,8 @@ pub fn shortest_path(store: &[u64], n: usize, g: usize, path: &mut [u16]) -> Sho
         forbidden(store, n),
         path,
     ) {
-        Found::Steps(steps) => Shortest::Path { steps },
-        Found::Nothing => Shortest::NoPath,
+        PathFound::Steps(steps) => Shortest::Path { steps },
+        PathFound::Nothing => Shortest::NoPath,
     }
 }
 
@@ -175,11 +175,11 @@ pub enum WithinAnswer {
 }
 
 // What was found is at most k steps away.
-fn is_within(found: Found, k: usize) -> bool
+fn is_within(found: PathFound, k: usize) -> bool
 {
     match found {
-        Found::Steps(d) => d <= k,
-        Found::Nothing => false,
+        PathFound::Steps(d) => d <= k,
+        PathFound::Nothing => false,
     }
 }
 

@@ -5,11 +5,11 @@
 //
 //   rewrite          the new file at the front of the output and its length, or why the call is refused
 //   rest_dead_ends   the states without a successor put to rest, and no other
+use crate::core_rows::meet_hold;
 use crate::core_state_set::StateSet;
 use crate::core_table::RESTING_AT;
 use crate::core_table::ROWS_AT;
 use crate::core_table::STORE_WORDS;
-use crate::core_table::meet_hold;
 use crate::core_table::put_set;
 use crate::file_reading::TableRead;
 use crate::file_reading::read_old;

@@ -4,8 +4,8 @@
 //
 //   newly_reached      the next layer: the successors of a layer that are not reached yet
 //   reached            all states that a set reaches, itself included
+use crate::core_rows::successors;
 use crate::core_state_set::StateSet;
-use crate::core_table::successors;
 
 // The successors of the states of the layer that are not among those found.
 pub fn newly_reached(rows: &[u64], layer: StateSet, found: StateSet) -> StateSet

@@ -2,10 +2,10 @@
 
 // The contents of a file, which stand joined in a buffer: grounds 17 and 18, which concern its sets and its filler, and its table put into the store.
 //
-//   any_beyond, is_set_beyond        ground 17, of all sets and of one
-//   non_zero                         ground 18
-//   fill, fill_sets, fill_set        the table put into the store: its three parts; the sets of a part; one set
-//   word_in                          a word of a set in the contents
+//   any_content_beyond, is_set_beyond    ground 17, of all sets and of one
+//   non_zero_byte                        ground 18
+//   fill, fill_sets, fill_set            the table put into the store: its three parts; the sets of a part; one set
+//   word_in                              a word of a set in the contents
 use crate::core_state_set::MAX_STATES;
 use crate::core_state_set::StateSet;
 use crate::core_state_set::WORDS;
@@ -24,7 +24,7 @@ use crate::file_blocks::wide;
 // ---- grounds of the contents
 
 // A set of the table has a state from n up.
-pub fn any_beyond(form: Form, bytes: &[u8], n: usize, g: usize) -> bool
+pub fn any_content_beyond(form: Form, bytes: &[u8], n: usize, g: usize) -> bool
 {
     let width = set_width(n);
     for k in 0..set_count(form, n, g) {
@@ -43,7 +43,7 @@ fn is_set_beyond(bytes: &[u8], n: usize, width: usize, k: usize) -> bool
 }
 
 // Some byte from `from` on and before `to` is not 0. They are joined and tested once, as the words of a store are.
-pub fn non_zero(bytes: &[u8], from: usize, to: usize) -> bool
+pub fn non_zero_byte(bytes: &[u8], from: usize, to: usize) -> bool
 {
     let mut joined = 0;
     for i in from..to {

@@ -2,9 +2,10 @@
 
 // The contents of a file, from the store to a buffer in which they are joined.
 //
-//   join, join_sets                the contents; the sets, which stand behind the header
+//   join_contents, join_sets       the contents; the sets, which stand behind the header
 //   place_of                       where a set of the file begins in the store
-//   put_set, put_words, put_bytes  the bytes of a set; of its first words; the lowest of a word
+//   put_set_bytes                  the bytes of a set
+//   put_words, put_bytes           those of its first words; the lowest of a word
 //   write_le16                     a two-byte number, low byte first
 //
 // What is written is said with the model's `overwrite`: at the front of what was lent, the rest of it untouched.
@@ -18,7 +19,7 @@ use crate::file_blocks::added;
 use crate::file_blocks::set_count;
 use crate::file_blocks::set_width;
 
-pub fn join(store: &[u64], n: usize, g: usize, out: &mut [u8])
+pub fn join_contents(store: &[u64], n: usize, g: usize, out: &mut [u8])
 {
     write_le16(n, out);
     write_le16(added(Form::New) + g, &mut out[2..]);
@@ -32,7 +33,7 @@ fn join_sets(store: &[u64], n: usize, g: usize, out: &mut [u8])
         let a = place_of(g, k);
         let e = a + WORDS;
         let at = width * k;
-        put_set(&store[a..e], width, &mut out[at..]);
+        put_set_bytes(&store[a..e], width, &mut out[at..]);
     }
 }
 
@@ -49,7 +50,7 @@ fn place_of(g: usize, k: usize) -> usize
 }
 
 // The first `width` bytes of a set: its whole words, and what is left of one.
-fn put_set(set: &[u64], width: usize, out: &mut [u8])
+fn put_set_bytes(set: &[u64], width: usize, out: &mut [u8])
 {
     let whole = width / 8;
     put_words(set, whole, out);

@@ -5,7 +5,7 @@
 //   TableRead, read                  n and g of the table that is now in the store, or why the file is refused
 //   read_old, read_as                the same of a file of the old form, and of either
 //   read_file, read_contents         the same of an input that has bytes, and of contents: each looks at its own grounds
-//   join, block_fault                the contents of the blocks joined, each once it is checked; the grounds of one block, on its own 512 bytes
+//   join_blocks, block_fault         the contents of the blocks joined, each once it is checked; the grounds of one block, on its own 512 bytes
 use crate::core_state_set::MAX_STATES;
 use crate::core_table::MAX_GROUPS;
 use crate::core_table::STORE_WORDS;
@@ -24,9 +24,9 @@ use crate::file_blocks::checksum_of;
 use crate::file_blocks::content_length;
 use crate::file_blocks::copy_content;
 use crate::file_blocks::le16_at;
-use crate::file_contents_reading::any_beyond;
+use crate::file_contents_reading::any_content_beyond;
 use crate::file_contents_reading::fill;
-use crate::file_contents_reading::non_zero;
+use crate::file_contents_reading::non_zero_byte;
 
 #[derive(Clone, Copy)]
 pub enum TableRead {
@@ -70,7 +70,7 @@ fn read_file(form: Form, input: &[u8], site: usize, store: &mut [u64]) -> TableR
         return TableRead::Refused(11);
     }
     let mut joined = [0u8; JOINED_ROOM];
-    let fault = join(input, site, &mut joined);
+    let fault = join_blocks(input, site, &mut joined);
     if fault != 0 {
         return TableRead::Refused(fault);
     }
@@ -107,10 +107,10 @@ fn read_contents(
     if blocks != blocks_for(size) {
         return TableRead::Refused(16);
     }
-    if any_beyond(form, bytes, n, g) {
+    if any_content_beyond(form, bytes, n, g) {
         return TableRead::Refused(17);
     }
-    if non_zero(bytes, size, CONTENT_BYTES * blocks) {
+    if non_zero_byte(bytes, size, CONTENT_BYTES * blocks) {
         return TableRead::Refused(18);
     }
     fill(form, bytes, n, g, store);
@@ -121,7 +121,7 @@ fn read_contents(
 
 // What is wrong with the first block that has a fault, or 0: then the contents of all blocks stand one behind the other at the front of
 // what is lent. A block is copied while its bytes are still near.
-fn join(input: &[u8], site: usize, out: &mut [u8]) -> u8
+fn join_blocks(input: &[u8], site: usize, out: &mut [u8]) -> u8
 {
     for k in 0..input.len() / BLOCK {
         let a = BLOCK * k;

@@ -20,7 +20,7 @@ use crate::file_blocks::blocks_for;
 use crate::file_blocks::checksum_of;
 use crate::file_blocks::content_length;
 use crate::file_blocks::copy_content;
-use crate::file_contents_writing::join;
+use crate::file_contents_writing::join_contents;
 use crate::file_contents_writing::write_le16;
 
 #[derive(Clone, Copy)]
@@ -60,7 +60,7 @@ pub fn write(store: &[u64], n: usize, g: usize, site: usize, output: &mut [u8]) 
 fn write_file(store: &[u64], n: usize, g: usize, site: usize, blocks: usize, out: &mut [u8])
 {
     let mut bytes = [0u8; JOINED_ROOM];
-    join(store, n, g, &mut bytes);
+    join_contents(store, n, g, &mut bytes);
     write_blocks(&bytes, site, blocks, out);
 }
 

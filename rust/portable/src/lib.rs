@@ -17,6 +17,7 @@ compile_error!(
 
 mod core_state_set;
 mod core_table;
+mod core_rows;
 mod core_reach;
 mod call_paths;
 mod call_distances;
@@ -36,6 +37,7 @@ mod call_replay;
 mod call_edit_session;
 mod call_modal;
 mod call_release_windows;
+mod call_first_order;
 mod shuntberry_fields;
 mod shuntberry;
 

@@ -15,7 +15,7 @@
 //! forgotten, since for want of one a table could be safe that should not be: it has to say `none`. [`print`] writes the one text of
 //! a table that has each fact in its place, by numbers; a file holds no names.
 //!
-//! A text must be what it looks like: there are no characters in it that cannot be seen or move others, and the letters of its names are of
+//! A text has no characters that cannot be seen or move others, and the letters of each of its names are of
 //! one alphabet. The text is gone through once for each sort of fact, and nothing is kept of it but what a table can hold and the first
 //! mistakes: a text of any length takes little room.
 
