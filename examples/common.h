@@ -16,7 +16,7 @@
 enum status { WELL, NO, REFUSED, FAILED, EMPTY };
 
 /* The first bytes of a file at the front of a buffer, as many as fit; the file stays open. NULL if it cannot be read. */
-static FILE *opened(const char *name, uint8_t *bytes, size_t room, size_t *length)
+static inline FILE *opened(const char *name, uint8_t *bytes, size_t room, size_t *length)
 {
     FILE *file = fopen(name, "rb");
     if (file == NULL) {
@@ -28,7 +28,7 @@ static FILE *opened(const char *name, uint8_t *bytes, size_t room, size_t *lengt
 }
 
 /* Closes a file; WELL if all that was read of it could be read. */
-static enum status closed(FILE *file, const char *name)
+static inline enum status closed(FILE *file, const char *name)
 {
     int failed = ferror(file);
     fclose(file);
@@ -39,7 +39,7 @@ static enum status closed(FILE *file, const char *name)
 }
 
 /* Prints a refusal: the number, and its ground on standard error. */
-static enum status print_refused(uint32_t refusal)
+static inline enum status print_refused(uint32_t refusal)
 {
     printf("refused %u\n", (unsigned)refusal);
     fprintf(stderr, "refused %u: %s\n", (unsigned)refusal, shuntberry_refusal_text(refusal));
@@ -47,7 +47,7 @@ static enum status print_refused(uint32_t refusal)
 }
 
 /* Reads the table in a file into a store; WELL if there is one now. */
-static enum status read_table(const char *name, uint64_t store[SHUNTBERRY_STORE_WORDS], struct shuntberry_table *table)
+static inline enum status read_table(const char *name, uint64_t store[SHUNTBERRY_STORE_WORDS], struct shuntberry_table *table)
 {
     static uint8_t input[SHUNTBERRY_FILE_BYTES + 1]; /* one more, so that a longer file is seen to be too long */
     size_t length;
@@ -59,7 +59,7 @@ static enum status read_table(const char *name, uint64_t store[SHUNTBERRY_STORE_
 }
 
 /* What to end with: the status, or FAILED where something could not be printed. */
-static enum status printed(enum status status)
+static inline enum status printed(enum status status)
 {
     if (fflush(stdout) == 0 && !ferror(stdout))
         return status;
