@@ -1,5 +1,6 @@
 // A file on standard input, as the programs read it.
 //
+//   Text, text_of              which bytes of the room are the input's text
 //   Input, read_input          how reading ended, and how many bytes were read
 //   ReadResult, read_result    what one read means
 //   input_room                 where the file is read into
@@ -7,7 +8,7 @@ ghost use mathlib.Core.Path.{_≡_};
 ghost use Prim.Native.Nat.{_+_};
 ghost use lib.ListN.{length};
 ghost use Rattle.model.specs.Files.{maxFile};
-ghost use Rattle.program_input.specs.Reads.{readResult, Within};
+ghost use Rattle.program_input.specs.Reads.{readResult, Within, textOf};
 use file_blocks::MAX_FILE;
 use libc::STDIN_FILENO;
 
@@ -20,6 +21,23 @@ pub enum Input {
     Ended(usize),
     Full,
     Failed,
+}
+
+// The first so many bytes of the room; or no text, which no program takes for one.
+pub enum Text {
+    Bytes(usize),
+    Nothing,
+}
+
+// What a program goes by, of how reading into so many bytes ended: an input that fills the room is all of it, and a failed one has no text.
+pub fn text_of(input: Input, room: usize) -> Text
+    ensures { λ r. ⌜ r ≡ textOf input room ⌝ }
+{
+    match input {
+        Input::Ended(length) => Text::Bytes(length),
+        Input::Full => Text::Bytes(room),
+        Input::Failed => Text::Nothing,
+    }
 }
 
 // Reads until the room is full, the input ends or a read fails. (`io::read_full` does not tell the last two apart.)
