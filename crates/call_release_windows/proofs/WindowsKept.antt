@@ -84,6 +84,7 @@ pub promises : WindowPromises
 unfolding nextOpenAnswer
 promises =
     record {
+      window-is = λ start length h. (omega arith, omega arith);
       open-minutes = open-minutes;
       with-window = λ time windows days r a c e. with-window time windows days a (sym c ∙ e);
       without = λ time days r a c e. without time days a (sym c ∙ e);

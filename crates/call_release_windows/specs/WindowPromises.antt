@@ -25,6 +25,9 @@ pub record FirstOpen (time : ℕ) (windows days : List ℕ) (m : ℕ) : Type 0 w
   pub first : (j : ℕ) → time ≤ j → j < m → isOpen windows days j ≡ false
 
 pub record WindowPromises : Type 0 where
+  -- a window's number is made of its start and its length, and neither is cut
+  pub window-is : (start length : ℕ) → start < 2 ^ 32
+      → (startOf (start + length * 2 ^ 32) ≡ start) × (lengthOf (start + length * 2 ^ 32) ≡ length)
   -- of windows in their range: a minute is open exactly when a window holds it in some week, and its day is not closed
   pub open-minutes : (windows days : List ℕ) (m : ℕ) → some outside windows ≡ false
       → (isOpen windows days m ≡ true)

@@ -4,16 +4,18 @@
 --   walk                         WalkIs of an answer
 --   none-forbidden               where the table has an invariant, no followed entry is forbidden
 --   without-states               a draft
+--   nothing-followed             an empty log
 --   promises                     specs/ReplayPromises
-use Prim.Native.Nat.{ℕ, _%_, _<_}
+use Prim.Native.Nat.{ℕ, _%_, _≤_, _<_}
 use native.Mathlib.Nat.{not-suc-le-zero}
 use native.Mathlib.Omega.{arith}
 use mathlib.Core.Path.{_≡_, refl, sym, ap, _∙_, subst}
 use mathlib.Core.Logic.{⊎-elim}
 use mathlib.Core.Bool.{false, not}
 use borrow.Author.Tests.{eq-eqb, ne-eqb, lt-ltb}
-use mathlib.Core.List.{List}
+use mathlib.Core.List.{List, []}
 use lib.ListN.{length}
+use Rattle.basics.specs.Bounds.{tabulate}
 use Rattle.basics.specs.Refusals.{answered}
 use Rattle.basics.proofs.BoundLaws.{lt-or-ge}
 use Rattle.basics.proofs.RefusalLaws.{refuse-first, answer-refused, refused-is}
@@ -25,7 +27,7 @@ use Rattle.model.proofs.StoresAccepted.{well-formed}
 use Rattle.model.proofs.StoresFirstWords.{same-call}
 use Rattle.call_decide.proofs.DecideDemandsKept.{demands}
 use Rattle.call_replay.specs.Logs.{entryBytes, maxLog, entry, reachableCount, logGrounds, replayGrounds, Replay, walkThrough, replayAnswer}
-use Rattle.call_replay.specs.ReplayPromises.{WalkIs, ReplayPromises}
+use Rattle.call_replay.specs.ReplayPromises.{entries, WalkIs, ReplayPromises}
 use Rattle.call_replay.proofs.LogEntries.{Closed, followed-closed}
 use Rattle.call_replay.proofs.ReplayAnswered.{behind-shared, Walks, walks}
 use Rattle.call_replay.proofs.LogWalks.{walk-is}
@@ -62,6 +64,12 @@ without-states store log w e =
     let seen : w .seen ≡ 0 = omega (arith, is .coverage .within) in
     λ i. record { followed = followed i; seen = seen i; percent = is .coverage .none none .0 i; remainder = is .coverage .none none .1 i }
 
+nothing-followed : (store : List ℕ) (n g : ℕ) (w : Replay) → replayAnswer store n g [] ≡ answered w → w .followed ≡ 0
+unfolding entries tabulate
+nothing-followed store n g w e =
+    let few : w .followed ≤ 0 = walk store n g [] w e .followed .within in
+    omega arith
+
 pub promises : ReplayPromises
 unfolding replayAnswer replayGrounds
 promises =
@@ -70,6 +78,7 @@ promises =
       safe = λ store n g allowance before d after a log r w check e v c f.
           none-forbidden store n g log w (sym c ∙ f) (demands .carries store n g allowance before d after a check e .with-safe v .0);
       draft = λ store log r w c e. without-states store log w (sym c ∙ e);
+      empty-log = λ store n g r w c e. nothing-followed store n g w (sym c ∙ e);
       refusal = λ store n g log r k c e. refused-is (replayGrounds store n g (length log)) _ (sym c ∙ e);
       odd = λ store n g log r c e h.
           c ∙ answer-refused (replayGrounds store n g (length log)) _ (behind-shared store n g (length log) (sym e) refl (refuse-first 0 _ (ap not (ne-eqb (length log % entryBytes) 0 h)))) (λ z. omega arith);

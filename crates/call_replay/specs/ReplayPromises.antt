@@ -72,6 +72,9 @@ pub record ReplayPromises : Type 0 where
   -- without states, as in an untouched draft
   pub draft : (store : List ℕ) (log : List ℕ) (r : Replayed) (w : Replay)
       → CalledReplay store 0 0 log r → replayedOf r ≡ answered w → w ≡ record { followed = 0; seen = 0; percent = 0; remainder = 0 }
+  -- an empty log follows 0 entries
+  pub empty-log : (store : List ℕ) (n g : ℕ) (r : Replayed) (w : Replay)
+      → CalledReplay store n g [] r → replayedOf r ≡ answered w → w .followed ≡ 0
   -- a refused call gives the number of the first ground that holds
   pub refusal : (store : List ℕ) (n g : ℕ) (log : List ℕ) (r : Replayed) (k : ℕ)
       → CalledReplay store n g log r → replayedOf r ≡ refused k → k ≡ refuse (replayGrounds store n g (length log))

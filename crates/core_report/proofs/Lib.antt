@@ -1,3 +1,4 @@
 pub mod TextsPut
 pub mod Turns
 pub mod Decimals
+pub mod WorkedTextsKept

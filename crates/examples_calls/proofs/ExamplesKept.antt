@@ -38,6 +38,7 @@ examples =
       distances-A = refl;
       within-A = λ k. refl;
       log-B = refl;
+      entries = refl;
       session-B = (refl, refl, refl, refl);
       depends = (refl, refl);
       possible = refl;

@@ -19,7 +19,7 @@ use Rattle.examples_tables.specs.Tables.{set, table, A, B, D, E}
 use Rattle.examples_tables.specs.Worked.{stored}
 use Rattle.call_paths.specs.Within.{isWithin}
 use Rattle.core_fixpoints.specs.Order.{forwardOrder}
-use Rattle.call_replay.specs.Logs.{walkThrough}
+use Rattle.call_replay.specs.Logs.{entry, walkThrough}
 use Rattle.call_edit_session.specs.Edits.{add, remove, edited, opened, reachableAfter}
 use Rattle.call_modal.specs.Modal.{certainTable, possibleTable, releaseCheck, ModalAnswer, modalOf}
 
@@ -62,6 +62,8 @@ pub record Examples : Type 0 where
   pub within-A : (k : ℕ) → isWithin (stored A) k ≡ false
   -- "Replay": the log 0 1 4 on B
   pub log-B : walkThrough (stored B) (0 ∷ 0 ∷ 1 ∷ 0 ∷ 4 ∷ 0 ∷ []) ≡ record { followed = 2; seen = 2; percent = 50; remainder = 0 }
+  -- an entry is two bytes, low byte first: states over 255 too
+  pub entries : tabulate 3 (entry (7 ∷ 0 ∷ 44 ∷ 1 ∷ 255 ∷ 1 ∷ [])) ≡ 7 ∷ 300 ∷ 511 ∷ []
   -- "Edit sessions": B opened, without 1 → 2, with 4 → 2, with 0 → 4
   pub session-B :
       let one = edited (layout B) (remove 1 2) in

@@ -1,2 +1,1 @@
-pub mod WorkedTextsKept
 pub mod WorkedFilesKept

@@ -1,2 +1,1 @@
-pub mod WorkedTexts
 pub mod WorkedFiles

@@ -125,7 +125,7 @@ draft =
           check .answer
           ∙ ap (decisionOf t) (draft-run store (check .held) allowance)
           ∙ ap (λ (m : ℕ). record { verdict = 0; count = 0; invariant = empty; size = m; steps = 0 }) size-empty in
-          (is, ap (unlessRefused path (λ (b : Decision). cond (eqb (b .verdict) 1) (overwrite (smallestPath t) path) path)) (e ∙ ap answered is));
+          (is, ap (unlessRefused _ (λ (b : Decision). cond (eqb (b .verdict) 1) (overwrite (smallestPath t) path) path)) (e ∙ ap answered is));
       backward-number = λ t e. omega (arith, backward-is t .bounded);
       shortest-path = λ store path a e.
           let t = tableOf store 0 0 in

@@ -227,7 +227,7 @@ module _ (store : List ℕ) (n g allowance : ℕ) (path : List ℕ) (a : Decisio
 
   buffer-is : decideBuffer store n g allowance path ≡ bufferFor (tableOf store n g) a path
   unfolding decideBuffer
-  buffer-is = ap (unlessRefused path (λ (b : Decision). bufferFor (tableOf store n g) b path)) e
+  buffer-is = ap (unlessRefused _ (λ (b : Decision). bufferFor (tableOf store n g) b path)) e
 
 groups-within : (store : List ℕ) (n g : ℕ) → Store store n g → (Z : Set) → List·Memᴰ Z ((tableOf store n g) .groups) → Z ⊆ firstStates n
 unfolding tableOf

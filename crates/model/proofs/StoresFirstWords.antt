@@ -151,7 +151,7 @@ module _ (store other : List ℕ) (long : storeWords ≤ length store) (long′ 
         decide = λ n g allowance path.
             let decided : Table → Decision = λ t. decisionOf t (run t allowance) in (
               same-call decided n g (decideLimits allowance (length path)) refl,
-              same-buffer decided (λ t a. cond (eqb (a .verdict) 1) (overwrite (smallestPath t) path) path) path n g (decideLimits allowance (length path)) refl,
+              same-buffer decided (λ t a. cond (eqb (a .verdict) 1) (overwrite (smallestPath t) path) path) _ n g (decideLimits allowance (length path)) refl,
             );
         shortest-path = λ n g path.
             let found : Table → Shortest = λ t. pathFound t (hasPath t) in (

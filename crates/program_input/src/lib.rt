@@ -1,13 +1,15 @@
 // A file on standard input, as the programs read it.
 //
+//   Text, text_of              which bytes of the room are the input's text
 //   Input, read_input          how reading ended, and how many bytes were read
-//   ReadResult, read_result    what one read means
+//   Reading, read_more         one read, and the state of reading after it
+//   after_read                 that state, from the number that C's read returned
 //   input_room                 where the file is read into
 ghost use mathlib.Core.Path.{_≡_};
-ghost use Prim.Native.Nat.{_+_};
+ghost use Prim.Native.Nat.{_+_, _<_};
 ghost use lib.ListN.{length};
 ghost use Rattle.model.specs.Files.{maxFile};
-ghost use Rattle.program_input.specs.Reads.{readResult, Within};
+ghost use Rattle.program_input.specs.Reads.{afterRead, OneRead, Within, textOf};
 use file_blocks::MAX_FILE;
 use libc::STDIN_FILENO;
 
@@ -22,46 +24,75 @@ pub enum Input {
     Failed,
 }
 
+// The first so many bytes of the room; or no text, which no program takes for one.
+pub enum Text {
+    Bytes(usize),
+    Nothing,
+}
+
+// What a program goes by, of how reading into so many bytes ended: an input that fills the room is all of it, and a failed one has no text.
+pub fn text_of(input: Input, room: usize) -> Text
+    ensures { λ r. ⌜ r ≡ textOf input room ⌝ }
+{
+    match input {
+        Input::Ended(length) => Text::Bytes(length),
+        Input::Full => Text::Bytes(room),
+        Input::Failed => Text::Nothing,
+    }
+}
+
 // Reads until the room is full, the input ends or a read fails. (`io::read_full` does not tell the last two apart.)
 pub fn read_input(room: &mut [u8]) -> Input
     ensures { λ r. ⌜ Within r (length (now (room .exit))) ⌝ }
 {
-    let mut length = 0;
-    while length < room.len() {
-        let left = room.len() - length;
-        let got = libc::read(STDIN_FILENO, &mut room[length..]);
-        match read_result(got, left) {
-            ReadResult::Bytes(more) => length += more,
-            ReadResult::End => return Input::Ended(length),
-            ReadResult::Failed => return Input::Failed,
+    if room.len() == 0 {
+        return Input::Full;
+    }
+    let mut there = 0;
+    loop {
+        match read_more(there, room) {
+            Reading::More(length) => there = length,
+            Reading::Stopped(input) => return input,
         }
     }
-    Input::Full
 }
 
-// What one read means: so many bytes, one at least; the end of the input; or an error.
-enum ReadResult {
-    Bytes(usize),
-    End,
-    Failed,
+// The state of reading: so many bytes are there, and there is room for more; or how reading ended.
+enum Reading {
+    More(usize),
+    Stopped(Input),
 }
 
-// Of the number that C's read returned, and the room that it was lent. More bytes than there is room for is an error too:
-// C's read promises that it does not happen, and if it did, nothing that was read could be trusted.
-fn read_result(got: isize, room: usize) -> ReadResult
-    ensures { λ r. ⌜ r ≡ readResult got room ⌝ }
+// One read, into the room after what is there.
+fn read_more(there: usize, room: &mut [u8]) -> Reading
+    requires { ⌜ there < length (now room) ⌝ }
+    ensures { λ r. ⌜ OneRead there (now (room .entry)) r (now (room .exit)) ⌝ }
+{
+    let got = libc::read(STDIN_FILENO, &mut room[there..]);
+    after_read(there, room.len(), got)
+}
+
+// Of the number that C's read returned. More bytes than there is room for is an error too: C's read promises that it does not
+// happen, and if it did, nothing that was read could be trusted.
+fn after_read(there: usize, room: usize, got: isize) -> Reading
+    requires { ⌜ there < room ⌝ }
+    ensures { λ r. ⌜ r ≡ afterRead there room got ⌝ }
 {
     if got < 0 {
-        return ReadResult::Failed;
+        return Reading::Stopped(Input::Failed);
     }
     let more = got as usize;
     if more == 0 {
-        return ReadResult::End;
+        return Reading::Stopped(Input::Ended(there));
     }
-    if more <= room {
-        ReadResult::Bytes(more)
+    let left = room - there;
+    if more < left {
+        return Reading::More(there + more);
+    }
+    if more == left {
+        Reading::Stopped(Input::Full)
     } else {
-        ReadResult::Failed
+        Reading::Stopped(Input::Failed)
     }
 }
 
