@@ -251,11 +251,12 @@ try:
     new = "#[no_mangle]\npub extern \"C\" fn shuntberry_new() -> u32\n    ensures { λ r. ⌜ r ≡ version ⌝ }\n{\n    VERSION\n}\n"
     for number, holds in (major, True), (f"{major}1", False):
         shutil.copy(TOP / EXPORTS, work / EXPORTS)
-        edited(EXPORTS, ("// ---- replay\n", f"const VERSION: u32 = {number};\n\n{new}\n// ---- replay\n"))
+        edited(EXPORTS, ("// ---- replay\n", f"{new}\n// ---- replay\n"),
+            (f"const VERSION: u32 = {major};", f"const VERSION: u32 = {number};"))
         status, said = bindings("--check")
         need(status == (0 if holds else 1) and ("VERSION is" in said) != holds, "a call that is a constant",
             said)
-    edited(EXPORTS, ("    VERSION\n", "    let version = VERSION;\n    version\n"))
+    edited(EXPORTS, (new, new.replace("    VERSION\n", "    let version = VERSION;\n    version\n")))
     need("shuntberry_new does more" in bindings("--check")[1], "a call that is no constant")
 finally:
     shutil.rmtree(work)

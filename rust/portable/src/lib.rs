@@ -52,6 +52,7 @@ pub use crate::shuntberry::shuntberry_remove_step;
 pub use crate::shuntberry::shuntberry_replay;
 pub use crate::shuntberry::shuntberry_rewrite;
 pub use crate::shuntberry::shuntberry_shortest_path;
+pub use crate::shuntberry::shuntberry_version;
 pub use crate::shuntberry::shuntberry_within;
 pub use crate::shuntberry::shuntberry_write;
 pub use crate::shuntberry_fields::CheckedFields;
