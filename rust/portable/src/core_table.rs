@@ -13,6 +13,10 @@
 //
 // Functions below the calls ask for a store, or for rows, that are long enough; `refusal` asks for nothing. What works on a table is lent its parts: the
 // rows (`&store[ROWS_AT..]`, or possible steps as they are lent), the groups (`&store[GROUPS_AT..]`), and sets by value.
+use crate::core_refusals::GROUPS;
+use crate::core_refusals::STATES;
+use crate::core_refusals::STORE_SHORT;
+use crate::core_refusals::STRAY_BIT;
 use crate::core_state_set::MAX_STATES;
 use crate::core_state_set::StateSet;
 use crate::core_state_set::WORD_BITS;
@@ -22,6 +26,8 @@ pub const MAX_GROUPS: usize = 64;
 
 // Initial, marked and resting, which stand before the groups.
 pub const HEAD_SETS: usize = 3;
+
+pub const INITIAL_AT: usize = 0;
 
 pub const MARKED_AT: usize = WORDS;
 
@@ -204,7 +210,7 @@ pub fn non_zero(store: &[u64], from: usize, to: usize) -> bool
 // A 1 bit for a state from n up, or a word of an unused group or row not 0.
 fn is_malformed(store: &[u64], n: usize, g: usize) -> bool
 {
-    if is_beyond(set_at(store, 0), n) {
+    if is_beyond(set_at(store, INITIAL_AT), n) {
         return true;
     }
     if is_beyond(set_at(store, MARKED_AT), n) {
@@ -235,19 +241,19 @@ fn is_groups_alone(n: usize, g: usize) -> bool
 pub fn refusal(store: &[u64], n: usize, g: usize) -> u8
 {
     if store.len() < STORE_WORDS {
-        return 10;
+        return STORE_SHORT;
     }
     if MAX_STATES < n {
-        return 14;
+        return STATES;
     }
     if is_groups_alone(n, g) {
-        return 14;
+        return STATES;
     }
     if MAX_GROUPS < g {
-        return 15;
+        return GROUPS;
     }
     if is_malformed(store, n, g) {
-        return 17;
+        return STRAY_BIT;
     }
     0
 }

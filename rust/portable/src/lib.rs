@@ -16,6 +16,7 @@ compile_error!(
 );
 
 mod core_state_set;
+mod core_refusals;
 mod core_table;
 mod core_reach;
 mod call_paths;
