@@ -94,6 +94,13 @@ extern "C" {
 #define SHUNTBERRY_VERSION 6
 #define SHUNTBERRY_VERSION_TEXT "6.0.0" /* all of it: that number, then one for what is new, and one for the rest */
 
+/*
+ * SHUNTBERRY_VERSION of the library that the program runs with. Compare it with the program's own once, when the
+ * program starts. Where they differ make no other call: structs and numbers may mean something else. It never refuses.
+ */
+SHUNTBERRY_NODISCARD
+uint32_t shuntberry_version(void);
+
 /* ---- Sizes ---- */
 
 #define SHUNTBERRY_MAX_STATES 512    /* the greatest n */

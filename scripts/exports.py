@@ -3,7 +3,8 @@
 From the source of `shuntberry` and `shuntberry_fields`: the names of the exports; the names, order and widths of
 their parameters and of the fields of the structs; that each export hands its parameters on, under the same names
 and in the same order, to the call of its own name, which has those that it names in the same places (or, without
-parameters, is a constant); and the numbers of the constants.
+parameters, is a constant); and the numbers of the constants. From all source: that the code names its refusals
+(`core_refusals`, which is made from the header) and has no number of one.
 """
 import re
 from pathlib import Path
@@ -141,5 +142,14 @@ def constant_faults(top: Path, header: Header) -> Faults:
             yield f"{name} is {number} in Rattle, and {constants.get(name)} in the header"
 
 
+def number_faults(top: Path, header: Header) -> Faults:
+    refusals = {refusal.number: refusal.name for refusal in header.refusals}
+    for crate in sorted(folder.name for folder in (top / "crates").iterdir()):
+        for number in map(int, re.findall(r"(?:\breturn|\bRefused\() *(\d+)\b", source(top, crate))):
+            if number in refusals:
+                yield f"{crate} has {number}, and the header {refusals[number]}"
+
+
 def faults(top: Path, header: Header) -> List[str]:
-    return sorted([*export_faults(top, header), *struct_faults(top, header), *constant_faults(top, header)])
+    return sorted([*export_faults(top, header), *struct_faults(top, header), *constant_faults(top, header),
+        *number_faults(top, header)])

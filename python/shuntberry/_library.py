@@ -121,6 +121,14 @@ def bound(library: ctypes.CDLL, name: str) -> Dict[str, Callable[..., Any]]:
     return functions
 
 
+def of_this_version(functions: Dict[str, Callable[..., Any]], name: str) -> Dict[str, Callable[..., Any]]:
+    """The calls, if the library says the number of this module. Its file and its symbols may have that of another."""
+    found = functions["version"]()
+    if found != int(MAJOR):
+        raise ImportError(f"shuntberry: {name} is of version {found}: this module is {__version__}, and takes the library of its version")
+    return functions
+
+
 class Symbol(ctypes.Structure):
     """What dladdr says of an address."""
 
@@ -143,7 +151,7 @@ def file_of(library: ctypes.CDLL, name: str) -> str:
 
 
 _LIBRARY, _NAME = found()
-_FUNCTIONS = bound(_LIBRARY, _NAME)
+_FUNCTIONS = of_this_version(bound(_LIBRARY, _NAME), _NAME)
 #: The file that was loaded.
 LIBRARY = file_of(_LIBRARY, _NAME)
 

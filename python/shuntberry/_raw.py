@@ -179,6 +179,8 @@ class Minute(Structure):
 
 #: What each call answers, and its parameters.
 CALLS: Dict[str, Tuple[Any, List[Tuple[str, Any]]]] = {
+    "version": (c_uint32, [
+    ]),
     "check": (Checked, [
         ("input", POINTER(c_uint8)),
         ("input_len", c_size_t),

@@ -106,6 +106,23 @@ pub use raw::{
     SET_WORDS, STORE_WORDS,
 };
 
+/// The first number of this package's version, which is that of the library that it takes.
+const OWN_VERSION: u32 = match u32::from_str_radix(env!("CARGO_PKG_VERSION_MAJOR"), 10) {
+    Ok(number) => number,
+    Err(_) => panic!("the version begins with a number"),
+};
+
+/// The first number of the version of the library that is linked. Where it is not this package's, no [`Table`]
+/// is made; whoever calls on slices alone compares it once.
+///
+/// ```
+/// assert_eq!(shuntberry::version().to_string(), env!("CARGO_PKG_VERSION_MAJOR"));
+/// ```
+pub fn version() -> u32 {
+    // SAFETY: it is lent nothing.
+    unsafe { raw::shuntberry_version() }
+}
+
 /// What [`distances`] writes for a state from which no forbidden state can be reached.
 pub const UNREACHABLE: u16 = raw::UNREACHABLE as u16;
 
@@ -210,8 +227,19 @@ impl Refused {
     /// version of the wrapper knows, as a library of a later version might. The proved library gives none.
     pub const UNKNOWN_ANSWER: Refused = Refused(u32::MAX);
 
+    /// No ground of the library's: it is of another version than this package, so no [`Table`] is made with it
+    /// ([`version`]).
+    pub const OTHER_VERSION: Refused = Refused(u32::MAX - 1);
+
     /// The ground on which the call was refused.
     pub fn message(self) -> &'static str {
+        if self == Refused::OTHER_VERSION {
+            return concat!(
+                "the library that is linked is not of version ",
+                env!("CARGO_PKG_VERSION_MAJOR"),
+                ", as this package is"
+            );
+        }
         if self == Refused::UNKNOWN_ANSWER {
             return "the library answered with a number that this version of the wrapper does not know";
         }

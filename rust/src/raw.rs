@@ -236,6 +236,9 @@ pub struct Minute {
 // ---- The calls
 
 unsafe extern "C" {
+    /// Never refuses.
+    pub fn shuntberry_version() -> u32;
+
     /// Refuses with 24 or 19.
     pub fn shuntberry_check(
         input: *const u8,

@@ -3,10 +3,10 @@
 use crate::builder::{NeedsInitial, TableBuilder, put_step};
 use crate::checking::{CHECK_TEXT_BYTES, Checked, check};
 use crate::{
-    FILE_BYTES, INITIAL, MARKED, MAX_GROUPS, MAX_STATES, ModalVerdict, PATH_PLACES, POSSIBLE_WORDS,
-    RESTING, Refused, Replay, SET_WORDS, STORE_WORDS, State, StateSet, UNREACHABLE, Verdict,
-    add_step, decide, decide_modal, distances, generate, group, open, possible_row, read,
-    remove_step, replay, row, shortest_path, within, write,
+    FILE_BYTES, INITIAL, MARKED, MAX_GROUPS, MAX_STATES, ModalVerdict, OWN_VERSION, PATH_PLACES,
+    POSSIBLE_WORDS, RESTING, Refused, Replay, SET_WORDS, STORE_WORDS, State, StateSet, UNREACHABLE,
+    Verdict, add_step, decide, decide_modal, distances, generate, group, open, possible_row, read,
+    remove_step, replay, row, shortest_path, version, within, write,
 };
 use std::fmt;
 
@@ -15,7 +15,8 @@ use std::fmt;
 /// It is accepted where it is made, out of states, sets and steps ([`Table::builder`]), a file ([`Table::from_bytes`]), a store ([`Table::from_store`])
 /// or a seed ([`Table::generate`]), and never changes after that: so a mistake in it (14, 15 and 17) is refused there, and a method only for what else
 /// it is given, as it says. Where a method names no refusal, the proved library gives none; what is left is [`Refused::UNKNOWN_ANSWER`], of a
-/// library that is not the one that this package came with. Nothing panics.
+/// library that is not the one that this package came with. With one of another version no table is made
+/// ([`Refused::OTHER_VERSION`]). Nothing panics.
 ///
 /// ```
 /// use shuntberry::{Decision, MAX_ALLOWANCE, Table};
@@ -228,6 +229,9 @@ impl Table {
 
     /// Takes a store of [`STORE_WORDS`] words, if the library accepts it.
     pub(crate) fn of_store(store: Vec<u64>, n: usize, g: usize) -> Result<Table, Refused> {
+        if version() != OWN_VERSION {
+            return Err(Refused::OTHER_VERSION);
+        }
         within(&store, n, g, 0)?;
         if n > MAX_STATES || g > MAX_GROUPS {
             return Err(Refused::UNKNOWN_ANSWER); // no library of ours accepts it, and there are no such rows to read

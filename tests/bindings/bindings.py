@@ -75,6 +75,7 @@ try:
         ("rust/src/raw.rs", "        k: usize,", "        k: u32,"), ("rust/src/refusals.rs", '(13, "a block',
             '(12, "a block'), ("rust/src/refusals.rs", "FILLER: Refused = Refused(18)",
             "FILLER: Refused = Refused(19)"),
+        ("crates/core_refusals/src/lib.rt", "STRAY_BIT: u8 = 17;", "STRAY_BIT: u8 = 18;"),
         ("python/shuntberry/_raw.py", "STRAY_BIT = 17", "STRAY_BIT = 18"), ("python/shuntberry/_raw.py",
             "MAX_WINDOWS = 32", "MAX_WINDOWS = 33"),
         ("rust/command/refusals.txt", "\n18|", "\n19|"), ("man/shuntberry.1",
@@ -208,6 +209,10 @@ try:
         ("written in a way that is not known", EXPORTS,
             ("#[no_mangle]\npub extern \"C\" fn shuntberry_replay",
             "#[inline]\n#[no_mangle]\n#[cold]\npub extern \"C\" fn shuntberry_replay")),
+        ("core_table has 17, and the header STRAY_BIT", "crates/core_table/src/lib.rt",
+            ("return STRAY_BIT;", "return 17;")),
+        ("file_writing has 19, and the header OUTPUT_SHORT", "crates/file_writing/src/lib.rt",
+            ("Written::Refused(OUTPUT_SHORT)", "Written::Refused(19)")),
         ("and within takes (store, g, n, k)", "crates/call_paths/src/lib.rt",
             ("pub fn within(store: &[u64], n: usize, g: usize, k: usize)",
             "pub fn within(store: &[u64], g: usize, n: usize, k: usize)")),
@@ -226,6 +231,7 @@ try:
     for place, line in {
         HEADER: '    case SHUNTBERRY_NEW:\n        return "the new ground";\n',
             "rust/src/refusals.rs": '    (32, "the new ground"),\n',
+        "crates/core_refusals/src/lib.rt": "\n\npub const NEW: u8 = 32;\n",
         "python/shuntberry/_raw.py": '    NEW = 32, "the new ground"\n',
             "rust/command/refusals.txt": "\n32|the new ground|it is old\n",
         "man/shuntberry.1": "\n.B 32\nthe new ground.\nLook whether it is old.\n",
@@ -251,11 +257,12 @@ try:
     new = "#[no_mangle]\npub extern \"C\" fn shuntberry_new() -> u32\n    ensures { λ r. ⌜ r ≡ version ⌝ }\n{\n    VERSION\n}\n"
     for number, holds in (major, True), (f"{major}1", False):
         shutil.copy(TOP / EXPORTS, work / EXPORTS)
-        edited(EXPORTS, ("// ---- replay\n", f"const VERSION: u32 = {number};\n\n{new}\n// ---- replay\n"))
+        edited(EXPORTS, ("// ---- replay\n", f"{new}\n// ---- replay\n"),
+            (f"const VERSION: u32 = {major};", f"const VERSION: u32 = {number};"))
         status, said = bindings("--check")
         need(status == (0 if holds else 1) and ("VERSION is" in said) != holds, "a call that is a constant",
             said)
-    edited(EXPORTS, ("    VERSION\n", "    let version = VERSION;\n    version\n"))
+    edited(EXPORTS, (new, new.replace("    VERSION\n", "    let version = VERSION;\n    version\n")))
     need("shuntberry_new does more" in bindings("--check")[1], "a call that is no constant")
 finally:
     shutil.rmtree(work)

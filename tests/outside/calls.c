@@ -321,7 +321,7 @@ static void sites(void)
     const size_t some[] = {0, 1, SHUNTBERRY_MAX_SITE};
     const size_t far[] = {SHUNTBERRY_MAX_SITE + 1, (size_t)1 << 32, SIZE_MAX};
 
-    require(SHUNTBERRY_VERSION == 5, "the version");
+    require(shuntberry_version() == SHUNTBERRY_VERSION, "the version");
     for (size_t a = 0; a < 3; a++) {
         struct shuntberry_file written = shuntberry_write(store, words, STATES, 0, some[a], file, sizeof file);
         require(written.refusal == SHUNTBERRY_ACCEPTED, "write for a site");

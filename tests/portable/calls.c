@@ -190,6 +190,8 @@ static int is_call(const char *call)
         k = number();
         struct shuntberry_minute m = shuntberry_next_open(k, windows, windows_len, closed, closed_len);
         printf(" %u %u %u", m.refusal, m.never, m.minute);
+    } else if (strcmp(call, "version") == 0) {
+        printf(" %u", shuntberry_version());
     } else {
         return 0;
     }

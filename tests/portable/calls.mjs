@@ -124,6 +124,10 @@ const calls = {
     library.shuntberry_next_open(at.answer, time, at.windows, lent.windows, at.closed, lent.closed);
     return fields(0, 3);
   },
+  version() {
+    library.shuntberry_version(at.answer);
+    return fields(0, 1);
+  },
 };
 
 const inputs = {

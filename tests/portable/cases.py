@@ -154,6 +154,7 @@ def other(chance):
 def main():
     seed, tables, damages = map(int, sys.argv[1:4])
     chance = random.Random(seed)
+    print("version")
     for k in range(max(tables, damages)):
         t = table(chance)
         lines = list(asked(chance, t)) if k < tables else []

@@ -1,10 +1,19 @@
 /*
  * A library that is none: it has the calls of the header, accepts everything, and answers with what LIE says. The Python module must take none of it for an
- * answer. Without LACKS it has all calls.
+ * answer. Without LACKS it has all calls. With OTHER it says that it is of that version.
  */
 #include <string.h>
 
 #include "shuntberry.h"
+
+#ifndef OTHER
+#define OTHER SHUNTBERRY_VERSION
+#endif
+
+uint32_t shuntberry_version(void)
+{
+    return OTHER;
+}
 
 struct shuntberry_checked shuntberry_check(const uint8_t *input, size_t input_len, size_t site, uint8_t *text, size_t text_len)
 {

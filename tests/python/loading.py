@@ -112,13 +112,15 @@ try:
 
     for wrong, words in (
         (["-DLIE=0", f"V=SHUNTBERRY_{int(MAJOR) + 1}"], "of version"), (["-DLIE=0", "-DLACKS"], "has no shuntberry_rewrite"), (["-DLIE=0", "V=OTHER"], "of version"),
+        (["-DLIE=0", f"-DOTHER={int(MAJOR) + 1}"], f"is of version {int(MAJOR) + 1}: this module is {MAJOR}."),
+        (["-DLIE=0", "-DOTHER=0"], f"is of version 0: this module is {MAJOR}."),
     ):
         other = package("-".join(wrong).replace("=", ""))
         library(other / "shuntberry" / NAME, *wrong)
         no_answer(words, other)
     libc = package("libc")
     shutil.copy(next(Path(line.split()[-1]) for line in open("/proc/self/maps") if "/libc" in line), libc / "shuntberry" / NAME)
-    no_answer("has no shuntberry_check", libc)
+    no_answer("has no shuntberry_version", libc)
     group("which library is taken")
 
     # ---- one that lies: it accepts all, and answers with numbers that stand for nothing

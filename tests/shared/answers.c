@@ -193,5 +193,6 @@ int main(int argc, char **argv)
     }
     for (enum call call = 0; call < CALLS; call++)
         printf("%s: %u accepted, %u refused, digest %016llx\n", names[call], accepted[call], refused[call], (unsigned long long)digests[call]);
+    printf("version: %u\n", (unsigned)shuntberry_version());
     return fflush(stdout) == 0 && !ferror(stdout) ? 0 : 3;
 }

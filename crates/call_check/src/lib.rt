@@ -9,6 +9,8 @@ ghost use Rattle.call_check.specs.CheckText.{checkTable};
 ghost use Rattle.call_check.specs.CheckAnswers.{checkedOf, Reports, CalledCheck};
 use call_decide::Verdict;
 use call_decide::decide;
+use core_refusals::OUTPUT_SHORT;
+use core_refusals::SITE;
 use core_report::ROOM;
 use core_report::write_refused;
 use core_report::write_safe;
@@ -37,10 +39,10 @@ pub fn check(input: &[u8], site: usize, output: &mut [u8]) -> Checked
     ensures { λ r. ⌜ CalledCheck (now (input .entry)) site (now (output .entry)) r (now (output .exit)) ⌝ }
 {
     if MAX_SITE < site {
-        return Checked::Refused(24);
+        return Checked::Refused(SITE);
     }
     if output.len() < CHECK_TEXT {
-        return Checked::Refused(19);
+        return Checked::Refused(OUTPUT_SHORT);
     }
     let mut store = [0u64; STORE_WORDS];
     match read(input, site, &mut store) {

@@ -8,6 +8,8 @@ ghost use Rattle.model.specs.Calls.{decideGrounds};
 ghost use Rattle.call_decide.specs.DecideAnswers.{CalledDecide};
 use call_paths::find_path;
 use call_paths::steps_of;
+use core_refusals::ALLOWANCE;
+use core_refusals::PATH_SHORT;
 use core_rounds::Ending;
 use core_rounds::MAX_ALLOWANCE;
 use core_rounds::run;
@@ -15,6 +17,7 @@ use core_rows::forbidden;
 use core_state_set::MAX_STATES;
 use core_state_set::StateSet;
 use core_table::GROUPS_AT;
+use core_table::INITIAL_AT;
 use core_table::ROWS_AT;
 use core_table::refusal;
 use core_table::set_at;
@@ -28,10 +31,10 @@ fn decide_refusal(store: &[u64], n: usize, g: usize, allowance: usize, room: usi
         return shared;
     }
     if MAX_ALLOWANCE < allowance {
-        return 20;
+        return ALLOWANCE;
     }
     if room < MAX_STATES {
-        return 21;
+        return PATH_SHORT;
     }
     0
 }
@@ -61,7 +64,7 @@ pub fn decide(store: &[u64], n: usize, g: usize, allowance: usize, path: &mut [u
             invariant: StateSet::empty(),
         };
     }
-    let initial = set_at(store, 0);
+    let initial = set_at(store, INITIAL_AT);
     let forbidden = forbidden(store, n);
     let ended = run(
         &store[ROWS_AT..],

@@ -23,6 +23,7 @@ ghost use Rattle.call_paths.specs.Search.{HoldsTable};
 ghost use Rattle.call_distances.specs.Transposing.{withBit, predecessorRows};
 ghost use Rattle.call_distances.specs.Distances.{CalledDistances};
 use call_paths::stepping_into;
+use core_refusals::DISTANCES_SHORT;
 use core_rows::Rows;
 use core_rows::forbidden;
 use core_rows::row_at;
@@ -176,7 +177,7 @@ pub fn distances(store: &[u64], n: usize, g: usize, out: &mut [u16]) -> Distance
         return DistancesAnswer::Refused(refused);
     }
     if out.len() < n {
-        return DistancesAnswer::Refused(23);
+        return DistancesAnswer::Refused(DISTANCES_SHORT);
     }
     let known = all_distances(&store[ROWS_AT..], n, forbidden(store, n));
     put_distances(&known, n, out);

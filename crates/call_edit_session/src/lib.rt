@@ -20,10 +20,12 @@ ghost use Rattle.core_reach.specs.Reached.{reachBy};
 ghost use Rattle.call_edit_session.specs.Edits.{add, remove, hasStep, edited, editGrounds};
 ghost use Rattle.call_edit_session.specs.SessionAnswers.{CalledOpen, editOf, CalledEdit};
 use core_reach::reached;
+use core_refusals::STEP_STATE;
 use core_rows::row_at;
 use core_state_set::StateSet;
 use core_state_set::WORD_BITS;
 use core_state_set::WORDS;
+use core_table::INITIAL_AT;
 use core_table::ROWS_AT;
 use core_table::refusal;
 use core_table::set_at;
@@ -55,7 +57,7 @@ fn from_initial(store: &[u64]) -> StateSet
     requires { ⌜ storeWords ≤ length (now store) ⌝ }
     ensures { λ r. ⌜ IsLeast (reachBy (rowsOf (now (store .entry))) (setAt (now (store .entry)) 0)) (r .words) ⌝ }
 {
-    reached(&store[ROWS_AT..], set_at(store, 0))
+    reached(&store[ROWS_AT..], set_at(store, INITIAL_AT))
 }
 
 // Why an edit is refused, or 0.
@@ -67,10 +69,10 @@ fn edit_refusal(store: &[u64], n: usize, g: usize, from: usize, to: usize) -> u8
         return shared;
     }
     if n <= from {
-        return 27;
+        return STEP_STATE;
     }
     if n <= to {
-        return 27;
+        return STEP_STATE;
     }
     0
 }

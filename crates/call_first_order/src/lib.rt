@@ -20,6 +20,7 @@ use core_state_set::MAX_STATES;
 use core_state_set::StateSet;
 use core_state_set::WORDS;
 use core_table::GROUPS_AT;
+use core_table::INITIAL_AT;
 use core_table::ROWS_AT;
 use core_table::refusal;
 use core_table::set_at;
@@ -75,7 +76,7 @@ pub fn first_order(store: &[u64], n: usize, g: usize) -> FirstOrder
         let words = first_cover_of(&store[GROUPS_AT..], g, n, z, s).words;
         cover[s] = words;
     }
-    let reached = forward(&store[ROWS_AT..], &cover, set_at(store, 0), z);
+    let reached = forward(&store[ROWS_AT..], &cover, set_at(store, INITIAL_AT), z);
     let count = reached.count;
     let states = reached.order;
     FirstOrder {

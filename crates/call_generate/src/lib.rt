@@ -18,10 +18,14 @@ ghost use Rattle.model.specs.Calls.{overwrite};
 ghost use Rattle.core_table.specs.Writing.{putSets};
 ghost use Rattle.call_generate.specs.Load.{longLag, shortLag, numbers, remainders, successors, loadFrom, generateGrounds};
 ghost use Rattle.call_generate.specs.GenerateAnswers.{CalledGenerate};
+use core_refusals::FAN_OUT;
+use core_refusals::STATES;
+use core_refusals::STORE_SHORT;
 use core_state_set::MAX_STATES;
 use core_state_set::StateSet;
 use core_state_set::WORD_BITS;
 use core_state_set::WORDS;
+use core_table::INITIAL_AT;
 use core_table::MARKED_AT;
 use core_table::ROWS_AT;
 use core_table::STORE_WORDS;
@@ -64,16 +68,16 @@ fn refusal(n: usize, f: usize, room: usize) -> u8
     ensures { λ r. ⌜ r ≡ refuse (generateGrounds n f room) ⌝ }
 {
     if room < STORE_WORDS {
-        return 10;
+        return STORE_SHORT;
     }
     if n == 0 {
-        return 14;
+        return STATES;
     }
     if MAX_STATES < n {
-        return 14;
+        return STATES;
     }
     if MAX_FAN_OUT < f {
-        return 22;
+        return FAN_OUT;
     }
     0
 }
@@ -121,7 +125,7 @@ fn fill(numbers: &[u32], n: usize, f: usize, store: &mut [u64])
     ensures { λ r. ⌜ now (store .exit) ≡ overwrite (layout (loadFrom (now (numbers .entry)) n f)) (now (store .entry)) ⌝ }
 {
     clear(store);
-    put_set(store, 0, StateSet::single(0));
+    put_set(store, INITIAL_AT, StateSet::single(0));
     put_set(store, MARKED_AT, StateSet::single(n - 1));
     put_rows(numbers, n, f, store);
 }

@@ -20,6 +20,10 @@ ghost use Rattle.call_modal.specs.Modal.{possibleWords, tableWith, malfo
 ghost use Rattle.call_modal.specs.ModalAnswers.{endsSafe, ChecksOut, CalledModal};
 use call_paths::find_path;
 use call_paths::steps_of;
+use core_refusals::NOT_POSSIBLE;
+use core_refusals::PATH_SHORT;
+use core_refusals::STORE_SHORT;
+use core_refusals::STRAY_BIT;
 use core_rounds::Ending;
 use core_rounds::MAX_ALLOWANCE;
 use core_rounds::run;
@@ -29,6 +33,7 @@ use core_state_set::MAX_STATES;
 use core_state_set::StateSet;
 use core_state_set::WORDS;
 use core_table::GROUPS_AT;
+use core_table::INITIAL_AT;
 use core_table::ROWS_AT;
 use core_table::any_stored_beyond;
 use core_table::non_zero_word;
@@ -66,7 +71,7 @@ fn check_on(store: &[u64], n: usize, g: usize, forbidden: StateSet, rows: &[u64]
         &store[GROUPS_AT..],
         g,
         n,
-        set_at(store, 0),
+        set_at(store, INITIAL_AT),
         forbidden,
         MAX_ALLOWANCE,
     );
@@ -85,7 +90,7 @@ fn path_on(store: &[u64], n: usize, forbidden: StateSet, rows: &[u64], path: &mu
     ensures { λ r. ⌜ (r ≡ stepsIn (foundIn (tableOn n (setAt (now (store .entry)) 0) (forbidden .words) [] (now (rows .entry)))))
         × (now (path .exit) ≡ pathWritten (tableOn n (setAt (now (store .entry)) 0) (forbidden .words) [] (now (rows .entry))) (now (path .entry))) ⌝ }
 {
-    steps_of(find_path(rows, n, set_at(store, 0), forbidden, path))
+    steps_of(find_path(rows, n, set_at(store, INITIAL_AT), forbidden, path))
 }
 
 // ---- refusals
@@ -119,20 +124,20 @@ fn refusal_of(store: &[u64], n: usize, g: usize, possible: &[u64], room: usize) 
     ensures { λ r. ⌜ r ≡ refuse (modalGrounds (now (store .entry)) n g (now (possible .entry)) room) ⌝ }
 {
     if possible.len() < POSSIBLE_WORDS {
-        return 10;
+        return STORE_SHORT;
     }
     let shared = refusal(store, n, g);
     if shared != 0 {
         return shared;
     }
     if is_malformed(possible, n) {
-        return 17;
+        return STRAY_BIT;
     }
     if any_impossible(store, n, possible) {
-        return 28;
+        return NOT_POSSIBLE;
     }
     if room < MAX_STATES {
-        return 21;
+        return PATH_SHORT;
     }
     0
 }

@@ -21,6 +21,7 @@ ghost use Rattle.call_paths.specs.Search.{HoldsTable, firstLayer, stepsW
 ghost use Rattle.call_paths.specs.PathAnswers.{foundIn, pathWritten, stepsIn, CalledShortest};
 ghost use Rattle.call_paths.specs.Within.{CalledWithin};
 use core_reach::newly_reached;
+use core_refusals::PATH_SHORT;
 use core_rows::Rows;
 use core_rows::forbidden;
 use core_rows::meet_hold;
@@ -29,6 +30,7 @@ use core_rows::row_of;
 use core_state_set::MAX_STATES;
 use core_state_set::StateSet;
 use core_state_set::WORDS;
+use core_table::INITIAL_AT;
 use core_table::ROWS_AT;
 use core_table::refusal;
 use core_table::set_at;
@@ -173,12 +175,12 @@ pub fn shortest_path(store: &[u64], n: usize, g: usize, path: &mut [u16]) -> Sho
         return Shortest::Refused(refused);
     }
     if path.len() < MAX_STATES {
-        return Shortest::Refused(21);
+        return Shortest::Refused(PATH_SHORT);
     }
     match find_path(
         &store[ROWS_AT..],
         n,
-        set_at(store, 0),
+        set_at(store, INITIAL_AT),
         forbidden(store, n),
         path,
     ) {
@@ -217,7 +219,7 @@ pub fn within(store: &[u64], n: usize, g: usize, k: usize) -> WithinAnswer
     let mut none: [[u64; WORDS]; 0] = [];
     let found = first_layer(
         &store[ROWS_AT..],
-        set_at(store, 0),
+        set_at(store, INITIAL_AT),
         forbidden(store, n),
         &mut none,
     );

@@ -16,6 +16,9 @@ ghost use Rattle.basics.specs.Bounds.{first};
 ghost use Rattle.basics.specs.Refusals.{refuse};
 ghost use Rattle.call_release_windows.specs.Windows.{week, startOf, lengthOf, outside, some, inWindow, inSome};
 ghost use Rattle.call_release_windows.specs.WindowAnswers.{maxTime, grounds, waiting, CalledNextOpen};
+use core_refusals::TIME;
+use core_refusals::TOO_MANY;
+use core_refusals::WINDOW_RANGE;
 
 pub const MAX_TIME: usize = 2147483647;
 
@@ -74,13 +77,13 @@ fn refusal(time: usize, windows: &[u64], closed: &[u32]) -> u8
     ensures { λ r. ⌜ r ≡ refuse (grounds time (now (windows .entry)) (now (closed .entry))) ⌝ }
 {
     if MAX_TIME < time {
-        return 31;
+        return TIME;
     }
     if (MAX_WINDOWS < windows.len()) | (MAX_DAYS < closed.len()) {
-        return 30;
+        return TOO_MANY;
     }
     if any_outside(windows) {
-        return 29;
+        return WINDOW_RANGE;
     }
     0
 }

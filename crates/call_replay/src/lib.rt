@@ -14,9 +14,12 @@ ghost use Rattle.model.specs.Stores.{storeWords, setAt, tableOf};
 ghost use Rattle.call_replay.specs.Logs.{entryBytes, entry, followed, seen, percentOf, remainderOf, replayGrounds};
 ghost use Rattle.call_replay.specs.ReplayAnswers.{CalledReplay};
 use core_reach::reached;
+use core_refusals::LOG_LONG;
+use core_refusals::LOG_ODD;
 use core_state_set::StateSet;
 use core_state_set::WORD_BITS;
 use core_state_set::WORDS;
+use core_table::INITIAL_AT;
 use core_table::ROWS_AT;
 use core_table::refusal;
 use core_table::set_at;
@@ -118,10 +121,10 @@ fn replay_refusal(store: &[u64], n: usize, g: usize, bytes: usize) -> u8
         return shared;
     }
     if bytes % ENTRY_BYTES != 0 {
-        return 25;
+        return LOG_ODD;
     }
     if MAX_LOG < bytes {
-        return 26;
+        return LOG_LONG;
     }
     0
 }
@@ -146,7 +149,7 @@ pub fn replay(store: &[u64], n: usize, g: usize, log: &[u8]) -> Replayed
     }
     let walked = follow(store, log);
     let seen = walked.seen.count();
-    let reached = reached(&store[ROWS_AT..], set_at(store, 0)).count();
+    let reached = reached(&store[ROWS_AT..], set_at(store, INITIAL_AT)).count();
     let covered = coverage(seen, reached);
     Replayed::Walk {
         followed: walked.followed,

@@ -17,6 +17,10 @@ ghost use Rattle.model.specs.Sets.{WORDS, maxStates};
 ghost use Rattle.basics.specs.Refusals.{refuse};
 ghost use Rattle.model.specs.Stores.{storeWords, maxGroups, setAt, beyond, nonZero, malformed, sharedGrounds};
 ghost use Rattle.core_table.specs.Writing.{overwriteFrom, cleared};
+use core_refusals::GROUPS;
+use core_refusals::STATES;
+use core_refusals::STORE_SHORT;
+use core_refusals::STRAY_BIT;
 use core_state_set::MAX_STATES;
 use core_state_set::StateSet;
 use core_state_set::WORDS;
@@ -25,6 +29,8 @@ pub const MAX_GROUPS: usize = 64;
 
 // Initial, marked and resting, which stand before the groups.
 pub const HEAD_SETS: usize = 3;
+
+pub const INITIAL_AT: usize = 0;
 
 pub const MARKED_AT: usize = WORDS;
 
@@ -108,7 +114,7 @@ fn is_malformed(store: &[u64], n: usize, g: usize) -> bool
     requires { ⌜ (n ≤ maxStates) × (g ≤ maxGroups) × (storeWords ≤ length (now store)) ⌝ }
     ensures { λ r. ⌜ r ≡ malformed (now (store .entry)) n g ⌝ }
 {
-    if is_beyond(set_at(store, 0), n) {
+    if is_beyond(set_at(store, INITIAL_AT), n) {
         return true;
     }
     if is_beyond(set_at(store, MARKED_AT), n) {
@@ -141,19 +147,19 @@ pub fn refusal(store: &[u64], n: usize, g: usize) -> u8
     ensures { λ r. ⌜ r ≡ refuse (sharedGrounds (now (store .entry)) n g) ⌝ }
 {
     if store.len() < STORE_WORDS {
-        return 10;
+        return STORE_SHORT;
     }
     if MAX_STATES < n {
-        return 14;
+        return STATES;
     }
     if is_groups_alone(n, g) {
-        return 14;
+        return STATES;
     }
     if MAX_GROUPS < g {
-        return 15;
+        return GROUPS;
     }
     if is_malformed(store, n, g) {
-        return 17;
+        return STRAY_BIT;
     }
     0
 }

@@ -13,6 +13,16 @@ ghost use Rattle.model.specs.Blocks.{blockBytes, contentBytes, maxSite, blockGr
 ghost use Rattle.file_blocks.specs.Forms.{formOf, joinedRoom};
 ghost use Rattle.file_reading.specs.Reading.{ReadsFile, ReadsContents, Joined};
 ghost use Rattle.file_reading.specs.ReadAnswers.{CalledReadAs, CalledRead, CalledReadOld};
+use core_refusals::BLOCK_CHECK;
+use core_refusals::BLOCK_COUNT;
+use core_refusals::BLOCK_NUMBER;
+use core_refusals::FILLER;
+use core_refusals::GROUPS;
+use core_refusals::INPUT_LENGTH;
+use core_refusals::SITE;
+use core_refusals::STATES;
+use core_refusals::STORE_SHORT;
+use core_refusals::STRAY_BIT;
 use core_state_set::MAX_STATES;
 use core_table::MAX_GROUPS;
 use core_table::STORE_WORDS;
@@ -58,10 +68,10 @@ fn read_as(form: Form, input: &[u8], site: usize, store: &mut [u64]) -> TableRea
     ensures { λ r. ⌜ CalledReadAs (formOf form) (now (input .entry)) site (now (store .entry)) r (now (store .exit)) ⌝ }
 {
     if store.len() < STORE_WORDS {
-        return TableRead::Refused(10);
+        return TableRead::Refused(STORE_SHORT);
     }
     if MAX_SITE < site {
-        return TableRead::Refused(24);
+        return TableRead::Refused(SITE);
     }
     if input.len() == 0 {
         clear(store);
@@ -75,10 +85,10 @@ fn read_file(form: Form, input: &[u8], site: usize, store: &mut [u64]) -> TableR
     ensures { λ r. ⌜ ReadsFile (formOf form) (now (input .entry)) site (now (store .entry)) r (now (store .exit)) ⌝ }
 {
     if input.len() % BLOCK != 0 {
-        return TableRead::Refused(11);
+        return TableRead::Refused(INPUT_LENGTH);
     }
     if MAX_FILE < input.len() {
-        return TableRead::Refused(11);
+        return TableRead::Refused(INPUT_LENGTH);
     }
     let mut joined = [0u8; JOINED_ROOM];
     let fault = join_blocks(input, site, &mut joined);
@@ -103,28 +113,28 @@ fn read_contents(
     ensures { λ r. ⌜ ReadsContents (formOf form) (now (bytes .entry)) blocks n second (now (store .entry)) r (now (store .exit)) ⌝ }
 {
     if n == 0 {
-        return TableRead::Refused(14);
+        return TableRead::Refused(STATES);
     }
     if MAX_STATES < n {
-        return TableRead::Refused(14);
+        return TableRead::Refused(STATES);
     }
     let least = added(form);
     if second < least {
-        return TableRead::Refused(15);
+        return TableRead::Refused(GROUPS);
     }
     let g = second - least;
     if MAX_GROUPS < g {
-        return TableRead::Refused(15);
+        return TableRead::Refused(GROUPS);
     }
     let size = content_length(form, n, g);
     if blocks != blocks_for(size) {
-        return TableRead::Refused(16);
+        return TableRead::Refused(BLOCK_COUNT);
     }
     if any_content_beyond(form, bytes, n, g) {
-        return TableRead::Refused(17);
+        return TableRead::Refused(STRAY_BIT);
     }
     if non_zero_byte(bytes, size, CONTENT_BYTES * blocks) {
-        return TableRead::Refused(18);
+        return TableRead::Refused(FILLER);
     }
     fill(form, bytes, n, g, store);
     TableRead::Table { n, g }
@@ -158,12 +168,12 @@ fn block_fault(block: &[u8], site: usize, k: usize) -> u8
 {
     let number = le16_at(block, 0);
     if number != k {
-        return 12;
+        return BLOCK_NUMBER;
     }
     let check = le16_at(block, CHECK_AT);
     let sum = checksum_of(block, site);
     if check != sum {
-        return 13;
+        return BLOCK_CHECK;
     }
     0
 }

@@ -16,6 +16,9 @@ ghost use Rattle.model.specs.Contents.{newForm, contents, contentLength};
 ghost use Rattle.model.specs.Calls.{overwrite};
 ghost use Rattle.file_writing.specs.WriteAnswers.{CalledWrite};
 ghost use Rattle.file_contents_writing.specs.Placed.{LongEnough};
+use core_refusals::OUTPUT_SHORT;
+use core_refusals::SITE;
+use core_refusals::STORE_SHORT;
 use core_table::STORE_WORDS;
 use core_table::refusal;
 use file_blocks::BLOCK;
@@ -43,10 +46,10 @@ pub fn write(store: &[u64], n: usize, g: usize, site: usize, output: &mut [u8]) 
     ensures { λ r. ⌜ CalledWrite (now (store .entry)) n g site (now (output .entry)) r (now (output .exit)) ⌝ }
 {
     if store.len() < STORE_WORDS {
-        return Written::Refused(10);
+        return Written::Refused(STORE_SHORT);
     }
     if MAX_SITE < site {
-        return Written::Refused(24);
+        return Written::Refused(SITE);
     }
     let refused = refusal(store, n, g);
     if refused != 0 {
@@ -59,7 +62,7 @@ pub fn write(store: &[u64], n: usize, g: usize, site: usize, output: &mut [u8]) 
     let blocks = blocks_for(l);
     let size = BLOCK * blocks;
     if output.len() < size {
-        return Written::Refused(19);
+        return Written::Refused(OUTPUT_SHORT);
     }
     write_file(store, n, g, site, blocks, output);
     Written::File(size)

@@ -12,6 +12,7 @@ ghost use Rattle.call_replay.specs.Logs.{replayAnswer};
 ghost use Rattle.call_edit_session.specs.Edits.{add, remove, openAnswer, editAnswer, editBuffer};
 ghost use Rattle.call_modal.specs.Modal.{modalAnswer, modalBuffer};
 ghost use Rattle.call_release_windows.specs.WindowAnswers.{nextOpenAnswer};
+ghost use Rattle.shuntberry_fields.specs.Version.{version};
 ghost use Rattle.shuntberry_fields.specs.Fields.{refusalNumber, decisionFields, shortestFields, withinFields, tableFields, fileFields, replayFields, sessionFields, modalFields, minuteFields, checkFields};
 use call_check::check;
 use call_decide::decide;
@@ -51,6 +52,17 @@ use shuntberry_fields::lay_out_session;
 use shuntberry_fields::lay_out_shortest;
 use shuntberry_fields::lay_out_table;
 use shuntberry_fields::lay_out_within;
+
+// ---- the version
+
+const VERSION: u32 = 6;
+
+#[no_mangle]
+pub extern "C" fn shuntberry_version() -> u32
+    ensures { λ r. ⌜ r ≡ version ⌝ }
+{
+    VERSION
+}
 
 // ---- decide
 

@@ -6,6 +6,7 @@ use Rattle.shuntberry_fields.specs.Figures.{Figures, CheckIs, FieldsAre,
 pub figures : Figures
 figures =
     record {
+      library-version = refl;
       greatest-fan-out = refl;
       greatest-site = refl;
       no-distance = refl;

@@ -20,9 +20,12 @@ use Rattle.call_modal.specs.Modal.{possibleWords}
 use Rattle.call_release_windows.specs.Windows.{day, week, startOf, lengthOf}
 use Rattle.call_release_windows.specs.WindowAnswers.{maxTime, maxWindows, maxDays, span, minute, never}
 use Rattle.call_check.specs.CheckText.{safe, unsafe, refusedFile}
+use Rattle.shuntberry_fields.specs.Version.{version}
 use Rattle.shuntberry_fields.specs.Fields.{decisionFields, shortestFields, withinFields, tableFields, fileFields, replayFields, sessionFields, modalFields, minuteFields, checkFields, refusalNumber}
 
 pub record Figures : Type 0 where
+  -- of the header, as its SHUNTBERRY_VERSION
+  pub library-version : version ≡ 6
   pub greatest-fan-out : maxFanOut ≡ 16
   pub greatest-site : maxSite ≡ 65520
   pub no-distance : unreachable ≡ 65535

@@ -6,6 +6,8 @@
 //   check_table       the same for the table that a store holds, where there is room for the text
 use crate::call_decide::Verdict;
 use crate::call_decide::decide;
+use crate::core_refusals::OUTPUT_SHORT;
+use crate::core_refusals::SITE;
 use crate::core_report::ROOM;
 use crate::core_report::write_refused;
 use crate::core_report::write_safe;
@@ -34,10 +36,10 @@ pub enum Checked {
 pub fn check(input: &[u8], site: usize, output: &mut [u8]) -> Checked
 {
     if MAX_SITE < site {
-        return Checked::Refused(24);
+        return Checked::Refused(SITE);
     }
     if output.len() < CHECK_TEXT {
-        return Checked::Refused(19);
+        return Checked::Refused(OUTPUT_SHORT);
     }
     let mut store = [0u64; STORE_WORDS];
     match read(input, site, &mut store) {

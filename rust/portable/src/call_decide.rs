@@ -6,6 +6,8 @@
 //   Decision, decide   the call
 use crate::call_paths::find_path;
 use crate::call_paths::steps_of;
+use crate::core_refusals::ALLOWANCE;
+use crate::core_refusals::PATH_SHORT;
 use crate::core_rounds::Ending;
 use crate::core_rounds::MAX_ALLOWANCE;
 use crate::core_rounds::run;
@@ -13,6 +15,7 @@ use crate::core_rows::forbidden;
 use crate::core_state_set::MAX_STATES;
 use crate::core_state_set::StateSet;
 use crate::core_table::GROUPS_AT;
+use crate::core_table::INITIAL_AT;
 use crate::core_table::ROWS_AT;
 use crate::core_table::refusal;
 use crate::core_table::set_at;
@@ -25,10 +28,10 @@ fn decide_refusal(store: &[u64], n: usize, g: usize, allowance: usize, room: usi
         return shared;
     }
     if MAX_ALLOWANCE < allowance {
-        return 20;
+        return ALLOWANCE;
     }
     if room < MAX_STATES {
-        return 21;
+        return PATH_SHORT;
     }
     0
 }
@@ -59,7 +62,7 @@ pub fn decide(store: &[u64], n: usize, g: usize, allowance: usize, path: &mut [u
             invariant: StateSet::empty(),
         };
     }
-    let initial = set_at(store, 0);
+    let initial = set_at(store, INITIAL_AT);
     let forbidden = forbidden(store, n);
     let ended = run(
         &store[ROWS_AT..],

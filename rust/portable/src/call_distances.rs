@@ -12,6 +12,7 @@
 // What works on a table is lent its rows, and its sets by value; all_distances and sweep_transposed ask that the table is well formed. The call is lent
 // a store, works out its forbidden states once, and asks for nothing.
 use crate::call_paths::stepping_into;
+use crate::core_refusals::DISTANCES_SHORT;
 use crate::core_rows::Rows;
 use crate::core_rows::forbidden;
 use crate::core_rows::row_at;
@@ -150,7 +151,7 @@ pub fn distances(store: &[u64], n: usize, g: usize, out: &mut [u16]) -> Distance
         return DistancesAnswer::Refused(refused);
     }
     if out.len() < n {
-        return DistancesAnswer::Refused(23);
+        return DistancesAnswer::Refused(DISTANCES_SHORT);
     }
     let known = all_distances(&store[ROWS_AT..], n, forbidden(store, n));
     put_distances(&known, n, out);

@@ -11,10 +11,12 @@
 //   edit                         a step added or removed
 //   open, add_step, remove_step  the calls
 use crate::core_reach::reached;
+use crate::core_refusals::STEP_STATE;
 use crate::core_rows::row_at;
 use crate::core_state_set::StateSet;
 use crate::core_state_set::WORD_BITS;
 use crate::core_state_set::WORDS;
+use crate::core_table::INITIAL_AT;
 use crate::core_table::ROWS_AT;
 use crate::core_table::refusal;
 use crate::core_table::set_at;
@@ -38,7 +40,7 @@ fn clear_step(store: &mut [u64], from: usize, to: usize)
 // What the initial states reach.
 fn from_initial(store: &[u64]) -> StateSet
 {
-    reached(&store[ROWS_AT..], set_at(store, 0))
+    reached(&store[ROWS_AT..], set_at(store, INITIAL_AT))
 }
 
 // Why an edit is refused, or 0.
@@ -49,10 +51,10 @@ fn edit_refusal(store: &[u64], n: usize, g: usize, from: usize, to: usize) -> u8
         return shared;
     }
     if n <= from {
-        return 27;
+        return STEP_STATE;
     }
     if n <= to {
-        return 27;
+        return STEP_STATE;
     }
     0
 }

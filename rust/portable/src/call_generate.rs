@@ -10,10 +10,14 @@
 //   put_remainders, remainder    the numbers that a state takes, each modulo n; the remainder by a multiplication
 //
 // n is the number of states and f the fan-out. The call, `generate`, asks for nothing.
+use crate::core_refusals::FAN_OUT;
+use crate::core_refusals::STATES;
+use crate::core_refusals::STORE_SHORT;
 use crate::core_state_set::MAX_STATES;
 use crate::core_state_set::StateSet;
 use crate::core_state_set::WORD_BITS;
 use crate::core_state_set::WORDS;
+use crate::core_table::INITIAL_AT;
 use crate::core_table::MARKED_AT;
 use crate::core_table::ROWS_AT;
 use crate::core_table::STORE_WORDS;
@@ -55,16 +59,16 @@ pub fn generate(seed: u32, n: usize, fan_out: usize, store: &mut [u64]) -> Gener
 fn refusal(n: usize, f: usize, room: usize) -> u8
 {
     if room < STORE_WORDS {
-        return 10;
+        return STORE_SHORT;
     }
     if n == 0 {
-        return 14;
+        return STATES;
     }
     if MAX_STATES < n {
-        return 14;
+        return STATES;
     }
     if MAX_FAN_OUT < f {
-        return 22;
+        return FAN_OUT;
     }
     0
 }
@@ -104,7 +108,7 @@ fn put_numbers(seed: u32, count: usize, buffer: &mut [u32])
 fn fill(numbers: &[u32], n: usize, f: usize, store: &mut [u64])
 {
     clear(store);
-    put_set(store, 0, StateSet::single(0));
+    put_set(store, INITIAL_AT, StateSet::single(0));
     put_set(store, MARKED_AT, StateSet::single(n - 1));
     put_rows(numbers, n, f, store);
 }

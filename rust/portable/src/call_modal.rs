@@ -10,6 +10,10 @@
 // The certain rows are those of the store; the possible ones are read where they are lent.
 use crate::call_paths::find_path;
 use crate::call_paths::steps_of;
+use crate::core_refusals::NOT_POSSIBLE;
+use crate::core_refusals::PATH_SHORT;
+use crate::core_refusals::STORE_SHORT;
+use crate::core_refusals::STRAY_BIT;
 use crate::core_rounds::Ending;
 use crate::core_rounds::MAX_ALLOWANCE;
 use crate::core_rounds::run;
@@ -19,6 +23,7 @@ use crate::core_state_set::MAX_STATES;
 use crate::core_state_set::StateSet;
 use crate::core_state_set::WORDS;
 use crate::core_table::GROUPS_AT;
+use crate::core_table::INITIAL_AT;
 use crate::core_table::ROWS_AT;
 use crate::core_table::any_stored_beyond;
 use crate::core_table::non_zero_word;
@@ -54,7 +59,7 @@ fn check_on(store: &[u64], n: usize, g: usize, forbidden: StateSet, rows: &[u64]
         &store[GROUPS_AT..],
         g,
         n,
-        set_at(store, 0),
+        set_at(store, INITIAL_AT),
         forbidden,
         MAX_ALLOWANCE,
     );
@@ -69,7 +74,7 @@ fn check_on(store: &[u64], n: usize, g: usize, forbidden: StateSet, rows: &[u64]
 // The path on those rows at the front of the buffer, and its steps; groups play no part.
 fn path_on(store: &[u64], n: usize, forbidden: StateSet, rows: &[u64], path: &mut [u16]) -> usize
 {
-    steps_of(find_path(rows, n, set_at(store, 0), forbidden, path))
+    steps_of(find_path(rows, n, set_at(store, INITIAL_AT), forbidden, path))
 }
 
 // ---- refusals
@@ -98,20 +103,20 @@ fn any_impossible(store: &[u64], n: usize, possible: &[u64]) -> bool
 fn refusal_of(store: &[u64], n: usize, g: usize, possible: &[u64], room: usize) -> u8
 {
     if possible.len() < POSSIBLE_WORDS {
-        return 10;
+        return STORE_SHORT;
     }
     let shared = refusal(store, n, g);
     if shared != 0 {
         return shared;
     }
     if is_malformed(possible, n) {
-        return 17;
+        return STRAY_BIT;
     }
     if any_impossible(store, n, possible) {
-        return 28;
+        return NOT_POSSIBLE;
     }
     if room < MAX_STATES {
-        return 21;
+        return PATH_SHORT;
     }
     0
 }

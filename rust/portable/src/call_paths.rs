@@ -13,6 +13,7 @@
 // What works on a table is lent its rows, and its sets by value; find_path asks that the table is well formed. The calls are lent a store, work out its
 // forbidden states once, and ask for nothing.
 use crate::core_reach::newly_reached;
+use crate::core_refusals::PATH_SHORT;
 use crate::core_rows::Rows;
 use crate::core_rows::forbidden;
 use crate::core_rows::meet_hold;
@@ -21,6 +22,7 @@ use crate::core_rows::row_of;
 use crate::core_state_set::MAX_STATES;
 use crate::core_state_set::StateSet;
 use crate::core_state_set::WORDS;
+use crate::core_table::INITIAL_AT;
 use crate::core_table::ROWS_AT;
 use crate::core_table::refusal;
 use crate::core_table::set_at;
@@ -150,12 +152,12 @@ pub fn shortest_path(store: &[u64], n: usize, g: usize, path: &mut [u16]) -> Sho
         return Shortest::Refused(refused);
     }
     if path.len() < MAX_STATES {
-        return Shortest::Refused(21);
+        return Shortest::Refused(PATH_SHORT);
     }
     match find_path(
         &store[ROWS_AT..],
         n,
-        set_at(store, 0),
+        set_at(store, INITIAL_AT),
         forbidden(store, n),
         path,
     ) {
@@ -193,7 +195,7 @@ pub fn within(store: &[u64], n: usize, g: usize, k: usize) -> WithinAnswer
     let mut none: [[u64; WORDS]; 0] = [];
     let found = first_layer(
         &store[ROWS_AT..],
-        set_at(store, 0),
+        set_at(store, INITIAL_AT),
         forbidden(store, n),
         &mut none,
     );

@@ -10,6 +10,9 @@
 //   minutes_to_open              the minutes until a window is open on a day that is not closed: jumps from midnight to midnight over closed
 //                                days, and over the least wait on any other, so that even the longest search takes some hundred turns
 //   next_open                    the call
+use crate::core_refusals::TIME;
+use crate::core_refusals::TOO_MANY;
+use crate::core_refusals::WINDOW_RANGE;
 
 pub const MAX_TIME: usize = 2147483647;
 
@@ -64,13 +67,13 @@ fn any_outside(windows: &[u64]) -> bool
 fn refusal(time: usize, windows: &[u64], closed: &[u32]) -> u8
 {
     if MAX_TIME < time {
-        return 31;
+        return TIME;
     }
     if (MAX_WINDOWS < windows.len()) | (MAX_DAYS < closed.len()) {
-        return 30;
+        return TOO_MANY;
     }
     if any_outside(windows) {
-        return 29;
+        return WINDOW_RANGE;
     }
     0
 }

@@ -8,9 +8,12 @@
 //   replay_refusal         the first of the grounds 10, 14, 15, 17, 25 and 26 that holds, or 0
 //   Replayed, replay       the call
 use crate::core_reach::reached;
+use crate::core_refusals::LOG_LONG;
+use crate::core_refusals::LOG_ODD;
 use crate::core_state_set::StateSet;
 use crate::core_state_set::WORD_BITS;
 use crate::core_state_set::WORDS;
+use crate::core_table::INITIAL_AT;
 use crate::core_table::ROWS_AT;
 use crate::core_table::refusal;
 use crate::core_table::set_at;
@@ -103,10 +106,10 @@ fn replay_refusal(store: &[u64], n: usize, g: usize, bytes: usize) -> u8
         return shared;
     }
     if bytes % ENTRY_BYTES != 0 {
-        return 25;
+        return LOG_ODD;
     }
     if MAX_LOG < bytes {
-        return 26;
+        return LOG_LONG;
     }
     0
 }
@@ -131,7 +134,7 @@ pub fn replay(store: &[u64], n: usize, g: usize, log: &[u8]) -> Replayed
     }
     let walked = follow(store, log);
     let seen = walked.seen.count();
-    let reached = reached(&store[ROWS_AT..], set_at(store, 0)).count();
+    let reached = reached(&store[ROWS_AT..], set_at(store, INITIAL_AT)).count();
     let covered = coverage(seen, reached);
     Replayed::Walk {
         followed: walked.followed,

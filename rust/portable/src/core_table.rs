@@ -9,6 +9,10 @@
 //   refusal                      the first of the grounds 10, 14, 15 and 17 that holds, or 0
 //
 // Functions below the calls ask for a store that is long enough; `refusal` asks for nothing.
+use crate::core_refusals::GROUPS;
+use crate::core_refusals::STATES;
+use crate::core_refusals::STORE_SHORT;
+use crate::core_refusals::STRAY_BIT;
 use crate::core_state_set::MAX_STATES;
 use crate::core_state_set::StateSet;
 use crate::core_state_set::WORDS;
@@ -17,6 +21,8 @@ pub const MAX_GROUPS: usize = 64;
 
 // Initial, marked and resting, which stand before the groups.
 pub const HEAD_SETS: usize = 3;
+
+pub const INITIAL_AT: usize = 0;
 
 pub const MARKED_AT: usize = WORDS;
 
@@ -87,7 +93,7 @@ pub fn non_zero_word(store: &[u64], from: usize, to: usize) -> bool
 // A 1 bit for a state from n up, or a word of an unused group or row not 0.
 fn is_malformed(store: &[u64], n: usize, g: usize) -> bool
 {
-    if is_beyond(set_at(store, 0), n) {
+    if is_beyond(set_at(store, INITIAL_AT), n) {
         return true;
     }
     if is_beyond(set_at(store, MARKED_AT), n) {
@@ -118,19 +124,19 @@ fn is_groups_alone(n: usize, g: usize) -> bool
 pub fn refusal(store: &[u64], n: usize, g: usize) -> u8
 {
     if store.len() < STORE_WORDS {
-        return 10;
+        return STORE_SHORT;
     }
     if MAX_STATES < n {
-        return 14;
+        return STATES;
     }
     if is_groups_alone(n, g) {
-        return 14;
+        return STATES;
     }
     if MAX_GROUPS < g {
-        return 15;
+        return GROUPS;
     }
     if is_malformed(store, n, g) {
-        return 17;
+        return STRAY_BIT;
     }
     0
 }

@@ -6,6 +6,16 @@
 //   read_old, read_as                the same of a file of the old form, and of either
 //   read_file, read_contents         the same of an input that has bytes, and of contents: each looks at its own grounds
 //   join_blocks, block_fault         the contents of the blocks joined, each once it is checked; the grounds of one block, on its own 512 bytes
+use crate::core_refusals::BLOCK_CHECK;
+use crate::core_refusals::BLOCK_COUNT;
+use crate::core_refusals::BLOCK_NUMBER;
+use crate::core_refusals::FILLER;
+use crate::core_refusals::GROUPS;
+use crate::core_refusals::INPUT_LENGTH;
+use crate::core_refusals::SITE;
+use crate::core_refusals::STATES;
+use crate::core_refusals::STORE_SHORT;
+use crate::core_refusals::STRAY_BIT;
 use crate::core_state_set::MAX_STATES;
 use crate::core_table::MAX_GROUPS;
 use crate::core_table::STORE_WORDS;
@@ -49,10 +59,10 @@ pub fn read_old(input: &[u8], site: usize, store: &mut [u64]) -> TableRead
 fn read_as(form: Form, input: &[u8], site: usize, store: &mut [u64]) -> TableRead
 {
     if store.len() < STORE_WORDS {
-        return TableRead::Refused(10);
+        return TableRead::Refused(STORE_SHORT);
     }
     if MAX_SITE < site {
-        return TableRead::Refused(24);
+        return TableRead::Refused(SITE);
     }
     if input.len() == 0 {
         clear(store);
@@ -64,10 +74,10 @@ fn read_as(form: Form, input: &[u8], site: usize, store: &mut [u64]) -> TableRea
 fn read_file(form: Form, input: &[u8], site: usize, store: &mut [u64]) -> TableRead
 {
     if input.len() % BLOCK != 0 {
-        return TableRead::Refused(11);
+        return TableRead::Refused(INPUT_LENGTH);
     }
     if MAX_FILE < input.len() {
-        return TableRead::Refused(11);
+        return TableRead::Refused(INPUT_LENGTH);
     }
     let mut joined = [0u8; JOINED_ROOM];
     let fault = join_blocks(input, site, &mut joined);
@@ -90,28 +100,28 @@ fn read_contents(
 ) -> TableRead
 {
     if n == 0 {
-        return TableRead::Refused(14);
+        return TableRead::Refused(STATES);
     }
     if MAX_STATES < n {
-        return TableRead::Refused(14);
+        return TableRead::Refused(STATES);
     }
     let least = added(form);
     if second < least {
-        return TableRead::Refused(15);
+        return TableRead::Refused(GROUPS);
     }
     let g = second - least;
     if MAX_GROUPS < g {
-        return TableRead::Refused(15);
+        return TableRead::Refused(GROUPS);
     }
     let size = content_length(form, n, g);
     if blocks != blocks_for(size) {
-        return TableRead::Refused(16);
+        return TableRead::Refused(BLOCK_COUNT);
     }
     if any_content_beyond(form, bytes, n, g) {
-        return TableRead::Refused(17);
+        return TableRead::Refused(STRAY_BIT);
     }
     if non_zero_byte(bytes, size, CONTENT_BYTES * blocks) {
-        return TableRead::Refused(18);
+        return TableRead::Refused(FILLER);
     }
     fill(form, bytes, n, g, store);
     TableRead::Table { n, g }
@@ -141,12 +151,12 @@ fn block_fault(block: &[u8], site: usize, k: usize) -> u8
 {
     let number = le16_at(block, 0);
     if number != k {
-        return 12;
+        return BLOCK_NUMBER;
     }
     let check = le16_at(block, CHECK_AT);
     let sum = checksum_of(block, site);
     if check != sum {
-        return 13;
+        return BLOCK_CHECK;
     }
     0
 }

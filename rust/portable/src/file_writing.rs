@@ -7,6 +7,9 @@
 //   write_blocks, write_block      the first so many blocks; one block: its number, its content, its check
 //
 // What is written is said with the model's `overwrite`: at the front of what was lent, the rest of it untouched.
+use crate::core_refusals::OUTPUT_SHORT;
+use crate::core_refusals::SITE;
+use crate::core_refusals::STORE_SHORT;
 use crate::core_table::STORE_WORDS;
 use crate::core_table::refusal;
 use crate::file_blocks::BLOCK;
@@ -34,10 +37,10 @@ pub enum Written {
 pub fn write(store: &[u64], n: usize, g: usize, site: usize, output: &mut [u8]) -> Written
 {
     if store.len() < STORE_WORDS {
-        return Written::Refused(10);
+        return Written::Refused(STORE_SHORT);
     }
     if MAX_SITE < site {
-        return Written::Refused(24);
+        return Written::Refused(SITE);
     }
     let refused = refusal(store, n, g);
     if refused != 0 {
@@ -50,7 +53,7 @@ pub fn write(store: &[u64], n: usize, g: usize, site: usize, output: &mut [u8]) 
     let blocks = blocks_for(l);
     let size = BLOCK * blocks;
     if output.len() < size {
-        return Written::Refused(19);
+        return Written::Refused(OUTPUT_SHORT);
     }
     write_file(store, n, g, site, blocks, output);
     Written::File(size)

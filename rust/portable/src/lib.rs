@@ -16,6 +16,7 @@ compile_error!(
 );
 
 mod core_state_set;
+mod core_refusals;
 mod core_table;
 mod core_rows;
 mod core_reach;
@@ -54,6 +55,7 @@ pub use crate::shuntberry::shuntberry_remove_step;
 pub use crate::shuntberry::shuntberry_replay;
 pub use crate::shuntberry::shuntberry_rewrite;
 pub use crate::shuntberry::shuntberry_shortest_path;
+pub use crate::shuntberry::shuntberry_version;
 pub use crate::shuntberry::shuntberry_within;
 pub use crate::shuntberry::shuntberry_write;
 pub use crate::shuntberry_fields::CheckedFields;

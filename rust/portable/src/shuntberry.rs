@@ -40,6 +40,15 @@ use crate::shuntberry_fields::lay_out_shortest;
 use crate::shuntberry_fields::lay_out_table;
 use crate::shuntberry_fields::lay_out_within;
 
+// ---- the version
+
+const VERSION: u32 = 6;
+
+pub fn shuntberry_version() -> u32
+{
+    VERSION
+}
+
 // ---- decide
 
 pub fn shuntberry_decide(

@@ -30,6 +30,13 @@ pub mod c {
     /// # Safety
     /// Each pointer is to as many as its length says, or to one.
     #[no_mangle]
+    pub unsafe extern "C" fn shuntberry_version() -> u32 {
+        portable::shuntberry_version()
+    }
+
+    /// # Safety
+    /// Each pointer is to as many as its length says, or to one.
+    #[no_mangle]
     pub unsafe extern "C" fn shuntberry_decide(
         store: *const u64,
         store_len: usize,
@@ -239,6 +246,15 @@ pub mod c {
 pub mod wasm {
     use super::{lent, lent_mut};
     use shuntberry_portable as portable;
+
+    /// # Safety
+    /// Each pointer is to as many as its length says, or to one.
+    #[no_mangle]
+    pub unsafe extern "C" fn shuntberry_version(
+        answer: *mut u32,
+    ) {
+        *answer = portable::shuntberry_version();
+    }
 
     /// # Safety
     /// Each pointer is to as many as its length says, or to one.
