@@ -1,3 +1,4 @@
 pub mod Answering
 pub mod FailsSafeKept
+pub mod FaithfulKept
 pub mod FiguresKept

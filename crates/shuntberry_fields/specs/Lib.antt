@@ -1,4 +1,5 @@
 pub mod Fields
 pub mod FailsSafe
+pub mod Faithful
 pub mod Figures
 pub mod Small
