@@ -1,3 +1,4 @@
 pub mod FieldsAnswered
 pub mod FailsSafeKept
+pub mod FaithfulKept
 pub mod FiguresKept

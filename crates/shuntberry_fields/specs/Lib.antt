@@ -1,5 +1,6 @@
 pub mod Fields
 pub mod FailsSafe
+pub mod Faithful
 pub mod Figures
 pub mod Small
 pub mod Version

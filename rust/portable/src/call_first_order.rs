@@ -12,6 +12,7 @@ use crate::core_state_set::MAX_STATES;
 use crate::core_state_set::StateSet;
 use crate::core_state_set::WORDS;
 use crate::core_table::GROUPS_AT;
+use crate::core_table::INITIAL_AT;
 use crate::core_table::ROWS_AT;
 use crate::core_table::refusal;
 use crate::core_table::set_at;
@@ -65,7 +66,7 @@ pub fn first_order(store: &[u64], n: usize, g: usize) -> FirstOrder
         let words = first_cover_of(&store[GROUPS_AT..], g, n, z, s).words;
         cover[s] = words;
     }
-    let reached = forward(&store[ROWS_AT..], &cover, set_at(store, 0), z);
+    let reached = forward(&store[ROWS_AT..], &cover, set_at(store, INITIAL_AT), z);
     let count = reached.count;
     let states = reached.order;
     FirstOrder {
