@@ -167,6 +167,8 @@ def cuts(table):
             Table.from_text(written[:length])
         except shuntberry.Mistakes as mistakes:
             need("the text may be cut" in str(mistakes), mistakes)
+        except ValueError as error:  # one word, which may be a file's name
+            need(len(written[:length].split()) == 1 and "is the name of a file" in str(error), error)
         else:
             need(False, f"{length} characters are enough of {written!r}")
 

@@ -201,7 +201,11 @@ with tempfile.TemporaryDirectory() as work:
     need(isinstance(error, ValueError), "mistakes")
     raises(OSError, "empty", Table.from_text, "")
     for length in range(1, len(TEXT)):
-        raises(shuntberry.Mistakes, "the text may be cut", Table.from_text, TEXT[:length])
+        cut = TEXT[:length]
+        if len(cut.split()) == 1:  # which may be a file's name
+            raises(ValueError, "is the name of a file", Table.from_text, cut)
+        else:
+            raises(shuntberry.Mistakes, "the text may be cut", Table.from_text, cut)
     for behind in ("\n", " ", "#", "end\n", TEXT):
         raises(shuntberry.Mistakes, "goes on behind its 'end'", Table.from_text, TEXT + behind)
     raises(UnicodeEncodeError, "", Table.from_text, "states 1\n\ud800")
