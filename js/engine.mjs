@@ -8,7 +8,7 @@ const PAGE = 65536;
 const ROOM = 2 * PAGE;
 const MOST = 2 ** 32 - 1;
 const WORD = 8;
-/** What the calls of texts answer, by hand: js/wasm/src/lib.rs has the struct. */
+/** What the calls of texts answer, by hand: the struct TextFields of the module. */
 const TEXT_FIELDS = { mistakes: 0, n: 4, g: 8, lines: 12, length: 16, size: 20 };
 export const TEXT_CALLS = ["shuntberry_text_read", "shuntberry_text_print"];
 
