@@ -20,9 +20,7 @@ const shown = (value) => {
 
 /** The whole number that a value is; nothing is converted to one. */
 export function whole(value, what, greatest = MOST) {
-  if (typeof value !== "number" || !Number.isInteger(value)) {
-    throw new TypeError(`${what} is a whole number, not ${shown(value)}`);
-  }
+  if (!Number.isInteger(value)) throw new TypeError(`${what} is a whole number, not ${shown(value)}`);
   if (value < 0 || value > greatest) throw new RangeError(`${what} is ${value}: it goes from 0 to ${greatest}`);
   return value;
 }

@@ -14,7 +14,7 @@ export const MAX_WINDOWS: number;
 /** A state by its number, or by its name where the table knows names. */
 export type State = number | string;
 /** The successors of each state that has some. The keys of an object are numbers in digits, or names. */
-export type Steps = ReadonlyMap<State, Iterable<State>> | { readonly [state: State]: Iterable<State> };
+export type Steps = ReadonlyMap<State, Iterable<State>> | { readonly [state: string]: Iterable<State> };
 export type Names = ReadonlyMap<number, string> | { readonly [state: number]: string };
 export type Bytes = Uint8Array | ArrayBuffer;
 

@@ -141,13 +141,13 @@ export function tables(engine) {
       return inner.ofStore(found.n, found.g, found.store, new Map(pairs));
     }
 
-    /** Takes a store that the library accepts as a table of n states and g groups. */
+    /** Takes a store that the library accepts as a table of n states and g groups; nobody writes to it any more. */
     #hold(n, g, store, names) {
       accepted(engine.call("within", store, n, g, 0).refusal);
       if (n > MAX_STATES || g > MAX_GROUPS) throw new UnknownAnswer(`the module accepted ${n} states, ${g} groups`);
       this.#n = n;
       this.#g = g;
-      this.#store = store.slice();
+      this.#store = store;
       this.#names = checkedNames(names, n);
     }
 

@@ -159,7 +159,7 @@ same(s.Table.fromText(text).equals(table), true);
 
 const wasm = readFileSync(`${folder}/shuntberry.wasm`);
 for (const length of [0, 1, 8, 100, wasm.length >> 1, wasm.length - 1]) await rejects(() => load(wasm.subarray(0, length)), Error, `${length}`);
-for (const wrong of [undefined, null, 3, "shuntberry.wasm", {}, bytes("0061736d01000000"), new Response("no", { status: 404 })]) {
+for (const wrong of [undefined, null, 3, "shuntberry.wasm", {}, bytes("0061736d01000000"), new Response(wasm, { status: 404 })]) {
   await rejects(() => load(wrong), Error);
 }
 const changed = Buffer.from(wasm);

@@ -55,6 +55,19 @@ for (const [what, call] of Object.entries(PARAMETERS)) {
     same([said, watched.entered], ["refused", before], `${what}: ${String(value)}`);
   }
 }
+// A state that no set has room for: a marked one that is lost is a wrong safe.
+for (const what of Object.keys(PARAMETERS).filter((name) => /Table, [^n]|Modal/.test(name))) {
+  for (const value of [512, 513, 519, 4096, 65535, 2 ** 32 - 1]) {
+    const before = watched.entered;
+    let said = "nothing";
+    try {
+      PARAMETERS[what](value);
+    } catch (error) {
+      said = error.constructor;
+    }
+    same([said, watched.entered], [RangeError, before], `${what}: ${value}`);
+  }
+}
 // Digits as a key of an object are the number.
 for (const key of ["-1", "1.5", "4294967296", "03", "1e0", "", "512"]) {
   const before = watched.entered;
@@ -90,5 +103,8 @@ same(s.within(table, MOST), false);
 same(s.within(new s.Table(2, { initial: [0], marked: [1], steps: { 0: [1] } }), MOST), true);
 same(s.generate(MOST, 3, 2).n, 3);
 same(s.nextOpen(0, windows, [MOST]), 0);
+// An answer of 2^31 or more is no negative one.
+const late = 2 ** 31 + 5000;
+same(s.nextOpen(2 ** 31 - 1, [{ start: late % 10_080, length: 1 }]), late);
 same(session.reachable, [0]);
 end("numbers", 900);
