@@ -1,5 +1,6 @@
 // What is no whole number in its range is refused, and the module is not entered.
-import { end, same, shuntberry as s, watched } from "./support.mjs";
+import { readFileSync } from "node:fs";
+import { end, folder, same, shuntberry as s, url, watched } from "./support.mjs";
 
 const table = new s.Table(3, { initial: [0], marked: [2], steps: { 0: [0], 1: [2] } });
 const file = s.write(table);
@@ -107,4 +108,34 @@ same(s.nextOpen(0, windows, [MOST]), 0);
 const late = 2 ** 31 + 5000;
 same(s.nextOpen(2 ** 31 - 1, [{ start: late % 10_080, length: 1 }]), late);
 same(session.reachable, [0]);
-end("numbers", 900);
+
+// The calls themselves, with the greatest numbers of 32 bits in place of each: they refuse as on 64 bits, do not stop,
+// and write nothing.
+const { Engine } = await import(url("engine.mjs"));
+const { CALLS, SIZES } = await import(url("raw.mjs"));
+const engine = new Engine(await WebAssembly.compile(readFileSync(`${folder}/shuntberry.wasm`)));
+const GROUNDS = { n: 14, g: 15, allowance: 20, site: 24, fan_out: 22, time: 31, from: 27, to: 27, k: 0, seed: 0 };
+const GOOD = { n: 3, g: 0, allowance: 512, site: 0, fan_out: 2, time: 0, from: 0, to: 1, k: 1, seed: 7 };
+const store = new Uint8Array(8 * 4632);
+same(engine.call("read", file, 0, store).refusal, 0);
+const ROW = 8 * 8 * (3 + 64);
+const BUFFERS = {
+  store, input: file, possible: store.slice(ROW), path: new Uint8Array(1024), distances: new Uint8Array(6),
+  text: new Uint8Array(4096), output: new Uint8Array(37376), log: new Uint8Array(0),
+  windows: new Uint8Array([0, 0, 0, 0, 1, 0, 0, 0]), closed_days: new Uint8Array(0), reachable: new Uint8Array(64),
+};
+let looked = 0;
+for (const [name, { parameters }] of Object.entries(CALLS)) {
+  for (const [what] of parameters.filter(([, kind, pointer]) => kind in SIZES && pointer === "")) {
+    for (const value of [2 ** 31, 2 ** 32 - 512, MOST]) {
+      const words = { ...GOOD, [what]: value };
+      const given = parameters.map(([one]) => words[one] ?? BUFFERS[one].slice());
+      const found = engine.call(name, ...given);
+      same(found.refusal ?? found, GROUNDS[what], `${name}: ${what} is ${value}`);
+      if (GROUNDS[what] !== 0) same(given, parameters.map(([one]) => words[one] ?? BUFFERS[one]), `${name} wrote`);
+      looked++;
+    }
+  }
+}
+same(looked, 3 * 33, "numbers of all calls");
+end("numbers", 1000);
