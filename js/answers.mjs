@@ -1,11 +1,13 @@
-// What the calls answer, and the errors. An answer is an object, which `if` takes for true whatever it says: so its
-// fields are looked at, and to make a number or a text of it is an error.
+// What the calls answer, and the errors. An answer is an object, which `if` takes for true whatever it says:
+// so its fields are looked at, and to make a number or a text of it is an error.
 import { ACCEPTED, DEPENDS, NO_VERDICT, REFUSALS, SAFE, UNDECIDED, UNSAFE } from "./raw.mjs";
+
+const UNKNOWN = ["UNKNOWN", "no ground that this version of the module knows"];
 
 /** A call, or a file, that the library refused, by the number of its ground. */
 export class Refused extends Error {
   constructor(number) {
-    const [code, ground] = REFUSALS.get(number) ?? ["UNKNOWN", "no ground that this version of the module knows"];
+    const [code, ground] = REFUSALS.get(number) ?? UNKNOWN;
     super(`refused ${number}: ${ground}`);
     this.number = number;
     this.code = code;
@@ -24,7 +26,7 @@ export class Mistakes extends Error {
   }
 }
 
-/** The module stopped in a call. Nothing is known then of its memory, so the next call has another instance. */
+/** The module stopped in a call. Nothing is known of its memory then: the next call has another instance. */
 export class Trapped extends Error {}
 
 /** The module answered with something that this version does not know. The proved library never does. */
@@ -87,7 +89,7 @@ export class ModalDecision extends Judged {
   }
 }
 
-/** What check answers. A file that is refused has no verdict and no states: to ask for them throws the refusal. */
+/** What check answers. Of a file that is refused verdict and states are not there: they throw the refusal. */
 export class Checked extends Answer {
   #n;
   #verdict;
@@ -96,7 +98,7 @@ export class Checked extends Answer {
     super();
     const isRefused = fileRefusal !== ACCEPTED;
     if (isRefused && verdict !== NO_VERDICT) {
-      throw new UnknownAnswer(`the module refused a file with ${fileRefusal} and gave the verdict ${verdict}`);
+      throw new UnknownAnswer(`a file refused with ${fileRefusal} has the verdict ${verdict}`);
     }
     this.#n = n;
     this.#verdict = isRefused ? null : verdictOf(verdict, SAFE, UNSAFE);

@@ -1,8 +1,11 @@
 // The calls, on the tables of one module.
-import { Checked, Decision, ModalDecision, Replay, UnknownAnswer, accepted, isYes, verdictOf } from "./answers.mjs";
+import {
+  Checked, Decision, ModalDecision, Replay, UnknownAnswer, accepted, isYes, verdictOf,
+} from "./answers.mjs";
 import { whole } from "./engine.mjs";
 import {
-  CHECK_TEXT, DEPENDS, FILE_BYTES, MAX_ALLOWANCE, NO_MINUTE, PATH_PLACES, SAFE, UNDECIDED, UNREACHABLE, UNSAFE,
+  CHECK_TEXT, DEPENDS, FILE_BYTES, MAX_ALLOWANCE, NO_MINUTE, PATH_PLACES, SAFE, UNDECIDED, UNREACHABLE,
+  UNSAFE,
 } from "./raw.mjs";
 import { STORE_BYTES, bytesOf, listed, optional, statesIn, tables } from "./tables.mjs";
 
@@ -50,7 +53,8 @@ export function calls(engine) {
     const found = ask("decide", store, n, g, optional(arguments, 1, "allowance", MAX_ALLOWANCE), path);
     const verdict = verdictOf(found.verdict, SAFE, UNSAFE, UNDECIDED);
     const invariant = verdict === "safe" ? statesIn(found.invariant) : null;
-    return new Decision(n, verdict, found.count, invariant, verdict === "unsafe" ? pathOf(path, found.steps) : null);
+    const shown = verdict === "unsafe" ? pathOf(path, found.steps) : null;
+    return new Decision(n, verdict, found.count, invariant, shown);
   }
 
   function check(data, site) {
@@ -102,7 +106,8 @@ export function calls(engine) {
     const found = ask("decide_modal", store, n, g, rowsOf(table, possible, "possible"), path);
     const verdict = verdictOf(found.verdict, SAFE, UNSAFE, DEPENDS);
     const invariant = verdict === "unsafe" ? null : statesIn(found.invariant);
-    return new ModalDecision(n, verdict, invariant, verdict === "safe" ? null : pathOf(path, found.steps));
+    const shown = verdict === "safe" ? null : pathOf(path, found.steps);
+    return new ModalDecision(n, verdict, invariant, shown);
   }
 
   function nextOpen(time, windows, closedDays) {
@@ -113,7 +118,7 @@ export function calls(engine) {
     const numbers = days.map((day) => whole(day, "a closed day"));
     const found = ask("next_open", time, packed(halves), packed(numbers));
     if (isYes(found.never)) return Infinity;
-    if (found.minute === NO_MINUTE) throw new UnknownAnswer("the module names no minute, and does not say never");
+    if (found.minute === NO_MINUTE) throw new UnknownAnswer("no minute, and it is not said that it is never");
     return found.minute;
   }
 
@@ -156,7 +161,7 @@ export function calls(engine) {
   }
 
   return {
-    Table, Session, check, decide, decideModal, distances, generate, nextOpen, read, replay, rewrite, shortestPath,
-    within, write,
+    Table, Session, check, decide, decideModal, distances, generate, nextOpen, read, replay, rewrite,
+    shortestPath, within, write,
   };
 }

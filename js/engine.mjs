@@ -1,5 +1,5 @@
-// The module of WebAssembly: its instances, and its calls. What goes in is checked here, since the boundary cuts
-// numbers: 2^32 would become 0. Buffers are bytes, with the low byte of a number first, as WebAssembly has them.
+// The module of WebAssembly: its instances, and its calls. What goes in is checked here, since the boundary
+// cuts numbers: 2^32 would become 0. Buffers are bytes, with the low byte of a number first.
 import { Trapped } from "./answers.mjs";
 import { CALLS, SIZES, STORE_WORDS, STRUCTS } from "./raw.mjs";
 
@@ -21,7 +21,9 @@ const shown = (value) => {
 /** The whole number that a value is; nothing is converted to one. */
 export function whole(value, what, greatest = MOST) {
   if (!Number.isInteger(value)) throw new TypeError(`${what} is a whole number, not ${shown(value)}`);
-  if (value < 0 || value > greatest) throw new RangeError(`${what} is ${value}: it goes from 0 to ${greatest}`);
+  if (value < 0 || value > greatest) {
+    throw new RangeError(`${what} is ${value}: it goes from 0 to ${greatest}`);
+  }
   return value;
 }
 
@@ -55,8 +57,10 @@ export class Engine {
     const exported = new Map(WebAssembly.Module.exports(module).map(({ name, kind }) => [name, kind]));
     const lacks = [...calls, ...TEXT_CALLS].filter((name) => exported.get(name) !== "function");
     if (exported.get("memory") !== "memory") lacks.push("memory");
-    if (lacks.length > 0) throw new Error(`this is not shuntberry.wasm of this version: it lacks ${lacks.join(", ")}`);
-    if (WebAssembly.Module.imports(module).length > 0) throw new Error("this is not shuntberry.wasm: it imports");
+    if (lacks.length > 0) {
+      throw new Error(`this is not shuntberry.wasm of this version: it lacks ${lacks.join(", ")}`);
+    }
+    if (WebAssembly.Module.imports(module).length > 0) throw new Error("shuntberry.wasm imports nothing");
     this.#kept = this.#instance(ROOM);
   }
 
@@ -118,8 +122,8 @@ export class Engine {
       const view = new DataView(exports.memory.buffer);
       const field = (name) => view.getUint32(base + TEXT_FIELDS[name], true);
       const lines = new Uint8Array(exports.memory.buffer, field("lines"), field("length"));
-      const found = { mistakes: field("mistakes"), n: field("n"), g: field("g") };
-      return { ...found, text: new TextDecoder("utf-8", { fatal: true, ignoreBOM: true }).decode(lines), exports, base };
+      const text = new TextDecoder("utf-8", { fatal: true, ignoreBOM: true }).decode(lines);
+      return { mistakes: field("mistakes"), n: field("n"), g: field("g"), text, exports, base };
     });
   }
 

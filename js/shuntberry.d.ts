@@ -48,7 +48,7 @@ export class Trapped extends Error {}
 /** The module answered with something that this version does not know. */
 export class UnknownAnswer extends Error {}
 
-/** Compare a verdict; of an answer look at `isSafe` first. The verdict of a table without states is "safe" too. */
+/** Of an answer look at `isSafe` first: the verdict of a table without states is "safe" too. */
 export type Verdict = "safe" | "unsafe" | "undecided" | "depends";
 
 /** An object is true in an `if` whatever it says: look at `isSafe`. */
@@ -103,7 +103,7 @@ export interface Replay {
   readonly entries: number;
 }
 
-/** A weekly window of `length` minutes, from minute `start` of the week on. Weeks begin on Saturday at 00:00. */
+/** A weekly window of `length` minutes, from minute `start` on. Weeks begin on Saturday at 00:00. */
 export interface Window {
   readonly start: number;
   readonly length: number;
@@ -140,7 +140,7 @@ export interface Table {
 
 export interface TableClass {
   new (n: number, sets: Sets): Table;
-  /** The table in the bytes of a file for a site, 0 if none is given. No bytes are a draft, without states. */
+  /** The table in the bytes of a file for a site, else for 0. No bytes are a draft, without states. */
   fromBytes(data: Bytes, site?: number, names?: Names): Table;
   /** The table of a text, which is given itself, with its names. Throws `Mistakes`. */
   fromText(text: string): Table;
@@ -183,6 +183,7 @@ export interface Shuntberry {
   write(table: Table, site?: number): Uint8Array;
 }
 
+export type Source = Bytes | Response | WebAssembly.Module;
 /** The calls: of shuntberry.wasm beside the module, or of what is given. */
 export function load(): Promise<Shuntberry>;
-export function load(source: Bytes | Response | WebAssembly.Module | PromiseLike<Bytes | Response>): Promise<Shuntberry>;
+export function load(source: Source | PromiseLike<Source>): Promise<Shuntberry>;

@@ -1,4 +1,4 @@
-// Is a forbidden state of a dialogue table reachable, and by which steps? Shuntberry's proved source in WebAssembly.
+// Is a forbidden state of a dialogue table reachable, and by which steps? The proved source in WebAssembly.
 import { Mistakes, Refused, Trapped, UnknownAnswer } from "./answers.mjs";
 import { calls } from "./calls.mjs";
 import { Engine } from "./engine.mjs";
@@ -6,7 +6,8 @@ import { bytesOf } from "./tables.mjs";
 
 export { Mistakes, Refused, Trapped, UnknownAnswer };
 export {
-  FILE_BYTES, MAX_ALLOWANCE, MAX_DAYS, MAX_FAN_OUT, MAX_GROUPS, MAX_LOG, MAX_SITE, MAX_STATES, MAX_TIME, MAX_WINDOWS,
+  FILE_BYTES, MAX_ALLOWANCE, MAX_DAYS, MAX_FAN_OUT, MAX_GROUPS, MAX_LOG, MAX_SITE, MAX_STATES, MAX_TIME,
+  MAX_WINDOWS,
 } from "./raw.mjs";
 
 /** The module that stands beside this file. */
@@ -17,7 +18,7 @@ async function beside() {
     const { readFile } = await import("node:fs/promises");
     return await readFile(url);
   } catch (cause) {
-    throw new Error(`shuntberry.wasm cannot be read beside the module: give load its bytes (${cause.message})`, { cause });
+    throw new Error("shuntberry.wasm cannot be read beside the module: give load its bytes", { cause });
   }
 }
 

@@ -1,5 +1,5 @@
-// A dialogue table: its sets out of JavaScript's, out of a file and out of a text. A set is 64 bytes of a store, in
-// which state s is the bit of value 2^(s % 8) in byte s / 8.
+// A dialogue table: its sets out of JavaScript's, out of a file and out of a text. A set is 64 bytes of a
+// store, in which state s is the bit of value 2^(s % 8) in byte s / 8.
 import { Mistakes, UnknownAnswer, accepted } from "./answers.mjs";
 import { whole } from "./engine.mjs";
 import { HEAD_SETS, MAX_GROUPS, MAX_STATES, SET_WORDS, STORE_WORDS } from "./raw.mjs";
@@ -22,7 +22,7 @@ function isArrayBuffer(data) {
   }
 }
 
-/** A copy of bytes. A text, an array or null has none, and is no empty file; nor is a buffer that was given away. */
+/** A copy of bytes. A text, an array or null is no empty file; nor is a buffer that was given away. */
 export function bytesOf(data, what) {
   if (tagOf.call(data) === "Uint8Array") return new Uint8Array(data);
   if (isArrayBuffer(data)) return new Uint8Array(data).slice();
@@ -30,7 +30,9 @@ export function bytesOf(data, what) {
 }
 
 /** A number that may be left out, but is not undefined where it is given. */
-export const optional = (passed, k, what, otherwise) => (passed.length > k ? whole(passed[k], what) : otherwise);
+export function optional(passed, k, what, otherwise) {
+  return passed.length > k ? whole(passed[k], what) : otherwise;
+}
 
 /** The states of a set, in order. */
 export function statesIn(bytes) {
@@ -47,14 +49,19 @@ export function listed(values, what) {
   return [...values];
 }
 
+/** Whether something is an object of no class, of any window. */
+function isPlain(value) {
+  if (typeof value !== "object" || value === null || Array.isArray(value)) return false;
+  const above = Object.getPrototypeOf(value);
+  return above === null || Object.getPrototypeOf(above) === null;
+}
+
 /** The pairs of a Map or of a plain object, whose keys are texts: digits are the number. */
 function pairsOf(mapping, what) {
   if (mapping instanceof Map) return [...mapping];
-  const above = typeof mapping === "object" && mapping !== null ? Object.getPrototypeOf(mapping) : undefined;
-  if (above === undefined || (above !== null && Object.getPrototypeOf(above) !== null) || Array.isArray(mapping)) {
-    throw new TypeError(`${what} is a Map or an object, such as {0: ..}`);
-  }
-  return Object.entries(mapping).map(([key, value]) => [/^(0|[1-9][0-9]*)$/.test(key) ? Number(key) : key, value]);
+  if (!isPlain(mapping)) throw new TypeError(`${what} is a Map or an object, such as {0: ..}`);
+  const number = (key) => (/^(0|[1-9][0-9]*)$/.test(key) ? Number(key) : key);
+  return Object.entries(mapping).map(([key, value]) => [number(key), value]);
 }
 
 /** Names that stand for one state each. */
@@ -107,7 +114,7 @@ export function tables(engine) {
         throw new TypeError("a table is made of n and its sets: {initial, marked, steps}");
       }
       const unknown = Object.keys(sets).filter((key) => !SETS.includes(key));
-      if (unknown.length > 0) throw new TypeError(`a table has no ${unknown.join(", ")}: it has ${SETS.join(", ")}`);
+      if (unknown.length > 0) throw new TypeError(`a table has no ${unknown.join(", ")}`);
       const { initial, marked, steps, resting = [], groups = [], names } = sets;
       const all = listed(groups, "groups");
       this.#names = checkedNames(names, n);
@@ -116,7 +123,8 @@ export function tables(engine) {
       put(initial, "initial", 0);
       put(marked, "marked", 1);
       put(resting, "resting", 2);
-      all.slice(0, MAX_GROUPS).forEach((states, j) => put(states, `group ${j}`, HEAD_SETS + j)); // more are refused
+      // More groups than there is room for are refused by their number.
+      all.slice(0, MAX_GROUPS).forEach((states, j) => put(states, `group ${j}`, HEAD_SETS + j));
       store.set(this.#rows(steps, "steps"), SET_BYTES * FIRST_ROW);
       this.#hold(n, all.length, store, this.#names);
     }
@@ -134,17 +142,20 @@ export function tables(engine) {
       if (typeof text !== "string") throw new TypeError("a text is a string");
       const found = engine.readText(new TextEncoder().encode(text));
       const lines = found.text.split("\n").slice(0, -1);
-      const pairs = lines.map((line) => [Number(line.slice(0, line.indexOf(" "))), line.slice(line.indexOf(" ") + 1)]);
+      const pairs = lines.map((line) => {
+        const space = line.indexOf(" ");
+        return [Number(line.slice(0, space)), line.slice(space + 1)];
+      });
       if (found.mistakes > 0) {
         throw new Mistakes(pairs.map(([line, reason]) => ({ line, reason })), found.mistakes);
       }
       return inner.ofStore(found.n, found.g, found.store, new Map(pairs));
     }
 
-    /** Takes a store that the library accepts as a table of n states and g groups; nobody writes to it any more. */
+    /** Takes a store that the library accepts as a table; nobody writes to it any more. */
     #hold(n, g, store, names) {
       accepted(engine.call("within", store, n, g, 0).refusal);
-      if (n > MAX_STATES || g > MAX_GROUPS) throw new UnknownAnswer(`the module accepted ${n} states, ${g} groups`);
+      if (n > MAX_STATES || g > MAX_GROUPS) throw new UnknownAnswer(`accepted: ${n} states, ${g} groups`);
       this.#n = n;
       this.#g = g;
       this.#store = store;
@@ -251,8 +262,9 @@ export function tables(engine) {
       const names = [...this.#names].map(([number, name]) => `${number} ${name}\n`).join("");
       const text = engine.printText(this.#store, this.#n, this.#g, new TextEncoder().encode(names));
       const read = Table.fromText(text);
-      const isSame = this.equals(read) && [...this.#names].every(([number, name]) => read.#names.get(number) === name);
-      if (!isSame || read.#names.size !== this.#names.size) throw new RangeError("the names are none of a text's");
+      const isNamed = ([number, name]) => read.#names.get(number) === name;
+      const isSame = read.#names.size === this.#names.size && [...this.#names].every(isNamed);
+      if (!isSame || !this.equals(read)) throw new RangeError("the names are none of a text's");
       return text;
     }
 

@@ -1,5 +1,5 @@
-//! The module for JavaScript: the calls of the package `shuntberry-portable-c`, and texts by their one reader and one
-//! printer. A text is read or printed in an instance of its own, so what is given away here is never taken back.
+//! The module for JavaScript: the calls of the package `shuntberry-portable-c`, and texts by their one reader
+//! and one printer. A text has an instance of its own, so what is given away here is never taken back.
 
 use core::slice::{from_raw_parts, from_raw_parts_mut};
 use shuntberry as _;
@@ -37,12 +37,16 @@ fn answered(mistakes: usize, n: usize, g: usize, lines: String) -> TextFields {
 
 /// Lines of a number and words each.
 fn numbered<W: core::fmt::Display>(lines: impl Iterator<Item = (usize, W)>) -> String {
-    lines.map(|(number, words)| format!("{number} {words}\n")).collect()
+    lines
+        .map(|(number, words)| format!("{number} {words}\n"))
+        .collect()
 }
 
 /// Where a table's sets stand in a store, in order.
 fn sets(n: usize, g: usize) -> impl Iterator<Item = usize> {
-    (0..HEAD_SETS + g).chain(FIRST_ROW..FIRST_ROW + n).map(|set| SET_WORDS * set)
+    (0..HEAD_SETS + g)
+        .chain(FIRST_ROW..FIRST_ROW + n)
+        .map(|set| SET_WORDS * set)
 }
 
 fn put(table: &Table, store: &mut [u64]) {
@@ -78,15 +82,24 @@ fn taken(store: &[u64], n: usize, g: usize) -> Table {
 /// # Safety
 /// The text has as many bytes as its length says, and is not empty; the store has STORE_WORDS words.
 #[no_mangle]
-pub unsafe extern "C" fn shuntberry_text_read(answer: *mut TextFields, text: *const u8, text_len: usize, store: *mut u64) {
+pub unsafe extern "C" fn shuntberry_text_read(
+    answer: *mut TextFields,
+    text: *const u8,
+    text_len: usize,
+    store: *mut u64,
+) {
     let store = from_raw_parts_mut(store, STORE_WORDS);
     *answer = match parse(from_raw_parts(text, text_len)) {
         Ok(read) => {
             put(&read.table, store);
-            answered(0, read.table.rows.len(), read.table.groups.len(), numbered(read.names.iter().map(|(state, name)| (*state, name))))
+            let names = numbered(read.names.iter().map(|(state, name)| (*state, name)));
+            answered(0, read.table.rows.len(), read.table.groups.len(), names)
         }
         Err(mistakes) => {
-            let first = mistakes.first().iter().map(|mistake| (mistake.line, &mistake.reason));
+            let first = mistakes
+                .first()
+                .iter()
+                .map(|mistake| (mistake.line, &mistake.reason));
             answered(mistakes.count.max(1), 0, 0, numbered(first))
         }
     };
