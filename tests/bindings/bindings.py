@@ -13,7 +13,7 @@ TOP = Path(__file__).resolve().parents[2]
 PLACES = [
     "scripts/bindings", "scripts/header.py", "scripts/exports.py", "include/shuntberry.h", "man/shuntberry.1",
         "man/shuntberry.3", "docs/SPECIFICATION.md",
-    "rust/command/refusals.txt", "rust/src/raw.rs", "rust/src/refusals.rs", "python/shuntberry/_raw.py", *(
+    "rust/command/refusals.txt", "rust/src/raw.rs", "rust/src/refusals.rs", "python/shuntberry/_raw.py", "js/raw.mjs", *(
         str(path.relative_to(TOP)) for path in sorted(TOP.glob("crates/*/src/*.rt")))]
 HEADER, EXPORTS, FIELDS = "include/shuntberry.h", "crates/shuntberry/src/lib.rt", "crates/shuntberry_fields/src/lib.rt"
 sys.path.insert(0, str(TOP / "scripts"))
@@ -78,6 +78,8 @@ try:
         ("crates/core_refusals/src/lib.rt", "STRAY_BIT: u8 = 17;", "STRAY_BIT: u8 = 18;"),
         ("python/shuntberry/_raw.py", "STRAY_BIT = 17", "STRAY_BIT = 18"), ("python/shuntberry/_raw.py",
             "MAX_WINDOWS = 32", "MAX_WINDOWS = 33"),
+        ("js/raw.mjs", '["n", "size_t", 4, 0]', '["n", "size_t", 8, 0]'), ("js/raw.mjs",
+            '["STRAY_BIT", ', '["FILLER", '), ("js/raw.mjs", "MAX_SITE = 65520", "MAX_SITE = 65521"),
         ("rust/command/refusals.txt", "\n18|", "\n19|"), ("man/shuntberry.1",
             f"\n{FILLER}.\n", "\nnone.\n"), ("man/shuntberry.3", "size_t k);",
             "size_t l);"),
@@ -233,6 +235,7 @@ try:
             "rust/src/refusals.rs": '    (32, "the new ground"),\n',
         "crates/core_refusals/src/lib.rt": "\n\npub const NEW: u8 = 32;\n",
         "python/shuntberry/_raw.py": '    NEW = 32, "the new ground"\n',
+            "js/raw.mjs": '  [32, ["NEW", "the new ground"]],\n',
             "rust/command/refusals.txt": "\n32|the new ground|it is old\n",
         "man/shuntberry.1": "\n.B 32\nthe new ground.\nLook whether it is old.\n",
             "man/shuntberry.3": "\n.B 32\nthe new ground.\n",
@@ -243,11 +246,12 @@ try:
     edited(HEADER, ("/* ---- When a release may be loaded ---- */\n",
         "/* The number. */\nSHUNTBERRY_NODISCARD\nuint32_t shuntberry_new(void);\n\n/* ---- When a release may be loaded ---- */\n"))
     status, said = bindings()
-    need(status == 0 and said.count("\n") == 3, "a new call", said)
+    need(status == 0 and said.count("\n") == 4, "a new call", said)
     for place, line in {
         "rust/src/raw.rs": "    pub fn shuntberry_new() -> u32;\n",
             "python/shuntberry/_raw.py": '    "new": (c_uint32, [\n    ]),\n',
             "man/shuntberry.3": "\nuint32_t \\fBshuntberry_new\\fP(void);\n",
+            "js/raw.mjs": '  new: {\n    answer: "uint32_t",\n    parameters: [\n    ],\n  },\n',
     }.items():
         need((work / place).read_text().count(line) == 1, f"{place} has not: {line}")
     status, said = bindings("--check")

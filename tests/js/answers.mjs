@@ -1,0 +1,64 @@
+// Random tables: each answer is the archive's. The cases are read from standard input.
+import { readFileSync } from "node:fs";
+import { bytes, end, hex, same, shuntberry as s } from "./support.mjs";
+
+/** What a call answers, or the number of its refusal. */
+function answered(work) {
+  try {
+    return work();
+  } catch (error) {
+    if (error.name !== "Refused") throw error;
+    return { refused: error.number };
+  }
+}
+const decision = (answer) => ({ ...answer, is_safe: answer.isSafe });
+const checked = (answer) => ({
+  text: answer.text, status: answer.status, is_safe: answer.isSafe, refusal: answer.refusal?.number ?? null,
+});
+const finite = (distances) => distances.map((steps) => (steps === Infinity ? null : steps));
+const calls = {
+  decide: (table, allowance) => decision(s.decide(table, allowance)),
+  shortest_path: (table) => s.shortestPath(table),
+  distances: (table) => finite(s.distances(table)),
+  within: (table, k) => s.within(table, k),
+  write: (table, site) => hex(s.write(table, site)),
+  replay: (table, log) => ({ ...s.replay(table, bytes(log)) }),
+  decide_modal: (table, possible) => decision(s.decideModal(table, new Map(possible))),
+};
+
+let count = 0;
+for (const line of readFileSync(0, "utf8").split("\n").filter(Boolean)) {
+  const one = JSON.parse(line);
+  count++;
+  const sets = { ...one.sets, steps: new Map(one.sets.steps) };
+  const table = new s.Table(one.n, sets);
+  same(table.steps, new Map(one.sets.steps.filter(([, row]) => row.length > 0)), line);
+  same([table.initial, table.marked, table.resting, table.groups], [
+    sets.initial, sets.marked, sets.resting, sets.groups,
+  ]);
+  for (const [name, given, expected] of one.asked) {
+    same(answered(() => calls[name](table, ...given)), expected, `${name}(${given}): ${line}`);
+  }
+  same(table.toText(), one.text, line);
+  same(s.Table.fromText(one.text).equals(table), true, line);
+  same(hex(s.rewrite(bytes(one.old))), one.rewritten, line);
+  for (const [data, site, expected, refused] of one.files) {
+    same(checked(s.check(bytes(data), site)), expected, line);
+    const read = answered(() => s.read(bytes(data), site));
+    same(read instanceof s.Table ? null : read, refused, line);
+    if (read instanceof s.Table) same(hex(s.write(read, site)), data, line);
+  }
+  const session = new s.Session(table);
+  for (const [name, from, to, expected] of one.edits) {
+    const edit = { reachable: () => session.reachable, add_step: () => session.addStep(from, to), remove_step: () => session.removeStep(from, to) };
+    same(answered(edit[name]), expected, line);
+  }
+  same(hex(s.write(session.table)), one.edited, line);
+  const [seed, n, fanOut, load] = one.load;
+  same(answered(() => hex(s.write(s.generate(seed, n, fanOut)))), load, line);
+  const [time, windows, days, minute] = one.open;
+  const opened = answered(() => s.nextOpen(time, windows.map(([start, length]) => ({ start, length })), days));
+  same(opened, minute ?? Infinity, line);
+}
+same(count, Number(process.argv[2]), "tables");
+end(`${count} tables as the archive answers`, 30 * count);
