@@ -224,6 +224,11 @@ export const STRUCTS = {
  * A buffer's length goes with it.
  */
 export const CALLS = {
+  version: {
+    answer: "uint32_t",
+    parameters: [
+    ],
+  },
   check: {
     answer: "checked",
     parameters: [
