@@ -50,14 +50,19 @@ for (const line of readFileSync(0, "utf8").split("\n").filter(Boolean)) {
   }
   const session = new s.Session(table);
   for (const [name, from, to, expected] of one.edits) {
-    const edit = { reachable: () => session.reachable, add_step: () => session.addStep(from, to), remove_step: () => session.removeStep(from, to) };
+    const edit = {
+      reachable: () => session.reachable,
+      add_step: () => session.addStep(from, to),
+      remove_step: () => session.removeStep(from, to),
+    };
     same(answered(edit[name]), expected, line);
   }
   same(hex(s.write(session.table)), one.edited, line);
   const [seed, n, fanOut, load] = one.load;
   same(answered(() => hex(s.write(s.generate(seed, n, fanOut)))), load, line);
   const [time, windows, days, minute] = one.open;
-  const opened = answered(() => s.nextOpen(time, windows.map(([start, length]) => ({ start, length })), days));
+  const weekly = windows.map(([start, length]) => ({ start, length }));
+  const opened = answered(() => s.nextOpen(time, weekly, days));
   same(opened, minute ?? Infinity, line);
 }
 same(count, Number(process.argv[2]), "tables");

@@ -1,5 +1,5 @@
-"""Random tables with what the proved archive answers of them, by the Python module, as lines of JSON; what decide
-and shortest_path say is also held to tests/expected/spec.py, which shares nothing with either.
+"""Random tables with what the proved archive answers of them, by the Python module, as lines of JSON; what
+decide and shortest_path say is also held to tests/expected/spec.py, which shares nothing with either.
 
     cases.py SEED COUNT
 """
@@ -27,12 +27,14 @@ def some(n, most):
 def table(n):
     steps = {s: some(n, random.choice([0, 1, 1, 2, 3])) for s in range(n)}
     groups = [some(n, n) for _ in range(random.choice([0, 0, 1, 3, 64]))]
-    return {"initial": some(n, 2), "marked": some(n, 1), "resting": some(n, n), "groups": groups, "steps": steps}
+    return {
+        "initial": some(n, 2), "marked": some(n, 1), "resting": some(n, n), "groups": groups, "steps": steps}
 
 
 def of_spec(n, sets):
     steps = {(a, b) for a, row in sets["steps"].items() for b in row}
-    return spec.Table(n, set(sets["initial"]), set(sets["marked"]), steps, list(map(set, sets["groups"])), set(sets["resting"]))
+    groups = list(map(set, sets["groups"]))
+    return spec.Table(n, set(sets["initial"]), set(sets["marked"]), steps, groups, set(sets["resting"]))
 
 
 def answered(call, *arguments):
@@ -41,6 +43,10 @@ def answered(call, *arguments):
         return call(*arguments)
     except shuntberry.Refused as refused:
         return {"refused": refused.number}
+
+
+def fields(value, *names):
+    return {name: shown(getattr(value, name)) for name in names}
 
 
 def shown(value):
@@ -54,14 +60,14 @@ def shown(value):
     if isinstance(value, (bytes, bytearray)):
         return value.hex()
     if isinstance(value, shuntberry.Decision):
-        return {key: shown(getattr(value, key)) for key in ("n", "verdict", "count", "invariant", "path", "is_safe")}
+        return fields(value, "n", "verdict", "count", "invariant", "path", "is_safe")
     if isinstance(value, shuntberry.ModalDecision):
-        return {key: shown(getattr(value, key)) for key in ("n", "verdict", "invariant", "path", "is_safe")}
+        return fields(value, "n", "verdict", "invariant", "path", "is_safe")
     if isinstance(value, shuntberry.Checked):
         refusal = value.refusal.number if value.refusal else None
         return {"text": value.text, "status": value.status, "is_safe": value.is_safe, "refusal": refusal}
     if isinstance(value, shuntberry.Replay):
-        return {key: getattr(value, key) for key in ("followed", "seen", "percent", "remainder", "entries")}
+        return fields(value, "followed", "seen", "percent", "remainder", "entries")
     return value
 
 
@@ -80,7 +86,8 @@ def held(ours, theirs):
     path = spec.shortest_path(theirs)
     expected = (verdict, count, sorted(invariant) if verdict == "safe" else None, path)
     found = shown(ours)
-    assert (found["verdict"], found["count"], found["invariant"], found["path"]) == expected, (found, expected)
+    said = (found["verdict"], found["count"], found["invariant"], found["path"])
+    assert said == expected, (said, expected)
 
 
 def case(k):
@@ -106,7 +113,8 @@ def case(k):
     site = random.choice([0, 1, 17, 65_520, 65_521])
     ask("write", site)
     ask("replay", walk(n, sets))
-    possible = {s: sorted({*row, *some(n, 2)}) if random.random() < 0.99 else some(n, 2) for s, row in sets["steps"].items()}
+    with_row = lambda row: {*row, *some(n, 2)} if random.random() < 0.99 else some(n, 2)  # noqa: E731
+    possible = {s: sorted(with_row(row)) for s, row in sets["steps"].items()}
     out["asked"].append(["decide_modal", [[[s, row] for s, row in possible.items()]],
         shown(answered(shuntberry.decide_modal, ours, possible))])
     out["text"] = spec.text(theirs)
@@ -119,7 +127,8 @@ def case(k):
     for data in [*files, bytes(file)]:
         for where in {min(site, shuntberry.MAX_SITE), 3}:
             read = answered(shuntberry.read, data, where)
-            out["files"].append([data.hex(), where, shown(shuntberry.check(data, where)), read if isinstance(read, dict) else None])
+            refused = read if isinstance(read, dict) else None
+            out["files"].append([data.hex(), where, shown(shuntberry.check(data, where)), refused])
     session = shuntberry.Session(ours)
     out["edits"] = [["reachable", 0, 0, shown(session.reachable)]]
     for _ in range(12):
@@ -129,10 +138,13 @@ def case(k):
     seed, fan_out = random.randrange(2**32), random.randint(0, 17)
     load = answered(shuntberry.generate, seed, n, fan_out)
     out["load"] = [seed, n, fan_out, load if isinstance(load, dict) else shuntberry.write(load).hex()]
-    windows = [[random.randrange(MINUTES + 5), random.randint(0 if k % 9 == 0 else 1, MINUTES)] for _ in range(random.choice([0, 1, 2, 5, 32, 33]))]
+    least = 0 if k % 9 == 0 else 1
+    window = lambda: [random.randrange(MINUTES + 5), random.randint(least, MINUTES)]  # noqa: E731
+    windows = [window() for _ in range(random.choice([0, 1, 2, 5, 32, 33]))]
     days = [random.randrange(400) for _ in range(random.choice([0, 1, 5, 64, 65]))]
     time = random.choice([0, random.randrange(10**6), 2**31 - 1, 2**31])
-    out["open"] = [time, windows, days, answered(shuntberry.next_open, time, [shuntberry.Window(*one) for one in windows], days)]
+    weekly = [shuntberry.Window(*one) for one in windows]
+    out["open"] = [time, windows, days, answered(shuntberry.next_open, time, weekly, days)]
     return out
 
 

@@ -30,7 +30,8 @@ for (const name of readdirSync(FOLDER).filter((file) => file.endsWith(".table"))
   same([decision.verdict, decision.isSafe], [checked.verdict, checked.isSafe], name);
   same(lines[1], `${decision.verdict} refinements ${decision.count}`, name);
   const { invariant, path } = decision;
-  const said = invariant ? `invariant ${invariant.length}: ${invariant.join(" ") || "none"}` : `path ${path.join(" ")}`;
+  const kept = invariant && `invariant ${invariant.length}: ${invariant.join(" ") || "none"}`;
+  const said = kept ?? `path ${path.join(" ")}`;
   same(said, lines[2], name);
   same(s.shortestPath(table), path, name);
   same(hex(s.write(table)), hex(data), name);

@@ -1,9 +1,11 @@
-// Answers that nobody takes for a yes, tables that are none, modules that stop or are not ours, and other things.
+// Answers that nobody takes for a yes, tables that are none, modules that stop, lie or are not ours.
 import { readFileSync } from "node:fs";
 import { Worker } from "node:worker_threads";
-import { assert, bytes, end, folder, module, rejects, same, shuntberry as s, throws, url, watched } from "./support.mjs";
+import {
+  assert, bytes, end, folder, module, rejects, same, shuntberry as s, throws, url, watched,
+} from "./support.mjs";
 
-const { Mistakes, Refused, Trapped, load } = module;
+const { Mistakes, Refused, Trapped, UnknownAnswer, load } = module;
 const sets = { initial: [0], marked: [2], steps: { 0: [0], 1: [2] } };
 const table = new s.Table(3, sets);
 const refusedWith = (number) => (error) => error instanceof Refused && error.number === number;
@@ -73,8 +75,8 @@ same(new s.Table(3, { ...sets, marked: again }).marked, [2], "a list that calls 
 const named = new s.Table(3, { ...sets, names: { 0: "home", 2: "over" } });
 same([named.state("over"), named.equals(table), named.whyForbidden("over")], [2, true, "marked"]);
 same(new s.Session(named).addStep("home", "over"), [0, 2]);
-for (const names of [{ 0: "a b" }, { 0: "a\n1 b" }, { 0: "a\nend" }, { 0: "a#" }, { 0: "\u00e9\u0416" }, { 0: "x".repeat(65) }]) {
-  throws(() => new s.Table(3, { ...sets, names }).toText(), Error, JSON.stringify(names));
+for (const name of ["a b", "a\n1 b", "a\nend", "a#", "\u00e9\u0416", "x".repeat(65), "none"]) {
+  throws(() => new s.Table(3, { ...sets, names: { 0: name } }).toText(), Error, name);
 }
 named.names.set(1, "mine");
 named.steps.set(0, [2]);
@@ -110,7 +112,9 @@ same(s.decide(table).isSafe, true);
 
 // ---- texts
 
-for (const wrong of [null, undefined, 3, {}, ["states 0"], new String("states 0\nend\n"), kept]) throws(() => s.Table.fromText(wrong), TypeError);
+for (const wrong of [null, undefined, 3, {}, ["states 0"], new String("states 0\nend\n"), kept]) {
+  throws(() => s.Table.fromText(wrong), TypeError);
+}
 const text = table.toText();
 for (let k = 0; k < text.length; k++) throws(() => s.Table.fromText(text.slice(0, k)), Mistakes, `cut at ${k}`);
 const mistakes = (work) => {
@@ -126,9 +130,11 @@ assert.match(two.message, /^line 2: there is no state 5/);
 const many = mistakes(() => s.Table.fromText(`${"wrong\n".repeat(300_000)}end\n`));
 same([many.name, many.count > 300_000, many.mistakes.length], ["Mistakes", true, 100]);
 same(mistakes(() => s.Table.fromText("x".repeat(3_000_000))).name, "Mistakes");
-same(mistakes(() => s.Table.fromText(`states 1\ninitial 0\nforbidden none\n# \ud800\nstate 0 \ud800\nend\n`)).name, "Mistakes");
+const half = "states 1\ninitial 0\nforbidden none\nstate 0 \ud800\nend\n";
+same(mistakes(() => s.Table.fromText(half)).name, "Mistakes");
 same(s.Table.fromText("states 0\nend\n").n, 0);
-same(s.Table.fromText("states 1\r\ninitial 0\r\nforbidden none\r\nstate 0 M\u00fcller\r\nend\r\n").names, new Map([[0, "M\u00fcller"]]));
+const german = "states 1\r\ninitial 0\r\nforbidden none\r\nstate 0 M\u00fcller\r\nend\r\n";
+same(s.Table.fromText(german).names, new Map([[0, "M\u00fcller"]]));
 
 // ---- a module that stops: an error, and the next call has another instance
 
@@ -155,10 +161,37 @@ throws(() => s.Table.fromText(text), Trapped);
 watched.spoil = null;
 same(s.Table.fromText(text).equals(table), true);
 
+// ---- a module that lies: what is not known is no answer
+
+const lies = (place, number, call) => {
+  watched.lie = [place, number];
+  throws(call, UnknownAnswer, `${number} at ${place}`);
+  watched.lie = null;
+};
+const unsafe = new s.Table(2, { initial: [0], marked: [1], steps: { 0: [1] } });
+for (const verdict of [3, 4, 255, 2 ** 32 - 1]) lies(68, verdict, () => s.decide(unsafe));
+for (const verdict of [2, 4, 255]) lies(68, verdict, () => s.decideModal(unsafe, unsafe.steps));
+for (const verdict of [2, 3, 255]) lies(16, verdict, () => s.check(kept));
+for (const verdict of [0, 1]) lies(16, verdict, () => s.check(new Uint8Array(1)));
+lies(12, 13, () => s.check(kept));
+lies(0, 4097, () => s.check(kept));
+lies(80, 512, () => s.decide(unsafe));
+for (const found of [2, 255]) lies(4, found, () => s.shortestPath(unsafe));
+for (const within of [2, 255]) lies(4, within, () => s.within(unsafe, 1));
+lies(4, 255, () => s.nextOpen(0, [{ start: 0, length: 1 }]));
+lies(8, 2 ** 32 - 1, () => s.nextOpen(0, [{ start: 0, length: 1 }]));
+lies(4, 37377, () => s.write(unsafe));
+watched.lie = [64, 99];
+throws(() => s.decide(unsafe), refusedWith(99));
+watched.lie = null;
+same(s.decide(unsafe).verdict, "unsafe");
+
 // ---- modules
 
 const wasm = readFileSync(`${folder}/shuntberry.wasm`);
-for (const length of [0, 1, 8, 100, wasm.length >> 1, wasm.length - 1]) await rejects(() => load(wasm.subarray(0, length)), Error, `${length}`);
+for (const length of [0, 1, 8, 100, wasm.length >> 1, wasm.length - 1]) {
+  await rejects(() => load(wasm.subarray(0, length)), Error, `${length}`);
+}
 for (const wrong of [undefined, null, 3, "shuntberry.wasm", {}, bytes("0061736d01000000"), new Response(wasm, { status: 404 })]) {
   await rejects(() => load(wrong), Error);
 }
@@ -186,9 +219,11 @@ await worker.terminate();
 // ---- types: each name is declared
 
 const types = readFileSync(`${folder}/shuntberry.d.ts`, "utf8");
-const members = (value) => Object.getOwnPropertyNames(value).filter((name) => !["constructor", "length", "name", "prototype"].includes(name));
+const every = ["constructor", "length", "name", "prototype"];
+const members = (value) => Object.getOwnPropertyNames(value).filter((name) => !every.includes(name));
 for (const name of [
-  ...Object.keys(module), ...Object.keys(s), ...members(s.Table), ...members(s.Table.prototype), ...members(s.Session.prototype),
-  ...members(decision), ...members(s.check(kept)), ...members(Object.getPrototypeOf(s.check(kept))), ...members(s.replay(table, new Uint8Array(0))),
+  ...Object.keys(module), ...Object.keys(s), ...members(s.Table), ...members(s.Table.prototype),
+  ...members(s.Session.prototype), ...members(decision), ...members(s.check(kept)),
+  ...members(Object.getPrototypeOf(s.check(kept))), ...members(s.replay(table, new Uint8Array(0))),
 ]) same(new RegExp(`\\b${name}\\b[?]?[:(;]|(?:class|function|const) ${name}\\b`).test(types), true, name);
 end("hostile", 400);

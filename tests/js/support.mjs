@@ -6,8 +6,11 @@ export { assert };
 export const folder = process.env.MODULE;
 export const url = (name) => new URL(name, `${pathToFileURL(folder)}/`).href;
 
-/** Counts the instances that are made and the calls that enter one; `spoil` is given each call's words. */
-export const watched = { instances: 0, entered: 0, spoil: null };
+/**
+ * Counts the instances that are made and the calls that enter one. `spoil` gives each call other words, `lie` is
+ * [place, number], which is put into each answer.
+ */
+export const watched = { instances: 0, entered: 0, spoil: null, lie: null };
 const Real = WebAssembly.Instance;
 WebAssembly.Instance = function (module, imports) {
   const real = new Real(module, imports);
@@ -17,7 +20,10 @@ WebAssembly.Instance = function (module, imports) {
     if (typeof call !== "function") continue;
     exports[name] = (...words) => {
       watched.entered++;
-      return call(...(watched.spoil?.(name, words) ?? words));
+      call(...(watched.spoil?.(name, words) ?? words));
+      if (watched.lie === null) return;
+      const [place, number] = watched.lie;
+      new DataView(real.exports.memory.buffer).setUint32(words[0] + place, number, true);
     };
   }
   return { exports };
