@@ -110,5 +110,7 @@ int main(int count, char **words)
         return FAILED;
     /* what could not be printed is not released */
     enum status status = printed(check());
-    return status == WELL ? put(words[2]) : status;
+    if (status == WELL)
+        status = put(words[2]);
+    return status;
 }

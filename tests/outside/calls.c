@@ -132,6 +132,10 @@ static void answers(void)
     require(decision.refusal == SHUNTBERRY_ACCEPTED && decision.verdict == SHUNTBERRY_UNSAFE &&
                 decision.count == STATES - 2 && decision.size == 0 && decision.reserved == 0 && is_corridor(decision.steps),
             "decide");
+    decision = shuntberry_decide(store, SHUNTBERRY_STORE_WORDS, STATES, 0, 3, path, SHUNTBERRY_PATH_PLACES);
+    require(decision.refusal == SHUNTBERRY_ACCEPTED && decision.verdict == SHUNTBERRY_UNDECIDED && decision.count == 3 &&
+                decision.size == 0 && decision.steps == 0 && !shuntberry_is_safe(decision, STATES),
+            "decide within an allowance that is too small");
 
     distances[STATES] = PAINT;
     require(shuntberry_distances(store, SHUNTBERRY_STORE_WORDS, STATES, 0, distances, STATES + 1) == SHUNTBERRY_ACCEPTED &&
@@ -142,6 +146,8 @@ static void answers(void)
             "within");
     memset(store + SHUNTBERRY_INITIAL, 0, SHUNTBERRY_SET_WORDS * sizeof *store);
     require(within(SHUNTBERRY_UNREACHABLE) == 0 && within(SIZE_MAX) == 0, "within, without an initial state");
+    shortest = shuntberry_shortest_path(store, SHUNTBERRY_STORE_WORDS, STATES, 0, path, SHUNTBERRY_PATH_PLACES);
+    require(shortest.refusal == SHUNTBERRY_ACCEPTED && shortest.found == 0 && shortest.steps == 0, "no path");
     add(SHUNTBERRY_INITIAL, 0);
 }
 

@@ -231,6 +231,9 @@ pub fn edges(libraries: &[&dyn NextOpen], tally: &mut Tally) -> Outcome {
         (WEEK, 1),
         (0, 0),
         (0, WEEK + 1),
+        // of 16 bits these would be 0 and 10
+        (65_536, 1),
+        (0, 65_546),
         (u64::from(u32::MAX), 1),
         (0, u64::from(u32::MAX)),
     ] {
