@@ -402,6 +402,26 @@ objects = [json.loads(line) for line in call("check-all", "--json", "--", *names
 need([found["file"] for found in objects[:-2]] == list(names)[:-1] and objects[-2]["file_hex"] == "fffe", objects)
 for name in names:
     gives(UNSAFE, (TABLES / "b.expected").read_text(), "check", "--", name, cwd=place)
+# a folder that cannot be looked at, where a file system does not say in its list what is a folder: it has failed, and is not passed over
+UNTOLD = r"""
+mkdir mnt && mount -o loop disk mnt 2>/dev/null || exit 77
+mkdir -p mnt/top/closed/inner && cp "$1" mnt/top/safe.table && cp "$2" mnt/top/closed/inner/unsafe.table && cp "$0" mnt/program || exit 77
+chmod 755 mnt mnt/top mnt/program && chmod 744 mnt/top/closed || exit 77
+setpriv --reuid 65534 --regid 65534 --clear-groups mnt/program check-all mnt/top
+"""
+disk = WORK / "untold"
+disk.mkdir()
+disk.chmod(0o755)
+mode = WORK.stat().st_mode
+WORK.chmod(0o755)
+room = 8192  # KiB, of which the program takes some
+made = subprocess.run(["/usr/sbin/mke2fs", "-q", "-F", "-t", "ext2", "-O", "^filetype", disk / "disk", str(room)], stdout=subprocess.DEVNULL, stderr=subprocess.DEVNULL) if os.path.exists("/usr/sbin/mke2fs") and os.geteuid() == 0 else None
+ran = made and made.returncode == 0 and subprocess.run(["unshare", "-m", "bash", "-c", UNTOLD, PROGRAM, TABLES / "e.table", TABLES / "b.table"], cwd=disk, stdout=subprocess.PIPE, stderr=subprocess.PIPE)
+if not ran or ran.returncode == 77:
+    print("skipped: check-all on a file system that does not tell folders: none can be mounted")
+else:
+    need(ran.returncode == FAILED and b"inner: failed" in ran.stdout and b"cannot be looked at" in ran.stderr, ran)
+WORK.chmod(mode & 0o777)
 group("check-all on folders, lists and names")
 
 # ---- release: just the bytes that were checked, and only where they are safe and say something

@@ -238,7 +238,15 @@ fn search(folder: &Path, files: &mut Vec<Entry>, passed: &mut Passed) {
     entries.sort_by_key(fs::DirEntry::file_name);
     for entry in entries {
         let path = entry.path();
-        if entry.file_type().is_ok_and(|kind| kind.is_dir()) {
+        let is_folder = match entry.file_type() {
+            Ok(kind) => kind.is_dir(),
+            Err(error) => {
+                // it may be a folder, with tables in it
+                files.push(Entry::Fails(path, format!("it cannot be looked at: {error}")));
+                continue;
+            }
+        };
+        if is_folder {
             search(&path, files, passed);
         } else if is_table(&path) {
             files.push(Entry::Found(path));
