@@ -12,7 +12,7 @@ _shuntberry() {
   elif [[ $word == -* ]]; then
     case $command in
     check) words='--site --explain --quiet --json --allowance --text --names --' ;;
-    check-all) words='--site --from -0 --count --json --' ;;
+    check-all) words='--site --from -0 --count --quiet --json --' ;;
     release) words='--site --even-if-vacuous --' ;;
     report) words='-o --site --names --' ;;
     inspect | within) words='--site --text --names --json --' ;;

@@ -3,13 +3,14 @@
 use crate::failure::{Failure, status};
 use crate::json::Object;
 use crate::lines::Names;
-use crate::names::{name_lines, numbers, with_names};
+use crate::names::{name_lines, numbers, screen, with_names};
+use crate::refusals::explained;
 use crate::shown::counted;
 use crate::source::Source;
 use crate::text::listing;
 use crate::words::Opt;
 use shuntberry::checking::{CHECK_TEXT_BYTES, Checked, check};
-use shuntberry::{Decision, MAX_ALLOWANCE, ModalDecision, Refused, StateSet, Table};
+use shuntberry::{Decision, Forbidden, MAX_ALLOWANCE, ModalDecision, Refused, StateSet, Table};
 
 /// What was found.
 #[derive(Clone, Copy, Debug, PartialEq, Eq)]
@@ -67,6 +68,8 @@ pub struct Answer {
     pub invariant: Option<StateSet>,
     /// A shortest path from a start to a forbidden state, where there is one.
     pub path: Option<Vec<usize>>,
+    /// Why the last state of the path is forbidden.
+    pub end: Option<Forbidden>,
     /// Why it says little that the table is safe, if it does.
     pub vacuous: Option<&'static str>,
     /// The lines; of a release check those of the proved call.
@@ -134,6 +137,9 @@ impl Answer {
             g: table.g(),
             count,
             invariant,
+            end: path
+                .as_ref()
+                .and_then(|path| table.why_forbidden(*path.last()?)),
             path,
             vacuous: vacuous(table).filter(|_| verdict == Verdict::Safe),
             text: String::new(),
@@ -150,6 +156,7 @@ impl Answer {
             count: None,
             invariant: None,
             path: None,
+            end: None,
             vacuous: None,
             text: format!("refused {}\n", refused.0),
         }
@@ -167,12 +174,22 @@ impl Answer {
             .map_or(String::new(), |count| format!(" refinements {count}"));
         lines += "\n";
         if let Some(states) = self.invariant {
+            lines += self.heading("with the certain steps alone:\n");
             lines += &format!("invariant {}: {}\n", states.len(), listing(states));
         }
         if let Some(path) = &self.path {
+            lines += self.heading("with every possible step:\n");
             lines += &format!("path {}\n", numbers(path.iter().copied()));
         }
         lines
+    }
+
+    /// A heading, where path and invariant are of two tables.
+    fn heading(&self, heading: &'static str) -> &'static str {
+        match self.verdict {
+            Verdict::Depends => heading,
+            _ => "",
+        }
     }
 
     /// The states of path and invariant.
@@ -197,20 +214,59 @@ impl Answer {
 
     /// What was found, in a line.
     pub fn headline(&self) -> String {
+        let end = match self.end {
+            Some(Forbidden::Hang) => "hang",
+            _ => "forbidden state",
+        };
         match self.verdict {
             Verdict::Safe => "safe: no forbidden state can be reached".to_string(),
             Verdict::Draft => {
                 "draft: the table has no states, and nothing is to be released".to_string()
             }
             Verdict::Unsafe if self.steps() == 0 => {
-                "unsafe: a session can start in a forbidden state".to_string()
+                format!("unsafe: a session can start in a {end}")
             }
-            Verdict::Unsafe => format!(
-                "unsafe: a forbidden state is reached in {}",
-                counted(self.steps(), "step")
-            ),
+            Verdict::Unsafe => {
+                let steps = counted(self.steps(), "step");
+                format!("unsafe: a {end} is reached in {steps}")
+            }
             verdict => verdict.label().to_string(),
         }
+    }
+
+    /// Why it is so, and what to do: what is said without being asked. Nothing of a table that is safe, where that says something.
+    pub fn explanation(&self, source: &Source) -> Option<String> {
+        match self.verdict {
+            Verdict::Safe => self.why_vacuous(),
+            Verdict::Unsafe | Verdict::Depends => self.why_unsafe(&source.names),
+            Verdict::Undecided => Some(format!(
+                "so many refinements do not tell safe from unsafe: check without --allowance, or allow more, up to {MAX_ALLOWANCE}"
+            )),
+            Verdict::Draft => Some(
+                "the table has no states, so that nothing is to be released: an empty input is a draft"
+                    .to_string(),
+            ),
+            Verdict::Refused(refused) => {
+                Some(explained(refused, &source.file, source.site))
+            },
+        }
+    }
+
+    /// Why it says little that the table is safe.
+    pub fn why_vacuous(&self) -> Option<String> {
+        self.vacuous
+            .map(|why| format!("{why}; release declines such a table"))
+    }
+
+    /// Why the path ends where it does: a screen may be forbidden though nobody marked it.
+    pub fn why_unsafe(&self, names: &Names) -> Option<String> {
+        let last = screen(names, *self.path.as_ref()?.last()?);
+        Some(match self.end? {
+            Forbidden::Hang => {
+                format!("the path ends in {last}, a hang: no step leads out, and it is not resting")
+            }
+            _ => format!("the path ends in {last}, forbidden since it is marked"),
+        })
     }
 
     /// As JSON, behind what stands in the object already.
@@ -237,6 +293,10 @@ impl Answer {
         if let Some(path) = &self.path {
             object = object.numbers("path", path.iter().copied());
         }
+        if let Some(end) = self.end {
+            let marked = end == Forbidden::Marked;
+            object = object.text("ends_in", if marked { "marked" } else { "hang" });
+        }
         with_names(object, names, self.states())
     }
 }
@@ -249,9 +309,6 @@ pub const VACUOUS: Opt = Opt {
     value: None,
     about: "releases a table without an initial state, or in which nothing is forbidden, too",
 };
-
-/// What is said behind why it says little of a table that it is safe.
-pub const DECLINED: &str = "release declines such a table";
 
 /// Why it says little of a table that it is safe.
 fn vacuous(table: &Table) -> Option<&'static str> {

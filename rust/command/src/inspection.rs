@@ -10,7 +10,8 @@ use shuntberry::{Refused, StateSet, Table};
 #[derive(Debug)]
 pub struct Inspection<'t> {
     table: &'t Table,
-    names: &'t Names,
+    /// The names of its screens.
+    pub names: &'t Names,
     reachable: StateSet,
     away: Vec<Option<usize>>,
 }
@@ -198,7 +199,11 @@ impl<'t> Inspection<'t> {
                 "hangs, which have no way out and do not rest",
                 hangs,
             ),
-            some("not-reached", "screens that nothing reaches", not_reached),
+            some(
+                "not-reached",
+                "screens that no session reaches",
+                not_reached,
+            ),
         ];
         let remark = |(label, message, states)| Remark {
             label,

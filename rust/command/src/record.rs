@@ -102,13 +102,23 @@ impl Record<'_> {
 
     fn verdict(&self) -> String {
         let headline = self.answer.headline();
+        let why = match self.why_unsafe() {
+            Some(why) => format!("<p>{why}.</p>\n"),
+            None => String::new(),
+        };
         let vacuous = self.answer.vacuous.map_or(String::new(), |why| {
             let option = VACUOUS.name;
             format!("<p><strong>But</strong> {why}. The command release does not release it without <code>{option}</code>.</p>\n")
         });
         format!(
-            "<header>\n<p class=\"kind\">Record of a check by Shuntberry</p>\n<div class=\"verdict\">\n<h1>{headline}</h1>\n{vacuous}</div>\n</header>\n"
+            "<header>\n<p class=\"kind\">Record of a check by Shuntberry</p>\n<div class=\"verdict\">\n<h1>{headline}</h1>\n{why}{vacuous}</div>\n</header>\n"
         )
+    }
+
+    /// Why the path ends where it does.
+    fn why_unsafe(&self) -> Option<String> {
+        let why = self.answer.why_unsafe(self.found.names);
+        why.map(|why| escaped(&why))
     }
 
     fn facts(&self) -> String {
@@ -185,8 +195,9 @@ impl Record<'_> {
             Verdict::Unsafe => section(
                 "Path",
                 format!(
-                    "<p>A shortest way from a start to a forbidden state, {}.</p>\n{}",
+                    "<p>A shortest way from a start to a forbidden state, {}; {}.</p>\n{}",
                     counted(self.answer.steps(), "step"),
+                    self.why_unsafe().unwrap_or_default(),
                     list("ol", "states path")
                 ),
             ),

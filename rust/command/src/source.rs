@@ -3,7 +3,7 @@
 use crate::failure::Failure;
 use crate::files::{Input, TEXT_BYTES};
 use crate::lines::{Mistake, Mistakes, Names};
-use crate::refusals::{BY_OPTION, ground};
+use crate::refusals::explained;
 use crate::sha256::sha256;
 use crate::shown::counted;
 use crate::text::{parse, table_of};
@@ -28,6 +28,12 @@ pub const NAMES: Opt = Opt {
     name: "--names",
     value: Some("TEXT"),
     about: "takes the names of the screens from TEXT, the text of the same table",
+};
+/// `--quiet`
+pub const QUIET: Opt = Opt {
+    name: "--quiet",
+    value: None,
+    about: "explains nothing on standard error, but says what failed; check prints nothing either: the status says it all",
 };
 /// `--json`
 pub const JSON: Opt = Opt {
@@ -125,7 +131,7 @@ impl Source {
     /// The table.
     pub fn table(&self) -> Result<&Table, Failure> {
         self.table.as_ref().map_err(|&refused| {
-            let why = ground(refused, &self.file, self.site, BY_OPTION);
+            let why = explained(refused, &self.file, self.site);
             Failure::Refused(refused, format!("{}: {why}", self.shown))
         })
     }

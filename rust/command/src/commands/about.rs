@@ -16,7 +16,7 @@ status: 0  safe, and all of it printed; or the thing asked for was written whole
         1  unsafe
         2  refused, or mistakes in a text
         3  anything else: called wrongly, could not read, could not print
-        4  answered, but nothing that may be released: no states, undecided, depends, not within K
+        4  answered, but nothing that may be released: no states, undecided, depends, not within K, a log that breaks off
 ";
 
 /// `help`, `help COMMAND` and `--help`

@@ -1,24 +1,17 @@
 //! `check`: the verdict on one table, in the three lines of the program of the specification. Text and verdict are the proved call's.
 
-use crate::answer::{Answer, DECLINED, Verdict};
+use crate::answer::{Answer, Verdict};
 use crate::failure::{Done, Failure};
 use crate::files::{print, say};
 use crate::json::Object;
-use crate::refusals::{hint, old_form};
-use crate::source::{JSON, NAMES, SITE, Source, TEXT};
-use crate::text::looks_like_text;
+use crate::source::{JSON, NAMES, QUIET, SITE, Source, TEXT};
 use crate::words::{Call, Command, Opt, Output};
-use shuntberry::{MAX_ALLOWANCE, Refused};
+use shuntberry::MAX_ALLOWANCE;
 
 const EXPLAIN: Opt = Opt {
     name: "--explain",
     value: None,
-    about: "puts a refusal into words too, on standard error, and says where safe says little",
-};
-const QUIET: Opt = Opt {
-    name: "--quiet",
-    value: None,
-    about: "prints nothing: the status says it all",
+    about: "says on standard error what is said without it too",
 };
 const ALLOWANCE: Opt = Opt {
     name: "--allowance",
@@ -51,26 +44,16 @@ fn run(call: &Call) -> Done {
         Some(answer) => answer,
         None => Answer::of(&source)?,
     };
-    if let Verdict::Refused(refused) = answer.verdict
-        && call.has(&EXPLAIN)
-    {
-        explain(refused, &source.file, source.site);
-    }
-    if let Some(why) = answer.vacuous
-        && (call.has(&EXPLAIN) || call.has(&JSON))
-    {
-        say(&format!("check: {why}; {DECLINED}\n"));
-    }
     if call.has(&JSON) {
         let object = answer.object(Object::default(), &source.names);
         print(object.line().as_bytes())?;
     } else if !call.has(&QUIET) {
         print(answer.with_names(&source.names).as_bytes())?;
     }
-    if answer.verdict == Verdict::Draft {
-        say(
-            "check: the table has no states, so that nothing is to be released: an empty input is a draft\n",
-        );
+    // A draft is said in any case: mostly it is what a command that failed left.
+    let explains = !call.has(&QUIET) || answer.verdict == Verdict::Draft;
+    if let Some(why) = answer.explanation(&source).filter(|_| explains) {
+        say(&format!("check: {why}\n"));
     }
     Ok(answer.verdict.status())
 }
@@ -82,18 +65,4 @@ fn undecided(source: &Source, allowance: Option<usize>) -> Result<Option<Answer>
     };
     let answer = Answer::within(table, allowance)?;
     Ok(Some(answer).filter(|answer| answer.verdict == Verdict::Undecided))
-}
-
-fn explain(refused: Refused, file: &[u8], site: usize) {
-    say(&format!("check: {refused}\n"));
-    let hint = hint(refused).unwrap_or("the program is whole: no file gives this number");
-    say(&format!("check: look whether {hint}\n"));
-    if let Some(why) = old_form(refused, file, site) {
-        say(&format!("check: {why}\n"));
-    }
-    if looks_like_text(file) {
-        say(
-            "check: it looks like a text: --text checks that, and the command encode makes a file of it\n",
-        );
-    }
 }

@@ -1,12 +1,12 @@
 //! `check-all`: a line for each of many files, by the same proved call as `check`.
 
-use crate::answer::{Answer, DECLINED, Verdict};
+use crate::answer::{Answer, Verdict};
 use crate::failure::{Done, Failure, status};
 use crate::files::{Input, TEXT_BYTES, print, say};
 use crate::json::Object;
 use crate::lines::Names;
 use crate::shown::{counted, shown};
-use crate::source::{JSON, SITE, Source, site};
+use crate::source::{JSON, QUIET, SITE, Source, site};
 use crate::words::{Call, Command, Opt, Output};
 use std::ffi::OsStr;
 use std::fs;
@@ -38,7 +38,7 @@ pub const CHECK_ALL: Command = Command {
     counts: (0, usize::MAX),
     about: "check many files, with a line for each",
     more: "A folder stands for the files in it, and in its folders, whose names end in .table, in capitals or not. The others are named on standard error.",
-    options: &[&SITE, &FROM, &ZERO, &COUNT, &JSON],
+    options: &[&SITE, &FROM, &ZERO, &COUNT, &QUIET, &JSON],
     needs: &[],
     output: Output::Answer,
     run,
@@ -62,12 +62,9 @@ fn run(call: &Call) -> Done {
     let mut lines = Vec::new();
     for (done, file) in files.iter().enumerate() {
         progress.show(done, &counts, &mut lines)?;
-        let answer = file.answer(site);
-        let remark = match &answer {
-            Ok(answer) => answer
-                .vacuous
-                .map(|why| format!("{}: {why}; {DECLINED}", shown(file.path()))),
-            Err(why) => Some(why.clone()),
+        let (answer, remark) = match file.answer(site) {
+            Ok((answer, remark)) => (Ok(answer), remark.filter(|_| !call.has(&QUIET))),
+            Err(why) => (Err(why.clone()), Some(why)),
         };
         if let Some(remark) = remark {
             progress.clear();
@@ -267,8 +264,8 @@ impl Entry {
         }
     }
 
-    /// What is found of the file, or why it failed.
-    fn answer(&self, site: usize) -> Result<Answer, String> {
+    /// What is found of the file and what is to be said of that, or why it failed. A line says that a table is unsafe, or a draft.
+    fn answer(&self, site: usize) -> Result<(Answer, Option<String>), String> {
         match self {
             Entry::Fails(path, why) => return Err(format!("{}: {why}", shown(path))),
             // A pipe could wait for ever; one that is named is meant.
@@ -277,9 +274,15 @@ impl Entry {
             }
             _ => {}
         }
-        let source = Source::of_file(Input::named(self.path()), site);
-        let answer = source.and_then(|source| Answer::of(&source));
-        answer.map_err(|failure| failure.why().to_string())
+        let why = |failure: Failure| failure.why().to_string();
+        let source = Source::of_file(Input::named(self.path()), site).map_err(why)?;
+        let answer = Answer::of(&source).map_err(why)?;
+        let remark = match answer.verdict {
+            Verdict::Unsafe | Verdict::Draft => None,
+            _ => answer.explanation(&source),
+        };
+        let remark = remark.map(|why| format!("{}: {why}", source.shown));
+        Ok((answer, remark))
     }
 
     fn line(&self, answer: &Result<Answer, String>, json: bool) -> String {

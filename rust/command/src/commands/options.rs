@@ -1,6 +1,6 @@
 //! `options`: a table some of whose steps exist only on pumps with an option bought, decided for every choice between them.
 
-use crate::answer::{Answer, DECLINED};
+use crate::answer::{Answer, Verdict};
 use crate::failure::{Done, Failure};
 use crate::files::{Input, print, say};
 use crate::json::Object;
@@ -44,8 +44,12 @@ fn run(call: &Call) -> Done {
         (None, true) => Modal::of_text(call),
     }?;
     let answer = Answer::of_choices(&modal.table, &modal.more)?;
-    if let Some(why) = answer.vacuous {
-        say(&format!("options: {why}; {DECLINED}\n"));
+    let why = match answer.verdict {
+        Verdict::Safe => answer.why_vacuous(),
+        _ => answer.why_unsafe(&modal.names),
+    };
+    if let Some(why) = why {
+        say(&format!("options: {why}\n"));
     }
     let lines = match call.has(&JSON) {
         true => answer.object(Object::default(), &modal.names).line(),

@@ -3,7 +3,6 @@
 use crate::answer::{Answer, VACUOUS, Verdict};
 use crate::failure::{Done, Failure, status};
 use crate::files::{Input, need_apart, need_place, print, replace_after, say};
-use crate::refusals::{BY_ENCODE, ground};
 use crate::sha256::sha256;
 use crate::source::{SITE, Source, site};
 use crate::table::is_unmarked;
@@ -55,14 +54,12 @@ fn run(call: &Call) -> Done {
 
 /// Why nothing is released: only what is safe is, and only where that says something.
 fn why_not(answer: &Answer, source: &Source, even_if_vacuous: bool) -> Option<String> {
+    let why = answer.explanation(source).unwrap_or_default();
     match (answer.verdict, answer.vacuous) {
         (Verdict::Safe, Some(why)) if !even_if_vacuous => Some(format!("{why} ({})", VACUOUS.name)),
         (Verdict::Safe, _) => None,
         (Verdict::Draft, _) => Some("the table has no states".to_string()),
-        (Verdict::Refused(refused), _) => {
-            let why = ground(refused, &source.file, source.site, BY_ENCODE);
-            Some(format!("it is {why}"))
-        }
-        (verdict, _) => Some(format!("it is {}", verdict.label())),
+        (Verdict::Refused(_), _) => Some(format!("it is {why}")),
+        (verdict, _) => Some(format!("it is {}: {why}", verdict.label())),
     }
 }

@@ -22,7 +22,7 @@ pub const REPLAY: Command = Command {
     words: "FILE LOG",
     counts: (2, 2),
     about: "a pump's log walked through a table",
-    more: "LOG has a state number of two bytes, low byte first, for each screen that was shown.",
+    more: "LOG has a state number of two bytes, low byte first, for each screen that was shown. The status is 4 where it breaks off.",
     options: &[&SITE, &TEXT, &NAMES, &TEXT_LOG, &JSON],
     needs: &[],
     output: Output::Answer,
@@ -58,7 +58,10 @@ fn run(call: &Call) -> Done {
         false => walk.lines(),
     };
     print(lines.as_bytes())?;
-    Ok(status::DONE)
+    Ok(match walk.broken() {
+        Some(_) => status::NO_RELEASE,
+        None => status::DONE,
+    })
 }
 
 /// Whether bytes are such as stand in a text. In a log every second one is the high byte of a state's number, 0 or 1.

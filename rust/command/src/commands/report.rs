@@ -11,7 +11,7 @@ use crate::inspection::Inspection;
 use crate::lines::{cut, number};
 use crate::picture::{self, Options};
 use crate::record::Record;
-use crate::refusals::{BY_ENCODE, ground};
+use crate::refusals::explained;
 use crate::sha256::sha256;
 use crate::shown::shown;
 use crate::source::{NAMES, SITE, Source};
@@ -53,7 +53,7 @@ fn run(call: &Call) -> Done {
     let answer = Answer::of(&source)?;
     print(answer.text.as_bytes())?;
     if let Verdict::Refused(refused) = answer.verdict {
-        let why = ground(refused, &source.file, source.site, BY_ENCODE);
+        let why = explained(refused, &source.file, source.site);
         let name = &source.shown;
         say(&format!(
             "report: {name}: there is no record: it is {why}\n"
