@@ -15,25 +15,29 @@ use std::path::Path;
 pub const SITE: Opt = Opt {
     name: "--site",
     value: Some("N"),
-    about: "the site that the file is of, 0 if not given",
+    about: "the site that the file is of, 0 if not given\n\
+        A site is a number from 0 to 65520, such as one for each hospital of a group. A file of another site is refused.",
 };
 /// `--text`
 pub const TEXT: Opt = Opt {
     name: "--text",
     value: None,
-    about: "what is read is a text and not a file",
+    about: "what is read is a text and not a file\n\
+        Without it the bytes are a file, whatever they look like. A text has no site, and has its own names: neither --site nor --names goes with it.",
 };
 /// `--names TEXT`
 pub const NAMES: Opt = Opt {
     name: "--names",
     value: Some("TEXT"),
-    about: "takes the names of the screens from TEXT, the text of the same table",
+    about: "takes the names of the screens from TEXT, the text of the same table\n\
+        Names are printed with the numbers of states, never in their place.",
 };
 /// `--json`
 pub const JSON: Opt = Opt {
     name: "--json",
     value: None,
-    about: "prints an object of JSON on one line",
+    about: "prints an object of JSON on one line\n\
+        JSON below says what is in it.",
 };
 
 /// What was read: the bytes of a file, and names.
