@@ -150,15 +150,15 @@ for command in "encode", "decode", "picture", "rewrite":
     gives(FAILED, "failed\n", command, err="standard input is empty")
     gives(FAILED, "failed\n", command, TABLES / "missing", err="could not be read: No such file")
     gives(FAILED, "failed\n", command, TABLES, err="could not be read: .*directory")
-    gives(FAILED, "failed\n", command, "-o", err="-o wants a word")
-    gives(FAILED, "failed\n", command, E, E, err="a word too many")
+    gives(FAILED, "failed\n", command, "-o", err="-o needs a value")
+    gives(FAILED, "failed\n", command, E, E, err="unexpected argument")
     gives(FAILED, "failed\n", command, "-o", WORK / "x", E, "-o", WORK / "y", err="twice")
-    gives(FAILED, "failed\n", command, "-O", WORK / "x", E, err="no option")
+    gives(FAILED, "failed\n", command, "-O", WORK / "x", E, err="unknown option")
 for words in ["-o", "x", "encode", E], ["--site", "1", "encode", E], ["encdoe", E], ["encode", "--site", "-o", E], ["encode", "--site", E], ["encode", "--sit", "1", "-o", WORK / "x", E]:
     gives(FAILED, "failed\n", *words, err="usage: ")
 need(not (WORK / "x").exists() and not (WORK / "y").exists(), "a call that was wrong wrote a file")
 for option in "--site", "--allowance", "--svg":
-    gives(FAILED, "failed\n", "rewrite", option, "1", err="no option")
+    gives(FAILED, "failed\n", "rewrite", option, "1", err="unknown option")
 
 # texts of any length take little time and room: in 400 MB, and in ten seconds of the processor's time, whatever else the machine does
 def bounded(text, *words):

@@ -5,10 +5,10 @@ use crate::files::{Input, TEXT_BYTES};
 use crate::lines::{Mistake, Mistakes, Names};
 use crate::refusals::{BY_OPTION, ground};
 use crate::sha256::sha256;
-use crate::table::Table;
-use crate::text::{self, Text};
+use crate::shown::counted;
+use crate::text::{parse, table_of};
 use crate::words::{Call, Opt};
-use shuntberry::{FILE_BYTES, MAX_SITE};
+use shuntberry::{FILE_BYTES, MAX_SITE, Refused, Table};
 use std::path::Path;
 
 /// `--site N`
@@ -40,7 +40,7 @@ pub const JSON: Opt = Opt {
         JSON below says what is in it.",
 };
 
-/// What was read: the bytes of a file, and names.
+/// What was read: the bytes of a file, the table in them, and names.
 #[derive(Debug)]
 pub struct Source {
     /// The input, as it is shown.
@@ -49,6 +49,8 @@ pub struct Source {
     pub site: usize,
     /// The bytes of the file; of a text the file that it stands for.
     pub file: Vec<u8>,
+    /// The table in them, or why it is refused.
+    pub table: Result<Table, Refused>,
     /// Names of its states.
     pub names: Names,
     /// The text that `--names` takes them from, as it is shown, and the sum of its bytes.
@@ -73,34 +75,45 @@ impl Source {
     ) -> Result<Source, Failure> {
         let site = site(call)?;
         let input = Input::of(call, path);
-        let mut source = Source {
-            shown: input.shown(),
-            site,
-            file: Vec::new(),
-            names: Names::new(),
-            names_from: None,
-        };
         if call.has(&TEXT) {
             alone(call)?;
-            let text = parsed(input, text::parse)?;
-            source.file = file_of(&text.table, site)?;
+            let text = parsed(input, parse)?;
+            let file = table_of(&text.table, [])?.to_bytes(site)?;
+            let mut source = Source::of_bytes(input, file, site);
             source.names = text.names;
-        } else {
-            source.file = take(input, FILE_BYTES + 1)?;
-            if let Some(path) = call.path(&NAMES) {
-                source.take_names(Input::of(call, Some(path)))?;
-            }
+            return Ok(source);
+        }
+        let mut source = Source::of_bytes(input, take(input, FILE_BYTES + 1)?, site);
+        if let Some(path) = call.path(&NAMES) {
+            source.take_names(Input::of(call, Some(path)))?;
         }
         Ok(source)
+    }
+
+    /// What a file holds at a site.
+    pub fn of_file(input: Input, site: usize) -> Result<Source, Failure> {
+        Ok(Source::of_bytes(input, input.take(FILE_BYTES + 1)?, site))
+    }
+
+    fn of_bytes(input: Input, file: Vec<u8>, site: usize) -> Source {
+        Source {
+            shown: input.shown(),
+            site,
+            table: Table::from_bytes(&file, site),
+            file,
+            names: Names::new(),
+            names_from: None,
+        }
     }
 
     /// Takes the names that a text has; of a file that is refused none, since there is no table to compare.
     fn take_names(&mut self, input: Input) -> Result<(), Failure> {
         let name = input.shown();
         let bytes = text_bytes(input)?;
-        let text = parsed_of(&name, &bytes, text::parse)?;
-        match Table::read(&self.file, self.site) {
-            Ok(table) if table != text.table => {
+        let text = parsed_of(&name, &bytes, parse)?;
+        let other = table_of(&text.table, [])?;
+        match &self.table {
+            Ok(table) if *table != other => {
                 return Err(Failure::Mistakes(
                     Vec::new(),
                     format!("{name} is the text of another table, so its names say nothing here"),
@@ -114,8 +127,8 @@ impl Source {
     }
 
     /// The table.
-    pub fn table(&self) -> Result<Table, Failure> {
-        Table::read(&self.file, self.site).map_err(|refused| {
+    pub fn table(&self) -> Result<&Table, Failure> {
+        self.table.as_ref().map_err(|&refused| {
             let why = ground(refused, &self.file, self.site, BY_OPTION);
             Failure::Refused(refused, format!("{}: {why}", self.shown))
         })
@@ -125,13 +138,6 @@ impl Source {
 /// The site that a call names, or 0.
 pub fn site(call: &Call) -> Result<usize, Failure> {
     Ok(call.number(&SITE, MAX_SITE)?.unwrap_or(0))
-}
-
-/// The file of a table.
-pub fn file_of(table: &Table, site: usize) -> Result<Vec<u8>, Failure> {
-    table
-        .write(site)
-        .map_err(|refused| Failure::Refused(refused, refused.to_string()))
 }
 
 /// With `--text` goes neither a site, which a text does not have, nor the names of another one.
@@ -174,29 +180,10 @@ fn parsed_of<T>(
             0 => String::new(),
             _ => format!(", of which the first {} are shown", shown.len()),
         };
+        let count = counted(count, "mistake");
         Failure::Mistakes(
             shown.iter().map(line).collect(),
-            format!(
-                "{name}: {count} mistake{}{cut}",
-                if count == 1 { "" } else { "s" }
-            ),
+            format!("{name}: {count}{cut}"),
         )
     })
-}
-
-/// The text of a table.
-pub fn text_of(input: Input) -> Result<Text, Failure> {
-    parsed(input, text::parse)
-}
-
-/// A line `state N NAME` for each of some states that has a name.
-pub fn name_lines(names: &Names, states: impl IntoIterator<Item = usize>) -> String {
-    let mut lines = String::new();
-    let mut seen = std::collections::BTreeSet::new();
-    for state in states.into_iter().filter(|&state| seen.insert(state)) {
-        if let Some(name) = names.get(&state) {
-            lines += &format!("state {state} {name}\n");
-        }
-    }
-    lines
 }

@@ -128,10 +128,7 @@ impl Call {
                     call.option(command, option, &mut rest)?
                 }
                 None if options && word.as_bytes().starts_with(b"-") => {
-                    return Err(Failure::Wrong(format!(
-                        "{} is no option of it",
-                        shown(word)
-                    )));
+                    return Err(Failure::Wrong(format!("unknown option {}", shown(word))));
                 }
                 _ => call.names.push(word.clone()),
             }
@@ -139,12 +136,12 @@ impl Call {
         let (least, most) = command.counts;
         match call.names.get(most) {
             Some(word) => Err(Failure::Wrong(format!(
-                "'{}' is a word too many: expected {}",
+                "unexpected argument '{}': expected {}",
                 shown(word),
                 command.words
             ))),
             None if call.names.len() < least => Err(Failure::Wrong(format!(
-                "a word is missing: expected {}",
+                "missing argument: expected {}",
                 command.words
             ))),
             None => Ok(call),
@@ -165,26 +162,24 @@ impl Call {
         let Some(option) = found else {
             let known = command.options.iter().map(|option| option.name);
             return Err(Failure::Wrong(format!(
-                "'{}' is no option of it{}",
+                "unknown option '{}'{}",
                 shown(word),
                 did_you_mean(name, known)
             )));
         };
         if self.value(option).is_some() {
-            return Err(Failure::Wrong(format!("{name} stands there twice")));
+            return Err(Failure::Wrong(format!("{name} is given twice")));
         }
         let value = match (option.value, joined) {
             (None, None) => OsString::new(),
             (None, Some(_)) => {
-                return Err(Failure::Wrong(format!("{name} has no word behind it")));
+                return Err(Failure::Wrong(format!("{name} takes no value")));
             }
             (Some(_), Some(value)) => value,
             (Some(value), None) => rest
                 .next()
                 .filter(|next| command.options.iter().all(|other| *next != other.name))
-                .ok_or_else(|| {
-                    Failure::Wrong(format!("{name} wants a word behind it: {name} {value}"))
-                })?
+                .ok_or_else(|| Failure::Wrong(format!("{name} needs a value: {name} {value}")))?
                 .clone(),
         };
         self.options.push((option.name, value));

@@ -41,7 +41,7 @@ pub fn help(words: &[OsString], streams: Streams) -> Done {
     let found = COMMANDS.iter().find(|command| command.name == word);
     let Some(command) = found else {
         return Err(Failure::Wrong(format!(
-            "'{}' is no command{}\n{USAGE}",
+            "unknown command '{}'{}\n{USAGE}",
             shown(word),
             did_you_mean(&word.to_string_lossy(), names)
         )));

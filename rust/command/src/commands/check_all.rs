@@ -1,14 +1,13 @@
 //! `check-all`: a line for each of many files, by the same proved call as `check`.
 
-use crate::commands::check::{Answer, DECLINED, Judged};
+use crate::answer::{Answer, DECLINED, Verdict};
 use crate::failure::{Done, Failure, status};
 use crate::files::{Input, TEXT_BYTES, print, say};
 use crate::json::Object;
 use crate::lines::Names;
-use crate::shown::shown;
-use crate::source::{JSON, SITE, site};
+use crate::shown::{counted, shown};
+use crate::source::{JSON, SITE, Source, site};
 use crate::words::{Call, Command, Opt, Output};
-use shuntberry::FILE_BYTES;
 use std::ffi::OsStr;
 use std::fs;
 use std::io::{self, IsTerminal};
@@ -283,16 +282,9 @@ impl Entry {
             }
             _ => {}
         }
-        let why = |failure: Failure| match failure {
-            Failure::Refused(_, why)
-            | Failure::Mistakes(_, why)
-            | Failure::Wrong(why)
-            | Failure::Failed(why) => why,
-        };
-        let file = Input::named(self.path())
-            .take(FILE_BYTES + 1)
-            .map_err(why)?;
-        Answer::of(&file, site).map_err(why)
+        let source = Source::of_file(Input::named(self.path()), site);
+        let answer = source.and_then(|source| Answer::of(&source));
+        answer.map_err(|failure| failure.why().to_string())
     }
 
     fn line(&self, answer: &Result<Answer, String>, json: bool) -> String {
@@ -304,16 +296,12 @@ impl Entry {
                 Err(why) => object.text("verdict", "failed").text("why", why).line(),
             };
         }
-        let word = match answer {
-            Ok(answer) if answer.is_draft() => "draft".to_string(),
-            Ok(Answer {
-                judged: Judged::Refused(refused),
-                ..
-            }) => format!("refused {}", refused.0),
-            Ok(answer) => answer.word().to_string(),
+        let label = match answer.as_ref().map(|answer| answer.verdict) {
+            Ok(Verdict::Refused(refused)) => format!("refused {}", refused.0),
+            Ok(verdict) => verdict.label().to_string(),
             Err(_) => "failed".to_string(),
         };
-        format!("{}: {word}\n", shown(path))
+        format!("{}: {label}\n", shown(path))
     }
 }
 
@@ -332,12 +320,12 @@ impl Counts {
     fn count(&mut self, answer: &Result<Answer, String>) {
         *match answer {
             Err(_) => &mut self.failed,
-            Ok(answer) => match answer.status() {
-                status::DONE => &mut self.safe,
-                status::UNSAFE => &mut self.is_unsafe,
-                status::REFUSED => &mut self.refused,
-                status::NO_RELEASE => &mut self.drafts,
-                _ => &mut self.failed,
+            Ok(answer) => match answer.verdict {
+                Verdict::Safe => &mut self.safe,
+                Verdict::Unsafe => &mut self.is_unsafe,
+                Verdict::Refused(_) => &mut self.refused,
+                Verdict::Draft => &mut self.drafts,
+                Verdict::Undecided | Verdict::Depends => &mut self.failed,
             },
         } += 1;
     }
@@ -346,14 +334,13 @@ impl Counts {
         self.safe + self.is_unsafe + self.refused + self.drafts + self.failed
     }
 
-    fn said(&self) -> String {
+    fn label(&self) -> String {
         format!(
-            "{} safe, {} unsafe, {} refused, {} draft{}, {} failed",
+            "{} safe, {} unsafe, {} refused, {}, {} failed",
             self.safe,
             self.is_unsafe,
             self.refused,
-            self.drafts,
-            if self.drafts == 1 { "" } else { "s" },
+            counted(self.drafts, "draft"),
             self.failed
         )
     }
@@ -371,11 +358,7 @@ impl Counts {
                 .plain("not_checked", passed.others)
                 .plain("not_followed", passed.links)
                 .line(),
-            false => format!(
-                "{all} file{}: {}\n",
-                if all == 1 { "" } else { "s" },
-                self.said()
-            ),
+            false => format!("{}: {}\n", counted(all, "file"), self.label()),
         }
     }
 
@@ -425,7 +408,7 @@ impl Progress {
         say(&format!(
             "\r\x1b[K{done} of {} files: {}",
             self.files,
-            counts.said()
+            counts.label()
         ));
         self.last = Some(Instant::now());
         self.shown = true;

@@ -21,7 +21,6 @@ pub const DECODE: Command = Command {
 
 fn run(call: &Call) -> Done {
     let source = Source::of(call, call.name(0))?;
-    let table = source.table()?;
-    put(call, text::print(&table, &source.names).as_bytes())?;
+    put(call, text::print(source.table()?, &source.names).as_bytes())?;
     Ok(status::DONE)
 }

@@ -52,13 +52,13 @@ fn run(call: &Call) -> Done {
         Failure::Refused(refused, format!("{about}: {refused}"))
     })?;
     let moment = found.map(|minute| Moment::at(minute as usize));
-    let said = match call.has(&JSON) {
+    let lines = match call.has(&JSON) {
         true => object(at, moment).line(),
         false => moment.map_or("never\n".to_string(), |moment| {
             format!("open {} {}\n", moment.written(' '), moment.weekday())
         }),
     };
-    print(said.as_bytes())?;
+    print(lines.as_bytes())?;
     Ok(status::DONE)
 }
 

@@ -1,13 +1,14 @@
 //! `picture`: the graph of a table, for Graphviz or drawn by it.
 
+use crate::answer::Answer;
 use crate::drawing::{Limits, NotDrawn, draw};
 use crate::failure::{Done, Failure, status};
 use crate::files::{OUT, put, say};
 use crate::picture::{self, Graph, Options};
 use crate::source::{NAMES, SITE, Source, TEXT};
 use crate::svg::cleaned;
-use crate::table::Table;
 use crate::words::{Call, Command, Opt, Output};
+use shuntberry::Table;
 use std::io::{self, IsTerminal};
 
 const SVG: Opt = Opt {
@@ -47,10 +48,10 @@ fn run(call: &Call) -> Done {
         distances: call.has(&DISTANCES),
         groups: call.has(&GROUPS),
     };
-    let graph = picture::graph(&table, &source.names, &source.shown, options)
-        .map_err(|refused| Failure::Refused(refused, refused.to_string()))?;
+    let answer = Answer::of(&source)?;
+    let graph = picture::graph(table, &answer, &source.names, &source.shown, options)?;
     if call.has(&SVG) {
-        say_drawing(PICTURE.name, &table);
+        say_drawing(PICTURE.name, table);
         put(call, &svg(graph)?)?;
     } else {
         put(call, graph.text.as_bytes())?;
@@ -77,7 +78,7 @@ fn svg(graph: Graph) -> Result<Vec<u8>, Failure> {
 /// Says on a terminal what takes its time.
 pub fn say_drawing(name: &str, table: &Table) {
     if io::stderr().is_terminal() {
-        let (n, steps) = (table.n(), table.steps());
+        let (n, steps) = (table.n(), table.steps().count());
         say(&format!("{name}: dot draws {n} states and {steps} steps\n"));
     }
 }

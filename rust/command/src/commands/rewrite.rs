@@ -25,8 +25,8 @@ fn run(call: &Call) -> Done {
     let old = input.take(FILE_BYTES + 1)?;
     let mut room = vec![0; FILE_BYTES];
     let new = rewrite(&old, &mut room).map_err(|refused| {
-        let said = old_ground(refused, &old);
-        Failure::Refused(refused, format!("{}: {said}", input.shown()))
+        let why = old_ground(refused, &old);
+        Failure::Refused(refused, format!("{}: {why}", input.shown()))
     })?;
     put_file(call, new)?;
     Ok(status::DONE)
