@@ -2,7 +2,7 @@
 # Completion of shuntberry and check in bash. It runs nothing: what was typed may be any program.
 _shuntberry() {
   local word=$2 before=$3 command=${COMP_WORDS[1]} words=
-  local commands='check check-all release report inspect within replay options next-open encode decode picture generate rewrite'
+  local commands='check check-all release report inspect diff within replay options next-open encode decode picture generate rewrite'
   [ "${1##*/}" != check ] || command=check
   COMPREPLY=()
   if [ "${1##*/}" != check ] && [ "$COMP_CWORD" -eq 1 ]; then
@@ -16,6 +16,7 @@ _shuntberry() {
     release) words='--site --even-if-vacuous --' ;;
     report) words='-o --site --names --' ;;
     inspect) words='--site --text --names --json --' ;;
+    diff) words='--site --text --old-names --names --json --' ;;
     within) words='--site --text --names --json --' ;;
     replay) words='--site --text --names --text-log --json --' ;;
     options) words='--possible --site --text --names --json --' ;;

@@ -1,5 +1,6 @@
 //! The table that a command is about: a file, or a text, with the names of its screens where they are known.
 
+use crate::difference::first_difference;
 use crate::failure::Failure;
 use crate::files::{Input, TEXT_BYTES};
 use crate::lines::{Mistake, Mistakes, Names};
@@ -60,17 +61,23 @@ pub struct Source {
 impl Source {
     /// What a call names, or standard input, as `--text`, `--site` and `--names` say.
     pub fn of(call: &Call, path: Option<&Path>) -> Result<Source, Failure> {
-        Source::taken(call, path, Input::take)
+        Source::taken(call, path, &NAMES, Input::take)
+    }
+
+    /// The same of a file, with the names that another option gives.
+    pub fn with_names(call: &Call, path: &Path, names: &Opt) -> Result<Source, Failure> {
+        Source::taken(call, Some(path), names, Input::take)
     }
 
     /// The same, where standard input may be empty.
     pub fn or_nothing(call: &Call, path: Option<&Path>) -> Result<Source, Failure> {
-        Source::taken(call, path, Input::take_or_nothing)
+        Source::taken(call, path, &NAMES, Input::take_or_nothing)
     }
 
     fn taken<'c>(
         call: &'c Call,
         path: Option<&'c Path>,
+        names: &Opt,
         take: fn(Input<'c>, usize) -> Result<Vec<u8>, Failure>,
     ) -> Result<Source, Failure> {
         let site = site(call)?;
@@ -84,7 +91,7 @@ impl Source {
             return Ok(source);
         }
         let mut source = Source::of_bytes(input, take(input, FILE_BYTES + 1)?, site);
-        if let Some(path) = call.path(&NAMES) {
+        if let Some(path) = call.path(names) {
             source.take_names(Input::of(call, Some(path)))?;
         }
         Ok(source)
@@ -114,9 +121,12 @@ impl Source {
         let other = table_of(&text.table, [])?;
         match &self.table {
             Ok(table) if *table != other => {
+                let first = first_difference(table, &other, &text.names);
                 return Err(Failure::Mistakes(
                     Vec::new(),
-                    format!("{name} is the text of another table, so its names say nothing here"),
+                    format!(
+                        "{name} is the text of another table, so its names say nothing here: {first}"
+                    ),
                 ));
             }
             Ok(_) => self.names = text.names,

@@ -17,7 +17,7 @@ pub const STATUSES: [&str; 5] = [
     "unsafe",
     "refused, or mistakes in a text",
     "anything else: called wrongly, could not read, could not print",
-    "answered, but nothing that may be released: no states, undecided, depends, not within K",
+    "answered, but nothing that may be released: no states, undecided, depends, not within K, different",
 ];
 
 fn statuses() -> String {
