@@ -222,7 +222,7 @@ wrong("is a directory", "check", "/")
 wrong("No such file", "check", "--", "--explain")
 
 # about itself: with 0 where no 0 can pass for a verdict
-for words in ["--help"], ["help"], *(["help", name] for name in "check check-all release report inspect within replay options next-open encode decode picture generate rewrite".split()):
+for words in ["--help"], ["help"], *(["help", name] for name in "check check-all release report inspect diff within replay options next-open encode decode picture generate rewrite".split()):
     given = gives(SAFE, None, *words)
     need(given.out.startswith(b"usage: shuntberry "), given)
     if len(words) == 2:

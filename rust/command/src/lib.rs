@@ -3,13 +3,14 @@
 //! - [`commands`]: one module for each command;
 //! - [`words`], [`source`], [`files`], [`sys`]: the words of a call, the table that it is about, input and output, signals;
 //! - [`answer`], [`inspection`]: what the library finds of a table, of which all that is printed are views;
-//! - [`table`], [`text`], [`picture`], [`house`]: a table, as text and as a picture; a house's windows and closed days;
+//! - [`table`], [`text`], [`picture`], [`difference`], [`house`]: a table, as text, as a picture and beside another one; a house's windows and closed days;
 //! - [`record`], [`drawing`], [`svg`], [`sha256`]: the record of a check, with a drawing by Graphviz in it;
 //! - [`names`], [`lines`], [`shown`], [`json`], [`html`], [`calendar`], [`refusals`], [`failure`]: what they share.
 
 pub mod answer;
 pub mod calendar;
 pub mod commands;
+pub mod difference;
 pub mod drawing;
 pub mod failure;
 pub mod files;

@@ -1,5 +1,6 @@
 //! The table that a command is about: a file, or a text, with the names of its screens where they are known.
 
+use crate::difference::first_difference;
 use crate::failure::Failure;
 use crate::files::{Input, TEXT_BYTES};
 use crate::lines::{Mistake, Mistakes, Names};
@@ -15,31 +16,36 @@ use std::path::Path;
 pub const SITE: Opt = Opt {
     name: "--site",
     value: Some("N"),
-    about: "the site that the file is of, 0 if not given",
+    about: "the site that the file is of, 0 if not given\n\
+        A site is a number from 0 to 65520, such as one for each hospital of a group. A file of another site is refused.",
 };
 /// `--text`
 pub const TEXT: Opt = Opt {
     name: "--text",
     value: None,
-    about: "what is read is a text and not a file",
+    about: "what is read is a text and not a file\n\
+        Without it the bytes are a file, whatever they look like. A text has no site, and has its own names: neither --site nor --names goes with it.",
 };
 /// `--names TEXT`
 pub const NAMES: Opt = Opt {
     name: "--names",
     value: Some("TEXT"),
-    about: "takes the names of the screens from TEXT, the text of the same table",
+    about: "takes the names of the screens from TEXT, the text of the same table\n\
+        Names are printed with the numbers of states, never in their place.",
 };
 /// `--quiet`
 pub const QUIET: Opt = Opt {
     name: "--quiet",
     value: None,
-    about: "explains nothing on standard error, but says what failed; check prints nothing either: the status says it all",
+    about: "for scripts: explains nothing on standard error, but says what failed; check prints nothing either\n\
+        The status says it all. That a table has no states, and what was not checked, is said in any case.",
 };
 /// `--json`
 pub const JSON: Opt = Opt {
     name: "--json",
     value: None,
-    about: "prints an object of JSON on one line",
+    about: "prints an object of JSON on one line\n\
+        JSON below says what is in it.",
 };
 
 /// What was read: the bytes of a file, the table in them, and names.
@@ -62,17 +68,23 @@ pub struct Source {
 impl Source {
     /// What a call names, or standard input, as `--text`, `--site` and `--names` say.
     pub fn of(call: &Call, path: Option<&Path>) -> Result<Source, Failure> {
-        Source::taken(call, path, Input::take)
+        Source::taken(call, path, &NAMES, Input::take)
+    }
+
+    /// The same of a file, with the names that another option gives.
+    pub fn with_names(call: &Call, path: &Path, names: &Opt) -> Result<Source, Failure> {
+        Source::taken(call, Some(path), names, Input::take)
     }
 
     /// The same, where standard input may be empty.
     pub fn or_nothing(call: &Call, path: Option<&Path>) -> Result<Source, Failure> {
-        Source::taken(call, path, Input::take_or_nothing)
+        Source::taken(call, path, &NAMES, Input::take_or_nothing)
     }
 
     fn taken<'c>(
         call: &'c Call,
         path: Option<&'c Path>,
+        names: &Opt,
         take: fn(Input<'c>, usize) -> Result<Vec<u8>, Failure>,
     ) -> Result<Source, Failure> {
         let site = site(call)?;
@@ -86,7 +98,7 @@ impl Source {
             return Ok(source);
         }
         let mut source = Source::of_bytes(input, take(input, FILE_BYTES + 1)?, site);
-        if let Some(path) = call.path(&NAMES) {
+        if let Some(path) = call.path(names) {
             source.take_names(Input::of(call, Some(path)))?;
         }
         Ok(source)
@@ -116,9 +128,12 @@ impl Source {
         let other = table_of(&text.table, [])?;
         match &self.table {
             Ok(table) if *table != other => {
+                let first = first_difference(table, &other, &text.names);
                 return Err(Failure::Mistakes(
                     Vec::new(),
-                    format!("{name} is the text of another table, so its names say nothing here"),
+                    format!(
+                        "{name} is the text of another table, so its names say nothing here: {first}"
+                    ),
                 ));
             }
             Ok(_) => self.names = text.names,

@@ -14,8 +14,23 @@ pub struct Opt {
     pub name: &'static str,
     /// What stands behind it, if anything does: `N`.
     pub value: Option<&'static str>,
-    /// What it does.
+    /// What it does: a line for the help, and behind a line feed, if need be, what the manual page says beyond it.
     pub about: &'static str,
+}
+
+impl Opt {
+    /// It with what stands behind it: `--site N`.
+    pub fn form(&self) -> String {
+        match self.value {
+            Some(value) => format!("{} {value}", self.name),
+            None => self.name.to_string(),
+        }
+    }
+
+    /// What the help says of it, and what only the manual page does.
+    pub fn sentences(&self) -> (&'static str, &'static str) {
+        self.about.split_once('\n').unwrap_or((self.about, ""))
+    }
 }
 
 /// What a command has on standard output.
@@ -38,7 +53,7 @@ pub struct Command {
     pub counts: (usize, usize),
     /// What it does, in a line.
     pub about: &'static str,
-    /// More about it, for the help.
+    /// More about it, for the help and the manual page.
     pub more: &'static str,
     /// Its options.
     pub options: &'static [&'static Opt],
@@ -51,21 +66,35 @@ pub struct Command {
 }
 
 impl Command {
-    /// The usage, in a line.
+    /// How it is called, in a line.
+    pub fn form(&self, program: &str) -> String {
+        let form = |option: &&Opt| match self.needs.iter().any(|other| other.name == option.name) {
+            true => format!(" {}", option.form()),
+            false => format!(" [{}]", option.form()),
+        };
+        let options: String = self.options.iter().map(form).collect();
+        format!("{program}{options} {}", self.words)
+    }
+
+    /// The same, as it is said to who called it in another way.
     pub fn usage(&self, program: &str) -> String {
-        let options: String = self
-            .options
-            .iter()
-            .map(|option| {
-                let needed = self.needs.iter().any(|other| other.name == option.name);
-                match option.value {
-                    Some(value) if needed => format!(" {} {value}", option.name),
-                    Some(value) => format!(" [{} {value}]", option.name),
-                    None => format!(" [{}]", option.name),
-                }
-            })
-            .collect();
-        format!("usage: {program}{options} {}", self.words)
+        format!("usage: {}", self.form(program))
+    }
+
+    /// What it reads and writes where no name is given.
+    pub fn streams(&self) -> String {
+        let last = self.words.split(' ').next_back().unwrap_or_default();
+        let optional = last
+            .strip_prefix('[')
+            .and_then(|word| word.strip_suffix(']'));
+        match (optional.filter(|word| !word.ends_with("..")), self.output) {
+            (Some(name), Output::File) => format!(
+                "Without {name} standard input is read, without -o standard output written."
+            ),
+            (Some(name), Output::Answer) => format!("Without {name} standard input is read."),
+            (None, Output::File) => "Without -o standard output is written.".to_string(),
+            (None, Output::Answer) => String::new(),
+        }
     }
 }
 

@@ -16,7 +16,9 @@ const EXPLAIN: Opt = Opt {
 const ALLOWANCE: Opt = Opt {
     name: "--allowance",
     value: Some("K"),
-    about: "a draft check, with at most K refinements, which may be undecided",
+    about: "a draft check, with at most K refinements, which may be undecided\n\
+        K is from 0 to 512. If K are not enough, the second line is `undecided refinements` and K, there is no third line, and the status is 4. \
+        Otherwise the answer is the same as without this option.",
 };
 
 /// The command.
@@ -24,8 +26,8 @@ pub const CHECK: Command = Command {
     name: "check",
     words: "[FILE]",
     counts: (0, 1),
-    about: "is a forbidden state of a table reachable",
-    more: "Prints safe with an invariant, unsafe with a path, or refused with a number. Without FILE standard input is read.",
+    about: "is a forbidden state of a table reachable?",
+    more: "Prints safe with an invariant, unsafe with a path, or refused with a number.",
     options: &[&SITE, &EXPLAIN, &QUIET, &JSON, &ALLOWANCE, &TEXT, &NAMES],
     needs: &[],
     output: Output::Answer,

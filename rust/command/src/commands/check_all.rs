@@ -18,17 +18,22 @@ use std::time::{Duration, Instant};
 const FROM: Opt = Opt {
     name: "--from",
     value: Some("LIST"),
-    about: "takes the names of more files from the file LIST, one a line",
+    about: "takes the names of more files from the file LIST, one a line\n\
+        The last name too must have its end: without it the list may be cut, and nothing is checked. \
+        A list has at most 100,000 names, of 4,095 bytes each, and 16 MiB in all.",
 };
 const ZERO: Opt = Opt {
     name: "-0",
     value: None,
-    about: "the names of LIST end with a zero byte each, and not with a line",
+    about: "the names of LIST end with a zero byte each, and not with a line\n\
+        So does `find -print0` write them.",
 };
 const COUNT: Opt = Opt {
     name: "--count",
     value: Some("N"),
-    about: "checks nothing, and fails, unless there are just N files in all",
+    about: "checks nothing, and fails, unless there are just N files in all\n\
+        The words, the folders and LIST count together, as in the last line. Standard error says both numbers. \
+        Only this finds a list that was cut just behind a name, and a folder from which a file is missing.",
 };
 
 /// The command.

@@ -12,7 +12,7 @@ pub const DECODE: Command = Command {
     words: "[FILE]",
     counts: (0, 1),
     about: "a file as text",
-    more: "Without FILE standard input is read, without -o standard output written.",
+    more: "The text that it gives, encoded, is the same file again.",
     options: &[&SITE, &OUT, &TEXT, &NAMES],
     needs: &[],
     output: Output::File,

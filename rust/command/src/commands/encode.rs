@@ -12,7 +12,7 @@ pub const ENCODE: Command = Command {
     words: "[TEXT]",
     counts: (0, 1),
     about: "a text as a file",
-    more: "Without TEXT standard input is read, without -o standard output written.",
+    more: "A text that has mistakes gives none: standard error has each of them with its line.",
     options: &[&SITE, &OUT],
     needs: &[],
     output: Output::File,

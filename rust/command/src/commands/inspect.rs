@@ -12,7 +12,7 @@ pub const INSPECT: Command = Command {
     words: "[FILE]",
     counts: (0, 1),
     about: "a line for each screen, and what a reviewer should look at",
-    more: "Without FILE standard input is read.",
+    more: "",
     options: &[&SITE, &TEXT, &NAMES, &JSON],
     needs: &[],
     output: Output::Answer,

@@ -14,7 +14,8 @@ use std::io::{self, IsTerminal};
 const SVG: Opt = Opt {
     name: "--svg",
     value: None,
-    about: "runs dot of Graphviz, and writes what it draws",
+    about: "runs dot of Graphviz, and writes what it draws\n\
+        What is no drawing of just this table, with each state, step and word of it, is an error, and nothing is written.",
 };
 const DISTANCES: Opt = Opt {
     name: "--distances",
@@ -33,7 +34,7 @@ pub const PICTURE: Command = Command {
     words: "[FILE]",
     counts: (0, 1),
     about: "a file as a graph for Graphviz, or as an SVG",
-    more: "Without FILE standard input is read, without -o standard output written.",
+    more: "Its title says whether the table is safe, and a legend explains the drawing.",
     options: &[&SITE, &OUT, &SVG, &DISTANCES, &GROUPS, &TEXT, &NAMES],
     needs: &[],
     output: Output::File,

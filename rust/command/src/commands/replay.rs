@@ -13,7 +13,8 @@ use std::collections::BTreeMap;
 const TEXT_LOG: Opt = Opt {
     name: "--text-log",
     value: None,
-    about: "LOG is a text of numbers and names of screens with a last line end, and no list of two-byte numbers",
+    about: "LOG is a text of numbers and names of screens with a last line end, and no list of two-byte numbers\n\
+        It has at most 515 of them on a line, and 16 MiB in all; what follows a # is a comment.",
 };
 
 /// The command.

@@ -13,7 +13,7 @@ pub const REWRITE: Command = Command {
     words: "[OLD]",
     counts: (0, 1),
     about: "a file of the old form in the new one, with its dead ends resting",
-    more: "OLD is a file of site 0. Without OLD standard input is read, without -o standard output written.",
+    more: "OLD is a file of site 0, as versions 1 to 3 wrote it.",
     options: &[&OUT],
     needs: &[],
     output: Output::File,
