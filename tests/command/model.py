@@ -59,6 +59,12 @@ def screen(s, names):
     return f"{s} {names[s]}" if s in names else str(s)
 
 
+def why_unsafe(table, last, names):
+    """Why a path ends in a state: a mark goes before a hang."""
+    end = "forbidden since it is marked" if last in table.marked else "a hang: no step leads out, and it is not resting"
+    return f"the path ends in {screen(last, names)}, {end}"
+
+
 def remarks(table, names):
     """What a reviewer should look at, a sentence each."""
     reachable, hangs, look = reached(table, table.initial), table.dead_ends() - table.resting, []
@@ -72,7 +78,7 @@ def remarks(table, names):
         look.append("no state is marked as forbidden: only hangs are")
     for words, states in [
         ("forbidden screens that can be reached", table.forbidden() & reachable), ("hangs, which have no way out and do not rest", hangs),
-        ("screens that nothing reaches", table.states() - reachable - table.forbidden()),
+        ("screens that no session reaches", table.states() - reachable - table.forbidden()),
     ]:
         if states:
             look.append(f"{words}: {', '.join(screen(s, names) for s in sorted(states))}")
@@ -115,6 +121,14 @@ def next_open(windows, closed, at):
         if moment.date() not in closed and any(is_in(window, moment) for window in windows):
             return moment
         moment += timedelta(minutes=1)
+
+
+def closes(windows, closed, opened):
+    """The first minute from one on that is not open; none if there is no such. It is looked for one by one for a week, and on closed days: only such a day closes later."""
+    is_open = lambda moment: moment.date() not in closed and any(is_in(window, moment) for window in windows)
+    week = (opened + timedelta(minutes=minute) for minute in range(7 * 1440))
+    days = (datetime(day.year, day.month, day.day) for day in sorted(closed))
+    return next((moment for moment in week if not is_open(moment)), next((day for day in days if day > opened), None))
 
 
 def is_in(window, moment):

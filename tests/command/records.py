@@ -143,10 +143,10 @@ def expected_verdict(table):
     path = worked_out(table)[1]
     if path is None:
         return "safe", "safe: no forbidden state can be reached"
-    steps = len(path) - 1
+    steps, end = len(path) - 1, "forbidden state" if path[-1] in table.marked else "hang"
     if not steps:
-        return "unsafe", "unsafe: a session can start in a forbidden state"
-    return "unsafe", f"unsafe: a forbidden state is reached in {steps} step{'s' * (steps != 1)}"
+        return "unsafe", f"unsafe: a session can start in a {end}"
+    return "unsafe", f"unsafe: a {end} is reached in {steps} step{'s' * (steps != 1)}"
 
 
 def check_page(page, table, path, site=0, names=None, text=None, date="2025-12-31T23:59:59Z (given by SOURCE_DATE_EPOCH, not by the clock)", named=None):
@@ -187,6 +187,9 @@ def check_page(page, table, path, site=0, names=None, text=None, date="2025-12-3
     if heading:
         found = section(root, heading)
         need([text_of(item) for item in every(found, "li")] == [screen(s, names) for s in states], "the states of the", heading)
+    end = model.why_unsafe(table, states[-1], names) if word == "unsafe" else None
+    need([text_of(p) for p in every(every(root, "header")[0], "p") if "the path ends" in text_of(p)] == [f"{end}."] * bool(end), "why the path ends", end)
+    need(not end or text_of(every(found, "p")[0]).endswith(f"; {end}."), "why the path ends, beside it", end)
     vacuous = table.n and (not table.initial or not table.forbidden())
     need(("does not release it without --even-if-vacuous" in text_of(every(root, "header")[0])) == bool(vacuous), "vacuous")
     # the screens
@@ -715,13 +718,13 @@ for old in None, b"what was there":
     as_it_was(FAILED, "No such file", TABLES / "missing")
     as_it_was(FAILED, "is a directory", TABLES)
     as_it_was(REFUSED, "refused 13", TABLES / "bad-check.table")
-    as_it_was(REFUSED, "refused 11.*looks like a text, of which the command encode makes a file", TABLES / "e.txt")
+    as_it_was(REFUSED, "refused 11.*looks like a text: check --text reads it, and the command encode makes a file of it", TABLES / "e.txt")
     as_it_was(FAILED, "No such file", A, "--names", TABLES / "missing")
     as_it_was(FAILED, "expected a number", A, "--site", "x")
-    as_it_was(FAILED, "no option", A, "--text")
-    as_it_was(FAILED, "no option", A, "--json")
-    as_it_was(FAILED, "a word too many", A, A)
-    as_it_was(FAILED, "a word is missing")
+    as_it_was(FAILED, "unknown option", A, "--text")
+    as_it_was(FAILED, "unknown option", A, "--json")
+    as_it_was(FAILED, "unexpected argument", A, A)
+    as_it_was(FAILED, "missing argument")
     as_it_was(FAILED, "twice", A, "-o", WORK / "other.html")
     for target in WORK, "/dev/full", "/dev/null", WORK / "missing/x", "", WORK / ("x" * 256):
         as_it_was(FAILED, "could not be written", A, target=target)

@@ -1,10 +1,10 @@
 //! The record of a check: one page that stands alone, for a file and for the eye. It has no script, loads nothing, and tells nothing by colour alone.
 
-use crate::commands::check::{Answer, Judged};
-use crate::commands::inspect::Found;
-use crate::commands::release::VACUOUS;
+use crate::answer::{Answer, VACUOUS, Verdict};
 use crate::html::escaped;
-use crate::picture::{SAFE, counted, unsafe_in};
+use crate::inspection::Inspection;
+use crate::names::numbers;
+use crate::shown::counted;
 use crate::svg::Drawing;
 
 /// What a record says. All of it that is about the file comes from the same bytes.
@@ -21,11 +21,9 @@ pub struct Record<'r> {
     /// What `check` answers.
     pub answer: &'r Answer,
     /// What `inspect` finds.
-    pub found: &'r Found<'r>,
+    pub found: &'r Inspection<'r>,
     /// The text that the names are from, as it is shown, and its sum.
     pub names_from: Option<(String, String)>,
-    /// Why it says little that the table is safe, if it does.
-    pub vacuous: Option<&'static str>,
     /// The picture, or why there is none.
     pub picture: Result<Drawing, String>,
     /// When it was checked.
@@ -76,7 +74,7 @@ impl Record<'_> {
     }
 
     fn head(&self) -> String {
-        let (word, sum) = (self.answer.told(), &self.sum);
+        let (word, sum) = (self.answer.verdict.label(), &self.sum);
         let file = escaped(&self.file);
         // How the verdict is framed, and what stands on each sheet of paper: both are words and digits of ours.
         let own = format!(
@@ -95,50 +93,47 @@ impl Record<'_> {
 
     /// Lines differ and not colours alone: a record may be printed in black.
     fn frame(&self) -> &'static str {
-        match (self.answer.is_draft(), self.answer.judged) {
-            (true, _) => "border: 3px dashed #111;",
-            (_, Judged::Safe) => "border: 2px solid #111; background: #e3f0fa;",
+        match self.answer.verdict {
+            Verdict::Draft => "border: 3px dashed #111;",
+            Verdict::Safe => "border: 2px solid #111; background: #e3f0fa;",
             _ => "border: 9px double #111; background: #fbe2cf;",
         }
     }
 
     fn verdict(&self) -> String {
-        let said = match (self.answer.is_draft(), self.answer.judged) {
-            (true, _) => {
-                "draft: the table has no states, and nothing is to be released".to_string()
-            }
-            (_, Judged::Safe) => SAFE.to_string(),
-            _ => unsafe_in(self.steps()),
+        let headline = self.answer.headline();
+        let why = match self.why_unsafe() {
+            Some(why) => format!("<p>{why}.</p>\n"),
+            None => String::new(),
         };
-        let vacuous = self.vacuous.filter(|_| !self.answer.is_draft());
-        let vacuous = vacuous.map_or(String::new(), |why| {
+        let vacuous = self.answer.vacuous.map_or(String::new(), |why| {
             let option = VACUOUS.name;
             format!("<p><strong>But</strong> {why}. The command release does not release it without <code>{option}</code>.</p>\n")
         });
         format!(
-            "<header>\n<p class=\"kind\">Record of a check by Shuntberry</p>\n<div class=\"verdict\">\n<h1>{said}</h1>\n{vacuous}</div>\n</header>\n"
+            "<header>\n<p class=\"kind\">Record of a check by Shuntberry</p>\n<div class=\"verdict\">\n<h1>{headline}</h1>\n{why}{vacuous}</div>\n</header>\n"
         )
     }
 
-    /// The steps of the path of an unsafe table.
-    fn steps(&self) -> usize {
-        self.answer.listed().len().saturating_sub(1)
+    /// Why the path ends where it does.
+    fn why_unsafe(&self) -> Option<String> {
+        let why = self.answer.why_unsafe(self.found.names);
+        why.map(|why| escaped(&why))
     }
 
     fn facts(&self) -> String {
-        let number = |word| {
-            self.answer
-                .number(word)
-                .map_or("not known".to_string(), |number| number.to_string())
-        };
+        let count = self.answer.count;
         let mut facts = vec![
             ("File", format!("<bdi>{}</bdi>", escaped(&self.file))),
             ("SHA-256", format!("<code>{}</code>", self.sum)),
             ("Length", format!("{} bytes", self.length)),
             ("Site", self.site.to_string()),
-            ("States", number("states")),
-            ("Groups", number("groups")),
-            ("Refinements", number("refinements")),
+            ("States", self.answer.n.to_string()),
+            ("Groups", self.answer.g.to_string()),
+            (
+                "Refinements",
+                count.map_or("not known".to_string(), |count| count.to_string()),
+            ),
             ("Checked", escaped(&self.date)),
         ];
         if let Some((text, sum)) = &self.names_from {
@@ -170,7 +165,7 @@ impl Record<'_> {
             .found
             .remarks()
             .iter()
-            .map(|found| remark(found.said, &found.states))
+            .map(|found| remark(found.message, &found.states))
             .collect();
         let said = match remarks.is_empty() {
             true => "<p>nothing in particular</p>\n".to_string(),
@@ -187,7 +182,7 @@ impl Record<'_> {
 
     /// The path or the invariant.
     fn listed(&self) -> String {
-        let states = self.answer.listed();
+        let states: Vec<usize> = self.answer.states().collect();
         let list = |kind: &str, class: &str| match self.named(&states) {
             named if named.is_empty() => "<p>none</p>\n".to_string(),
             named => format!(
@@ -195,13 +190,14 @@ impl Record<'_> {
                 named.join("</li>\n<li>")
             ),
         };
-        match self.answer.judged {
-            _ if self.answer.is_draft() => String::new(),
-            Judged::Unsafe => section(
+        match self.answer.verdict {
+            Verdict::Draft => String::new(),
+            Verdict::Unsafe => section(
                 "Path",
                 format!(
-                    "<p>A shortest way from a start to a forbidden state, {}.</p>\n{}",
-                    counted(self.steps(), "step"),
+                    "<p>A shortest way from a start to a forbidden state, {}; {}.</p>\n{}",
+                    counted(self.answer.steps(), "step"),
+                    self.why_unsafe().unwrap_or_default(),
                     list("ol", "states path")
                 ),
             ),
@@ -218,7 +214,7 @@ impl Record<'_> {
 
     fn pictured(&self) -> String {
         match &self.picture {
-            Ok(drawing) => figure(drawing, self.answer.told()),
+            Ok(drawing) => figure(drawing, self.answer.verdict.label()),
             Err(why) => section(
                 "Picture",
                 format!("<p>There is no picture: {}.</p>\n", escaped(why)),
@@ -253,7 +249,7 @@ impl Record<'_> {
     }
 
     fn has_groups(&self) -> bool {
-        self.answer.number("groups") != Some(0)
+        self.answer.g > 0
     }
 
     fn columns(&self) -> Vec<&'static str> {
@@ -283,8 +279,7 @@ impl Record<'_> {
         }
         row += &format!("<td class=\"is\">{}</td>", kinds.join(", "));
         if self.has_groups() {
-            let groups: Vec<String> = self.found.groups(s).iter().map(usize::to_string).collect();
-            row += &format!("<td>{}</td>", groups.join(" "));
+            row += &format!("<td>{}</td>", numbers(self.found.groups(s)));
         }
         let reachable = match self.found.is_reachable(s) {
             true => "yes",
@@ -292,13 +287,7 @@ impl Record<'_> {
         };
         let away = self.found.distance(s);
         let away = away.map_or("never".to_string(), |away| away.to_string());
-        let next: Vec<String> = self
-            .found
-            .successors(s)
-            .iter()
-            .map(usize::to_string)
-            .collect();
-        let next = next.join(" ");
+        let next = numbers(self.found.successors(s));
         row + &format!("<td>{reachable}</td><td>{away}</td><td class=\"steps\">{next}</td></tr>\n")
     }
 

@@ -1,24 +1,23 @@
 //! `report`: the record of a check, as a page. What is checked, summed up, looked at and drawn are the bytes of one read.
 
+use crate::answer::{Answer, Verdict};
 use crate::calendar::utc;
 use crate::commands::about::{VERSION, version_line};
-use crate::commands::check::{Answer, Judged};
-use crate::commands::inspect::Found;
 use crate::commands::picture::say_drawing;
 use crate::drawing::{Limits, draw};
 use crate::failure::{Done, Failure};
 use crate::files::{Input, OUT, need_place, print, replace, say};
+use crate::inspection::Inspection;
 use crate::lines::{cut, number};
 use crate::picture::{self, Options};
 use crate::record::Record;
-use crate::refusals::{BY_ENCODE, ground};
+use crate::refusals::explained;
 use crate::sha256::sha256;
 use crate::shown::shown;
 use crate::source::{NAMES, SITE, Source};
 use crate::svg::{Drawing, cleaned};
-use crate::table::Table;
 use crate::words::{Call, Command, Output};
-use shuntberry::Refused;
+use shuntberry::Table;
 use std::env;
 use std::path::Path;
 use std::time::{Duration, SystemTime, UNIX_EPOCH};
@@ -51,15 +50,15 @@ fn run(call: &Call) -> Done {
     let date = date()?;
     let source = Source::of(call, Some(from))?;
     need_place(to)?;
-    let answer = Answer::of(&source.file, source.site)?;
+    let answer = Answer::of(&source)?;
     print(answer.text.as_bytes())?;
-    if let Judged::Refused(refused) = answer.judged {
-        let why = ground(refused, &source.file, source.site, BY_ENCODE);
+    if let Verdict::Refused(refused) = answer.verdict {
+        let why = explained(refused, &source.file, source.site);
         let name = &source.shown;
         say(&format!(
             "report: {name}: there is no record: it is {why}\n"
         ));
-        return Ok(answer.status());
+        return Ok(answer.verdict.status());
     }
     let table = source.table()?;
     let record = Record {
@@ -68,25 +67,21 @@ fn run(call: &Call) -> Done {
         sum: sha256(&source.file),
         site: source.site,
         answer: &answer,
-        found: &Found::of(&table, &source.names).map_err(refused)?,
+        found: &Inspection::of(table, &source.names)?,
         names_from: source.names_from.clone(),
-        vacuous: answer.vacuous,
-        picture: pictured(&table, &source, from)?,
+        picture: pictured(table, &answer, &source, from)?,
         date,
         version: version_line("shuntberry"),
         proved: proved(),
     };
     replace(to, record.page().as_bytes())?;
-    Ok(answer.status())
-}
-
-fn refused(refused: Refused) -> Failure {
-    Failure::Refused(refused, refused.to_string())
+    Ok(answer.verdict.status())
 }
 
 /// The picture, or why there is none: a record is one without it too.
 fn pictured(
     table: &Table,
+    answer: &Answer,
     source: &Source,
     from: &Path,
 ) -> Result<Result<Drawing, String>, Failure> {
@@ -95,8 +90,7 @@ fn pictured(
     }
     // The whole name stands above; a long one would make all else small.
     let title = cut(&shown(from.file_name().unwrap_or(from.as_os_str())));
-    let graph = picture::graph(table, &source.names, &title, Options::default());
-    let graph = graph.map_err(refused)?;
+    let graph = picture::graph(table, answer, &source.names, &title, Options::default())?;
     say_drawing(REPORT.name, table);
     let drawn = draw(&graph.text, PICTURE).map_err(|why| why.to_string());
     Ok(drawn.and_then(|svg| {
