@@ -355,10 +355,13 @@ gives(FAILED, "", "next-open", house, err="expected --at DATE-TIME")
 for word in "2026-12-24", "13:05", "1999-12-31T23:59", "2026-02-29T00:00", "2100-02-29T00:00", "2026-13-01T00:00", "2026-00-01T00:00", "2026-04-31T00:00", "2026-12-24T24:00", \
     "2026-12-24T13:60", "2026-12-24T13:05Z", "2026-12-24T13:05+01:00", "26-12-24T13:05", "2026-12-24T1:05", "", "now", "2026-12-24t13:05":
     gives(FAILED, "", "next-open", house, "--at", word, err="is no time: expected")
+gives(FAILED, "", "next-open", house, "--at", "2026-12-24", err="; its hour and minute are missing")
+gives(FAILED, "", "next-open", house, "--at", "2026-12-24T9:05", err="; it is written 09:05")
 for text, line, reason in [
     ("", 1, "window none"), ("closed 2026-12-25\n", 2, "no line says when it is open"), ("window none\nwindow monday 22:00 for 6h\n", 2, "goes with no other window, and line 1 says none"),
     ("window monday 22:00 for 6h\nwindow none\n", 2, "goes with no other window, and line 1 is one"), ("window monday 22:00\n", 1, "a window is written"),
-    ("window Monday 22:00 for 6h\n", 1, "no day of the week"), ("window monday 24:00 for 6h\n", 1, "no time"), ("window monday 22:00 for 0h\n", 1, "no length"),
+    ("window Monday 22:00 for 6h\n", 1, "no day of the week: it is written in lower case, monday"), ("window monday :30 for 6h\n", 1, "its hour is missing"),
+    ("window monday 24:00 for 6h\n", 1, "no time"), ("window monday 22:00 for 0h\n", 1, "no length"),
     ("window monday 22:00 for 169h\n", 1, "no length"), ("window monday 22:00 for 6\n", 1, "no length"), ("window monday 22:00 for 30m6h\n", 1, "no length"),
     ("window monday 22:00 for 6h 30m\n", 1, "a window is written"), ("window none\nclosed 2026-02-30\n", 2, "no date"), ("window none\nclosed tomorrow\n", 2, "no date"),
     ("window none\nclosed 2026-12-25\nclosed 2026-12-25\n", 3, "line 2 already"), ("open monday\nwindow none\n", 1, "begins with window or closed"),

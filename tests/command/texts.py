@@ -44,13 +44,19 @@ for text in [*some(TABLES, "*.txt"), *some(drafts, "*.txt")]:
     need(out.read_bytes() == table.read_bytes(), f"encode -o of {text}")
     gives(SAFE, "", "decode", table, "-o", out)
     need(out.read_bytes() == text.read_bytes(), f"decode -o of {table}")
-for draft in some(drafts, "*.draft"):
-    gives(SAFE, draft.with_suffix(".table").read_bytes(), "encode", draft)
-    # with its names a text is one of the same table
-    named = call("decode", "--names", draft, draft.with_suffix(".table"))
-    need(named.status == SAFE, named)
-    gives(SAFE, draft.with_suffix(".table").read_bytes(), "encode", input=named.out)
-    need(call("decode", "--text", draft).out == named.out, "decode --text", draft)
+# with its names a text is one of the same table, to be edited and encoded again; so is one that numbers no state
+for draft in [*some(drafts, "*.draft"), *some(drafts, "*.ordered")]:
+    table, plain = draft.with_suffix(".table"), draft.with_suffix(".txt").read_text()
+    gives(SAFE, table.read_bytes(), "encode", draft)
+    given = re.findall(r"(?m)^[ ]?state (?:([0-9]+) )?([^\s#]+)", draft.read_text())
+    names = {int(number or place): name for place, (number, name) in enumerate(given)}
+    named = gives(SAFE, spec.with_names(plain, names), "decode", "--names", draft, table).out
+    gives(SAFE, table.read_bytes(), "encode", input=named)
+    gives(SAFE, named, "decode", "--text", draft)
+    gives(SAFE, named, "decode", "--text", input=named)
+    gives(SAFE, named, "decode", "--names", "/dev/stdin", table, input=named)
+ordered = (TOP / "examples/pump.txt").read_text().replace("states 9\n", "")
+gives(SAFE, call("encode", TOP / "examples/pump.txt").out, "encode", input=re.sub("(?m)^state [0-9]", "state", ordered).encode())
 group(f"texts and files both ways, seed {SEED}")
 
 shutil.copy(TOP / "examples/pump.txt", WORK / "pump.txt")
@@ -135,7 +141,7 @@ bad = WORK / "bad.txt"
 bad.write_text("states 3\ninitial 0 7\nforbidden 2\nstep 0 -> up\nend\n")
 given = gives(REFUSED, "failed\n", "encode", bad, err="")
 need(given.err.decode() == f"{bad}:2: there is no state 7: with states 3 they are 0 to 2\n"
-     f"{bad}:4: 'up' is no number, and no line gives a state this name\nencode: {bad}: 2 mistakes\n", given)
+     f"{bad}:4: 'up' is no number, and no line gives a state this name; state N up would\nencode: {bad}: 2 mistakes\n", given)
 there = WORK / "there"
 shutil.copy(E, there)
 gives(REFUSED, "", "encode", "-o", there, bad, err="2 mistakes")
@@ -161,6 +167,32 @@ need(not (WORK / "x").exists() and not (WORK / "y").exists(), "a call that was w
 for option in "--site", "--allowance", "--svg":
     gives(FAILED, "failed\n", "rewrite", option, "1", err="unknown option")
 
+# a mistake is said once, on its line, and what was meant; a text that mixes its two forms is none
+for text, said in [
+    ("state off\nstate over hard limit\ninitial off\nforbidden over-hard-limit\nstep off -> over hard limit\nend\n", ["2: a name has no spaces: state over-hard-limit"]),
+    ("state off\nstate home,\ninitial off\nforbidden none\nstep off → home\nend\n", ["2: 'home,' has a comma: "]),
+    ("state off\nstate home\ninitial of\nforbidden none\nstep off, home\nend\n", ["3: 'of' is no state: .*; did you mean 'off'\\?", "5: a step is written "]),
+    ("states 2\nstate off\nstate home\ninitial off\nforbidden home\nend\n", ["2: line 1 numbers the states, .* by states N and state N NAME, or none of them"]),
+    ("state off\nstate 1 home\ninitial off\nforbidden home\nend\n", ["2: line 1 gives a state without a number"]),
+    ("state off\ninitial 0\nforbidden none\nend\n", ["2: 0 is a number, .*: write the state's name"]),
+]:
+    lines = "".join(f"{re.escape(str(bad))}:{line}.*\\n" for line in said)
+    bad.write_text(text)
+    gives(REFUSED, "failed\n", "encode", bad, err=rf"\A{lines}encode: .*: {len(said)} mistakes?\n\Z")
+    gives(REFUSED, "", "check", "--text", bad, err=rf"\A{lines}")
+bad.write_text("states 3\ninitial 0 7\nforbidden 2\nstep 0 -> up\nend\n")
+
+# help text: its examples are texts
+language = gives(SAFE, None, "help", "text").out.decode()
+need(max(map(len, language.splitlines())) <= 110, "help text has long lines")
+examples = [part for part in re.findall(r"(?:^(?:    .*)?\n)+", language, re.M) if re.search(r"^    end(?: +#.*)?\n\Z", part.rstrip() + "\n", re.M) and "STATE" not in part]
+need(len(examples) == 3, examples)
+for example, status, path in zip(examples, [SAFE, SAFE], ["invariant 4: 0 1 2 3", "invariant 2: 0 1"]):
+    need(call("encode", input=(example.rstrip() + "\n").encode()).status == SAFE, example)
+    need(path in gives(status, None, "check", "--text", input=(example.rstrip() + "\n").encode()).out.decode(), example)
+gives(SAFE, "open 2026-12-26 00:00 saturday\n", "next-open", "/dev/stdin", "--at", "2026-12-24T13:05", input=(examples[2].rstrip() + "\n").encode())
+need(b"help text" in call("help").out, "help does not name help text")
+
 # texts of any length take little time and room: in 400 MB, and in ten seconds of the processor's time, whatever else the machine does
 def bounded(text, *words):
     run = subprocess.run(["bash", "-c", 'ulimit -v 400000 -t 10; exec "$@"', "-", PROGRAM, "encode"], input=text + b"\nend\n", capture_output=True)
@@ -173,6 +205,10 @@ need(b"of which the first 100 are shown" in bounded(b"x\n" * 7_000_000), "7 mill
 bounded(b"group x y z\n" * 1_300_000)
 bounded(b"step 0 -> 1\n" * 1_300_000)
 bounded(b"states 5\n" + b"state 1 a\n" * 1_500_000)
+bounded(b"state a\n" * 2_000_000)
+bounded(b"".join(b"state a b%d\n" % i for i in range(1_000_000)) + b"group b1 b700000 x\n")
+bounded(b"".join(b"state s%d\n" % i for i in range(512)) + b"step s1 -> s5x1\n" * 900_000)
+bounded(b"step " + b"a->" * 5_000_000)
 group("mistakes and long texts")
 
 # ---- texts that were cut: what is left is no text, by whomever it is read

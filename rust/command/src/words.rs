@@ -3,6 +3,7 @@
 use crate::failure::{Done, Failure};
 use crate::lines::number;
 use crate::shown::shown;
+pub use shuntberry_text::near::did_you_mean;
 use std::ffi::{OsStr, OsString};
 use std::os::unix::ffi::OsStrExt;
 use std::path::Path;
@@ -236,38 +237,4 @@ pub fn number_up_to(word: &OsStr, what: &str, most: usize) -> Result<usize, Fail
             shown(word)
         ))
     })
-}
-
-// ---- Near words
-
-/// The nearest of some words, as a question; nothing where none is near.
-pub fn did_you_mean(word: &str, known: impl Iterator<Item = &'static str>) -> String {
-    let near = known
-        .map(|other| (distance(word, other), other))
-        .filter(|(away, other)| *away <= 1 + other.len() / 4)
-        .min_by_key(|(away, _)| *away);
-    near.map_or_else(String::new, |(_, other)| {
-        format!("; did you mean '{other}'?")
-    })
-}
-
-/// How many letters must be put in, taken out, changed or exchanged with their neighbour to make one word of the other. Words that are long are far from
-/// all others.
-fn distance(a: &str, b: &str) -> usize {
-    let (a, b): (Vec<char>, Vec<char>) = (a.chars().take(64).collect(), b.chars().collect());
-    let mut rows = vec![(0..=b.len()).collect::<Vec<usize>>()];
-    for i in 1..=a.len() {
-        let mut row = vec![i];
-        for j in 1..=b.len() {
-            let above = &rows[i - 1];
-            let changed = above[j - 1] + usize::from(a[i - 1] != b[j - 1]);
-            let mut least = changed.min(above[j] + 1).min(row[j - 1] + 1);
-            if i > 1 && j > 1 && a[i - 1] == b[j - 2] && a[i - 2] == b[j - 1] {
-                least = least.min(rows[i - 2][j - 2] + 1);
-            }
-            row.push(least);
-        }
-        rows.push(row);
-    }
-    rows[a.len()][b.len()]
 }

@@ -28,7 +28,10 @@ fn statuses() -> String {
     STATUSES.iter().enumerate().map(line).collect()
 }
 
-/// `help`, `help COMMAND` and `--help`
+/// What `help` has beside the commands: how texts are written.
+const TEXT: &str = "text";
+
+/// `help`, `help COMMAND`, `help text` and `--help`
 pub fn help(words: &[OsString], streams: Streams) -> Done {
     begin(streams)?;
     let [word] = words else {
@@ -37,7 +40,10 @@ pub fn help(words: &[OsString], streams: Streams) -> Done {
             _ => Err(Failure::Wrong(format!("one command at a time\n{USAGE}"))),
         };
     };
-    let names = COMMANDS.iter().map(|command| command.name);
+    if word == TEXT {
+        return print(shuntberry_text::LANGUAGE.as_bytes()).map(|()| status::DONE);
+    }
+    let names = COMMANDS.iter().map(|command| command.name).chain([TEXT]);
     let found = COMMANDS.iter().find(|command| command.name == word);
     let Some(command) = found else {
         return Err(Failure::Wrong(format!(
@@ -86,7 +92,8 @@ fn overview() -> String {
     for command in COMMANDS {
         said += &format!("  {:<10}  {}\n", command.name, command.about);
     }
-    said + "\n" + &statuses() + "\nThe manual page shuntberry(1) has all of it.\n"
+    said += "\nshuntberry help text says how a table is written.\n\n";
+    said + &statuses() + "\nThe manual page shuntberry(1) has all of it.\n"
 }
 
 /// Prints the help of a command.

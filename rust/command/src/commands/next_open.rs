@@ -35,9 +35,11 @@ fn run(call: &Call) -> Done {
         ));
     };
     let at = word.to_str().and_then(Moment::of).ok_or_else(|| {
+        let amiss = word.to_str().and_then(Moment::amiss);
         Failure::Wrong(format!(
-            "'{}' is no time: expected one from 2000 on, as 2026-12-24T13:05",
-            shown(word)
+            "'{}' is no time: expected one from 2000 on, as 2026-12-24T13:05{}",
+            shown(word),
+            amiss.map_or_else(String::new, |why| format!("; {why}"))
         ))
     })?;
     let input = Input::of(call, call.name(0));
