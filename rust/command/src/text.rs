@@ -2,20 +2,11 @@
 
 use crate::lines::{Mistakes, Names};
 use crate::table::{Set, Table};
-use shuntberry::{MAX_DAYS, MAX_GROUPS, MAX_STATES, MAX_WINDOWS, SET_WORDS, StateSet};
+use shuntberry::StateSet;
 use shuntberry_text::table as plain;
 use std::collections::BTreeSet;
 
 pub use shuntberry_text::table::looks_like_text;
-
-// The package knows no library: what it takes for the most is what the library does.
-const _: () = assert!(
-    shuntberry_text::MAX_STATES == MAX_STATES
-        && shuntberry_text::MAX_GROUPS == MAX_GROUPS
-        && shuntberry_text::SET_WORDS == SET_WORDS
-        && shuntberry_text::MAX_WINDOWS == MAX_WINDOWS
-        && shuntberry_text::MAX_DAYS == MAX_DAYS
-);
 
 /// What a text says.
 #[derive(Clone, Debug, PartialEq, Eq)]
