@@ -1,21 +1,10 @@
 //! The texts of tables, as the package `shuntberry-text` reads and prints them, for the tables of the library.
 
 use crate::lines::Names;
-use shuntberry::{
-    MAX_DAYS, MAX_GROUPS, MAX_STATES, MAX_WINDOWS, Refused, SET_WORDS, StateSet, Table,
-};
+use shuntberry::{Refused, StateSet, Table};
 use shuntberry_text::table as plain;
 
 pub use plain::{Text, looks_like_text, parse, parse_with_possible};
-
-// The package knows no library: what it takes for the most is what the library does.
-const _: () = assert!(
-    shuntberry_text::MAX_STATES == MAX_STATES
-        && shuntberry_text::MAX_GROUPS == MAX_GROUPS
-        && shuntberry_text::SET_WORDS == SET_WORDS
-        && shuntberry_text::MAX_WINDOWS == MAX_WINDOWS
-        && shuntberry_text::MAX_DAYS == MAX_DAYS
-);
 
 /// The text of a table, with names for the states that have one.
 pub fn print(table: &Table, names: &Names) -> String {
