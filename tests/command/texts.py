@@ -190,7 +190,7 @@ need(len(examples) == 3, examples)
 for example, status, path in zip(examples, [SAFE, SAFE], ["invariant 4: 0 1 2 3", "invariant 2: 0 1"]):
     need(call("encode", input=(example.rstrip() + "\n").encode()).status == SAFE, example)
     need(path in gives(status, None, "check", "--text", input=(example.rstrip() + "\n").encode()).out.decode(), example)
-gives(SAFE, "open 2026-12-26 00:00 saturday\n", "next-open", "/dev/stdin", "--at", "2026-12-24T13:05", input=(examples[2].rstrip() + "\n").encode())
+gives(SAFE, "open 2026-12-26 00:00 saturday\nuntil 2026-12-27 12:30 sunday\n", "next-open", "/dev/stdin", "--at", "2026-12-24T13:05", input=(examples[2].rstrip() + "\n").encode())
 need(b"help text" in call("help").out, "help does not name help text")
 
 # texts of any length take little time and room: in 400 MB, and in ten seconds of the processor's time, whatever else the machine does
