@@ -190,6 +190,16 @@ def check_page(page, table, path, site=0, names=None, text=None, date="2025-12-3
     end = model.why_unsafe(table, states[-1], names) if word == "unsafe" else None
     need([text_of(p) for p in every(every(root, "header")[0], "p") if "the path ends" in text_of(p)] == [f"{end}."] * bool(end), "why the path ends", end)
     need(not end or text_of(every(found, "p")[0]).endswith(f"; {end}."), "why the path ends, beside it", end)
+    if word == "unsafe":
+        lines, _ = model.repairs(table, names)
+        ways = [line.removeprefix("reached: ") for line in lines if line.startswith("reached: ")]
+        ways = [f"{way.removesuffix(', ' + end)}: {end}" for way in ways for end in model.END.values() if way.endswith(end)]
+        steps = [line.removeprefix("rub out ").replace(", and no", ": no") for line in lines if " can be reached; " in line]
+        need([text_of(item) for item in every(section(root, "Forbidden screens that can be reached"), "li")] == ways, ways)
+        need([text_of(item) for item in every(section(root, "Steps to rub out"), "li")] == steps, steps)
+        need(("No single step" in text_of(section(root, "Steps to rub out"))) == (not steps), steps)
+    else:
+        need(section(root, "Steps to rub out") is section(root, "Forbidden screens that can be reached") is None, f"a record of {word} has steps to rub out")
     vacuous = table.n and (not table.initial or not table.forbidden())
     need(("does not release it without --even-if-vacuous" in text_of(every(root, "header")[0])) == bool(vacuous), "vacuous")
     # the screens

@@ -4,8 +4,10 @@ use crate::answer::{Answer, VACUOUS, Verdict};
 use crate::html::escaped;
 use crate::inspection::Inspection;
 use crate::names::numbers;
+use crate::repairs::arrows;
 use crate::shown::counted;
 use crate::svg::Drawing;
+use crate::table::end_message;
 
 /// What a record says. All of it that is about the file comes from the same bytes.
 #[derive(Debug)]
@@ -62,6 +64,7 @@ impl Record<'_> {
             self.facts(),
             self.remarks(),
             self.listed(),
+            self.repairs(),
             self.pictured(),
             self.screens(),
             self.program(),
@@ -212,6 +215,33 @@ impl Record<'_> {
         }
     }
 
+    /// What is wrong with an unsafe table, beyond its path.
+    fn repairs(&self) -> String {
+        let Some(repairs) = &self.found.repairs else {
+            return String::new();
+        };
+        let way = |states: &[usize]| escaped(&arrows(self.found.names, states));
+        let steps = repairs.steps.iter();
+        let steps = steps.map(|step| {
+            let ends = way(&step.ends);
+            format!("{ends}: no forbidden screen can be reached{}", step.lost())
+        });
+        let rub_out = match repairs.steps.is_empty() {
+            true => "<p>No single step of the path, rubbed out, does it.</p>\n".to_string(),
+            false => format!(
+                "<p>Any one of these steps of the path, rubbed out.</p>\n{}",
+                bullets(steps)
+            ),
+        };
+        let reached = repairs.reached.iter();
+        let reached = reached.map(|to| format!("{}: {}", way(&to.path), end_message(to.end)));
+        section("Steps to rub out", rub_out)
+            + &section(
+                "Forbidden screens that can be reached",
+                format!("<p>A shortest way to each.</p>\n{}", bullets(reached)),
+            )
+    }
+
     fn pictured(&self) -> String {
         match &self.picture {
             Ok(drawing) => figure(drawing, self.answer.verdict.label()),
@@ -310,6 +340,11 @@ impl Record<'_> {
             ),
         )
     }
+}
+
+fn bullets(items: impl Iterator<Item = String>) -> String {
+    let items: String = items.map(|item| format!("<li>{item}</li>\n")).collect();
+    format!("<ul>\n{items}</ul>\n")
 }
 
 fn section(heading: &str, said: String) -> String {

@@ -67,7 +67,7 @@ fn run(call: &Call) -> Done {
         sum: sha256(&source.file),
         site: source.site,
         answer: &answer,
-        found: &Inspection::of(table, &source.names)?,
+        found: &Inspection::of(table, &answer, &source.names)?,
         names_from: source.names_from.clone(),
         picture: pictured(table, &answer, &source, from)?,
         date,
