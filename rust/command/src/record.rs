@@ -34,6 +34,36 @@ pub struct Record<'r> {
     pub version: String,
     /// What the installation says of how the library was proved, a line each, or why that is not known.
     pub proved: Result<Vec<String>, String>,
+    /// Pump and table, in words of who asked for the record, as they are shown.
+    pub title: Option<String>,
+    /// Whether a file that was named has the bytes that were checked, if that was asked.
+    pub released: Option<Released>,
+    /// What has changed since an older file, if that was asked.
+    pub since: Option<Since>,
+}
+
+/// What is in the place that a table is released to.
+#[derive(Debug)]
+pub struct Released {
+    /// Its name, as it is shown.
+    pub place: String,
+    /// The sum of its bytes, if it is there.
+    pub sum: Option<String>,
+}
+
+/// An older file, and what has changed since.
+#[derive(Debug)]
+pub struct Since {
+    /// The name of the file, as it is shown.
+    pub file: String,
+    /// The sum of its bytes.
+    pub sum: String,
+    /// What was found of it.
+    pub verdict: Verdict,
+    /// How much differs, in a line.
+    pub summary: String,
+    /// What differs, a line each.
+    pub lines: Vec<String>,
 }
 
 /// What a proof does not cover. Verdicts have no word in it.
@@ -62,15 +92,21 @@ impl Record<'_> {
             self.head(),
             self.verdict(),
             self.facts(),
+            self.changed(),
             self.remarks(),
             self.listed(),
             self.repairs(),
             self.pictured(),
             self.screens(),
             self.program(),
+            self.signatures(),
         ];
+        let says = match self.released {
+            Some(_) => "This page says what was found when it was made.",
+            None => "This page says what was found, and not whether the file was released.",
+        };
         format!(
-            "{}<footer>\n<p>This page says what was found, and not whether the file was released. It is no seal: compare the SHA-256, and check the file again.</p>\n\
+            "{}<footer>\n<p>{says} It is no seal: compare the SHA-256, and check the file again.</p>\n\
              <p>End of the record.</p>\n</footer>\n</body>\n</html>\n",
             parts.concat()
         )
@@ -113,8 +149,12 @@ impl Record<'_> {
             let option = VACUOUS.name;
             format!("<p><strong>But</strong> {why}. The command release does not release it without <code>{option}</code>.</p>\n")
         });
+        let title = self.title.as_ref().map_or(String::new(), |title| {
+            let title = escaped(title);
+            format!("<p class=\"kind\">Pump and table, as given: <bdi>{title}</bdi></p>\n")
+        });
         format!(
-            "<header>\n<p class=\"kind\">Record of a check by Shuntberry</p>\n<div class=\"verdict\">\n<h1>{headline}</h1>\n{why}{vacuous}</div>\n</header>\n"
+            "<header>\n<p class=\"kind\">Record of a check by Shuntberry</p>\n{title}<div class=\"verdict\">\n<h1>{headline}</h1>\n{why}{vacuous}</div>\n</header>\n"
         )
     }
 
@@ -146,6 +186,9 @@ impl Record<'_> {
                 format!("from <bdi>{text}</bdi>, a text of the same table: the file itself has none to compare them with"),
             ));
             facts.push(("SHA-256 of that text", format!("<code>{sum}</code>")));
+        }
+        if let Some(released) = &self.released {
+            facts.push(("Released", self.released_to(released)));
         }
         let rows: String = facts
             .iter()
@@ -317,7 +360,12 @@ impl Record<'_> {
         };
         let away = self.found.distance(s);
         let away = away.map_or("never".to_string(), |away| away.to_string());
-        let next = numbers(self.found.successors(s));
+        let next = match self.has_names() {
+            true => self
+                .named(&self.found.successors(s).collect::<Vec<_>>())
+                .join(", "),
+            false => numbers(self.found.successors(s)),
+        };
         row + &format!("<td>{reachable}</td><td>{away}</td><td class=\"steps\">{next}</td></tr>\n")
     }
 
@@ -345,6 +393,77 @@ impl Record<'_> {
 fn bullets(items: impl Iterator<Item = String>) -> String {
     let items: String = items.map(|item| format!("<li>{item}</li>\n")).collect();
     format!("<ul>\n{items}</ul>\n")
+}
+
+/// More lines than this are no help on paper.
+const MOST_CHANGES: usize = 400;
+
+impl Record<'_> {
+    /// Whether the bytes are where a pump takes them from. Only those of a table that may be released are told as released.
+    fn released_to(&self, released: &Released) -> String {
+        let place = format!("<bdi>{}</bdi>", escaped(&released.place));
+        match &released.sum {
+            None => format!("no: there is no {place}"),
+            Some(sum) if *sum != self.sum => {
+                format!("no: {place} has other bytes, of the SHA-256 <code>{sum}</code>")
+            }
+            Some(_) if self.answer.verdict == Verdict::Safe => {
+                format!("to {place}, which has the bytes that were checked")
+            }
+            Some(_) => {
+                format!("no, but {place} has these bytes: take it away, it must not be loaded")
+            }
+        }
+    }
+
+    /// What differs from an older file. Its verdict is told in other words: each page has the word of its own verdict alone.
+    fn changed(&self) -> String {
+        let Some(since) = &self.since else {
+            return String::new();
+        };
+        let was = match since.verdict {
+            Verdict::Safe => "In the old table no forbidden state could be reached",
+            Verdict::Draft => "The old table had no states",
+            _ => "In the old table a forbidden state could be reached",
+        };
+        let (file, sum) = (escaped(&since.file), &since.sum);
+        let shown = since.lines.iter().take(MOST_CHANGES);
+        let lines: Vec<String> = shown.map(|line| escaped(line)).collect();
+        let lines = match lines.is_empty() {
+            true => String::new(),
+            false => format!("<pre>{}</pre>\n", lines.join("\n")),
+        };
+        let more = match since.lines.len().saturating_sub(MOST_CHANGES) {
+            0 => String::new(),
+            more => format!("<p>And {more} more lines, which the command diff prints.</p>\n"),
+        };
+        let summary = escaped(&since.summary);
+        section(
+            "What has changed",
+            format!(
+                "<p>Since <bdi>{file}</bdi>, of the SHA-256 <code>{sum}</code>: {summary}. {was}.</p>\n{lines}{more}"
+            ),
+        )
+    }
+
+    /// Lines to sign on paper: that it was released only where it may be.
+    fn signatures(&self) -> String {
+        let who: &[&str] = match self.answer.verdict {
+            Verdict::Safe => &["Checked by", "Released by"],
+            _ => &["Seen by"],
+        };
+        let row = |who: &&str| {
+            format!("<tr><th scope=\"row\">{who}</th><td></td><td></td><td></td></tr>\n")
+        };
+        let rows: String = who.iter().map(row).collect();
+        section(
+            "Signatures",
+            format!(
+                "<table class=\"signatures\">\n<thead>\n<tr><td></td><th scope=\"col\">Name</th><th scope=\"col\">Date</th><th scope=\"col\">Signature</th></tr>\n\
+                 </thead>\n<tbody>\n{rows}</tbody>\n</table>\n"
+            ),
+        )
+    }
 }
 
 fn section(heading: &str, said: String) -> String {
