@@ -198,7 +198,8 @@ def check_page(page, table, path, site=0, names=None, text=None, date="2025-12-3
         found = section(root, heading)
         need([text_of(item) for item in every(found, "li")] == [screen(s, names) for s in states], "the states of the", heading)
     end = model.why_unsafe(table, states[-1], names) if word == "unsafe" else None
-    need([text_of(p) for p in every(every(root, "header")[0], "p") if "the path ends" in text_of(p)] == [f"{end}."] * bool(end), "why the path ends", end)
+    headed = [text_of(p) for p in every(every(root, "header")[0], "p") if "path ends" in text_of(p)]
+    need(headed == ([f"T{end.removeprefix('t')}."] if end else []), "why the path ends", end, headed)
     need(not end or text_of(every(found, "p")[0]).endswith(f"; {end}."), "why the path ends, beside it", end)
     if word == "unsafe":
         lines, _ = model.repairs(table, names)

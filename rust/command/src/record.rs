@@ -142,7 +142,7 @@ impl Record<'_> {
     fn verdict(&self) -> String {
         let headline = self.answer.headline();
         let why = match self.why_unsafe() {
-            Some(why) => format!("<p>{why}.</p>\n"),
+            Some(why) => format!("<p>{}.</p>\n", capitalised(&why)),
             None => String::new(),
         };
         let vacuous = self.answer.vacuous.map_or(String::new(), |why| {
@@ -464,6 +464,15 @@ impl Record<'_> {
             ),
         )
     }
+}
+
+/// A sentence's beginning, whose first letter is an ASCII one.
+fn capitalised(text: &str) -> String {
+    let mut text = text.to_string();
+    if let Some(first) = text.get_mut(..1) {
+        first.make_ascii_uppercase();
+    }
+    text
 }
 
 fn section(heading: &str, said: String) -> String {
