@@ -14,7 +14,7 @@ _shuntberry() {
     check) words='--site --explain --quiet --json --allowance --text --names --' ;;
     check-all) words='--site --from -0 --count --quiet --json --' ;;
     release) words='--site --even-if-vacuous --' ;;
-    report) words='-o --site --names --' ;;
+    report) words='-o --site --names --title --released --since --old-names --' ;;
     inspect) words='--site --text --names --json --' ;;
     diff) words='--site --text --old-names --names --json --' ;;
     within) words='--site --text --names --json --' ;;
@@ -29,7 +29,7 @@ _shuntberry() {
     esac
   else
     case $before in
-    --allowance | --at | --count | --site) return ;;
+    --allowance | --at | --count | --site | --title) return ;;
     esac
     compopt -o filenames
     mapfile -t COMPREPLY < <(compgen -f -- "$word")

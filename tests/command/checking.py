@@ -130,8 +130,11 @@ def end_of(path, expected):
 for path, expected in tables():
     status, err = status_of(expected), just(explanation(path, expected))
     given = gives(status, None, "check", "--json", path, err=err)
-    need(given.out.count(b"\n") == 1 and json.loads(given.out) == object_of(expected, vacuous(path), end_of(path, expected)), "other JSON", given)
-    gives(status, expected, "check", "--explain", path, err=err)
+    lines, found = model.repairs(model.table_of(path.with_suffix(".txt").read_text()), {}) if status == UNSAFE else ([], {})
+    need(given.out.count(b"\n") == 1 and json.loads(given.out) == object_of(expected, vacuous(path), end_of(path, expected)) | found, "other JSON", given)
+    given = gives(status, expected, "check", "--explain", path, err=err and err.removesuffix(r"\Z"))
+    need(given.err.decode().splitlines()[1:] == [f"check: {line}" for line in lines], lines, given)
+    gives(status, "", "check", "--explain", "--quiet", path, err=err if status == NO_RELEASE else None)
     text = path.with_suffix(".txt")
     if status != REFUSED:
         gives(status, expected, "check", "--text", text, err=err)

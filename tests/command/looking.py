@@ -60,7 +60,9 @@ def inspected(table, names):
         words += ["reachable" if s in reachable else "not reachable", f"distance {away.get(s, 'never')}"]
         said += f"state {screen(s, names)}: {', '.join(words)}\n"
     look = model.remarks(table, names)
-    return said + ("".join(f"look at: {words}\n" for words in look) or "look at nothing in particular\n")
+    said += "".join(f"look at: {words}\n" for words in look) or "look at nothing in particular\n"
+    wrong = model.repairs(table, names)[0] if reachable & table.forbidden() else []
+    return said + "".join(f"{line}\n" for line in wrong)
 
 
 def inspected_object(table, names):
@@ -71,7 +73,8 @@ def inspected_object(table, names):
             "groups": [j for j, states in enumerate(table.groups) if s in states], "reachable": s in reachable, "distance": away.get(s),
         } for s in range(table.n)
     ]
-    return {"states": table.n, "groups": len(table.groups), "screens": screens}
+    wrong = model.repairs(table, names)[1] if reachable & table.forbidden() else {}
+    return {"states": table.n, "groups": len(table.groups), "screens": screens} | wrong
 
 
 for table, path in EVERY:
@@ -84,6 +87,18 @@ for table, path in EVERY:
     look = found.pop("look_at")
     need(found == inspected_object(table, names), path, found)
     need(len(look) == max(expected.count("look at: "), 0), look)
+SINGLE = {bool(model.repairs(table, {})[1]["rub_out"]) for table, _ in EVERY if model.reached(table, table.initial) & table.forbidden()}
+need(SINGLE == {True, False}, "of no table a single step can be rubbed out, or of each", SINGLE)
+# a step less may be a hang more, and no repair; a second way leaves no single step; the cheapest stands first
+for steps, expected in [
+    ("step 0 -> 1\nstep 1 -> 2\nstep 2 -> 2\n", ["no single step of the path, rubbed out, does it"]),
+    ("forbidden 0\nstep 0 -> 1\nstep 1 -> 1\nstep 2 -> 2\n", ["no single step of the path, rubbed out, does it"]),  # a session starts there: there is none
+    ("step 0 -> 1 3\nstep 1 -> 2\nstep 2 -> 2\nstep 3 -> 2 3\n", ["no single step of the path, rubbed out, does it"]),
+    ("step 0 -> 0 1\nstep 1 -> 1 2\nstep 2 -> 2\n", [
+        "rub out 1 -> 2, and no forbidden screen can be reached; all others still can", "rub out 0 -> 1, and no forbidden screen can be reached; 1 other cannot either"]),
+]:
+    given = call("inspect", "--text", input=f"states 4\ninitial 0\nforbidden 2\nresting 3\n{steps}end\n".encode())
+    need([line for line in given.out.decode().splitlines() if "rub out" in line or "rubbed out" in line] == expected, expected, given)
 # the examples of the manual page
 page = (TOP / "man/shuntberry.1").read_text().replace("\\-", "-").replace("\\(aq", "'")
 example = WORK / "example.txt"

@@ -38,10 +38,13 @@ def at_site(file, site):
 
 
 def reached(table, states):
-    found, layer = set(states), set(states)
-    while layer:
-        layer = {b for a, b in table.steps if a in layer} - found
-        found |= layer
+    after, found, left = {}, set(states), list(states)
+    for a, b in table.steps:
+        after.setdefault(a, set()).add(b)
+    while left:
+        new = after.get(left.pop(), set()) - found
+        found |= new
+        left += new
     return found
 
 
@@ -61,8 +64,54 @@ def screen(s, names):
 
 def why_unsafe(table, last, names):
     """Why a path ends in a state: a mark goes before a hang."""
-    end = "forbidden since it is marked" if last in table.marked else "a hang: no step leads out, and it is not resting"
-    return f"the path ends in {screen(last, names)}, {end}"
+    return f"the path ends in {screen(last, names)}, {END[last in table.marked]}"
+
+
+END = {True: "forbidden since it is marked", False: "a hang: no step leads out, and it is not resting"}
+
+
+def way_to(state, initial, steps):
+    """The smallest of the shortest paths to a state, by its distances; none where there is no path."""
+    away, layer = {state: 0}, {state}
+    while layer and not layer & initial:
+        layer = {a for a, b in steps if b in layer} - set(away)
+        away |= dict.fromkeys(layer, max(away.values()) + 1)
+    if not layer:
+        return None
+    path = [min(layer & initial)]
+    while path[-1] != state:
+        path.append(min(b for a, b in steps if a == path[-1] and away.get(b) == away[a] - 1))
+    return path
+
+
+def rub_out(table):
+    """Each step of the path without which nothing forbidden can be reached, and how many others then cannot either; those that cost least first."""
+    path, found = spec.shortest_path(table), []
+    before = reached(table, table.initial) - table.forbidden()
+    for step in zip(path, path[1:]):
+        less = spec.Table(table.n, table.initial, table.marked, table.steps - {step}, table.groups, table.resting)
+        after = reached(less, table.initial)
+        if not after & less.forbidden():
+            found.append((*step, len(before - after)))
+    return sorted(found, key=lambda found: found[2])
+
+
+REPAIRS = {}
+
+
+def repairs(table, names):
+    """What is wrong with an unsafe table: a line each, and as JSON."""
+    if id(table) not in REPAIRS:
+        ways = [way_to(state, table.initial, table.steps) for state in sorted(table.forbidden())]
+        REPAIRS[id(table)] = table, [way for way in ways if way], rub_out(table)
+    _, ways, steps = REPAIRS[id(table)]
+    arrows = lambda states: " -> ".join(screen(s, names) for s in states)
+    lost = lambda count: "; all others still can" if not count else f"; {count} other{'s' * (count > 1)} cannot either"
+    lines = [f"reached: {arrows(way)}, {END[way[-1] in table.marked]}" for way in ways]
+    lines += [f"rub out {arrows(step)}, and no forbidden screen can be reached{lost(count)}" for *step, count in steps]
+    lines += [] if steps else ["no single step of the path, rubbed out, does it"]
+    found = {"reached": [{"ends_in": "marked" if way[-1] in table.marked else "hang", "path": way} for way in ways]}
+    return lines, found | {"rub_out": [dict(zip(("from", "to", "lost"), step)) for step in steps]}
 
 
 def remarks(table, names):

@@ -7,6 +7,7 @@ use crate::names::{name_lines, numbers, screen, with_names};
 use crate::refusals::explained;
 use crate::shown::counted;
 use crate::source::Source;
+use crate::table::{end_label, end_message};
 use crate::text::listing;
 use crate::words::Opt;
 use shuntberry::checking::{CHECK_TEXT_BYTES, Checked, check};
@@ -261,16 +262,17 @@ impl Answer {
     /// Why the path ends where it does: a screen may be forbidden though nobody marked it.
     pub fn why_unsafe(&self, names: &Names) -> Option<String> {
         let last = screen(names, *self.path.as_ref()?.last()?);
-        Some(match self.end? {
-            Forbidden::Hang => {
-                format!("the path ends in {last}, a hang: no step leads out, and it is not resting")
-            }
-            _ => format!("the path ends in {last}, forbidden since it is marked"),
-        })
+        let end = end_message(self.end?);
+        Some(format!("the path ends in {last}, {end}"))
     }
 
     /// As JSON, behind what stands in the object already.
     pub fn object(&self, object: Object, names: &Names) -> Object {
+        with_names(self.facts(object), names, self.states())
+    }
+
+    /// The same without names.
+    pub fn facts(&self, object: Object) -> Object {
         let mut object = object.text("verdict", self.verdict.label());
         if let Verdict::Refused(refused) = self.verdict {
             return object
@@ -294,10 +296,9 @@ impl Answer {
             object = object.numbers("path", path.iter().copied());
         }
         if let Some(end) = self.end {
-            let marked = end == Forbidden::Marked;
-            object = object.text("ends_in", if marked { "marked" } else { "hang" });
+            object = object.text("ends_in", end_label(end));
         }
-        with_names(object, names, self.states())
+        object
     }
 }
 

@@ -1,8 +1,10 @@
 //! What is in a table, screen by screen, and what a reviewer should look at.
 
+use crate::answer::Answer;
 use crate::json::Object;
 use crate::lines::Names;
 use crate::names::{numbers, screen};
+use crate::repairs::Repairs;
 use crate::table::{is_hang, is_unmarked};
 use shuntberry::{Refused, StateSet, Table};
 
@@ -13,6 +15,8 @@ pub struct Inspection<'t> {
     /// The names of its screens.
     pub names: &'t Names,
     reachable: StateSet,
+    /// What is wrong with the table, if it is unsafe.
+    pub repairs: Option<Repairs>,
     away: Vec<Option<usize>>,
 }
 
@@ -29,11 +33,16 @@ pub struct Remark {
 
 impl<'t> Inspection<'t> {
     /// What the library says of a table.
-    pub fn of(table: &'t Table, names: &'t Names) -> Result<Inspection<'t>, Refused> {
+    pub fn of(
+        table: &'t Table,
+        answer: &Answer,
+        names: &'t Names,
+    ) -> Result<Inspection<'t>, Refused> {
         Ok(Inspection {
             table,
             names,
             reachable: table.reachable()?,
+            repairs: Repairs::of(table, answer)?,
             away: table.distances()?,
         })
     }
@@ -92,6 +101,11 @@ impl<'t> Inspection<'t> {
             let colon = if states.is_empty() { "" } else { ": " };
             lines += &format!("look at: {}{colon}{}\n", remark.message, states.join(", "));
         }
+        let repairs = self
+            .repairs
+            .iter()
+            .flat_map(|repairs| repairs.lines(self.names));
+        lines.extend(repairs.map(|line| line + "\n"));
         lines
     }
 
@@ -130,11 +144,15 @@ impl<'t> Inspection<'t> {
                 .text("remark", remark.label)
                 .numbers("screens", remark.states)
         });
-        Object::default()
+        let object = Object::default()
             .plain("states", self.table.n())
             .plain("groups", self.table.g())
             .objects("screens", (0..self.table.n()).map(|s| self.state(s)))
-            .objects("look_at", remarks)
+            .objects("look_at", remarks);
+        match &self.repairs {
+            Some(repairs) => repairs.object(object),
+            None => object,
+        }
     }
 
     fn state(&self, s: usize) -> Object {

@@ -2,7 +2,7 @@
 //!
 //! - [`commands`]: one module for each command;
 //! - [`words`], [`source`], [`files`], [`sys`]: the words of a call, the table that it is about, input and output, signals;
-//! - [`answer`], [`inspection`]: what the library finds of a table, of which all that is printed are views;
+//! - [`answer`], [`inspection`], [`repairs`]: what the library finds of a table, of which all that is printed are views;
 //! - [`table`], [`text`], [`picture`], [`difference`], [`house`]: a table, as text, as a picture and beside another one; a house's windows and closed days;
 //! - [`record`], [`drawing`], [`svg`], [`sha256`]: the record of a check, with a drawing by Graphviz in it;
 //! - [`names`], [`lines`], [`shown`], [`json`], [`html`], [`calendar`], [`refusals`], [`failure`]: what they share.
@@ -21,6 +21,7 @@ pub mod names;
 pub mod picture;
 pub mod record;
 pub mod refusals;
+pub mod repairs;
 pub mod sha256;
 pub mod shown;
 pub mod source;

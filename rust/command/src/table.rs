@@ -1,6 +1,6 @@
 //! What a table is asked beside the library's own calls.
 
-use shuntberry::{StateSet, Table, row};
+use shuntberry::{Forbidden, StateSet, Table, row};
 
 /// Whether a state has no successor.
 pub fn is_dead_end(table: &Table, state: usize) -> bool {
@@ -21,4 +21,24 @@ pub fn is_unmarked(table: &Table) -> bool {
 pub fn is_alike(a: &Table, b: &Table) -> bool {
     let before = ..row(0);
     (a.n(), a.g()) == (b.n(), b.g()) && a.store()[before] == b.store()[before]
+}
+
+// ---- Why a state is forbidden
+
+/// For programs.
+pub fn end_label(end: Forbidden) -> &'static str {
+    match end {
+        Forbidden::Not => "not forbidden",
+        Forbidden::Marked => "marked",
+        Forbidden::Hang => "hang",
+    }
+}
+
+/// For people.
+pub fn end_message(end: Forbidden) -> &'static str {
+    match end {
+        Forbidden::Not => "not forbidden",
+        Forbidden::Marked => "forbidden since it is marked",
+        Forbidden::Hang => "a hang: no step leads out, and it is not resting",
+    }
 }

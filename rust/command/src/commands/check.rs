@@ -4,6 +4,9 @@ use crate::answer::{Answer, Verdict};
 use crate::failure::{Done, Failure};
 use crate::files::{print, say};
 use crate::json::Object;
+use crate::lines::Names;
+use crate::names::with_names;
+use crate::repairs::Repairs;
 use crate::source::{JSON, NAMES, QUIET, SITE, Source, TEXT};
 use crate::words::{Call, Command, Opt, Output};
 use shuntberry::MAX_ALLOWANCE;
@@ -11,7 +14,11 @@ use shuntberry::MAX_ALLOWANCE;
 const EXPLAIN: Opt = Opt {
     name: "--explain",
     value: None,
-    about: "says on standard error what is said without it too",
+    about: "says of an unsafe table which forbidden states can be reached, and which step to rub out\n\
+        It has a line on standard error for each forbidden state that can be reached, with a shortest path to it; then one for \
+        each step of the path without which no forbidden state can be reached, with how many others cannot be reached then \
+        either, the fewest first. For that the library decides the table again, with that step less. A line says if no single \
+        step does.",
 };
 const ALLOWANCE: Opt = Opt {
     name: "--allowance",
@@ -46,18 +53,37 @@ fn run(call: &Call) -> Done {
         Some(answer) => answer,
         None => Answer::of(&source)?,
     };
+    let repairs = match &source.table {
+        Ok(table) if call.has(&EXPLAIN) || call.has(&JSON) => Repairs::of(table, &answer)?,
+        _ => None,
+    };
     if call.has(&JSON) {
-        let object = answer.object(Object::default(), &source.names);
-        print(object.line().as_bytes())?;
+        print(
+            object(&answer, repairs.as_ref(), &source.names)
+                .line()
+                .as_bytes(),
+        )?;
     } else if !call.has(&QUIET) {
         print(answer.with_names(&source.names).as_bytes())?;
     }
     // A draft is said in any case: mostly it is what a command that failed left.
-    let explains = !call.has(&QUIET) || answer.verdict == Verdict::Draft;
-    if let Some(why) = answer.explanation(&source).filter(|_| explains) {
-        say(&format!("check: {why}\n"));
+    if !call.has(&QUIET) || answer.verdict == Verdict::Draft {
+        let repairs = repairs.filter(|_| call.has(&EXPLAIN));
+        let repairs = repairs.map_or(Vec::new(), |repairs| repairs.lines(&source.names));
+        for line in answer.explanation(&source).into_iter().chain(repairs) {
+            say(&format!("check: {line}\n"));
+        }
     }
     Ok(answer.verdict.status())
+}
+
+/// As JSON, with what is wrong with the table.
+fn object(answer: &Answer, repairs: Option<&Repairs>, names: &Names) -> Object {
+    let Some(repairs) = repairs else {
+        return answer.object(Object::default(), names);
+    };
+    let object = repairs.object(answer.facts(Object::default()));
+    with_names(object, names, answer.states().chain(repairs.states()))
 }
 
 /// The answer of a draft check where it is undecided. Where it is not, it is that of a release check, which a larger allowance never changes.

@@ -3,7 +3,7 @@
 use crate::answer::{Answer, Verdict};
 use crate::difference::{Difference, Side, difference};
 use crate::failure::{Done, Failure, status};
-use crate::files::{Input, print, say};
+use crate::files::{Input, print};
 use crate::json::Object;
 use crate::lines::Names;
 use crate::source::{JSON, NAMES, SITE, Source, TEXT, alone, parsed};
@@ -12,7 +12,8 @@ use crate::words::{Call, Command, Opt, Output};
 use shuntberry::{MAX_ALLOWANCE, Table};
 use std::collections::BTreeSet;
 
-const OLD_NAMES: Opt = Opt {
+/// `--old-names TEXT`
+pub const OLD_NAMES: Opt = Opt {
     name: "--old-names",
     value: Some("TEXT"),
     about: "takes the names of the screens of OLD from TEXT, as --names does for NEW",
@@ -32,21 +33,8 @@ pub const DIFF: Command = Command {
 };
 
 fn run(call: &Call) -> Done {
-    let (old, new) = match read(call) {
-        // What cannot be compared has no verdict, whatever kept it from being read.
-        Err(failure @ (Failure::Refused(..) | Failure::Mistakes(..))) => {
-            say(&failure.message(DIFF.name));
-            return Ok(status::FAILED);
-        }
-        read => read?,
-    };
-    let found = difference(old.side(), new.side());
-    // Two ways to say that nothing differs: a 0 takes both.
-    if found.is_empty() != old.is_same(&new) {
-        return Err(Failure::Failed(
-            "two comparisons do not agree: there is no answer".to_string(),
-        ));
-    }
+    let (old, new) = read(call).map_err(not_compared)?;
+    let found = compared(&old, &new)?;
     let said = match call.has(&JSON) {
         true => object(&old, &new, &found).line(),
         false => lines(&old, &new, &found),
@@ -58,13 +46,34 @@ fn run(call: &Call) -> Done {
     })
 }
 
+/// What differs between two tables. There are two ways to say that nothing does, and a 0 takes both.
+pub fn compared(old: &Draft, new: &Draft) -> Result<Difference, Failure> {
+    let found = difference(old.side(), new.side());
+    match found.is_empty() == old.is_same(new) {
+        true => Ok(found),
+        false => Err(Failure::Failed(
+            "two comparisons do not agree: there is no answer".to_string(),
+        )),
+    }
+}
+
+/// What cannot be compared has no verdict, whatever kept it from being read.
+pub fn not_compared(failure: Failure) -> Failure {
+    match failure {
+        Failure::Refused(_, why) => Failure::Failed(why),
+        Failure::Mistakes(lines, why) => Failure::Failed([vec![why], lines].concat().join("\n")),
+        other => other,
+    }
+}
+
 /// One of the two, as it was read.
 #[derive(Debug)]
 pub struct Draft {
     table: Table,
     names: Option<Names>,
     possible: BTreeSet<(usize, usize)>,
-    verdict: Verdict,
+    /// What was found of it.
+    pub verdict: Verdict,
 }
 
 fn read(call: &Call) -> Result<(Draft, Draft), Failure> {
@@ -83,18 +92,19 @@ fn read(call: &Call) -> Result<(Draft, Draft), Failure> {
             Draft::of_text(Input::named(new))?,
         ));
     }
-    let old = Source::with_names(call, old, &OLD_NAMES)?;
-    let new = Source::with_names(call, new, &NAMES)?;
-    Ok((Draft::of(old)?, Draft::of(new)?))
+    let checked = |path, names| {
+        let source = Source::with_names(call, path, names)?;
+        Draft::of(&source, &Answer::of(&source)?)
+    };
+    Ok((checked(old, &OLD_NAMES)?, checked(new, &NAMES)?))
 }
 
 impl Draft {
-    /// What a file holds, with the names that were given.
-    pub fn of(source: Source) -> Result<Draft, Failure> {
-        let answer = Answer::of(&source)?;
+    /// What a file holds, with the names that were given and what was found of it.
+    pub fn of(source: &Source, answer: &Answer) -> Result<Draft, Failure> {
         Ok(Draft {
             table: source.table()?.clone(),
-            names: source.names_from.map(|_| source.names),
+            names: source.names_from.as_ref().map(|_| source.names.clone()),
             possible: BTreeSet::new(),
             verdict: answer.verdict,
         })
@@ -141,8 +151,15 @@ impl Draft {
 // ---- As lines, and as JSON
 
 /// What is said where screens have other numbers.
-pub const RENUMBERED: &str =
+const RENUMBERED: &str =
     "renumbered: logs go by number, so that a log of the old table is none of the new one";
+
+/// What differs, a line each, and what that means for logs.
+pub fn changes(old: &Draft, new: &Draft, found: &Difference) -> Vec<String> {
+    let mut lines = found.lines(old.names.as_ref(), new.names.as_ref());
+    lines.extend((!found.renumbered.is_empty()).then(|| RENUMBERED.to_string()));
+    lines
+}
 
 fn lines(old: &Draft, new: &Draft, found: &Difference) -> String {
     let head = |word: &str, draft: &Draft| {
@@ -150,8 +167,7 @@ fn lines(old: &Draft, new: &Draft, found: &Difference) -> String {
         format!("{word}: {}, states {n} groups {g}", draft.verdict.label())
     };
     let mut lines = vec![head("old", old), head("new", new)];
-    lines.extend(found.lines(old.names.as_ref(), new.names.as_ref()));
-    lines.extend((!found.renumbered.is_empty()).then(|| RENUMBERED.to_string()));
+    lines.extend(changes(old, new, found));
     lines.push(found.summary());
     lines.join("\n") + "\n"
 }

@@ -1,5 +1,6 @@
 //! `inspect`: what is in a table, screen by screen, and what a reviewer should look at.
 
+use crate::answer::Answer;
 use crate::failure::{Done, status};
 use crate::files::print;
 use crate::inspection::Inspection;
@@ -21,7 +22,8 @@ pub const INSPECT: Command = Command {
 
 fn run(call: &Call) -> Done {
     let source = Source::of(call, call.name(0))?;
-    let found = Inspection::of(source.table()?, &source.names)?;
+    let table = source.table()?;
+    let found = Inspection::of(table, &Answer::of(&source)?, &source.names)?;
     let lines = match call.has(&JSON) {
         true => found.object().line(),
         false => found.lines(),
