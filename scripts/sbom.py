@@ -152,7 +152,7 @@ def made(root, facts):
         package(PROGRAM, "the command shuntberry", facts["version"], "NONE", sourceInfo=f"commit {facts['commit']}", primaryPackagePurpose="APPLICATION", **ours),
         package(LIBRARY, "libshuntberry, the proved library", facts["version"], "NONE", sourceInfo=f"commit {facts['commit']}", primaryPackagePurpose="LIBRARY", **ours),
         package(KIT, "Rattle kit", facts["kit"], "NOASSERTION", primaryPackagePurpose="FRAMEWORK",
-                comment="Prover, compiler and proved libraries. In the library of its own: " + ", ".join(facts["kit_crates"]) + ". The kit states no license."),
+                comment=f"Prover, compiler and proved libraries, of which below the library: {', '.join(facts['kit_crates'])}. The kit states no license."),
         *rust_packages(root, links), *system_packages(root, links),
     ]
     created = datetime.datetime.fromtimestamp(facts["date"], datetime.timezone.utc).strftime("%Y-%m-%dT%H:%M:%SZ")
