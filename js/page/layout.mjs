@@ -1,8 +1,8 @@
 // Where each screen of a table stands in its picture: by layers, from the initial screens outward, on a grid.
 // No part of a page is needed for it.
 //
-//   shownOf(view)             what is drawn of a table: all of it, or where it has too many steps, a part
-//   arranged(view, previous)  the places. A screen whose layer is as it was keeps its place in that layer
+//   shownOf(view, chosen)              what is drawn of a table: all of it, or where it has too many steps, a part
+//   arranged(view, chosen, previous)   the places. A screen whose layer is as it was keeps its place in that layer
 
 /** Above so many steps a part is drawn. */
 export const MANY_STEPS = 2000;
@@ -44,33 +44,35 @@ function inTurn(lists, most) {
   return taken;
 }
 
+/** The steps that lead from a screen or to it. */
+function stepsOf(view, s) {
+  const step = (from, to) => ({ from, to, option: view.isOption(from, to) });
+  const entering = view.predecessors(s).filter((from) => from !== s);
+  return [...view.successors(s).map((to) => step(s, to)), ...entering.map((from) => step(from, s))];
+}
+
 /**
  * The screens and steps that are drawn. Of a table with too many steps that is the path and the chosen screen,
- * each with the steps that lead to or from it; `isCut` where the path's neighbours are not all there.
+ * each with the steps that lead from it or to it; `isCut` where the path's neighbours are not all there.
  */
-export function shownOf(view) {
-  if (view.steps.length <= MANY_STEPS) {
+export function shownOf(view, chosen) {
+  if (view.stepCount <= MANY_STEPS) {
     return { states: Array.from({ length: view.n }, (_, s) => s), steps: view.steps, isPart: false, isCut: false };
   }
   const path = view.path ?? [];
-  const pairs = pathPairs(view);
-  const besides = new Map(path.map((s) => [s, []]));
-  const steps = [];
-  for (const step of view.steps) {
-    const { from, to } = step;
-    if (from === view.chosen || to === view.chosen || pairs.has(from * view.n + to)) steps.push(step);
-    else (besides.get(from) ?? besides.get(to))?.push(step);
-  }
-  const lists = [...besides.values()];
-  const kept = inTurn(lists, MANY_NEIGHBOURS);
+  const steps = new Map();
+  const put = (list) => list.forEach((step) => steps.set(step.from * view.n + step.to, step));
+  put(path.slice(1).map((to, k) => ({ from: path[k], to, option: view.isOption(path[k], to) })));
+  if (chosen !== null) put(stepsOf(view, chosen));
+  const lists = path.map((s) => stepsOf(view, s).filter(({ from, to }) => !steps.has(from * view.n + to)));
+  put(inTurn(lists, MANY_NEIGHBOURS));
   const states = new Set(path);
-  if (view.chosen !== null) states.add(view.chosen);
+  if (chosen !== null) states.add(chosen);
   if (states.size === 0) for (const s of view.initial) states.add(s);
-  steps.push(...kept);
-  for (const { from, to } of steps) states.add(from).add(to);
+  for (const { from, to } of steps.values()) states.add(from).add(to);
   return {
-    states: [...states].sort((a, b) => a - b), steps, isPart: true,
-    isCut: summed(lists.map((list) => list.length)) > kept.length,
+    states: [...states].sort((a, b) => a - b), steps: [...steps.values()], isPart: true,
+    isCut: summed(lists.map((list) => list.length)) > MANY_NEIGHBOURS,
   };
 }
 
@@ -95,26 +97,25 @@ function distancesFrom(roots, next, layer) {
 
 /**
  * Of each screen whether it stands apart, since it cannot be reached, and its layer: of one that can be, by
- * steps from the initial ones; of one apart, from those that no other one apart leads to, then from the first;
- * and whether a step leaves it.
+ * steps from the initial ones; of one apart, from those that no other one apart leads to, then from the first.
  */
 export function layersOf(view) {
   const apart = Array.from({ length: view.n }, (_, s) => !view.reached.has(s));
   const next = apart.map(() => []);
   const isEntered = apart.map(() => false);
-  const leaves = apart.map(() => false);
-  for (const { from, to } of view.steps) {
-    leaves[from] = true;
-    if (apart[from] !== apart[to] || from === to) continue;
-    next[from].push(to);
-    isEntered[to] = true;
+  for (let from = 0; from < view.n; from++) {
+    for (const to of view.successors(from)) {
+      if (apart[from] !== apart[to] || from === to) continue;
+      next[from].push(to);
+      isEntered[to] = true;
+    }
   }
   const layer = apart.map(() => null);
   const of = (test) => apart.flatMap((_, s) => (test(s) ? [s] : []));
   distancesFrom(of((s) => !apart[s] && view.initial.has(s)), next, layer);
   distancesFrom(of((s) => apart[s] && !isEntered[s]), next, layer);
   for (let s = 0; s < view.n; s++) distancesFrom([s], next, layer);
-  return { apart, layer, leaves };
+  return { apart, layer };
 }
 
 // ---- The order within layers
@@ -364,13 +365,13 @@ const said = (isApart, k) => {
 };
 
 /** The place of each screen drawn, the bands of the layers, and the size of all. */
-export function arranged(view, previous = null) {
-  const shown = shownOf(view);
+export function arranged(view, chosen, previous = null) {
+  const shown = shownOf(view, chosen);
   const layers = layersOf(view);
   const near = neighbours(view, shown.steps, layers);
   const kept = previous === null ? null : keptFrom(view, shown, layers, previous);
   const out = {
-    shown, leaves: layers.leaves, names: [...view.names], frames: [], places: new Map(), bands: [], apart: null, width: 0, height: 0,
+    shown, names: view.names, frames: [], places: new Map(), bands: [], apart: null, width: 0, height: 0,
   };
   let top = MARGIN;
   let firstRow = 0;

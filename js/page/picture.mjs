@@ -33,6 +33,7 @@ export class Picture {
   #on;
   #legend;
   #view = null;
+  #chosen = null;
   #layout = null;
   #parts = {};
   #boxes = new Map();
@@ -49,15 +50,15 @@ export class Picture {
     this.#svg = svg;
     this.#on = { choose: onChoose, step: onStep, move: onMove };
     this.#legend = legend ?? null;
-    svg.replaceChildren(markers());
     svg.setAttribute("tabindex", "0");
     svg.setAttribute("role", "application");
     svg.setAttribute("aria-label", "Picture of the table. Arrow keys choose a screen, plus and minus zoom, 0 shows all.");
-    this.#parts.world = element("g", {}, svg);
+    this.#parts.heads = markers();
+    this.#parts.world = element("g");
     for (const name of ["bands", "steps", "pathSteps", "boxes", "badges", "drag"]) {
       this.#parts[name] = element("g", {}, this.#parts.world);
     }
-    this.#parts.note = element("g", { "pointer-events": "none" }, svg);
+    this.#parts.note = element("g", { "pointer-events": "none" });
     svg.addEventListener("wheel", (event) => this.#wheel(event), { passive: false });
     svg.addEventListener("pointerdown", (event) => this.#down(event));
     svg.addEventListener("pointermove", (event) => this.#move(event));
@@ -71,10 +72,11 @@ export class Picture {
   // ---- What is shown
 
   show(view) {
-    const isFirst = this.#layout === null;
-    this.#view = { ...view };
     const before = this.#layout;
-    this.#layout = arranged(this.#view, before);
+    const isFirst = before === null;
+    this.#view = view;
+    this.#chosen = view.chosen;
+    this.#layout = arranged(view, view.chosen, before);
     this.#draw();
     const isOther = !isFirst && before.frames.some((frame, k) => frame?.rows !== this.#layout.frames[k]?.rows);
     if (isFirst || !this.#isFitted || (!this.#isMoved && (isOther || !this.#isInside()))) this.fit();
@@ -83,15 +85,15 @@ export class Picture {
   /** All places from nothing. */
   tidy() {
     if (this.#view === null) return;
-    this.#layout = arranged(this.#view);
+    this.#layout = arranged(this.#view, this.#chosen);
     this.#draw();
     this.fit();
   }
 
   choose(state) {
-    if (this.#view === null || this.#view.chosen === state) return;
-    this.#view = { ...this.#view, chosen: state };
-    if (this.#layout.shown.isPart) this.#layout = arranged(this.#view, this.#layout);
+    if (this.#view === null || this.#chosen === state) return;
+    this.#chosen = state;
+    if (this.#layout.shown.isPart) this.#layout = arranged(this.#view, state, this.#layout);
     this.#draw();
   }
 
@@ -106,13 +108,15 @@ export class Picture {
   }
 
   #draw() {
+    const { heads, world, note } = this.#parts;
+    if (world.parentNode !== this.#svg) this.#svg.replaceChildren(heads, world, note);
     const { shown, places, bands, apart } = this.#layout;
     this.#drawBands(bands, apart);
     this.#drawSteps(shown.steps, routesOf(shown.steps, places));
     this.#drawBoxes(shown.states, places);
     this.#drawBadges(places);
     this.#drawNote(shown);
-    if (this.#legend !== null) fillLegend(this.#legend, this.#view, shown);
+    if (this.#legend !== null) fillLegend(this.#legend, this.#view, this.#chosen, shown);
     this.#placeWorld();
   }
 
@@ -129,14 +133,17 @@ export class Picture {
       const { width } = this.#layout;
       element("path", { d: `M16 ${apart.y - 4}H${width - 16}`, stroke: COLOURS.quiet, "stroke-dasharray": "2 5" }, band);
       const label = element("text", { x: 68, y: apart.y + 15, "font-size": 12, fill: COLOURS.quiet }, band);
-      label.textContent = "not reachable: no step leads here from a start";
+      label.textContent = this.#view.isAnswered
+        ? "not reachable: no steps lead here from a start"
+        : "no answer: which screens can be reached is not known";
       all.push(band);
     }
     this.#parts.bands.replaceChildren(...all);
   }
 
   #drawSteps(steps, lines) {
-    const { n, path, chosen } = this.#view;
+    const { n, path } = this.#view;
+    const chosen = this.#chosen;
     const onPath = new Set((path ?? []).slice(1).map((to, k) => path[k] * n + to));
     const isQuiet = onPath.size > 0 || chosen !== null || steps.length > CROWDED;
     const gone = new Set(this.#steps.keys());
@@ -172,15 +179,14 @@ export class Picture {
     const gone = new Set(this.#boxes.keys());
     const onPath = new Set(this.#view.path ?? []);
     const groups = groupsOf(this.#view);
-    const { leaves } = this.#layout;
     for (const s of states) {
       gone.delete(s);
       const facts = {
         name: named(this.#view, s), initial: this.#view.initial.has(s), forbidden: this.#view.forbidden.has(s),
         hang: this.#view.hang.has(s), resting: this.#view.resting.has(s), reached: this.#view.reached.has(s),
-        isDeadEnd: this.#view.resting.has(s) && !leaves[s], path: onPath.has(s), chosen: this.#view.chosen === s,
+        isDeadEnd: this.#view.resting.has(s) && this.#view.successors(s).length === 0, path: onPath.has(s), chosen: this.#chosen === s,
         found: this.#found === null ? null : this.#found.has(s), groups: groups.get(s) ?? [],
-        distance: this.#view.distance[s],
+        distance: this.#view.distance[s], isAnswered: this.#view.isAnswered,
       };
       const look = JSON.stringify(facts);
       const { x, y } = places.get(s);
@@ -236,7 +242,7 @@ export class Picture {
   }
 
   #drawNote({ isPart, isCut, steps }) {
-    const lines = noteLines(this.#view, { isPart, isCut, steps });
+    const lines = noteLines(this.#view, this.#chosen, { isPart, isCut, steps });
     this.#parts.note.replaceChildren(...(lines.length > 0 ? [noteOf(lines)] : []));
     this.#noteHeight = lines.length > 0 ? 2 * NOTE.top + NOTE.rim + NOTE.line * lines.length : 0;
   }
@@ -423,7 +429,7 @@ export class Picture {
   #goTo(dx, dy) {
     const places = this.#layout?.places;
     if (places === undefined || places.size === 0) return;
-    const here = places.get(this.#view.chosen);
+    const here = places.get(this.#chosen);
     let best = here === undefined ? { s: places.keys().next().value } : null;
     for (const [s, { x, y }] of here === undefined ? [] : places) {
       const [ahead, aside] = [(x - here.x) * dx + (y - here.y) * dy, Math.abs((x - here.x) * dy) + Math.abs((y - here.y) * dx)];
@@ -439,9 +445,9 @@ export class Picture {
 
   svgText(lines = []) {
     const { width, height, shown } = this.#layout ?? { width: 300, height: 20, shown: { isPart: false, steps: [] } };
-    const words = [...lines.map(plainly), ...(this.#view === null ? [] : noteLines(this.#view, shown))];
+    const words = [...lines.map(plainly), ...(this.#view === null ? [] : noteLines(this.#view, this.#chosen, shown))];
     const top = 24 * words.length;
-    const rows = this.#view === null ? [] : legendRows(this.#view, shown);
+    const rows = this.#view === null ? [] : legendRows(this.#view, this.#chosen, shown);
     const wide = Math.max(width, LEGEND.column + 2 * MARGIN, ...words.map((line) => 2 * MARGIN + 9 * line.length));
     const columns = Math.max(1, Math.floor((wide - 2 * MARGIN) / LEGEND.column));
     const high = top + height + LEGEND.row * Math.ceil(rows.length / columns) + MARGIN;
@@ -527,17 +533,17 @@ function groupsOf({ groups }) {
 const counted = (count, what) => `${count.toLocaleString("en")} ${what}${count === 1 ? "" : "s"}`;
 
 /** What is said where a part is drawn. */
-function noteLines(view, { isPart, isCut, steps }) {
+function noteLines(view, chosen, { isPart, isCut, steps }) {
   if (view.n === 0) return ["No screens yet."];
   if (!isPart) return [];
   const hasPath = view.path !== null && view.path.length > 0;
   const parts = [
     hasPath ? "the path with its neighbours" : null,
-    view.chosen !== null ? "the chosen screen with its own" : null,
+    chosen !== null ? "the chosen screen with its own" : null,
   ].filter((part) => part !== null);
   const what = parts.length > 0 ? parts.join(", ") : "the starts; choose a screen to see its own steps";
   return [
-    `${counted(view.steps.length, "step")} are too many to draw. Shown: ${what}.`,
+    `${counted(view.stepCount, "step")} are too many to draw. Shown: ${what}.`,
     `${counted(steps.length, "step")} ${steps.length === 1 ? "is" : "are"} drawn${isCut ? ", not all of these" : ""}. The list has all.`,
   ];
 }
@@ -554,8 +560,8 @@ function noteOf(lines) {
 }
 
 /** A row for each meaning that the picture has, as HTML. */
-function fillLegend(list, view, shown) {
-  const rows = legendRows(view, shown);
+function fillLegend(list, view, chosen, shown) {
+  const rows = legendRows(view, chosen, shown);
   const look = JSON.stringify(rows.map(({ key, words }) => [key, words]));
   if (list.dataset.look === look) return;
   list.dataset.look = look;

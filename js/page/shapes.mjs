@@ -19,6 +19,7 @@ const GROUPS_SHOWN = 6;
 /** The width of the words in a box, in small letters. */
 const CHARACTERS = 16;
 const LONG = 200;
+const LONG_GROUP = 30;
 const CUT = 9;
 
 export function element(kind, given = {}, parent = null) {
@@ -46,8 +47,8 @@ function cut(text, most) {
   return characters.join("");
 }
 
-/** A screen by its number and name. */
-export const named = (view, s) => (view.names[s] ? `${s} ${plainly(view.names[s])}` : String(s));
+/** A screen by its number and name; one without a name has its number as one. */
+export const named = (view, s) => (view.names[s] === String(s) ? view.names[s] : `${s} ${plainly(view.names[s])}`);
 
 // ---- A screen
 
@@ -110,11 +111,10 @@ function start(into, y = BOX.height / 2 - 1) {
 
 /** What is said of a screen when the pointer rests on it. */
 export function titleOf(facts) {
-  const away = facts.distance === null || facts.distance === undefined || facts.distance === Infinity
-    ? "never leads to a forbidden screen"
-    : `steps to the nearest forbidden screen: ${facts.distance}`;
+  const never = facts.isAnswered ? ["never leads to a forbidden screen"] : [];
+  const away = facts.distance === null ? never : [`steps to the nearest forbidden screen: ${facts.distance}`];
   const title = element("title");
-  title.textContent = [facts.name.slice(0, LONG), ...kindsOf(facts), facts.reached ? "reachable" : "not reachable", away].join("\n");
+  title.textContent = [facts.name.slice(0, LONG), ...kindsOf(facts), facts.isAnswered ? (facts.reached ? "reachable" : "not reachable") : "no answer", ...away].join("\n");
   return title;
 }
 
@@ -196,14 +196,14 @@ function sampleGroup(j) {
 const KINDS = [
   ["start", "start: a session can begin here", (view, s) => view.initial.has(s), sampleStart],
   ["lit", "shaded: can be reached", (view, s) => view.reached.has(s), () => sampleBox({})],
-  ["apart", "white: not reachable", (view, s) => !view.reached.has(s), () => sampleBox({ reached: false })],
+  ["apart", "white: not reachable", (view, s) => view.isAnswered && !view.reached.has(s), () => sampleBox({ reached: false })],
   ["forbidden", "eight corners: forbidden, marked so", (view, s) => view.forbidden.has(s), () => sampleBox({ forbidden: true })],
   ["hang", "eight corners, broken line: a hang, no way out", (view, s) => view.hang.has(s), () => sampleBox({ hang: true })],
   ["resting", "double line: a session may end here", (view, s) => view.resting.has(s), () => sampleBox({ resting: true })],
 ];
 
 /** For each meaning that the picture has a sample and words. */
-export function legendRows(view, shown) {
+export function legendRows(view, chosen, shown) {
   const rows = KINDS.filter(([, , is]) => shown.states.some((s) => is(view, s)))
     .map(([key, words, , sample]) => ({ key, words, sample: sample() }));
   if (view.path !== null && view.path.length > 0) {
@@ -213,15 +213,16 @@ export function legendRows(view, shown) {
     const sample = sampleStep({ stroke: COLOURS.step, "stroke-width": 1.6, "stroke-dasharray": "2 4" }, "step");
     rows.push({ key: "option", words: "dotted: a step only with an option", sample });
   }
-  if (view.chosen !== null) {
+  if (chosen !== null) {
     const sample = sampleStep({ stroke: COLOURS.chosen, "stroke-width": 2.6 }, "chosen");
     rows.push({ key: "leaves", words: "a step that leaves the chosen screen", sample });
     const other = sampleStep({ stroke: COLOURS.chosen, "stroke-width": 2.2, "stroke-dasharray": "8 4" }, "chosen");
     rows.push({ key: "enters", words: "a step that enters it", sample: other });
   }
   view.groups.forEach((states, j) => {
-    const name = view.groupNames[j] ? ` ${cut(plainly(view.groupNames[j]), 30)}` : "";
-    rows.push({ key: `group ${j}`, words: `group ${j}${name}: ${states.length} screen${states.length === 1 ? "" : "s"}`, sample: sampleGroup(j) });
+    const name = cut(plainly(view.groupNames[j]), LONG_GROUP);
+    const count = `${states.length} screen${states.length === 1 ? "" : "s"}`;
+    rows.push({ key: `group ${j}`, words: `${name}: ${count}`, sample: sampleGroup(j) });
   });
   return rows;
 }

@@ -33,6 +33,22 @@ function relaxed(n, roots, steps) {
   return away;
 }
 
+/** Steps as the page gives them. */
+function stepping(n, steps) {
+  const rows = Array.from({ length: n }, () => []);
+  const columns = Array.from({ length: n }, () => []);
+  const options = new Set();
+  for (const { from, to, option } of steps) {
+    rows[from].push(to);
+    columns[to].push(from);
+    if (option) options.add(from * n + to);
+  }
+  return {
+    steps, stepCount: steps.length, successors: (s) => rows[s], predecessors: (s) => columns[s],
+    isOption: (from, to) => options.has(from * n + to),
+  };
+}
+
 /** A view as the page makes it, with a walk to some screen as its path. */
 function viewOf(n, names, initial, steps) {
   const away = relaxed(n, initial, steps);
@@ -43,7 +59,7 @@ function viewOf(n, names, initial, steps) {
     while (away[path[0]] > 0) path.unshift(steps.find(({ from, to }) => to === path[0] && away[from] === away[to] - 1).from);
   }
   return {
-    n, names, initial, reached, steps, path, chosen: random(3) === 0 && n > 0 ? random(n) : null,
+    n, names, initial, reached, ...stepping(n, steps), path, isAnswered: true, chosen: random(3) === 0 && n > 0 ? random(n) : null,
     forbidden: new Set(path?.slice(-1)), hang: new Set(), resting: some(n, 3), groups: [], groupNames: [], distance: away,
   };
 }
@@ -139,7 +155,7 @@ function look(view, layout, what) {
   }
   const crossed = crossing(shown.steps, places);
   holds(crossed === null, what, "crosses a box:", JSON.stringify(crossed));
-  holds(JSON.stringify([...arranged(view).places]) === JSON.stringify([...arranged(view).places]), what, "the same again");
+  holds(JSON.stringify([...arranged(view, view.chosen).places]) === JSON.stringify([...arranged(view, view.chosen).places]), what, "the same again");
 }
 
 /** One step drawn or rubbed out: who is in the same layer as before has the same place in it. */
@@ -150,7 +166,7 @@ function edited(view, layout, what) {
     ? view.steps.filter((step) => step.from !== from || step.to !== to)
     : [...view.steps, { from, to, option: false }];
   const after = viewOf(view.n, view.names, view.initial, steps);
-  const then = arranged(after, layout);
+  const then = arranged(after, after.chosen, layout);
   look(after, then, `${what}, edited`);
   let moved = 0;
   for (const [s, place] of then.places) {
@@ -176,7 +192,7 @@ function without(view, layout, what) {
   const steps = view.steps.filter(({ from, to }) => from !== gone && to !== gone)
     .map(({ from, to, option }) => ({ from: next(from), to: next(to), option }));
   const after = viewOf(view.n - 1, view.names.filter((_, s) => s !== gone), of(view.initial), steps);
-  const then = arranged(after, layout);
+  const then = arranged(after, after.chosen, layout);
   look(after, then, `${what}, one taken away`);
   if (new Set(view.names).size < view.n) return;
   for (const [s, before] of layout.places) {
@@ -191,14 +207,14 @@ for (let k = 0; k < COUNT; k++) {
   const [n, most] = SIZES[k % SIZES.length];
   const view = randomView(n, most);
   const what = `table ${k} of SEED=${SEED}`;
-  let layout = arranged(view);
+  let layout = arranged(view, view.chosen);
   look(view, layout, what);
   edited(view, layout, what);
   if (n > 1) without(view, layout, what);
   const renamed = { ...view, names: view.names.map((name, s) => (s === 0 ? "another-name" : name)) };
   if (new Set(view.names).size === n) {
-    layout = arranged(renamed, layout);
-    holds(JSON.stringify([...layout.places]) === JSON.stringify([...arranged(view).places]), what, "a new name moves nothing");
+    layout = arranged(renamed, renamed.chosen, layout);
+    holds(JSON.stringify([...layout.places]) === JSON.stringify([...arranged(view, view.chosen).places]), what, "a new name moves nothing");
   }
 }
 
@@ -206,31 +222,32 @@ for (let k = 0; k < COUNT; k++) {
 
 const chain = viewOf(512, Array.from({ length: 512 }, (_, s) => `s${s}`), new Set([0]),
   Array.from({ length: 511 }, (_, s) => ({ from: s, to: s + 1, option: false })));
-look(chain, arranged(chain), "a chain of 512");
-const { width, height } = arranged(chain);
+look(chain, arranged(chain, null), "a chain of 512");
+const { width, height } = arranged(chain, null);
 holds(width / height > 0.8 && width / height < 4, "a chain of 512 is folded:", width, height);
 const large = randomView(512, 1500);
-look(large, arranged(large), "512 screens at random");
+look(large, arranged(large, null), "512 screens at random");
 
 const every = [];
 for (let from = 0; from < 512; from++) for (let to = 0; to < 512; to++) if (to !== 9 || from === 3) every.push({ from, to, option: false });
 const dense = { ...viewOf(512, [], new Set([0]), every), names: new Array(512).fill(""), path: [0, 3, 9], chosen: null };
-const part = shownOf(dense);
+const has = ({ steps }, { from, to }) => steps.some((step) => step.from === from && step.to === to);
+const part = shownOf(dense, null);
 holds(part.isPart && part.isCut && part.steps.length <= MANY_STEPS, "dense: a part is drawn, and it is said");
 for (const [from, to] of [[0, 3], [3, 9]]) {
   holds(part.steps.some((step) => step.from === from && step.to === to), "dense: the path is drawn", from, to);
 }
 holds(part.steps.every(({ from, to }) => [0, 3, 9].includes(from) || [0, 3, 9].includes(to)), "dense: only the path's neighbours");
 for (const s of [0, 3, 9]) holds(part.steps.some(({ from, to }) => from === s || to === s), "dense: each has neighbours");
-const chosen = shownOf({ ...dense, chosen: 100 });
-holds(every.filter(({ from, to }) => from === 100 || to === 100).every((step) => chosen.steps.includes(step)), "dense: the chosen one's own");
-const few = shownOf({ ...dense, path: null, chosen: null });
+const chosen = shownOf(dense, 100);
+holds(every.filter(({ from, to }) => from === 100 || to === 100).every((step) => has(chosen, step)), "dense: the chosen one's own");
+const few = shownOf({ ...dense, path: null }, null);
 holds(few.states.length === 1 && few.steps.length === 0, "dense and safe, nothing chosen: the initial screen");
-const wide = { ...dense, steps: every.filter((_, k) => k % 100 === 0) };
+const wide = { ...dense, ...stepping(512, every.filter((_, k) => k % 100 === 0)) };
 const beside = wide.steps.filter(({ from, to }) => [0, 3, 9].includes(from) || [0, 3, 9].includes(to));
-holds(wide.steps.length > MANY_STEPS && !shownOf(wide).isCut, "of few neighbours it is not said that they are cut");
-holds(beside.length > 20 && beside.every((step) => shownOf(wide).steps.includes(step)), "of few neighbours all are drawn");
-look(dense, arranged(dense), "dense");
+holds(wide.steps.length > MANY_STEPS && !shownOf(wide, null).isCut, "of few neighbours it is not said that they are cut");
+holds(beside.length > 20 && beside.every((step) => has(shownOf(wide, null), step)), "of few neighbours all are drawn");
+look(dense, arranged(dense, null), "dense");
 
 assert.ok(facts >= 20 * COUNT, `only ${facts} facts`);
 console.log(`page: layout: ${COUNT} tables, ${facts} facts as expected`);
