@@ -67,11 +67,25 @@ pub struct Text {
 
 /// The text of a table, with names for the states that have one. They are printed as they are: those of a text are good ones.
 pub fn print(table: &Table, names: &Names) -> String {
+    print_with_possible(table, names, &[])
+}
+
+/// The same with a line `possible` for each row of further steps that is not empty.
+pub fn print_with_possible(table: &Table, names: &Names, possible: &[Set]) -> String {
     let mut text = format!("states {}\n", table.rows.len());
     if !table.rows.is_empty() {
         text += &facts(table, names);
+        text += &steps("possible", possible);
     }
     text + END + "\n"
+}
+
+/// A line for each row that is not empty.
+fn steps(fact: &str, rows: &[Set]) -> String {
+    let rows = rows.iter().enumerate();
+    rows.filter(|(_, row)| **row != Set::default())
+        .map(|(s, row)| format!("{fact} {s} {ARROW} {}\n", listing(row)))
+        .collect()
 }
 
 fn facts(table: &Table, names: &Names) -> String {
@@ -86,12 +100,7 @@ fn facts(table: &Table, names: &Names) -> String {
     for group in &table.groups {
         say("group", group);
     }
-    for (s, row) in table.rows.iter().enumerate() {
-        if *row != Set::default() {
-            say(&format!("step {s} {ARROW}"), row);
-        }
-    }
-    text
+    text + &steps("step", &table.rows)
 }
 
 /// The states of a set, or `none`.
