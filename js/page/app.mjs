@@ -6,7 +6,7 @@ import { Asked } from "./ask.mjs";
 import { $, button, counted } from "./dom.mjs";
 import * as files from "./files.mjs";
 import { List } from "./list.mjs";
-import { History, NEW_DRAFT, NotDone, hasOptions, isSameDraft, storeOf, textOf } from "./model.mjs";
+import { History, NEW_DRAFT, NotDone, hasOptions, isSameDraft, screen, storeOf, textOf } from "./model.mjs";
 import { Picture } from "./picture.mjs";
 import { ScreenEditor } from "./screen.mjs";
 import { TextEditor } from "./text.mjs";
@@ -80,6 +80,12 @@ class App {
     }
   }
 
+  /** The same of what takes its time, as reading a file does. */
+  later(work) {
+    this.#say(null);
+    work().catch((error) => this.#failed(error));
+  }
+
   #failed(error) {
     if (error instanceof NotDone) {
       this.#say(error.message);
@@ -141,6 +147,28 @@ class App {
       this.#picture.choose(s);
       this.#screen.show(this.draft, this.#answer, s);
     });
+  }
+
+  /** The screens whose name or number has the words of the search; the picture shows them, as far as it can. */
+  #found() {
+    const words = $("search").value.trim().toLowerCase();
+    const every = this.draft.names.map((_, s) => s);
+    return words === "" ? [] : every.filter((s) => screen(this.draft, s).toLowerCase().includes(words));
+  }
+
+  #search() {
+    this.#picture.find($("search").value);
+    const count = this.#found().length;
+    $("picture-words").textContent = $("search").value.trim() === "" ? "" : `${counted(count, "screen")} found; Enter goes from one to the next`;
+  }
+
+  /** Chooses the next screen that was found. */
+  #next() {
+    const found = this.#found();
+    if (found.length === 0) return;
+    const next = found.find((s) => s > (this.chosen ?? -1)) ?? found[0];
+    this.choose(next);
+    this.#picture.centre(next);
   }
 
   #act(name, s) {
@@ -325,7 +353,8 @@ class App {
     on("fit", "click", () => this.#picture.fit());
     on("zoom-in", "click", () => this.#picture.zoom(LARGER));
     on("zoom-out", "click", () => this.#picture.zoom(1 / LARGER));
-    on("search", "input", () => this.#picture.find($("search").value));
+    on("search", "input", () => this.#search());
+    on("search", "keydown", (event) => { if (event.key === "Enter") this.#next(); });
     for (const name of TABS) on(`tab-${name}`, "click", () => this.#tab(name));
     on("tabs", "keydown", (event) => this.#tabKey(event));
     document.addEventListener("keydown", (event) => this.#key(event));
@@ -348,7 +377,7 @@ class App {
     $("open-file").value = "";
     if (given.length === 0) return;
     if (given.length > 1) throw new NotDone("one file at a time: open the first of them by itself");
-    this.#openFile(given[0]).catch((error) => this.#failed(error));
+    this.later(() => this.#openFile(given[0]));
   }
 
   #paste(event) {

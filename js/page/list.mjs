@@ -13,16 +13,19 @@ const kinds = (view, s) => [
 ];
 const groupsOf = (view, s) => view.groups.flatMap((states, j) => (states.includes(s) ? [j] : []));
 
-/** Each column: its words, and what it is sorted by. */
+/** Each column: its words, and what it is sorted by. How far away a screen is counts the steps to the nearest
+ * forbidden one. */
 const COLUMNS = [
   ["number", "No.", (view, s) => s],
   ["name", "Name", (view, s) => view.names[s]],
   ["is", "What it is", (view, s) => kinds(view, s).join(" ") || "~"],
   ["reached", "Reached", (view, s) => (view.reached.has(s) ? 0 : 1)],
-  ["distance", "Steps to forbidden", (view, s) => view.distance[s] ?? NEVER],
+  ["distance", "Away", (view, s) => view.distance[s] ?? NEVER],
   ["groups", "Groups", (view, s) => groupsOf(view, s).join(" ") || "~"],
   ["steps", "Steps to", (view, s) => view.successors(s).length],
 ];
+
+const TITLES = { distance: "Steps to the nearest forbidden screen", reached: "Whether a session can come there" };
 
 const compare = (a, b) =>
   typeof a === "number" ? a - b : a.localeCompare(b, "en", { numeric: true, sensitivity: "base" });
@@ -43,7 +46,7 @@ export class List {
     this.#onChoose = onChoose;
     this.#onAct = onAct;
     const heads = COLUMNS.map(([key, words]) =>
-      element("th", { scope: "col", data: { sort: key } }, button(words, () => this.sort(key))));
+      element("th", { scope: "col", data: { sort: key } }, button(words, () => this.sort(key), { title: TITLES[key] ?? "" })));
     $("list").tHead.rows[0].replaceChildren(...heads);
     $("list").tBodies[0].addEventListener("keydown", (event) => this.#key(event));
     this.#heads();
@@ -52,10 +55,11 @@ export class List {
   show(view) {
     this.#view = view;
     const body = $("list").tBodies[0];
+    $("list").classList.toggle("no-groups", view.groups.length === 0);
     while (this.#rows.length > view.n) this.#rows.pop().remove();
     while (this.#rows.length < view.n) this.#rows.push(this.#row(this.#rows.length));
     this.#written.length = view.n;
-    const named = new Map((view.path ?? []).map((s, k) => [s, k + 1]));
+    const named = new Map((view.path ?? []).map((s, k) => [s, k]));
     for (let s = 0; s < view.n; s++) this.#fill(s, named.get(s));
     this.#sorted(body);
     this.choose(view.chosen);

@@ -1,6 +1,6 @@
 // The text beside the picture. As long as it has mistakes there is no answer, and nothing is edited by hand.
 import { $, button, counted, element } from "./dom.mjs";
-import { draftOfText, textOf } from "./model.mjs";
+import { draftOfText } from "./model.mjs";
 
 /** A text of so many characters is read at once, as it is typed; a longer one when typing pauses. */
 const READ_AT_ONCE = 60_000;

@@ -2,7 +2,7 @@
 // goes wrong on the way leaves "no answer" there, and never an old verdict.
 import { vacuous } from "./answer.mjs";
 import { $, button, counted, element } from "./dom.mjs";
-import { called, hasOptions, isHang, screen } from "./model.mjs";
+import { called, hasOptions, isHang } from "./model.mjs";
 
 const MARKS = { safe: "✓", unsafe: "✕", depends: "◐", draft: "…", vacuous: "!", mistakes: "✎", none: "?" };
 
@@ -77,7 +77,7 @@ export class VerdictPlace {
 
   #path(d, path) {
     const steps = path.map((s, k) => {
-      const item = element("li", { data: { state: s } }, button(screen(d, s), () => this.#onChoose(s)));
+      const item = element("li", { data: { state: s } }, button(called(d, s), () => this.#onChoose(s), { title: `screen ${s}` }));
       if (k === path.length - 1) item.append(element("strong", {}, ` ${whyForbidden(d, s)}`));
       return item;
     });
