@@ -87,7 +87,7 @@ export const screen = (d, s) => (d.names[s] === null ? String(s) : `${s} ${d.nam
 /** The screen that words stand for, a name or a number; null where there is none. */
 export function screenOf(d, words) {
   const word = words.trim();
-  const named = d.names.indexOf(word);
+  const named = d.names.indexOf(hyphened(word));
   if (named !== -1) return named;
   const number = /^(0|[1-9][0-9]{0,4})$/.exec(word) ? Number(word) : /^([0-9]+) /.exec(word)?.[1];
   const s = Number(number ?? NaN);
@@ -105,20 +105,22 @@ export function isSameDraft(a, b) {
 
 // ---- edits
 
+/** Words as a name has them: with hyphens for spaces. */
+const hyphened = (words) => words.trim().replace(/\s+/g, "-");
+
 /** A good name, or why it is none: the reader of texts says so, beside a name that is there already. */
 export function checkedName(library, d, s, words) {
-  const name = words.trim();
+  const name = hyphened(words);
   const other = d.names.findIndex((old, k) => old === name && k !== s);
   if (other !== -1) throw new NotDone(`screen ${other} has the name ${name} already`);
-  const beside = d.names.find((old, k) => old !== null && k !== s) ?? "a";
-  const written = name === beside ? `${beside}-` : beside;
-  const text = `states 2\nstate 0 ${written}\nstate 1 ${name}\ninitial none\nforbidden none\nend\n`;
+  const beside = d.names.find((old, k) => old !== null && k !== s);
+  const others = beside === undefined ? "" : `state 0 ${beside}\n`;
+  const text = `states 2\n${others}state 1 ${name}\ninitial none\nforbidden none\nend\n`;
   try {
     if (library.Table.fromText(text).names.get(1) === name) return name;
   } catch (error) {
     if (!Array.isArray(error.mistakes)) throw error;
-    const reason = error.mistakes[0].reason;
-    throw new NotDone(/\s/.test(name) ? `a name has no spaces: write ${name.replace(/\s+/g, "-")}` : reason);
+    throw new NotDone(error.mistakes[0].reason);
   }
   throw new NotDone(`'${name}' is no name: # begins a comment`);
 }
