@@ -142,13 +142,13 @@ export class Picture {
   }
 
   #drawSteps(steps, lines) {
-    const { n, path } = this.#view;
+    const { path } = this.#view;
     const chosen = this.#chosen;
-    const onPath = new Set((path ?? []).slice(1).map((to, k) => path[k] * n + to));
+    const onPath = new Set((path ?? []).slice(1).map((to, k) => `${path[k]} ${to}`));
     const isQuiet = onPath.size > 0 || chosen !== null || steps.length > CROWDED;
     const gone = new Set(this.#steps.keys());
     steps.forEach(({ from, to, option }, k) => {
-      const key = from * n + to;
+      const key = `${from} ${to}`;
       const isOnPath = onPath.has(key);
       const kind = isOnPath ? "path" : stepKind(from, to, chosen, isQuiet);
       const look = `${kind} ${option}`;
@@ -156,7 +156,7 @@ export class Picture {
       gone.delete(key);
       if (drawn === undefined) {
         drawn = { line: element("path", { fill: "none" }), d: null, look: null };
-        drawn.line.dataset.step = `${from} ${to}`;
+        drawn.line.dataset.step = key;
         this.#steps.set(key, drawn);
       }
       if (drawn.d !== lines[k]) drawn.line.setAttribute("d", drawn.d = lines[k]);

@@ -144,7 +144,7 @@ export function box(s, facts) {
 
 /** The number of a screen on the path, and its name for when the picture is small. */
 export function badge(k, name) {
-  const made = element("g", { "pointer-events": "none", "font-weight": 700 });
+  const made = element("g", { "pointer-events": "none", "font-weight": 700, "data-path": k });
   const number = String(k);
   const width = Math.max(22, 12 + 8 * number.length);
   element("rect", { x: -width / 2, y: -11, width, height: 22, rx: 11, fill: COLOURS.path, stroke: "#fff", "stroke-width": 2 }, made);
