@@ -17,7 +17,7 @@ const GROUPS = [
 /** So many of its groups are shown at a screen. */
 const GROUPS_SHOWN = 6;
 /** The width of the words in a box, in small letters. */
-const CHARACTERS = 16;
+const CHARACTERS = 13.5;
 const LONG = 200;
 const LONG_GROUP = 30;
 const CUT = 9;
@@ -134,9 +134,9 @@ export function box(s, facts) {
   const ink = facts.reached || facts.forbidden || facts.hang ? COLOURS.line : COLOURS.quiet;
   const inside = element("g", { "clip-path": "url(#picture-words)", fill: ink, direction: "ltr" }, made);
   element("text", {
-    x: 10, y: words === "" ? 25 : 18, "font-size": 13, "font-weight": facts.path ? 700 : null,
-  }, inside).textContent = cut(facts.name, facts.path ? CHARACTERS - 2 : CHARACTERS);
-  if (words !== "") element("text", { x: 10, y: 33, "font-size": 11 }, inside).textContent = words;
+    x: 9, y: words === "" ? 25 : 18, "font-size": 14, "font-weight": facts.path ? 700 : null,
+  }, inside).textContent = cut(facts.name, facts.path ? CHARACTERS - 1.5 : CHARACTERS);
+  if (words !== "") element("text", { x: 9, y: 33, "font-size": 12 }, inside).textContent = words;
   if (facts.initial) start(made);
   if (facts.groups.length > 0) swatches(facts.groups, made);
   return made;
