@@ -55,12 +55,17 @@ export class Answers {
     const { verdict, path, invariant } = decision;
     const isUnsafe = verdict === "unsafe" || verdict === "depends";
     const meets = [...reached].some((s) => isForbidden(d, s));
-    const comes = members(d.initial).some((s) => distances[s] !== Infinity);
+    const nearest = Math.min(Infinity, ...members(d.initial).map((s) => distances[s]));
+    const isFar = distances.every((away, s) => (away === 0) === isForbidden(d, s));
     hold(d.n === decision.n, "how many screens there are");
     hold(isUnsafe || verdict === "safe", "a release check is never undecided");
-    hold(isUnsafe === meets && isUnsafe === comes, "whether a forbidden screen is reached");
+    hold(isUnsafe === meets && isUnsafe === (nearest !== Infinity), "whether a forbidden screen is reached");
+    hold(distances.length === d.n && isFar, "how far forbidden screens are");
     hold(isUnsafe === (path !== null), "whether there is a path");
     hold(path === null || isPath(d, path), "what the path is");
+    // a path on the certain steps alone may be longer than one with an option's
+    const isShortest = path === null || (verdict === "unsafe" && certain !== all) || path.length - 1 === nearest;
+    hold(isShortest, "how long the path is");
     hold(decision.isSafe === (verdict === "safe" && d.n > 0), "whether it is safe");
     return Object.freeze({ verdict, isSafe: decision.isSafe, path, invariant, reached, distances });
   }
