@@ -6,7 +6,7 @@ import { agrees, end, holds, onPage, same, shown } from "./support.mjs";
 const [DENSE, SPARSE] = process.argv.slice(2); // files
 const expected = JSON.parse(readFileSync(0, "utf8"));
 /** What an edit may take, in milliseconds, on a machine that does other work too; the page's own bar is 100. */
-const SLOW = 500;
+const SLOW = 1500;
 
 async function open(browser, file) {
   const before = await browser.run(() => document.getElementById("verdict").dataset.edit);
