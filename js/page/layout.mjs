@@ -9,13 +9,13 @@ export const MANY_STEPS = 2000;
 /** So many steps between the path and its neighbours are then drawn at most: more are one black area. */
 const MANY_NEIGHBOURS = 400;
 
-export const BOX = { width: 136, height: 40 };
-export const GAP = { across: 52, down: 26 };
+export const BOX = { width: 126, height: 40 };
+export const GAP = { across: 42, down: 24 };
 /** Above the rows of a shelf: the words over its layers. */
-export const HEAD = 26;
+export const HEAD = 24;
 /** Between the screens that can be reached and those that cannot. */
-const APART = 34;
-const MARGIN = 16;
+const APART = 30;
+const MARGIN = 8;
 const PITCH = { across: BOX.width + GAP.across, down: BOX.height + GAP.down };
 
 /** A picture that is about so many times as wide as high fills a window. */

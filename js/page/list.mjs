@@ -40,6 +40,7 @@ export class List {
   #by = "number";
   #isDown = false;
   #open = new Set();
+  #chosen = null;
 
   /** `onAct(name, state)` is told of Enter ("edit") and Delete ("remove") on a row. */
   constructor({ onChoose, onAct }) {
@@ -71,7 +72,10 @@ export class List {
       row.setAttribute("aria-selected", String(s === chosen));
       row.tabIndex = s === (chosen ?? first) ? 0 : -1;
     });
-    if (chosen !== null && !$("panel-list").hidden) this.#rows[chosen]?.scrollIntoView({ block: "nearest" });
+    // To scroll has the whole page laid out at once, so it is done where there is something to go to.
+    const isOther = chosen !== this.#chosen;
+    this.#chosen = chosen;
+    if (isOther && chosen !== null && !$("panel-list").hidden) this.#rows[chosen]?.scrollIntoView({ block: "nearest" });
   }
 
   sort(key) {

@@ -45,6 +45,8 @@ export class Picture {
   #found = null;
   #drag = null;
   #noteHeight = 0;
+  /** As the observer says: to ask for it after a change would have the whole page laid out at once. */
+  #size = { width: 0, height: 0 };
 
   constructor(svg, { onChoose, onStep, onMove, legend } = {}) {
     this.#svg = svg;
@@ -66,7 +68,8 @@ export class Picture {
     svg.addEventListener("pointerup", (event) => this.#up(event));
     svg.addEventListener("pointercancel", () => this.#end());
     svg.addEventListener("keydown", (event) => this.#key(event));
-    new ResizeObserver(() => this.#resized()).observe(svg);
+    this.#size = { width: svg.clientWidth, height: svg.clientHeight };
+    new ResizeObserver(([{ contentRect: { width, height } }]) => this.#resized({ width, height })).observe(svg);
   }
 
   // ---- What is shown
@@ -131,8 +134,8 @@ export class Picture {
     if (apart !== null) {
       const band = element("g");
       const { width } = this.#layout;
-      element("path", { d: `M16 ${apart.y - 4}H${width - 16}`, stroke: COLOURS.quiet, "stroke-dasharray": "2 5" }, band);
-      const label = element("text", { x: 68, y: apart.y + 15, "font-size": 12, fill: COLOURS.quiet }, band);
+      element("path", { d: `M8 ${apart.y - 6}H${width - 8}`, stroke: COLOURS.quiet, "stroke-dasharray": "2 5" }, band);
+      const label = element("text", { x: 50, y: apart.y + 12, "font-size": 12, fill: COLOURS.quiet }, band);
       label.textContent = this.#view.isAnswered
         ? "not reachable: no steps lead here from a start"
         : "no answer: which screens can be reached is not known";
@@ -249,10 +252,6 @@ export class Picture {
 
   // ---- Where the eye is
 
-  get #size() {
-    return { width: this.#svg.clientWidth, height: this.#svg.clientHeight };
-  }
-
   #placeWorld() {
     const { x, y, scale } = this.#at;
     this.#parts.world.setAttribute("transform", `translate(${x} ${y}) scale(${scale})`);
@@ -315,7 +314,8 @@ export class Picture {
     this.#look({ ...this.#at, x: this.#at.x + dx, y: this.#at.y + dy });
   }
 
-  #resized() {
+  #resized(size) {
+    this.#size = size;
     if (this.#layout !== null && (!this.#isFitted || !this.#isMoved)) this.fit();
   }
 
@@ -463,6 +463,9 @@ export class Picture {
     const world = element("g", { transform: `translate(0 ${top})` }, file);
     for (const name of ["bands", "steps", "pathSteps", "boxes", "badges"]) {
       world.append(this.#parts[name].cloneNode(true));
+    }
+    for (const copy of world.querySelectorAll("[data-state]")) {
+      if (copy.querySelector("title") === null) copy.append(titleOf(JSON.parse(this.#boxes.get(Number(copy.dataset.state)).look)));
     }
     const copies = [...world.lastElementChild.children];
     this.#badges.forEach(({ place }, k) => copies[k].setAttribute("transform", `translate(${place.x} ${place.y})`));

@@ -9,11 +9,14 @@ import { EMPTY, put } from "./bits.mjs";
 import { whyForbidden } from "./verdict.mjs";
 
 const MARKS = { "screen-initial": "initial", "screen-forbidden": "marked", "screen-resting": "resting" };
+/** So many steps of a screen have their fields; the others are counted until they are asked for. */
+const SHOWN_STEPS = 60;
 const SPOKEN = { initial: "initial", marked: "forbidden", resting: "resting" };
 
 export class ScreenEditor {
   #app;
   #listed = null;
+  #open = null; // the screen whose steps are all shown
 
   constructor(app) {
     this.#app = app;
@@ -109,9 +112,22 @@ export class ScreenEditor {
     $("screen-name").value = d.names[s] ?? "";
     for (const [id, what] of Object.entries(MARKS)) $(id).checked = has(d[what], s);
     $("screen-words").textContent = this.#facts(d, answer, s);
-    $("screen-steps").replaceChildren(...successors(d, s).map((to) => this.#stepFrom(d, s, to)));
-    $("screen-from").replaceChildren(...predecessors(d, s).map((from) => this.#stepTo(d, from, s)));
+    this.#steps("screen-steps", s, successors(d, s), (to) => this.#stepFrom(d, s, to));
+    this.#steps("screen-from", s, predecessors(d, s), (from) => this.#stepTo(d, from, s));
     $("screen-groups").replaceChildren(...d.groups.map((_, j) => this.#group(d, j, s)));
+  }
+
+  #steps(id, s, others, item) {
+    const shown = this.#open === s ? others : others.slice(0, SHOWN_STEPS);
+    const items = shown.map(item);
+    const left = others.length - shown.length;
+    if (left > 0) items.push(element("li", {}, button(`and ${left} more`, () => this.#all(s), { className: "more" })));
+    $(id).replaceChildren(...items);
+  }
+
+  #all(s) {
+    this.#open = s;
+    this.#app.attempt(() => this.show(this.#app.draft, this.#app.answer, s));
   }
 
   /** The names that a field proposes; written where they changed. */

@@ -17,7 +17,8 @@ const GROUPS = [
 /** So many of its groups are shown at a screen. */
 const GROUPS_SHOWN = 6;
 /** The width of the words in a box, in small letters. */
-const CHARACTERS = 16;
+const CHARACTERS = 13.5;
+const LETTERS = { most: 14, least: 10.5 };
 const LONG = 200;
 const LONG_GROUP = 30;
 const CUT = 9;
@@ -36,15 +37,28 @@ export function plainly(text) {
   return text.replace(/[\p{Cc}\p{Cf}\p{Cs}\p{Cn}\p{Co}\p{Zl}\p{Zp}]/gu, (c) => `\\u{${c.codePointAt(0).toString(16)}}`);
 }
 
+/** About how wide a character is, in small letters. */
+function widthOf(c) {
+  if (/[ijlt.,:;'|!-]/.test(c)) return 0.6;
+  return c.codePointAt(0) >= 0x1100 ? 1.9 : /[mwA-Z0-9@%]/.test(c) ? 1.25 : 1;
+}
+
 function cut(text, most) {
   const characters = Array.from(text.slice(0, 4 * most));
-  const width = (c) => (/[ijlt.,:;'|!-]/.test(c) ? 0.6 : /[mwA-Z0-9@%]/.test(c) ? 1.25 : c.codePointAt(0) >= 0x1100 ? 1.9 : 1);
   let used = 0;
   for (let k = 0; k < characters.length; k++) {
-    used += width(characters[k]);
+    used += widthOf(characters[k]);
     if (used > most) return `${characters.slice(0, k).join("").trimEnd()}…`;
   }
   return characters.join("");
+}
+
+/** A name in a box: in smaller letters where it is long, and cut where they would be too small. */
+function fitted(name, isBold) {
+  const room = isBold ? CHARACTERS - 1.5 : CHARACTERS;
+  const width = Array.from(name.slice(0, LONG)).reduce((sum, c) => sum + widthOf(c), 0);
+  const size = Math.max(LETTERS.least, Math.min(LETTERS.most, Math.floor((10 * LETTERS.most * room) / width) / 10));
+  return { size, words: cut(name, (room * LETTERS.most) / size) };
 }
 
 /** A screen by its number and name; one without a name has its number as one. */
@@ -133,10 +147,11 @@ export function box(s, facts) {
   const words = kindsOf(facts).join(", ");
   const ink = facts.reached || facts.forbidden || facts.hang ? COLOURS.line : COLOURS.quiet;
   const inside = element("g", { "clip-path": "url(#picture-words)", fill: ink, direction: "ltr" }, made);
+  const { size, words: name } = fitted(facts.name, facts.path);
   element("text", {
-    x: 10, y: words === "" ? 25 : 18, "font-size": 13, "font-weight": facts.path ? 700 : null,
-  }, inside).textContent = cut(facts.name, facts.path ? CHARACTERS - 2 : CHARACTERS);
-  if (words !== "") element("text", { x: 10, y: 33, "font-size": 11 }, inside).textContent = words;
+    x: 9, y: words === "" ? 25 : 18, "font-size": size, "font-weight": facts.path ? 700 : null,
+  }, inside).textContent = name;
+  if (words !== "") element("text", { x: 9, y: 33, "font-size": 12 }, inside).textContent = words;
   if (facts.initial) start(made);
   if (facts.groups.length > 0) swatches(facts.groups, made);
   return made;
@@ -200,6 +215,8 @@ const KINDS = [
   ["forbidden", "eight corners: forbidden, marked so", (view, s) => view.forbidden.has(s), () => sampleBox({ forbidden: true })],
   ["hang", "eight corners, broken line: a hang, no way out", (view, s) => view.hang.has(s), () => sampleBox({ hang: true })],
   ["resting", "double line: a session may end here", (view, s) => view.resting.has(s), () => sampleBox({ resting: true })],
+  ["dead end", "broken double line: no way out, and rests", (view, s) => view.resting.has(s) && view.successors(s).length === 0,
+    () => sampleBox({ resting: true, isDeadEnd: true })],
 ];
 
 /** For each meaning that the picture has a sample and words. */

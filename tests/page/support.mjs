@@ -43,6 +43,10 @@ export async function anew(browser) {
   await browser.until(() => document.getElementById("verdict").dataset.edit !== undefined, "the page is ready");
 }
 
+/** Other pages of a test's own. */
+const others = new Set();
+export const alsoAsked = (page) => others.add(page);
+
 /** Nothing went wrong in the page, and no request left it: the browser's own words. */
 export async function quiet(browser) {
   for (const { level, message } of await browser.log("browser")) {
@@ -55,7 +59,7 @@ export async function quiet(browser) {
     const asked = params.request?.url ?? params.url;
     if (params.documentURL?.startsWith("chrome:") && asked.startsWith("chrome:")) continue; // the browser's own first tab
     count++;
-    holds(asked === url || asked.startsWith("data:") || asked.startsWith(`blob:${new URL(url).protocol}`), `a request: ${asked}`);
+    holds(asked === url || others.has(asked) || asked.startsWith("data:") || asked.startsWith(`blob:${new URL(url).protocol}`), `a request: ${asked}`);
   }
   holds(count > 0, "the browser tells of requests");
 }

@@ -94,6 +94,9 @@ export class Browser {
   run = (work, ...given) =>
     this.#ask("POST", "/execute/sync", { script: `return (${work}).apply(null, arguments)`, args: given });
 
+  /** A command of the browser's own protocol for developers. */
+  cdp = (cmd, params) => this.#ask("POST", "/goog/cdp/execute", { cmd, params });
+
   async screenshot(file) {
     writeFileSync(file, Buffer.from(await this.#ask("GET", "/screenshot"), "base64"));
   }
@@ -115,8 +118,11 @@ export class Browser {
     return (await this.#ask("POST", "/element", { using: "css selector", value: selector }))[ELEMENT];
   }
 
-  /** A click where a person would: it fails on what is hidden or lies below something else. */
-  click = async (selector) => this.#ask("POST", `/element/${await this.find(selector)}/click`);
+  /** A click where a person would, who scrolls there first: it fails on what is hidden or lies below something else. */
+  async click(selector) {
+    await this.run((sought) => document.querySelector(sought)?.scrollIntoView({ block: "center" }), selector);
+    await this.#ask("POST", `/element/${await this.find(selector)}/click`);
+  }
   text = async (selector) => this.#ask("GET", `/element/${await this.find(selector)}/text`);
   clear = async (selector) => this.#ask("POST", `/element/${await this.find(selector)}/clear`);
   /** Words into a field, or a path into a field for files. */
