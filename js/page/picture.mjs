@@ -21,6 +21,8 @@ const PAN = 60;
 /** So many steps side by side are drawn faintly. */
 const CROWDED = 300;
 const MARGIN = 20;
+/** So far outside the corner of its screen a number of the path stands. */
+const CORNER = 4;
 /** Where the name of a screen of the path can stand, above and below its number. */
 const LABELS = [-15, 25, -29, 39, -43, 53, -57, 67];
 const NOTE = { top: 8, line: 20, rim: 14 };
@@ -68,6 +70,8 @@ export class Picture {
     svg.addEventListener("pointerup", (event) => this.#up(event));
     svg.addEventListener("pointercancel", () => this.#end());
     svg.addEventListener("keydown", (event) => this.#key(event));
+    globalThis.addEventListener("beforeprint", () => this.#forPaper());
+    globalThis.addEventListener("afterprint", () => svg.removeAttribute("viewBox"));
     this.#size = { width: svg.clientWidth, height: svg.clientHeight };
     new ResizeObserver(([{ contentRect: { width, height } }]) => this.#resized({ width, height })).observe(svg);
   }
@@ -226,7 +230,7 @@ export class Picture {
     this.#parts.pathSteps.setAttribute("stroke-width", 4 * larger);
     const taken = [];
     for (const { made, label, place, width } of this.#badges) {
-      made.setAttribute("transform", `translate(${place.x} ${place.y}) scale(${larger})`);
+      made.setAttribute("transform", `translate(${place.x - CORNER} ${place.y - CORNER}) scale(${larger})`);
       const [x, y] = [place.x / larger, place.y / larger];
       const isFree = (dy) => taken.slice(-40).every(
         (other) => other.x > x + width || other.x + other.width < x || Math.abs(other.y - y - dy) > 13,
@@ -312,6 +316,14 @@ export class Picture {
   #pan(dx, dy) {
     this.#isMoved = true;
     this.#look({ ...this.#at, x: this.#at.x + dx, y: this.#at.y + dy });
+  }
+
+  /** On paper the whole picture fills its place, whatever is looked at on the screen. */
+  #forPaper() {
+    if (this.#layout === null) return;
+    const { x, y, scale } = this.#at;
+    const { width, height } = this.#layout;
+    this.#svg.setAttribute("viewBox", [x, y - this.#noteHeight, width * scale, height * scale + this.#noteHeight].join(" "));
   }
 
   #resized(size) {
@@ -468,7 +480,7 @@ export class Picture {
       if (copy.querySelector("title") === null) copy.append(titleOf(JSON.parse(this.#boxes.get(Number(copy.dataset.state)).look)));
     }
     const copies = [...world.lastElementChild.children];
-    this.#badges.forEach(({ place }, k) => copies[k].setAttribute("transform", `translate(${place.x} ${place.y})`));
+    this.#badges.forEach(({ place }, k) => copies[k].setAttribute("transform", `translate(${place.x - CORNER} ${place.y - CORNER})`));
     for (const label of world.querySelectorAll("[visibility]")) label.remove();
     world.children[2].setAttribute("stroke-width", 4);
     rows.forEach(({ sample, words: means }, k) => {

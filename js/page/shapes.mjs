@@ -18,7 +18,7 @@ const GROUPS = [
 const GROUPS_SHOWN = 6;
 /** The width of the words in a box, in small letters. */
 const CHARACTERS = 13.5;
-const LETTERS = { most: 14, least: 10.5 };
+const LETTERS = { most: 14, least: 9.5 };
 const LONG = 200;
 const LONG_GROUP = 30;
 const CUT = 9;
@@ -39,7 +39,7 @@ export function plainly(text) {
 
 /** About how wide a character is, in small letters. */
 function widthOf(c) {
-  if (/[ijlt.,:;'|!-]/.test(c)) return 0.6;
+  if (/[ijlt.,:;'|! -]/.test(c)) return 0.6;
   return c.codePointAt(0) >= 0x1100 ? 1.9 : /[mwA-Z0-9@%]/.test(c) ? 1.25 : 1;
 }
 

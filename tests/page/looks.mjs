@@ -1,6 +1,6 @@
 // How it looks at three widths: a screenshot of each, to be looked at; nothing is cut off at the sides, the verdict and
-// the picture are there at once. Also at twice the size of letters.
-import { mkdirSync, readFileSync } from "node:fs";
+// the picture are there at once. Also at twice the size of letters, and printed.
+import { mkdirSync, readFileSync, writeFileSync } from "node:fs";
 import { join } from "node:path";
 import { end, holds, onPage, same } from "./support.mjs";
 
@@ -35,6 +35,9 @@ await onPage(async (browser) => {
     await browser.screenshot(join(OUT, `unsafe-${width}.png`));
   }
   await browser.size(1280, 860);
+  const printed = await browser.print();
+  writeFileSync(join(OUT, "printed.pdf"), printed);
+  same(printed.toString("latin1").match(/\/Type\s*\/Page\b/g)?.length, 1, "it prints as one sheet");
   await browser.run(() => { document.documentElement.style.fontSize = "200%"; });
   const large = await browser.run(measured);
   holds(large.over <= 0, `at twice the size: ${large.over} pixels stick out`);

@@ -37,10 +37,12 @@ export async function onPage(work, { width = 1280, height = 860 } = {}) {
   }
 }
 
-/** The page, opened; ready when it has a verdict. */
+/** The page, opened, and after how many milliseconds at most it was ready: when it has a verdict. */
 export async function anew(browser) {
   await browser.open(url);
-  await browser.until(() => document.getElementById("verdict").dataset.edit !== undefined, "the page is ready");
+  return browser.until(
+    () => (document.getElementById("verdict").dataset.edit === undefined ? 0 : performance.now()), "the page is ready",
+  );
 }
 
 /** Other pages of a test's own. */

@@ -94,8 +94,8 @@ export class Browser {
   run = (work, ...given) =>
     this.#ask("POST", "/execute/sync", { script: `return (${work}).apply(null, arguments)`, args: given });
 
-  /** A command of the browser's own protocol for developers. */
-  cdp = (cmd, params) => this.#ask("POST", "/goog/cdp/execute", { cmd, params });
+  /** The page as it is printed: the bytes of a PDF. */
+  print = async () => Buffer.from(await this.#ask("POST", "/print", {}), "base64");
 
   async screenshot(file) {
     writeFileSync(file, Buffer.from(await this.#ask("GET", "/screenshot"), "base64"));
