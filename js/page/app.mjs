@@ -6,7 +6,7 @@ import { Asked } from "./ask.mjs";
 import { $, button, counted } from "./dom.mjs";
 import * as files from "./files.mjs";
 import { List } from "./list.mjs";
-import { History, NEW_DRAFT, NotDone, hasOptions, isSameDraft, screen, storeOf, textOf } from "./model.mjs";
+import { History, NEW_DRAFT, NotDone, draftOfText, hasOptions, isSameDraft, screen, storeOf, textOf } from "./model.mjs";
 import { Picture } from "./picture.mjs";
 import { ScreenEditor } from "./screen.mjs";
 import { TextEditor } from "./text.mjs";
@@ -122,6 +122,7 @@ class App {
 
   /** Begins with another draft; nothing of the old one is left but in undo. */
   begin(next, what, text = null, saved = next) {
+    const isLost = this.isUnsaved && this.draft.n > 0;
     this.#history.add(next, what, text);
     this.#saved = saved;
     this.chosen = null;
@@ -129,6 +130,7 @@ class App {
     this.#text.changed();
     this.render();
     this.#picture.fit();
+    if (isLost) this.#say("The draft before was not saved: Undo brings it back.");
   }
 
   undo(isBack) {
@@ -261,12 +263,18 @@ class App {
     }
   }
 
-  #openText(text) {
+  /** A text without mistakes is the draft; one with some stands in its field, beside a draft without screens. */
+  #openText(text, isSaved = true) {
+    let next = null;
+    try {
+      next = draftOfText(this.library, text);
+    } catch (error) {
+      if (!Array.isArray(error.mistakes)) throw error;
+    }
+    this.begin(next ?? NEW_DRAFT, "open", next === null ? null : text, isSaved ? next : null);
+    if (next !== null) return;
     this.#tab("text");
-    this.begin(NEW_DRAFT, "open", null, null);
     this.#text.open(text);
-    if (this.#text.mistakes === null) this.#saved = this.draft;
-    this.#picture.fit();
   }
 
   #save(kind) {
@@ -320,8 +328,7 @@ class App {
     $("offer-take").addEventListener("click", () => this.attempt(() => {
       $("offer").hidden = true;
       $("title").value = found.title;
-      this.#openText(found.text);
-      this.#saved = null;
+      this.#openText(found.text, false);
     }));
     $("offer-drop").addEventListener("click", () => {
       $("offer").hidden = true;
@@ -350,6 +357,10 @@ class App {
     on("keep", "change", () => ($("keep").checked ? this.#keep() : files.forget()));
     on("site", "change", () => { files.site(); this.#fields(); });
     on("title", "change", () => this.#keep());
+    on("verdict-mend", "click", () => {
+      this.#tab("ask");
+      this.#asked.mend();
+    });
     on("fit", "click", () => this.#picture.fit());
     on("zoom-in", "click", () => this.#picture.zoom(LARGER));
     on("zoom-out", "click", () => this.#picture.zoom(1 / LARGER));

@@ -176,6 +176,13 @@ export class Asked {
     return element("li", { data: { from, to } }, words, " ", rub);
   }
 
+  /** The question that the verdict's place asks. */
+  mend() {
+    this.#findRepairs();
+    $("repairs-ask").focus();
+    $("repairs").scrollIntoView({ block: "center" });
+  }
+
   #findRepairs() {
     const { draft, answer, library } = this.#app;
     if (answer?.path == null) throw new NotDone("there is no path");

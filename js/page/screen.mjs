@@ -70,16 +70,19 @@ export class ScreenEditor {
     return $("step-option").checked ? "option" : "certain";
   }
 
+  /** One step, or several at once: the screens with commas between them. */
   #step(d, s) {
-    const words = $("step-to").value.trim();
-    if (words === "") throw new NotDone("no screen stands in the field: write its name or its number");
-    const to = screenOf(d, words);
-    if (to === null) {
-      checkedName(this.#app.library, d, d.n, words);
-      $("step-make").hidden = false;
-      throw new NotDone(`no screen is called ${words}`);
+    const words = $("step-to").value.split(",").map((word) => word.trim()).filter(Boolean);
+    if (words.length === 0) throw new NotDone("no screen stands in the field: write its name or its number");
+    const to = words.map((word) => screenOf(d, word));
+    const unknown = words.filter((_, k) => to[k] === null);
+    if (unknown.length > 0) {
+      $("step-make").hidden = words.length > 1;
+      throw new NotDone(`no screen is called ${unknown.join(", ")}`);
     }
-    this.draw(s, to, this.#kind());
+    const kind = this.#kind();
+    if (to.length === 1) this.draw(s, to[0], kind);
+    else this.#app.change(to.reduce((next, t) => setStep(next, s, t, kind), d), `draw ${called(d, s)} → ${words.join(", ")}`);
     $("step-to").value = "";
     $("step-to").focus();
   }
@@ -106,7 +109,8 @@ export class ScreenEditor {
   show(d, answer, s) {
     this.#names(d);
     $("screen-edit").hidden = s === null;
-    $("screen-none").hidden = s !== null || d.n === 0;
+    $("screen").hidden = d.n === 0;
+    $("screen-none").hidden = s !== null;
     if (s === null) return;
     $("screen-head").textContent = `Screen ${s}`;
     $("screen-name").value = d.names[s] ?? "";

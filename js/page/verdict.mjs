@@ -1,6 +1,7 @@
 // The place of the verdict. It is emptied before each answer is asked for, and filled by that answer alone: what
 // goes wrong on the way leaves "no answer" there, and never an old verdict.
 import { vacuous } from "./answer.mjs";
+import { members } from "./bits.mjs";
 import { $, button, counted, element } from "./dom.mjs";
 import { called, hasOptions, isHang } from "./model.mjs";
 
@@ -15,6 +16,12 @@ const unsafeIn = (steps) =>
     ? "A session can start in a forbidden screen."
     : `A forbidden screen is reached in ${counted(steps, "step")}:`;
 
+/** What a drafter has to say before an answer says something. */
+const todo = (d) =>
+  members(d.initial).length === 0
+    ? "No screen is initial: choose the one in which a session starts, and tick it."
+    : "No screen is forbidden: choose those that must never show, and tick them.";
+
 /** What the verdict's place says of a draft and its answer: its kind, its word, a sentence. */
 export function wordsOf(d, answer) {
   const options = hasOptions(d);
@@ -28,10 +35,7 @@ export function wordsOf(d, answer) {
       counted(answer.path.length - 1, "step")}, and without any option none is.`];
   }
   if (answer.verdict !== "safe" || !answer.isSafe) throw new Error("an answer that is none");
-  const little = vacuous(d);
-  if (little !== null) {
-    return ["vacuous", "nothing is said yet", `No forbidden screen can be reached, but ${little}. The command release declines such a table.`];
-  }
+  if (vacuous(d) !== null) return ["vacuous", "nothing is said yet", `${todo(d)} The command release declines such a table.`];
   return ["safe", "safe", `No forbidden screen can be reached${options ? ", whatever options a pump has" : ""}.`];
 }
 
@@ -51,6 +55,7 @@ export class VerdictPlace {
     $("verdict-words").textContent = words;
     $("verdict-path").replaceChildren();
     $("verdict-path").hidden = true;
+    $("verdict-mend").hidden = true;
     document.title = `${word}: ${$("title").value || "draft"} (Shuntberry)`;
   }
 
@@ -84,5 +89,6 @@ export class VerdictPlace {
     $("verdict-path").replaceChildren(...steps);
     $("verdict-path").setAttribute("aria-label", `The path from ${called(d, path[0])}, screen by screen`);
     $("verdict-path").hidden = false;
+    $("verdict-mend").hidden = path.length < 2;
   }
 }

@@ -41,6 +41,7 @@ async function example() {
   await open();
   await ready();
   await browser.click("#example");
+  await browser.click("#tab-text");
   await says("safe", "the example");
 }
 /** Types a text; what the verdict's place says at once. */

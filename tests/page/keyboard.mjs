@@ -31,7 +31,9 @@ await onPage(async (browser) => {
   same((await browser.run(shown)).verdict, "safe", "the example");
 
   // ---- the tabs, by arrows
-  await goTo("tab-text", ["Shift", "Tab"]);
+  await goTo("tab-list", ["Shift", "Tab"]);
+  await browser.keys("Right");
+  same(await browser.run(rubbed), "tab-text", "an arrow goes to the text");
   await browser.keys("Left");
   same(await browser.run(rubbed), "tab-list", "an arrow goes to the list");
   holds(await browser.run(() => !document.getElementById("panel-list").hidden), "which is shown");
