@@ -4,7 +4,8 @@
     python3 tests/command/drafts.py FOLDER SEED COUNT
 
 writes for each table I.table, I.txt, the text that `shuntberry decode` prints, I.expected, what `check` prints, and I.draft: the same table as a person
-might write it, with names, comments and spaces, the lines in any order and sets over several of them.
+might write it, with names, comments and spaces, the lines in any order and sets over several of them. Where there are states, I.ordered is the same table
+with a line `state NAME` for each, in the order of their numbers.
 """
 
 import random
@@ -39,19 +40,22 @@ def pieces(states):
         states = states[cut:]
 
 
-def draft(table):
-    names = {s: f"{random.choice(NAMES[:-1])}{random.choice(['', '-'])}{s}" for s in some(table.n, 0.5)}
-    word = lambda s: names[s] if s in names and random.random() < 0.7 else random.choice(["", "", "0"]) + str(s)
+def draft(table, ordered=False):
+    named = range(table.n) if ordered else some(table.n, 0.5)
+    names = {s: f"{random.choice(NAMES[:-1])}{random.choice(['', '-'])}{s}" for s in named}
+    word = lambda s: names[s] if ordered or s in names and random.random() < 0.7 else random.choice(["", "", "0"]) + str(s)
     words = lambda states: random.choice([" ", "  ", "\t"]).join(map(word, states))
-    lines = [f"states {table.n}", *(f"state {s} {name}" for s, name in names.items())]
+    lines = [] if ordered else [f"states {table.n}", *(f"state {s} {name}" for s, name in names.items())]
     for fact, states in [("initial", table.initial), ("forbidden", table.marked), ("resting", table.resting)]:
         lines += [f"{fact} {words(piece)}" for piece in pieces(states)] or [f"{fact} none"]
     for s in range(table.n):
-        lines += [f"step {word(s)}{random.choice(['->', ' -> ', ' ->'])}{words(piece)}" for piece in pieces(table.row(s))]
+        lines += [f"step {word(s)}{random.choice(['->', ' -> ', ' ->', '→', ' → '])}{words(piece)}" for piece in pieces(table.row(s))]
     random.shuffle(lines)
-    places = sorted(random.randrange(len(lines) + 1) for _ in table.groups)
-    for group, place in reversed(list(zip(table.groups, places))):  # groups keep their order
-        lines.insert(place, f"group {words(group) or 'none'}")
+    in_order = [f"group {words(group) or 'none'}" for group in table.groups], [f"state {name}" for name in names.values()] if ordered else []
+    for facts in in_order:  # groups keep their order, and so do states
+        places = sorted(random.randrange(len(lines) + 1) for _ in facts)
+        for fact, place in reversed(list(zip(facts, places))):
+            lines.insert(place, fact)
     end = random.choice(["\n", "\r\n"])
     comment = lambda: random.choice(["", "", " # why: step 0 -> 1", "\t#", "   "])
     lines += [*random.choice([[], [""], ["# end"]]), "end"]
@@ -67,6 +71,8 @@ def main():
         (folder / f"{i}.txt").write_text(spec.text(drawn))
         (folder / f"{i}.expected").write_text(spec.printed(drawn))
         (folder / f"{i}.draft").write_bytes(draft(drawn).encode())
+        if drawn.n:
+            (folder / f"{i}.ordered").write_bytes(draft(drawn, ordered=True).encode())
 
 
 if __name__ == "__main__":

@@ -44,13 +44,19 @@ for text in [*some(TABLES, "*.txt"), *some(drafts, "*.txt")]:
     need(out.read_bytes() == table.read_bytes(), f"encode -o of {text}")
     gives(SAFE, "", "decode", table, "-o", out)
     need(out.read_bytes() == text.read_bytes(), f"decode -o of {table}")
-for draft in some(drafts, "*.draft"):
-    gives(SAFE, draft.with_suffix(".table").read_bytes(), "encode", draft)
-    # with its names a text is one of the same table
-    named = call("decode", "--names", draft, draft.with_suffix(".table"))
-    need(named.status == SAFE, named)
-    gives(SAFE, draft.with_suffix(".table").read_bytes(), "encode", input=named.out)
-    need(call("decode", "--text", draft).out == named.out, "decode --text", draft)
+# with its names a text is one of the same table, to be edited and encoded again; so is one that numbers no state
+for draft in [*some(drafts, "*.draft"), *some(drafts, "*.ordered")]:
+    table, plain = draft.with_suffix(".table"), draft.with_suffix(".txt").read_text()
+    gives(SAFE, table.read_bytes(), "encode", draft)
+    given = re.findall(r"(?m)^[ ]?state (?:([0-9]+) )?([^\s#]+)", draft.read_text())
+    names = {int(number or place): name for place, (number, name) in enumerate(given)}
+    named = gives(SAFE, spec.with_names(plain, names), "decode", "--names", draft, table).out
+    gives(SAFE, table.read_bytes(), "encode", input=named)
+    gives(SAFE, named, "decode", "--text", draft)
+    gives(SAFE, named, "decode", "--text", input=named)
+    gives(SAFE, named, "decode", "--names", "/dev/stdin", table, input=named)
+ordered = (TOP / "examples/pump.txt").read_text().replace("states 9\n", "")
+gives(SAFE, call("encode", TOP / "examples/pump.txt").out, "encode", input=re.sub("(?m)^state [0-9]", "state", ordered).encode())
 group(f"texts and files both ways, seed {SEED}")
 
 shutil.copy(TOP / "examples/pump.txt", WORK / "pump.txt")
@@ -61,7 +67,7 @@ for path, expected in tables():
             gives(REFUSED, expected, command, path, err=f"^{command}: {path}: {expected.strip()}: ")
 gives(REFUSED, "refused 15\n", "decode", TABLES / "old-e.table", err="the command rewrite makes a new one")
 need(b"rewrite" not in call("decode", TABLES / "too-many-groups.table").err, "a file with too many groups is taken for an old one")
-gives(REFUSED, "refused 11\n", "decode", TABLES / "e.txt", err="looks like a text, which --text reads")
+gives(REFUSED, "refused 11\n", "decode", TABLES / "e.txt", err="looks like a text: check --text reads it, and the command encode makes a file of it")
 for site in 1, 65520:
     made = model.at_site((TABLES / "h1.table").read_bytes(), site)
     gives(SAFE, made, "encode", "--site", str(site), TABLES / "h1.txt")
@@ -112,7 +118,8 @@ need(len(olds) >= 200, f"only {len(olds)} stored answers")
 for path in olds:
     gives(SAFE, "", "rewrite", path, "-o", WORK / "new")
     expected = path.with_suffix(".expected").read_text()
-    gives(status_of(expected), expected, "check", WORK / "new", err="no states" if "states 0 " in expected else None)
+    given = call("check", WORK / "new")
+    need((given.status, given.out) == (status_of(expected), expected.encode()), "a rewritten file has another answer", given, expected)
 python(HERE / "old_files.py", drawn, SEED, 200)
 for path in some(drawn, "*.old"):
     gives(SAFE, path.with_suffix(".new").read_bytes(), "rewrite", path)
@@ -134,7 +141,7 @@ bad = WORK / "bad.txt"
 bad.write_text("states 3\ninitial 0 7\nforbidden 2\nstep 0 -> up\nend\n")
 given = gives(REFUSED, "failed\n", "encode", bad, err="")
 need(given.err.decode() == f"{bad}:2: there is no state 7: with states 3 they are 0 to 2\n"
-     f"{bad}:4: 'up' is no number, and no line gives a state this name\nencode: {bad}: 2 mistakes\n", given)
+     f"{bad}:4: 'up' is no number, and no line gives a state this name; state N up would\nencode: {bad}: 2 mistakes\n", given)
 there = WORK / "there"
 shutil.copy(E, there)
 gives(REFUSED, "", "encode", "-o", there, bad, err="2 mistakes")
@@ -150,15 +157,41 @@ for command in "encode", "decode", "picture", "rewrite":
     gives(FAILED, "failed\n", command, err="standard input is empty")
     gives(FAILED, "failed\n", command, TABLES / "missing", err="could not be read: No such file")
     gives(FAILED, "failed\n", command, TABLES, err="could not be read: .*directory")
-    gives(FAILED, "failed\n", command, "-o", err="-o wants a word")
-    gives(FAILED, "failed\n", command, E, E, err="a word too many")
+    gives(FAILED, "failed\n", command, "-o", err="-o needs a value")
+    gives(FAILED, "failed\n", command, E, E, err="unexpected argument")
     gives(FAILED, "failed\n", command, "-o", WORK / "x", E, "-o", WORK / "y", err="twice")
-    gives(FAILED, "failed\n", command, "-O", WORK / "x", E, err="no option")
+    gives(FAILED, "failed\n", command, "-O", WORK / "x", E, err="unknown option")
 for words in ["-o", "x", "encode", E], ["--site", "1", "encode", E], ["encdoe", E], ["encode", "--site", "-o", E], ["encode", "--site", E], ["encode", "--sit", "1", "-o", WORK / "x", E]:
     gives(FAILED, "failed\n", *words, err="usage: ")
 need(not (WORK / "x").exists() and not (WORK / "y").exists(), "a call that was wrong wrote a file")
 for option in "--site", "--allowance", "--svg":
-    gives(FAILED, "failed\n", "rewrite", option, "1", err="no option")
+    gives(FAILED, "failed\n", "rewrite", option, "1", err="unknown option")
+
+# a mistake is said once, on its line, and what was meant; a text that mixes its two forms is none
+for text, said in [
+    ("state off\nstate over hard limit\ninitial off\nforbidden over-hard-limit\nstep off -> over hard limit\nend\n", ["2: a name has no spaces: state over-hard-limit"]),
+    ("state off\nstate home,\ninitial off\nforbidden none\nstep off → home\nend\n", ["2: 'home,' has a comma: "]),
+    ("state off\nstate home\ninitial of\nforbidden none\nstep off, home\nend\n", ["3: 'of' is no state: .*; did you mean 'off'\\?", "5: a step is written "]),
+    ("states 2\nstate off\nstate home\ninitial off\nforbidden home\nend\n", ["2: line 1 numbers the states, .* by states N and state N NAME, or none of them"]),
+    ("state off\nstate 1 home\ninitial off\nforbidden home\nend\n", ["2: line 1 gives a state without a number"]),
+    ("state off\ninitial 0\nforbidden none\nend\n", ["2: 0 is a number, .*: write the state's name"]),
+]:
+    lines = "".join(f"{re.escape(str(bad))}:{line}.*\\n" for line in said)
+    bad.write_text(text)
+    gives(REFUSED, "failed\n", "encode", bad, err=rf"\A{lines}encode: .*: {len(said)} mistakes?\n\Z")
+    gives(REFUSED, "", "check", "--text", bad, err=rf"\A{lines}")
+bad.write_text("states 3\ninitial 0 7\nforbidden 2\nstep 0 -> up\nend\n")
+
+# help text: its examples are texts
+language = gives(SAFE, None, "help", "text").out.decode()
+need(max(map(len, language.splitlines())) <= 110, "help text has long lines")
+examples = [part for part in re.findall(r"(?:^(?:    .*)?\n)+", language, re.M) if re.search(r"^    end(?: +#.*)?\n\Z", part.rstrip() + "\n", re.M) and "STATE" not in part]
+need(len(examples) == 3, examples)
+for example, status, path in zip(examples, [SAFE, SAFE], ["invariant 4: 0 1 2 3", "invariant 2: 0 1"]):
+    need(call("encode", input=(example.rstrip() + "\n").encode()).status == SAFE, example)
+    need(path in gives(status, None, "check", "--text", input=(example.rstrip() + "\n").encode()).out.decode(), example)
+gives(SAFE, "open 2026-12-26 00:00 saturday\nuntil 2026-12-27 12:30 sunday\n", "next-open", "/dev/stdin", "--at", "2026-12-24T13:05", input=(examples[2].rstrip() + "\n").encode())
+need(b"help text" in call("help").out, "help does not name help text")
 
 # texts of any length take little time and room: in 400 MB, and in ten seconds of the processor's time, whatever else the machine does
 def bounded(text, *words):
@@ -172,6 +205,10 @@ need(b"of which the first 100 are shown" in bounded(b"x\n" * 7_000_000), "7 mill
 bounded(b"group x y z\n" * 1_300_000)
 bounded(b"step 0 -> 1\n" * 1_300_000)
 bounded(b"states 5\n" + b"state 1 a\n" * 1_500_000)
+bounded(b"state a\n" * 2_000_000)
+bounded(b"".join(b"state a b%d\n" % i for i in range(1_000_000)) + b"group b1 b700000 x\n")
+bounded(b"".join(b"state s%d\n" % i for i in range(512)) + b"step s1 -> s5x1\n" * 900_000)
+bounded(b"step " + b"a->" * 5_000_000)
 group("mistakes and long texts")
 
 # ---- texts that were cut: what is left is no text, by whomever it is read
@@ -185,7 +222,7 @@ def is_cut(*words, out="failed\n", line="[0-9]+", **how):
 thirteen = "states 13\ninitial 0\nstep 0 -> 12\nresting " + " ".join(map(str, range(1, 13))) + "\nforbidden 12\n"
 whole, cut = WORK / "whole.txt", WORK / "cut.txt"
 whole.write_text(thirteen + "end\n")
-gives(UNSAFE, None, "check", "--text", whole)
+gives(UNSAFE, None, "check", "--text", whole, err="^check: the path ends in ")
 for length in range(1, len(thirteen) + 4):
     cut.write_text(whole.read_text()[:length])
     is_cut("check", "--text", cut, out="")
@@ -199,7 +236,7 @@ for length in len(thirteen), len(thirteen) - 1, len(thirteen) - 2:
     need(there.read_bytes() == E.read_bytes(), "a text that was cut took away what was there")
 # the example, with a way round in its last line
 drawn = spec.longer((TOP / "examples/pump.txt").read_text(), "step running -> over-hard-limit\n").encode()
-gives(UNSAFE, None, "check", "--text", input=drawn)
+gives(UNSAFE, None, "check", "--text", input=drawn, err="^check: the path ends in ")
 for length in range(1, len(drawn)):
     is_cut("check", "--text", out="", input=drawn[:length])
 for behind in b"\n", b" ", b"#", b"end\n", b"step 0 -> 0\n", drawn:

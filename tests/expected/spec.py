@@ -1,6 +1,7 @@
 """The specification's text as Python, on numbers and sets: tables, rounds, shortest paths, files, texts, and what `check` prints. It shares no code with
 the library. The makers beside it and the tests of the commands are held to it."""
 
+import re
 from dataclasses import dataclass, field, replace
 from functools import reduce
 from itertools import count
@@ -192,6 +193,13 @@ def before_end(text):
 def longer(text, lines):
     """A text with more lines."""
     return before_end(text) + lines + END
+
+
+def with_names(text, names):
+    """The text that `shuntberry decode` has of a table with names: a line for each, and each state that has one by its name."""
+    first, *facts = text.splitlines(keepends=True)
+    named = lambda fact: re.sub("[0-9]+", lambda number: names.get(int(number[0]), number[0]), fact)
+    return "".join([first, *(f"state {s} {name}\n" for s, name in sorted(names.items())), *map(named, facts)])
 
 
 def read_text(text):

@@ -158,6 +158,21 @@ same(mistakes(() => s.Table.fromText("x".repeat(3_000_000))).name, "Mistakes");
 const half = "states 1\ninitial 0\nforbidden none\nstate 0 \ud800\nend\n";
 same(mistakes(() => s.Table.fromText(half)).name, "Mistakes");
 same(s.Table.fromText("states 0\nend\n").n, 0);
+// states without numbers, → for ->, and names in what is printed; a text that mixes the forms is none
+const ordered = "state off\nstate home\nstate over\ninitial off\nforbidden over\nstep off \u2192 home\nstep home -> off\nend\n";
+const numbered = s.Table.fromText(ordered);
+same([numbered.n, numbered.steps.get(0), numbered.marked], [3, [1], [2]]);
+same(numbered.toText(), "states 3\nstate 0 off\nstate 1 home\nstate 2 over\ninitial off\nforbidden over\nresting none\nstep off -> home\nstep home -> off\nend\n");
+same(s.Table.fromText(numbered.toText()).equals(numbered), true);
+for (let k = 0; k < ordered.length; k++) throws(() => s.Table.fromText(ordered.slice(0, k)), Mistakes, `cut at ${k}`);
+for (const [wrong, reason] of [
+  [`states 3\n${ordered}`, /^line 2: line 1 numbers the states/], [ordered.replace("off\nfor", "of\nfor"), /did you mean 'off'\?/],
+  [ordered.replace("home\nstate", "home,\nstate"), /^line 2: 'home,' has a comma/], [ordered.replace("forbidden over", "forbidden 2"), /^line 5: 2 is a number/],
+]) {
+  const found = mistakes(() => s.Table.fromText(wrong));
+  same([found.name, found.count], ["Mistakes", 1], wrong);
+  assert.match(found.message, reason);
+}
 const german = "states 1\r\ninitial 0\r\nforbidden none\r\nstate 0 M\u00fcller\r\nend\r\n";
 same(s.Table.fromText(german).names, new Map([[0, "M\u00fcller"]]));
 

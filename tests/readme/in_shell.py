@@ -57,7 +57,7 @@ wanted = {"encode", "check", "release", "confirm", "report", "inspect", "picture
 need(wanted <= tried, f"the page does not show {wanted - tried}")
 
 made = {
-    "pump.table": FILE, "released.table": FILE, "again.txt": spec.text(PUMP).encode(), "report.txt": REPORT.encode(),
+    "pump.table": FILE, "released.table": FILE, "again.txt": spec.with_names(spec.text(PUMP), NAMES).encode(), "report.txt": REPORT.encode(),
     "quick.txt": (REPORT + "".join(f"state {state} {NAMES[state]}\n" for state in INVARIANT)).encode(),
 }
 for name, content in made.items():

@@ -4,12 +4,13 @@
 //! Nothing is told by colour alone: shapes, lines and words say the same. Each state and step has its kinds as its `class`, which
 //! Graphviz hands on to an SVG.
 
+use crate::answer::Answer;
 use crate::lines::Names;
+use crate::names::screen;
+use crate::shown::counted;
 use crate::svg::Asked;
-use crate::table::{Set, Table};
-use shuntberry::{
-    MAX_ALLOWANCE, PATH_PLACES, Refused, StateSet, UNREACHABLE, Verdict, decide, distances,
-};
+use crate::table::{is_dead_end, is_hang};
+use shuntberry::{Refused, Table};
 
 /// What is said of each state on request.
 #[derive(Clone, Copy, Debug, Default)]
@@ -29,20 +30,20 @@ pub struct Graph {
     pub asked: Asked,
 }
 
-/// The graph of a table, under a title, with names for the states that have one.
+/// The graph of a table and of what a check found of it, under a title, with names for the states that have one.
 pub fn graph(
     table: &Table,
+    answer: &Answer,
     names: &Names,
     title: &str,
     options: Options,
 ) -> Result<Graph, Refused> {
-    let mut away = vec![0; table.n()];
-    distances(table.store(), table.n(), table.g(), &mut away)?;
+    let away = options.distances.then(|| table.distances()).transpose()?;
     let picture = Picture {
         table,
+        answer,
         names,
-        found: Found::by_decide(table)?,
-        away: options.distances.then_some(away),
+        away,
         groups: options.groups,
     };
     Ok(Graph {
@@ -52,44 +53,6 @@ pub fn graph(
 }
 
 // ---- What is known of a table and its states
-
-/// What a release check found.
-struct Found {
-    verdict: String,
-    path: Vec<usize>,
-    invariant: StateSet,
-}
-
-impl Found {
-    fn by_decide(table: &Table) -> Result<Found, Refused> {
-        let (store, n, g) = (table.store(), table.n(), table.g());
-        let mut path = [0; PATH_PLACES];
-        let (verdict, path, invariant) = match decide(store, n, g, MAX_ALLOWANCE, &mut path)? {
-            Verdict::Safe { invariant, .. } => (SAFE.to_string(), &[][..], invariant),
-            Verdict::Unsafe { path, .. } => (unsafe_in(path.len() - 1), path, StateSet::default()),
-            Verdict::Undecided { .. } => ("undecided".to_string(), &[][..], StateSet::default()),
-        };
-        Ok(Found {
-            verdict,
-            path: path.iter().map(|&s| s.into()).collect(),
-            invariant,
-        })
-    }
-}
-
-/// What is said of a safe table.
-pub const SAFE: &str = "safe: no forbidden state can be reached";
-
-/// What is said of an unsafe one, by the steps of its path.
-pub fn unsafe_in(steps: usize) -> String {
-    match steps {
-        0 => "unsafe: a session can start in a forbidden state".to_string(),
-        _ => format!(
-            "unsafe: a forbidden state is reached in {}",
-            counted(steps, "step")
-        ),
-    }
-}
 
 /// What a state can be. A state that is a hang, or marked, is forbidden.
 #[derive(Clone, Copy, Debug, PartialEq, Eq)]
@@ -229,9 +192,9 @@ const MANY_STEPS: usize = 200;
 
 struct Picture<'t> {
     table: &'t Table,
+    answer: &'t Answer,
     names: &'t Names,
-    found: Found,
-    away: Option<Vec<u16>>,
+    away: Option<Vec<Option<usize>>>,
     groups: bool,
 }
 
@@ -240,11 +203,11 @@ impl Picture<'_> {
     fn heading(&self, title: &str) -> [String; 3] {
         let n = self.table.n();
         let verdict = match n {
-            0 => "an untouched draft, safe",
-            _ => &self.found.verdict,
+            0 => "an untouched draft, safe".to_string(),
+            _ => self.answer.headline(),
         };
         let sizes = [counted(n, "state"), counted(self.table.g(), "group")].join(", ");
-        [title.to_string(), verdict.to_string(), sizes]
+        [title.to_string(), verdict, sizes]
     }
 
     fn graph(&self, title: &str) -> String {
@@ -278,7 +241,7 @@ impl Picture<'_> {
         ];
         for s in 0..n {
             graph.push(self.state(s));
-            if self.table.set(Set::Initial).contains(s) {
+            if self.table.initial().contains(s) {
                 graph.push(format!(
                     r#"start{s} [label="start", shape=plaintext, class="start"]"#
                 ));
@@ -293,42 +256,39 @@ impl Picture<'_> {
     }
 
     fn successors(&self, s: usize) -> impl Iterator<Item = usize> {
-        self.table.set(Set::Successors(s)).states()
+        self.table.successors(s).unwrap_or_default().states()
     }
 
     /// Whether a layout by layers could take minutes: many steps, and many more than a chain has.
     fn is_tangled(&self) -> bool {
-        let (n, steps) = (self.table.n(), self.table.steps());
+        let (n, steps) = (self.table.n(), self.table.steps().count());
         steps > MANY_STEPS && 4 * steps > 5 * n
     }
 
     fn kinds(&self, s: usize) -> Vec<Kind> {
-        let is_in = |set| self.table.set(set).contains(s);
-        let (dead_end, rests) = (self.table.is_dead_end(s), is_in(Set::Resting));
+        let rests = self.table.resting().contains(s);
         let is = |kind: &Kind| match kind {
-            Kind::Initial => is_in(Set::Initial),
-            Kind::Marked => is_in(Set::Marked),
-            Kind::Hang => self.table.is_hang(s),
+            Kind::Initial => self.table.initial().contains(s),
+            Kind::Marked => self.table.marked().contains(s),
+            Kind::Hang => is_hang(self.table, s),
             Kind::Resting => rests,
-            Kind::DeadEnd => dead_end && rests,
-            Kind::OnPath => self.found.path.contains(&s),
-            Kind::InInvariant => self.found.invariant.contains(s),
+            Kind::DeadEnd => rests && is_dead_end(self.table, s),
+            Kind::OnPath => self.path().contains(&s),
+            Kind::InInvariant => self.answer.invariant.unwrap_or_default().contains(s),
         };
         KINDS.into_iter().filter(is).collect()
     }
 
     /// The lines of a state.
     fn said(&self, s: usize) -> Vec<String> {
-        let number = match self.names.get(&s) {
-            Some(name) => format!("{s} {name}"),
-            None => s.to_string(),
-        };
+        let number = screen(self.names, s);
         let kinds = self.kinds(s);
         let words = joined(", ", kinds.iter().filter_map(|kind| kind.word()));
         let away = self.away.as_ref().map(|away| steps_away(away[s]));
-        let groups = (0..self.table.g())
-            .filter(|&j| self.groups && self.table.set(Set::Group(j)).contains(s));
-        let groups = joined(", ", groups).map(|groups| format!("in group {groups}"));
+        let groups = self.table.groups().enumerate();
+        let groups = groups.filter(|(_, group)| self.groups && group.contains(s));
+        let groups =
+            joined(", ", groups.map(|(j, _)| j)).map(|groups| format!("in group {groups}"));
         [Some(number), words, away, groups]
             .into_iter()
             .flatten()
@@ -345,9 +305,13 @@ impl Picture<'_> {
         )
     }
 
+    fn path(&self) -> &[usize] {
+        self.answer.path.as_deref().unwrap_or_default()
+    }
+
     /// The number of a step on the path.
     fn number_on_path(&self, s: usize, t: usize) -> Option<usize> {
-        let before = self.found.path.windows(2).position(|pair| pair == [s, t]);
+        let before = self.path().windows(2).position(|pair| pair == [s, t]);
         before.map(|before| before + 1)
     }
 
@@ -402,7 +366,7 @@ impl Picture<'_> {
         for s in 0..self.table.n() {
             asked.titles.push(format!("s{s}"));
             asked.words.extend(self.said(s));
-            if self.table.set(Set::Initial).contains(s) {
+            if self.table.initial().contains(s) {
                 let start = format!("start{s}");
                 asked.titles.extend([format!("{start}->s{s}"), start]);
                 asked.words.push("start".to_string());
@@ -419,16 +383,8 @@ impl Picture<'_> {
 
 // ---- Words
 
-/// A number of things.
-pub fn counted(count: usize, what: &str) -> String {
-    format!("{count} {what}{}", if count == 1 { "" } else { "s" })
-}
-
-fn steps_away(away: u16) -> String {
-    match away {
-        UNREACHABLE => "never".to_string(),
-        steps => counted(steps.into(), "step"),
-    }
+fn steps_away(away: Option<usize>) -> String {
+    away.map_or("never".to_string(), |steps| counted(steps, "step"))
 }
 
 /// The words of a list, if it has any.

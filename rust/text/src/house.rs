@@ -10,7 +10,8 @@
 //! At least one window must be said, or `window none`: a text that was emptied is found.
 
 use crate::calendar;
-use crate::lines::{number, quoted, said, Mistake, Mistakes};
+use crate::lines::{number, quoted, said, Mistake, Mistakes, END};
+use crate::near::did_you_mean;
 use crate::{MAX_DAYS, MAX_WINDOWS};
 use alloc::collections::BTreeMap;
 use alloc::format;
@@ -28,7 +29,8 @@ const WEEKDAYS: [&str; 7] = [
     "friday",
 ];
 
-const DAY: usize = 1_440;
+const HOURS: usize = 24;
+const DAY: usize = HOURS * 60;
 const WEEK: usize = 7 * DAY;
 
 /// A window of every week.
@@ -62,8 +64,9 @@ pub fn parse(text: &[u8]) -> Result<House, Mistakes> {
                 ["window", words @ ..] => reader.window(words),
                 ["closed", words @ ..] => reader.closed(words),
                 [word, ..] => Err(format!(
-                    "a line begins with window or closed, and not with {}",
-                    quoted(word)
+                    "a line begins with window or closed, and not with {}{}",
+                    quoted(word),
+                    did_you_mean(word, ["window", "closed", END].into_iter())
                 )),
             });
         if let Err(reason) = done {
@@ -125,28 +128,17 @@ impl Reader {
         self.first(false)?;
         let (day, time, length) = match *words {
             [day, time, "for", length] => (day, time, length),
-            _ => return Err("a window is written window WEEKDAY HH:MM for LENGTH, as window monday 22:00 for 6h".to_string()),
+            [_, "for", _] => return Err(format!("the time is missing: {WINDOW}")),
+            _ => return Err(WINDOW.to_string()),
         };
         let day = WEEKDAYS
             .iter()
             .position(|name| *name == day)
-            .ok_or_else(|| {
-                format!(
-                    "{} is no day of the week: they are {}",
-                    quoted(day),
-                    WEEKDAYS.join(", ")
-                )
-            })?;
-        let time = minute_of_day(time)
-            .ok_or_else(|| format!("{} is no time from 00:00 to 23:59", quoted(time)))?;
+            .ok_or_else(|| no_day(day))?;
+        let time = minute_of_day(time).ok_or_else(|| no_time(time))?;
         let length = length_of(length)
             .filter(|length| (1..=WEEK).contains(length))
-            .ok_or_else(|| {
-                format!(
-                    "{} is no length from 1m to 7d, as 6h or 1d12h30m",
-                    quoted(length)
-                )
-            })?;
+            .ok_or_else(|| no_length(length))?;
         let start = day * DAY + time;
         self.once((start, length), MAX_WINDOWS, self.house.windows.len())?;
         self.house.windows.push(Window { start, length });
@@ -184,6 +176,62 @@ impl Reader {
     }
 }
 
+// ---- What is said of words that are none
+
+const WINDOW: &str =
+    "a window is written window WEEKDAY HH:MM for LENGTH, as window monday 22:00 for 6h";
+
+fn no_day(word: &str) -> String {
+    let lower = word.to_lowercase();
+    let hint = match WEEKDAYS.contains(&lower.as_str()) {
+        true => format!("it is written in lower case, {lower}"),
+        false => format!("they are {}", WEEKDAYS.join(", ")),
+    };
+    format!("{} is no day of the week: {hint}", quoted(word))
+}
+
+fn no_time(word: &str) -> String {
+    format!(
+        "{} is no time from 00:00 to 23:59{}",
+        quoted(word),
+        amiss(word).map_or_else(String::new, |why| format!(": {why}"))
+    )
+}
+
+/// What is amiss with the hour or the minute of a time that is none, as far as that can be told.
+fn amiss(word: &str) -> Option<String> {
+    let (hour, minute) = match word.split_once(&[':', '.', 'h'][..]) {
+        Some((hour, minute)) => (hour, minute),
+        None => (word, ""),
+    };
+    let fits =
+        |digits: &str, most| number(digits).filter(|&number| digits.len() <= 2 && number < most);
+    match (fits(hour, HOURS), fits(minute, 60)) {
+        (None, Some(minute)) if hour.is_empty() => {
+            Some(format!("its hour is missing, as in 00:{minute:02}"))
+        }
+        (Some(hour), None) if minute.is_empty() => {
+            Some(format!("its minute is missing, as in {hour:02}:00"))
+        }
+        (Some(hour), Some(minute)) => Some(format!("it is written {hour:02}:{minute:02}")),
+        _ if number(hour) == Some(HOURS) => Some("midnight is 00:00 of the next day".to_string()),
+        _ => None,
+    }
+}
+
+fn no_length(word: &str) -> String {
+    let hint = match number(word) {
+        Some(_) => "; its unit is missing, d, h or m",
+        None => "",
+    };
+    format!(
+        "{} is no length from 1m to 7d, as 6h or 1d12h30m{hint}",
+        quoted(word)
+    )
+}
+
+// ---- Words
+
 /// `6h`, `90m`, `1d12h30m`
 fn length_of(word: &str) -> Option<usize> {
     let mut rest = word;
@@ -201,7 +249,7 @@ fn length_of(word: &str) -> Option<usize> {
 fn minute_of_day(word: &str) -> Option<usize> {
     let (hour, minute) = word.split_once(':')?;
     let (hour, minute) = (two_digits(hour)?, two_digits(minute)?);
-    (hour < 24 && minute < 60).then_some(hour * 60 + minute)
+    (hour < HOURS && minute < 60).then_some(hour * 60 + minute)
 }
 
 fn two_digits(word: &str) -> Option<usize> {
@@ -231,6 +279,16 @@ impl Moment {
     pub fn of(word: &str) -> Option<Moment> {
         let (date, time) = word.split_once(&['T', ' '][..])?;
         Some(Moment(day_of(date)? * DAY + minute_of_day(time)?))
+    }
+
+    /// What is amiss with a word that is no moment, as far as that can be told.
+    pub fn amiss(word: &str) -> Option<String> {
+        let (date, time) = word.split_once(&['T', ' '][..]).unwrap_or((word, ""));
+        day_of(date)?;
+        match time {
+            "" => Some("its hour and minute are missing".to_string()),
+            _ => amiss(time),
+        }
     }
 
     /// The minute of this number.

@@ -3,9 +3,12 @@
 //! - [`table`]: the text of a table, with names for its states.
 //! - [`house`]: the text of a house, which says when releases may be loaded.
 //! - [`lines`]: what all texts have alike: lines, words, names, mistakes.
+//! - [`near`]: what a mistyped word may have been meant for.
 //! - [`calendar`]: days and dates.
 //!
 //! It needs no file and no system, only memory; and it decides nothing: the proved library accepts a table, or refuses it.
+//!
+//! [`LANGUAGE`] says how they are written.
 //!
 //! ```
 //! let text = b"states 2\nstate 1 home\ninitial home\nforbidden 0\nstep home -> 1\nend\n";
@@ -24,7 +27,11 @@ extern crate alloc;
 pub mod calendar;
 pub mod house;
 pub mod lines;
+pub mod near;
 pub mod table;
+
+/// How texts are written, for who writes one: the whole language, with examples.
+pub const LANGUAGE: &str = include_str!("language.txt");
 
 /// The most states of a table.
 pub const MAX_STATES: usize = 512;

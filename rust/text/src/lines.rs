@@ -41,6 +41,12 @@ impl Mistakes {
         }
     }
 
+    /// Whether one more of this line would be among the first ones.
+    pub fn shows(&self, line: usize) -> bool {
+        let last = self.first.get(SHOWN_MISTAKES - 1);
+        last.map_or(true, |last| line < last.line)
+    }
+
     /// Whether there is none.
     pub fn is_empty(&self) -> bool {
         self.count == 0
@@ -57,9 +63,13 @@ impl Mistakes {
 /// A line has fewer words than this, or it says something twice: its first one, a state, an arrow, and each state of the largest table.
 const MAX_WORDS: usize = crate::MAX_STATES + 4;
 
-const ARROW: &str = "->";
+/// What stands between the states of a step.
+pub const ARROW: &str = "->";
 
-/// The words of a line, or what is wrong with it.
+/// How it may be written.
+const ARROWS: [&str; 2] = [ARROW, "\u{2192}"];
+
+/// The words of a line, each arrow as `->`, or what is wrong with it.
 pub type Words<'t> = Result<Vec<&'t str>, &'static str>;
 
 /// The last line of a text: one that was cut has none.
@@ -163,18 +173,27 @@ fn words(line: &[u8]) -> Words<'_> {
     }
 }
 
-/// The parts of a word before, between and behind its arrows, and these.
+/// The parts of a word before, between and behind its arrows, and for each of these `->`.
 fn by_arrows(word: &str) -> impl Iterator<Item = &str> {
     let mut rest = word;
     core::iter::from_fn(move || {
-        let end = match rest.find(ARROW) {
-            Some(0) => ARROW.len(),
-            Some(at) => at,
-            None => rest.len(),
+        let (part, end) = match first_arrow(rest) {
+            Some((0, arrow)) => (ARROW, arrow.len()),
+            Some((at, _)) => (&rest[..at], at),
+            None => (rest, rest.len()),
         };
-        let (part, behind) = rest.split_at(end);
-        rest = behind;
+        rest = &rest[end..];
         (!part.is_empty()).then_some(part)
+    })
+}
+
+/// Where the first arrow of a word stands, and how it is written.
+fn first_arrow(word: &str) -> Option<(usize, &'static str)> {
+    word.char_indices().find_map(|(at, _)| {
+        let written = ARROWS
+            .iter()
+            .find(|arrow| word[at..].starts_with(**arrow))?;
+        Some((at, *written))
     })
 }
 

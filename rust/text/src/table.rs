@@ -1,28 +1,41 @@
 //! The text of a table: one fact a line, for people and for tests.
 //!
 //! ```text
-//! states 5                    # how many there are; they are numbered from 0
-//! state 3 hard-limit          # a name, which may stand for the number wherever a state is meant
-//! initial 0
+//! state off                   # each state by its name; they are numbered from 0, in this order
+//! state home
+//! state hard-limit
+//! initial off
 //! forbidden hard-limit
 //! resting none
-//! group 0 1
+//! group off home
+//! step off -> home
+//! end
+//! ```
+//!
+//! Or the states have numbers of their own, and some of them a name. A text takes one form or the other:
+//!
+//! ```text
+//! states 3                    # how many there are; they are numbered from 0
+//! state 2 hard-limit          # a name, which may stand for the number wherever a state is meant
+//! initial 0
+//! forbidden hard-limit
 //! step 0 -> 1 2
 //! end
 //! ```
 //!
 //! Lines but the last stand in any order; those of one set add to it, and each `group` is a group more. `initial` and `forbidden` must not be
 //! forgotten, since for want of one a table could be safe that should not be: it has to say `none`. [`print`] writes the one text of
-//! a table that has each fact in its place, by numbers; a file holds no names.
+//! a table that has each fact in its place, in the form with numbers; a file holds no names.
 //!
 //! A text has no characters that cannot be seen or move others, and the letters of each of its names are of
 //! one alphabet. The text is gone through once for each sort of fact, and nothing is kept of it but what a table can hold and the first
 //! mistakes: a text of any length takes little room.
 
 use crate::lines::{
-    alphabet, cut, first_word, number, quoted, said, strange, Mistake, Mistakes, Names, Words, END,
-    MAX_NAME,
+    alphabet, cut, first_word, number, quoted, said, strange, Mistake, Mistakes, Names, Words,
+    ARROW, END, MAX_NAME,
 };
+use crate::near::did_you_mean;
 use crate::{MAX_GROUPS, MAX_STATES, SET_WORDS};
 use alloc::collections::{BTreeMap, BTreeSet};
 use alloc::format;
@@ -32,7 +45,6 @@ use alloc::vec::Vec;
 
 /// The word for an empty set.
 const NONE: &str = "none";
-const ARROW: &str = "->";
 
 /// A set of states: state s is the bit of value 2^(s % 64) in word s / 64.
 pub type Set = [u64; SET_WORDS];
@@ -65,55 +77,60 @@ pub struct Text {
 
 // ---- From a table
 
-/// The text of a table, with names for the states that have one. They are printed as they are: those of a text are good ones.
+/// The text of a table, in which a state that has a name is meant by it. Names are printed as they are: those of a text are good ones.
 pub fn print(table: &Table, names: &Names) -> String {
     print_with_possible(table, names, &[])
 }
 
 /// The same with a line `possible` for each row of further steps that is not empty.
 pub fn print_with_possible(table: &Table, names: &Names, possible: &[Set]) -> String {
+    let word = |state: usize| names.get(&state).cloned().unwrap_or(state.to_string());
     let mut text = format!("states {}\n", table.rows.len());
     if !table.rows.is_empty() {
-        text += &facts(table, names);
-        text += &steps("possible", possible);
+        text += &facts(table, names, &word);
+        text += &steps("step", &table.rows, &word);
+        text += &steps("possible", possible, &word);
     }
     text + END + "\n"
 }
 
-/// A line for each row that is not empty.
-fn steps(fact: &str, rows: &[Set]) -> String {
-    let rows = rows.iter().enumerate();
-    rows.filter(|(_, row)| **row != Set::default())
-        .map(|(s, row)| format!("{fact} {s} {ARROW} {}\n", listing(row)))
-        .collect()
-}
-
-fn facts(table: &Table, names: &Names) -> String {
+/// All but the steps.
+fn facts(table: &Table, names: &Names, word: &dyn Fn(usize) -> String) -> String {
     let mut text = String::new();
     for (state, name) in names {
         text += &format!("state {state} {name}\n");
     }
-    let mut say = |fact: &str, states: &Set| text += &format!("{fact} {}\n", listing(states));
+    let mut say = |fact: &str, states: &Set| text += &format!("{fact} {}\n", listed(states, word));
     say("initial", &table.initial);
     say("forbidden", &table.marked);
     say("resting", &table.resting);
     for group in &table.groups {
         say("group", group);
     }
-    text + &steps("step", &table.rows)
+    text
 }
 
-/// The states of a set, or `none`.
+/// A line for each row that is not empty.
+fn steps(fact: &str, rows: &[Set], word: &dyn Fn(usize) -> String) -> String {
+    let rows = rows.iter().enumerate();
+    rows.filter(|(_, row)| **row != Set::default())
+        .map(|(s, row)| format!("{fact} {} {ARROW} {}\n", word(s), listed(row, word)))
+        .collect()
+}
+
+/// The numbers of the states of a set, or `none`.
 pub fn listing(states: &Set) -> String {
+    listed(states, &|state| state.to_string())
+}
+
+/// The states of a set, each by its word, or `none`.
+fn listed(states: &Set, word: &dyn Fn(usize) -> String) -> String {
     let holds = |s: &usize| states[s / 64] >> (s % 64) & 1 == 1;
-    let numbers: Vec<String> = (0..MAX_STATES)
-        .filter(holds)
-        .map(|s| s.to_string())
-        .collect();
-    if numbers.is_empty() {
+    let words: Vec<String> = (0..MAX_STATES).filter(holds).map(word).collect();
+    if words.is_empty() {
         NONE.to_string()
     } else {
-        numbers.join(" ")
+        words.join(" ")
     }
 }
 
@@ -131,6 +148,23 @@ pub fn parse_with_possible(text: &[u8]) -> Result<Text, Mistakes> {
         ..Reader::default()
     };
     reader.read(text)
+}
+
+/// The mistakes of names that a table of n states is to have, by the lines of its text ([`print`]) that would say them.
+pub fn mistakes_of(names: &Names, n: usize) -> Mistakes {
+    let mut reader = Reader {
+        n: Some(n),
+        ..Reader::default()
+    };
+    for (line, (state, name)) in (2..).zip(names) {
+        reader.at = line;
+        reader.name(&Line {
+            number: line,
+            fact: "state",
+            words: &[&state.to_string(), name],
+        });
+    }
+    reader.mistakes
 }
 
 /// The words that a line begins with.
@@ -168,6 +202,20 @@ struct Said {
 /// A pair of states, and the line of the step between them.
 type Steps = BTreeMap<(usize, usize), usize>;
 
+/// How the states of a text get their numbers.
+#[derive(Clone, Copy, Default, PartialEq, Eq)]
+enum Form {
+    /// By `states N` and `state N NAME`.
+    #[default]
+    Numbered,
+    /// By the order of the lines `state NAME`.
+    Ordered,
+    /// In both ways, which is a mistake.
+    Mixed,
+}
+
+const ONE_FORM: &str = "a text numbers all of its states, by states N and state N NAME, or none of them, by a line state NAME for each";
+
 /// What was read so far.
 #[derive(Default)]
 struct Reader {
@@ -175,13 +223,19 @@ struct Reader {
     /// The line that is read.
     at: usize,
     mistakes: Mistakes,
-    /// The number of states, where a line gives a good one, and the first line that was to give it.
+    form: Form,
+    /// The number of states, where it is known, and the first line that was to give it.
     n: Option<usize>,
     n_line: Option<usize>,
+    /// The first line that gives a state with its number, and the first that gives one without.
+    numbered: Option<usize>,
+    ordered: Option<usize>,
     /// What a name stands for, and the line that says so; the name of a state; the alphabet of the first one.
     named: BTreeMap<String, (usize, usize)>,
     names: Names,
     alphabet: Option<(&'static str, usize)>,
+    /// Words of lines that were to name a state and have a mistake: their uses are none.
+    excused: BTreeSet<String>,
     sets: BTreeMap<String, Said>,
     groups: Vec<Vec<usize>>,
     steps: Steps,
@@ -200,20 +254,48 @@ impl Reader {
             }
         }
         let last = self.at;
+        self.choose_form();
         self.each(lines.clone(), Reader::name);
+        if self.form == Form::Ordered {
+            self.n = Some(self.names.len()).filter(|&n| n > 0);
+        }
         self.each(lines, Reader::fact);
         self.at = last;
         self.finish()
     }
 
-    fn first(&mut self, number: usize, words: &[&str]) {
-        if let ["states", words @ ..] = words {
-            self.states(&Line {
-                number,
+    fn first(&mut self, at: usize, words: &[&str]) {
+        match words {
+            ["states", words @ ..] => self.states(&Line {
+                number: at,
                 fact: "states",
                 words,
-            });
+            }),
+            ["state", word, ..] => {
+                let first = match is_numbered(word) {
+                    true => &mut self.numbered,
+                    false => &mut self.ordered,
+                };
+                first.get_or_insert(at);
+            }
+            _ => {}
         }
+    }
+
+    /// The form of the text; that it has both is said once, on the line where the second one begins.
+    fn choose_form(&mut self) {
+        let numbered = [self.n_line, self.numbered].into_iter().flatten().min();
+        let (numbered, ordered) = match (numbered, self.ordered) {
+            (Some(numbered), Some(ordered)) => (numbered, ordered),
+            (None, Some(_)) => return self.form = Form::Ordered,
+            (_, None) => return self.form = Form::Numbered,
+        };
+        self.form = Form::Mixed;
+        self.at = numbered.max(ordered);
+        self.mistake(match numbered < ordered {
+            true => format!("line {numbered} numbers the states, and this line gives one without a number: {ONE_FORM}"),
+            false => format!("line {ordered} gives a state without a number, and this line numbers them: {ONE_FORM}"),
+        });
     }
 
     /// Goes through the lines that say something.
@@ -267,30 +349,92 @@ impl Reader {
         }
     }
 
-    /// `state N NAME`
+    /// `state N NAME`, or `state NAME`
     fn name(&mut self, line: &Line) {
         if line.fact != "state" {
             return;
         }
-        let (word, name) = match *line.words {
-            [word, name] => (word, name),
-            _ => return self.mistake("a name is given by state N NAME, with a name of one word"),
+        let done = match (self.form, line.words) {
+            (_, []) => Err("no name stands behind state: state NAME, or state N NAME".to_string()),
+            (Form::Ordered, [name]) => self.next_state(name),
+            (Form::Ordered, words) => Err(with_spaces("state", words)),
+            (Form::Mixed, [word, ..]) if !is_numbered(word) => return self.excuse(line.words),
+            (_, [word]) => Err(format!(
+                "no name stands behind the number: state {} NAME",
+                cut(word)
+            )),
+            (_, [word, name]) => self.numbered_state(word, name),
+            (_, [word, words @ ..]) => Err(with_spaces(&format!("state {}", cut(word)), words)),
         };
-        let state = self.alphabet_of(name).and_then(|()| match number(word) {
-            Some(state) => self.in_range(state, word),
-            None => Err(format!("{} is no number", quoted(word))),
-        });
-        match state.and_then(|state| self.nameless(state, name)) {
-            Ok(state) => {
-                self.named.insert(name.to_string(), (state, self.at));
-                self.names.insert(state, name.to_string());
+        if let Err(reason) = done {
+            self.mistake(reason);
+            self.excuse(line.words);
+        }
+    }
+
+    /// `state NAME` is the state behind those that were given before.
+    fn next_state(&mut self, name: &str) -> Result<(), String> {
+        self.alphabet_of(name)?;
+        if let Some((_, first)) = self.named.get(name) {
+            return Err(format!(
+                "the state {name} stands on line {first} already: each has a name of its own"
+            ));
+        }
+        if self.names.len() == MAX_STATES {
+            return Err(format!(
+                "this state is one too many: a table has at most {MAX_STATES}"
+            ));
+        }
+        self.give(self.names.len(), name);
+        Ok(())
+    }
+
+    /// `state N NAME`
+    fn numbered_state(&mut self, word: &str, name: &str) -> Result<(), String> {
+        self.alphabet_of(name)?;
+        let state = number(word).ok_or_else(|| match separator(word) {
+            Some(sign) => format!(
+                "{} has a {sign}: a number stands alone, without one",
+                quoted(word)
+            ),
+            None => format!("{} is no number", quoted(word)),
+        })?;
+        let state = self.nameless(self.in_range(state, word)?, name)?;
+        self.give(state, name);
+        Ok(())
+    }
+
+    fn give(&mut self, state: usize, name: &str) {
+        self.named.insert(name.to_string(), (state, self.at));
+        self.names.insert(state, name.to_string());
+    }
+
+    /// The line that was to give these words a meaning has a mistake: that they have none is none more.
+    fn excuse(&mut self, words: &[&str]) {
+        let names: Vec<&str> = words.iter().map(|word| bare(word)).collect();
+        let names: Vec<&str> = names
+            .into_iter()
+            .filter(|name| number(name).is_none())
+            .collect();
+        for name in names
+            .iter()
+            .map(|name| name.to_string())
+            .chain([names.join("-")])
+        {
+            if self.excused.len() < MAX_STATES {
+                self.excused.insert(name);
             }
-            Err(reason) => self.mistake(reason),
         }
     }
 
     /// Whether a name is one, in the alphabet of those before it.
     fn alphabet_of(&mut self, name: &str) -> Result<(), String> {
+        if let Some(sign) = separator(name) {
+            return Err(format!(
+                "{} has a {sign}: a name stands alone, without one",
+                quoted(name)
+            ));
+        }
         let letters = alphabet(name)
             .filter(|_| ![NONE, END].contains(&name))
             .ok_or_else(|| {
@@ -333,16 +477,26 @@ impl Reader {
             "step" => self.step(line),
             "possible" if self.takes_possible => self.step(line),
             "possible" => self.mistake("possible steps are for the command options alone: write two texts without such lines, one with these steps as step lines, and encode both"),
-            word => self.mistake(format!(
-                "a line begins with states, state, initial, forbidden, resting, group{}, and not with {}",
-                if self.takes_possible {
-                    ", step or possible"
-                } else {
-                    " or step"
-                },
-                quoted(word)
-            )),
+            word => self.mistake(self.no_fact(word, line.words)),
         }
+    }
+
+    /// What is said of a line that begins with none of the words that it may.
+    fn no_fact(&self, word: &str, words: &[&str]) -> String {
+        let (facts, last) = match self.takes_possible {
+            true => (&FACTS[..7], FACTS[7]),
+            false => (&FACTS[..6], FACTS[6]),
+        };
+        let hint = match words {
+            _ if !self.mistakes.shows(self.at) => String::new(),
+            [ARROW, ..] => format!("; a step is written step {} {ARROW} STATE..", cut(word)),
+            _ => did_you_mean(word, FACTS.into_iter().chain([END])),
+        };
+        let facts = facts.join(", ");
+        format!(
+            "a line begins with {facts} or {last}, and not with {}{hint}",
+            quoted(word)
+        )
     }
 
     /// `initial STATE..`, and `forbidden` and `resting` likewise
@@ -365,6 +519,7 @@ impl Reader {
             ));
         }
         for (state, other) in twice {
+            let state = self.shown(state);
             self.mistake(format!("state {state} is {fact} by line {other} already"));
         }
     }
@@ -390,11 +545,7 @@ impl Reader {
         let fact = line.fact;
         let (from, to) = match line.words {
             [from, ARROW, to @ ..] if !to.is_empty() && !to.contains(&ARROW) => (from, to),
-            _ => {
-                return self.mistake(format!(
-                    "a step is written {fact} STATE -> STATE.., with one state before the arrow"
-                ));
-            }
+            words => return self.mistake(no_step(fact, words)),
         };
         let from = self.listed(&[from]);
         let to = self.listed(to);
@@ -408,7 +559,7 @@ impl Reader {
     fn add_step(&mut self, fact: &str, step: (usize, usize)) {
         let known = self.steps.get(&step).or(self.possible.get(&step));
         if let Some(&other) = known {
-            let (a, b) = step;
+            let (a, b) = (self.shown(step.0), self.shown(step.1));
             return self.mistake(format!(
                 "the step {a} {ARROW} {b} stands on line {other} already"
             ));
@@ -441,29 +592,72 @@ impl Reader {
         for word in words {
             match self.state(word) {
                 Ok(state) if !seen.insert(state) => {
+                    let state = self.shown(state);
                     self.mistake(format!("state {state} stands on this line already"))
                 }
                 Ok(state) => states.push(state),
-                Err(reason) => self.mistake(reason),
+                Err(Some(reason)) => self.mistake(reason),
+                Err(None) => {}
             }
         }
         states
     }
 
-    /// The state that a word stands for.
-    fn state(&self, word: &str) -> Result<usize, String> {
-        match (number(word), self.named.get(word)) {
-            (Some(state), _) => self.in_range(state, word),
-            (None, Some(&(state, _))) => Ok(state),
-            (None, None) if word == NONE => Err(format!(
-                "{NONE} stands alone behind initial, forbidden, resting or group"
-            )),
-            (None, None) => Err(format!(
-                "{} is no number, and no line gives a state this name{}",
-                quoted(word),
-                strange(word)
-            )),
+    /// A state as the text means it.
+    fn shown(&self, state: usize) -> String {
+        match self.form {
+            Form::Ordered => self.names[&state].clone(),
+            _ => state.to_string(),
         }
+    }
+
+    /// The state that a word stands for; else the reason why it stands for none, where that is no mistake of another line.
+    fn state(&self, word: &str) -> Result<usize, Option<String>> {
+        match (number(word), self.named.get(word)) {
+            (Some(_), _) if self.form == Form::Ordered => Err(Some(format!(
+                "{} is a number, and the states of this text are given without: write the state's name",
+                cut(word)
+            ))),
+            (Some(state), _) => self.in_range(state, word).map_err(Some),
+            (None, Some(&(state, _))) => Ok(state),
+            (None, None) if self.is_excused(word) => Err(None),
+            (None, None) => Err(Some(self.no_state(word))),
+        }
+    }
+
+    /// Whether that a word is no state comes of the mistake of another line.
+    fn is_excused(&self, word: &str) -> bool {
+        separator(word).is_none() && self.excused.contains(bare(word))
+    }
+
+    /// What is said of a word that is no state.
+    fn no_state(&self, word: &str) -> String {
+        if word == NONE {
+            return format!("{NONE} stands alone behind initial, forbidden, resting or group");
+        }
+        if let Some(sign) = separator(word) {
+            return format!(
+                "{} has a {sign}: states are separated by spaces alone",
+                quoted(word)
+            );
+        }
+        let (what, line) = match self.form {
+            Form::Ordered => ("is no state: no line gives one this name", "state"),
+            _ => (
+                "is no number, and no line gives a state this name",
+                "state N",
+            ),
+        };
+        let names = self.named.keys().map(String::as_str);
+        let near = match self.mistakes.shows(self.at) {
+            true => did_you_mean(word, names),
+            false => String::new(),
+        };
+        let hint = match alphabet(word) {
+            Some(_) if near.is_empty() => format!("; {line} {} would", cut(word)),
+            _ => near,
+        };
+        format!("{} {what}{}{hint}", quoted(word), strange(word))
     }
 
     /// A state that the table has; where it is not known how many it has, one that some table has.
@@ -481,8 +675,9 @@ impl Reader {
 
     /// What the text says, if there is no mistake: then each state is one that the table has.
     fn finish(mut self) -> Result<Text, Mistakes> {
-        if self.n_line.is_none() {
-            self.mistake("the text ends, and no line says how many states there are: states N");
+        let unsaid = self.n_line.is_none() && self.ordered.is_none();
+        if unsaid || self.n.is_none() && self.mistakes.is_empty() {
+            self.mistake("the text ends, and no line says how many states there are: states N, or a line state NAME for each");
         }
         for fact in ["initial", "forbidden"] {
             if self.n != Some(0) && !self.sets.contains_key(fact) {
@@ -530,6 +725,54 @@ fn set_of<'s>(states: impl IntoIterator<Item = &'s usize>) -> Set {
         insert(&mut set, state);
     }
     set
+}
+
+/// The comma or semicolon of a word.
+fn separator(word: &str) -> Option<&'static str> {
+    let sign = word.chars().find(|c| ",;".contains(*c))?;
+    Some(if sign == ',' { "comma" } else { "semicolon" })
+}
+
+/// A word without what is no part of a name before and behind it.
+fn bare(word: &str) -> &str {
+    word.trim_matches(|c: char| !c.is_alphanumeric())
+}
+
+/// Whether what is to be a state's number or its name is a number, whatever sign stands beside it.
+fn is_numbered(word: &str) -> bool {
+    number(bare(word)).is_some()
+}
+
+/// What is said of a name of several words, behind what stands before it.
+fn with_spaces(before: &str, words: &[&str]) -> String {
+    let signed = words.iter().find_map(|word| Some((word, separator(word)?)));
+    if let Some((word, sign)) = signed {
+        return format!(
+            "{} has a {sign}: each state has a line of its own, {before} NAME",
+            quoted(word)
+        );
+    }
+    let bare: Vec<&str> = words.iter().map(|word| bare(word)).collect();
+    let name = bare.join("-");
+    match alphabet(&name) {
+        Some(_) => format!("a name has no spaces: {before} {name}"),
+        None => format!("a name has no spaces: {before} NAME, with a name of one word"),
+    }
+}
+
+/// What is said of a line that is no step.
+fn no_step(fact: &str, words: &[&str]) -> String {
+    let is_arrow = |word: &&&str| word.contains(&['>', '\u{21d2}', '\u{27f6}', '\u{2794}'][..]);
+    match words
+        .iter()
+        .find(is_arrow)
+        .filter(|_| !words.contains(&ARROW))
+    {
+        Some(word) => format!("{} is no arrow: it is written {ARROW}", quoted(word)),
+        None => format!(
+            "a step is written {fact} STATE {ARROW} STATE.., with one state before the arrow"
+        ),
+    }
 }
 
 /// Which states a table of n has, in words.

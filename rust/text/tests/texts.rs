@@ -1,9 +1,9 @@
 //! A text may be written in many ways; each mistake has its line and its reason; no text that was cut is one.
 
-use shuntberry_text::house;
+use shuntberry_text::house::{self, Moment};
 use shuntberry_text::lines::{said, Mistake, Mistakes, Names, MAX_NAME, SHOWN_MISTAKES};
 use shuntberry_text::table::{listing, parse, parse_with_possible, print, Set, Table};
-use shuntberry_text::{MAX_GROUPS, MAX_STATES};
+use shuntberry_text::{LANGUAGE, MAX_GROUPS, MAX_STATES};
 use std::fs;
 
 /// The texts of `tests/files` are worked out by Python, in the one form that is printed.
@@ -63,9 +63,23 @@ type Said = [(usize, &'static str)];
 fn mistakes() {
     let head = "states 5\ninitial 0\nforbidden none\n";
     let cases: &[(&str, &Said)] = &[
-        ("initail 1", &[(4, "not with 'initail'")]),
-        ("0 -> 1", &[(4, "not with '0'")]),
-        ("INITIAL 1", &[(4, "not with 'INITIAL'")]),
+        (
+            "initail 1",
+            &[(4, "not with 'initail'; did you mean 'initial'?")],
+        ),
+        (
+            "0 -> 1",
+            &[(4, "not with '0'; a step is written step 0 -> STATE..")],
+        ),
+        (
+            "INITIAL 1",
+            &[(4, "not with 'INITIAL'; did you mean 'initial'?")],
+        ),
+        ("END", &[(4, "not with 'END'; did you mean 'end'?")]),
+        (
+            "maybe 0 -> 1",
+            &[(4, "group or step, and not with 'maybe'")],
+        ),
         ("states 5", &[(4, "stands on line 1 already")]),
         (
             "initial 1 5",
@@ -95,7 +109,23 @@ fn mistakes() {
             "group -1",
             &[(4, "'-1' is no number, and no line gives a state this name")],
         ),
-        ("group 1,2", &[(4, "'1,2' is no number")]),
+        (
+            "group 1,2",
+            &[(4, "'1,2' has a comma: states are separated by spaces alone")],
+        ),
+        (
+            "group 1, 2; 3",
+            &[(4, "'1,' has a comma"), (4, "'2;' has a semicolon")],
+        ),
+        (
+            "state 1, home\ngroup home",
+            &[(4, "'1,' has a comma: a number stands alone")],
+        ),
+        (
+            "state 1 home,\ngroup home 2\nstep home -> 2",
+            &[(4, "'home,' has a comma: a name stands alone")],
+        ),
+        ("state 1 off, home", &[(4, "'off,' has a comma")]),
         ("group 1.5", &[(4, "'1.5' is no number")]),
         (
             "group 99999999999999999999999",
@@ -107,7 +137,9 @@ fn mistakes() {
         ("step -> 1", &[(4, "a step is written")]),
         ("step 1 2 -> 3", &[(4, "with one state before the arrow")]),
         ("step 1 -> 2 -> 3", &[(4, "a step is written")]),
-        ("step 1 => 2", &[(4, "a step is written")]),
+        ("step 1 => 2", &[(4, "'=>' is no arrow: it is written ->")]),
+        ("step 1 ⇒ 2", &[(4, "'⇒' is no arrow: it is written ->")]),
+        ("step 1 > 2", &[(4, "'>' is no arrow: it is written ->")]),
         ("step 5 -> 6", &[(4, "no state 5"), (4, "no state 6")]),
         ("step 1 -> none", &[(4, "none stands alone")]),
         (
@@ -125,10 +157,25 @@ fn mistakes() {
         ("End", &[(4, "not with 'End'")]),
         ("state 1 2nd", &[(4, "'2nd' is no name")]),
         ("state 1 a/b", &[(4, "'a/b' is no name")]),
-        ("state 1 hard limit", &[(4, "a name of one word")]),
-        ("state 1", &[(4, "state N NAME")]),
-        ("state one first", &[(4, "'one' is no number")]),
-        ("state 5 late", &[(4, "no state 5")]),
+        (
+            "state 1 hard limit",
+            &[(4, "a name has no spaces: state 1 hard-limit")],
+        ),
+        (
+            "state 1 \"hard limit\"\ninitial hard limit\ngroup hard-limit",
+            &[(4, "a name has no spaces: state 1 hard-limit")],
+        ),
+        (
+            "state 1 2nd limit",
+            &[(4, "state 1 NAME, with a name of one word")],
+        ),
+        (
+            "state 1",
+            &[(4, "no name stands behind the number: state 1 NAME")],
+        ),
+        ("state", &[(4, "no name stands behind state")]),
+        ("state -1 late", &[(4, "'-1' is no number")]),
+        ("state 5 late\ngroup late 1", &[(4, "no state 5")]),
         (
             "state 1 a\nstate 2 a",
             &[(5, "state 1 has the name a, by line 4 already")],
@@ -139,7 +186,17 @@ fn mistakes() {
         ),
         (
             "state 1 a\ngroup b",
-            &[(5, "'b' is no number, and no line gives a state this name")],
+            &[(
+                5,
+                "'b' is no number, and no line gives a state this name; state N b would",
+            )],
+        ),
+        (
+            "state 1 hard-limit\ngroup hard_limt\ngroup HARD-LIMIT",
+            &[
+                (5, "this name; did you mean 'hard-limit'?"),
+                (6, "this name; did you mean 'hard-limit'?"),
+            ],
         ),
         (
             "state 1 a\ngroup a 1",
@@ -327,6 +384,221 @@ fn alphabets() {
     );
 }
 
+/// States that are numbered by the order of their lines.
+#[test]
+fn states_by_their_order() {
+    let numbered = "states 3\nstate 0 off\nstate 1 home\nstate 2 hard-limit\ninitial off\nforbidden hard-limit\nresting none\ngroup off home\nstep off -> home hard-limit\nend\n";
+    let expected = parse(numbered.as_bytes()).unwrap();
+    let lines = [
+        "state off",
+        "state home",
+        "state hard-limit",
+        "initial off",
+        "forbidden hard-limit",
+        "group home off",
+        "step off→home→", // replaced below: an arrow needs no space
+    ];
+    let ordered = lines.join("\n").replace("home→", " -> home hard-limit");
+    let ordered = ordered.replace("off→ ->", "off→") + "\nend\n";
+    assert!(ordered.contains("step off→ home hard-limit"), "{ordered}");
+    assert_eq!(parse(ordered.as_bytes()).unwrap(), expected);
+    assert_eq!(print(&expected.table, &expected.names), numbered);
+    // Only the order among the states counts: a state may be used before its line.
+    let mixed = "step off -> home\nstate off # the first\ninitial off\nstep off -> hard-limit\nstate home\ngroup off home\nforbidden hard-limit\n\nstate hard-limit\nend\n";
+    assert_eq!(parse(mixed.as_bytes()).unwrap(), expected);
+    let moved = "state home\nstate off\ninitial off\nforbidden none\nend\n";
+    let moved = parse(moved.as_bytes()).unwrap();
+    assert_eq!((moved.table.rows.len(), moved.table.initial[0]), (2, 0b10));
+    // As many as a table has, and one more.
+    let all = |count: usize| -> String { (0..count).map(|s| format!("state s{s}\n")).collect() };
+    let rest = "initial s0\nforbidden none\n";
+    let most = parse(&ended((all(MAX_STATES) + rest).as_bytes())).unwrap();
+    assert_eq!(most.table.rows.len(), MAX_STATES);
+    holds(
+        (all(MAX_STATES + 1) + rest + "group s512\n").as_bytes(),
+        &[(
+            MAX_STATES + 1,
+            "this state is one too many: a table has at most 512",
+        )],
+    );
+}
+
+/// What is wrong in a text of that form. A mistake of a `state` line is none of the lines that use the name.
+#[test]
+fn mistakes_by_order() {
+    let head = "state off\nstate home\ninitial off\n";
+    let cases: &[(&str, &Said)] = &[
+        (
+            "group 1",
+            &[(5, "1 is a number, and the states of this text are given without: write the state's name")],
+        ),
+        ("step off -> 1 home", &[(5, "1 is a number")]),
+        (
+            "state hard limit\ngroup hard-limit\nstep hard -> limit",
+            &[(5, "a name has no spaces: state hard-limit")],
+        ),
+        ("state off", &[(5, "the state off stands on line 1 already")]),
+        (
+            "state a/b\ngroup a/b\nstep off -> a/b",
+            &[(5, "'a/b' is no name")],
+        ),
+        (
+            "state end\ngroup end",
+            &[(5, "'end' is no name")],
+        ),
+        ("state αλφα\nresting αλφα", &[(5, "has Greek letters")]),
+        ("state", &[(5, "no name stands behind state: state NAME")]),
+        (
+            "group up",
+            &[(5, "'up' is no state: no line gives one this name; state up would")],
+        ),
+        (
+            "group hmoe",
+            &[(5, "'hmoe' is no state: no line gives one this name; did you mean 'home'?")],
+        ),
+        ("group off off", &[(5, "state off stands on this line already")]),
+        ("initial home off", &[(5, "state off is initial by line 3 already")]),
+        (
+            "step off -> home\nstep off → home",
+            &[(6, "the step off -> home stands on line 5 already")],
+        ),
+        (
+            "state last,\nresting last\ngroup last, off",
+            &[(5, "'last,' has a comma"), (7, "'last,' has a comma")],
+        ),
+    ];
+    for (tail, expected) in cases {
+        holds(
+            format!("{head}forbidden none\n{tail}\n").as_bytes(),
+            expected,
+        );
+    }
+    // A text whose every state is a mistake has no others.
+    holds(
+        b"state hard limit\ninitial hard-limit\nforbidden none\ngroup limit\n",
+        &[(1, "a name has no spaces: state hard-limit")],
+    );
+    // Texts that lost their states are no tables.
+    holds(
+        b"initial none\nforbidden none\n",
+        &[(
+            3,
+            "no line says how many states there are: states N, or a line state NAME for each",
+        )],
+    );
+}
+
+/// A text has one form; that it has both is one mistake, wherever the second begins.
+#[test]
+fn mixed_forms() {
+    let one = "a text numbers all of its states, by states N and state N NAME, or none of them";
+    for (text, line, other) in [
+        (
+            "states 2\nstate off\nstate home",
+            2,
+            "line 1 numbers the states",
+        ),
+        (
+            "states 2\nstate 0 off\nstate home",
+            3,
+            "line 1 numbers the states",
+        ),
+        (
+            "state off\nstate home\nstates 2",
+            3,
+            "line 1 gives a state without a number",
+        ),
+        ("state 0 off\nstate home", 2, "line 1 numbers the states"),
+        (
+            "state off\nstate 1 home",
+            2,
+            "line 1 gives a state without a number",
+        ),
+        (
+            "state off\nstates two\nstate home",
+            2,
+            "line 1 gives a state without a number",
+        ),
+        (
+            "# first\nstates 2\nstate one first\nstate two home\nstate off",
+            3,
+            "line 2 numbers the states",
+        ),
+    ] {
+        let text = format!("{text}\ninitial off\nforbidden home\nstep off -> home 0\n");
+        let mistakes = parse(&ended(text.as_bytes())).unwrap_err();
+        let mistake = mistakes
+            .first()
+            .iter()
+            .find(|mistake| mistake.reason.contains(one));
+        let mistake = mistake.unwrap_or_else(|| panic!("{mistakes:?} in {text}"));
+        assert!(
+            mistake.line == line && mistake.reason.starts_with(other),
+            "{mistakes:?} in {text}"
+        );
+        let others = usize::from(text.contains("two\n")) + usize::from(text.contains("0 off"));
+        assert!(mistakes.count <= 1 + others, "{mistakes:?} in {text}");
+    }
+}
+
+/// The examples of what `help text` prints are texts, and it says every fact, and how many there may be.
+#[test]
+fn the_language() {
+    let lines: Vec<&str> = LANGUAGE.lines().collect();
+    assert!(lines.iter().all(|line| line.chars().count() <= 110));
+    let examples: Vec<String> = blocks(&lines)
+        .filter(|block| {
+            block
+                .trim_end()
+                .lines()
+                .last()
+                .map_or(false, |line| line.trim_start().starts_with("end"))
+        })
+        .filter(|block| !block.contains("STATE"))
+        .collect();
+    assert_eq!(examples.len(), 3, "{examples:?}");
+    let first = parse(examples[0].as_bytes()).unwrap();
+    assert_eq!(
+        (first.names.len(), listing(&first.table.marked)),
+        (5, "4".to_string())
+    );
+    assert_eq!(first.names[&4], "over-hard-limit");
+    let second = parse(examples[1].as_bytes()).unwrap();
+    assert_eq!((second.names.len(), second.table.rows.len()), (1, 3));
+    let house = house::parse(examples[2].as_bytes()).unwrap();
+    assert_eq!((house.windows.len(), house.closed.len()), (2, 1));
+    for fact in [
+        "states",
+        "state",
+        "initial",
+        "forbidden",
+        "resting",
+        "group",
+        "step",
+        "possible",
+        "end",
+    ] {
+        assert!(
+            lines
+                .iter()
+                .any(|line| line.starts_with(&format!("    {fact} "))),
+            "no {fact}"
+        );
+    }
+    for most in [MAX_STATES, MAX_GROUPS, MAX_NAME] {
+        assert!(LANGUAGE.contains(&format!(" {most}")), "no {most}");
+    }
+}
+
+/// The indented parts, each with its empty lines; what follows an empty line without being indented ends one.
+fn blocks<'l>(lines: &'l [&'l str]) -> impl Iterator<Item = String> + 'l {
+    let is_apart = |line: &&str| !line.is_empty() && !line.starts_with("    ");
+    lines.split(move |line| is_apart(line)).map(|block| {
+        let text = block.join("\n");
+        format!("{}\n", text.trim_matches('\n'))
+    })
+}
+
 /// Steps that are only possible: for the command options alone.
 #[test]
 fn possible_steps() {
@@ -507,11 +779,18 @@ impl Numbers {
             table.rows = (0..n).map(|_| self.set(n)).collect();
         }
         let endings = ["end-", "the-end", "bend", "e"];
-        let names = (0..n)
-            .filter(|state| state % 3 == 1)
+        let by_order = n > 0 && self.below(2) == 0;
+        let names: Names = (0..n)
+            .filter(|state| by_order || state % 3 == 1)
             .map(|state| (state, format!("{}{state}", self.one_of(&endings))))
             .collect();
-        print(&table, &names)
+        let text = match by_order {
+            true => without_numbers(&print(&table, &names)),
+            false => print(&table, &names),
+        };
+        let read = parse(text.as_bytes()).unwrap();
+        assert!(read.table == table && read.names == names, "{text}");
+        text
     }
 
     fn house_text(&mut self) -> String {
@@ -551,6 +830,16 @@ impl Numbers {
             _ => text.to_string(),
         }
     }
+}
+
+/// The same text in the form without numbers; each state of it has a name.
+fn without_numbers(text: &str) -> String {
+    let line = |line: &str| match line.split(' ').collect::<Vec<_>>()[..] {
+        ["states", _] => String::new(),
+        ["state", _, name] => format!("state {name}\n"),
+        _ => format!("{}\n", line.replace(" -> ", "\u{2192}")),
+    };
+    text.lines().map(line).collect()
 }
 
 /// 200 texts of tables, houses and logs: each is read, and none of what is left where it is cut, wherever that is.
@@ -619,5 +908,98 @@ fn mistaken(text: &[u8], expected: &Said) {
             mistake.reason.contains(reason),
             "{mistakes:?} in {shown}, not {reason}"
         );
+    }
+}
+
+/// Each mistake of a house says what it is.
+#[test]
+fn mistakes_of_houses() {
+    for (line, reason) in [
+        (
+            "window Monday 22:00 for 6h",
+            "'Monday' is no day of the week: it is written in lower case, monday",
+        ),
+        (
+            "window MONDAY 22:00 for 6h",
+            "it is written in lower case, monday",
+        ),
+        (
+            "window mon 22:00 for 6h",
+            "they are saturday, sunday, monday",
+        ),
+        (
+            "window monday :30 for 6h",
+            "':30' is no time from 00:00 to 23:59: its hour is missing, as in 00:30",
+        ),
+        (
+            "window monday 22 for 6h",
+            "its minute is missing, as in 22:00",
+        ),
+        (
+            "window monday 22: for 6h",
+            "its minute is missing, as in 22:00",
+        ),
+        ("window monday 9:00 for 6h", "it is written 09:00"),
+        ("window monday 22.15 for 6h", "it is written 22:15"),
+        ("window monday 22h15 for 6h", "it is written 22:15"),
+        (
+            "window monday 24:00 for 6h",
+            "midnight is 00:00 of the next day",
+        ),
+        (
+            "window monday 22:60 for 6h",
+            "'22:60' is no time from 00:00 to 23:59",
+        ),
+        (
+            "window monday 10pm for 6h",
+            "'10pm' is no time from 00:00 to 23:59",
+        ),
+        (
+            "window monday for 6h",
+            "the time is missing: a window is written",
+        ),
+        (
+            "window monday 22:00 for 6",
+            "its unit is missing, d, h or m",
+        ),
+        (
+            "window monday 22:00 for 8d",
+            "'8d' is no length from 1m to 7d",
+        ),
+        (
+            "Window monday 22:00 for 6h",
+            "not with 'Window'; did you mean 'window'?",
+        ),
+        (
+            "close 2026-12-25",
+            "not with 'close'; did you mean 'closed'?",
+        ),
+        (
+            "closed 25.12.2026",
+            "'25.12.2026' is no date from 2000-01-01 on, as 2026-12-25",
+        ),
+    ] {
+        let text = format!("window friday 22:00 for 6h\n{line}\nend\n");
+        let mistakes = house::parse(text.as_bytes()).unwrap_err();
+        assert_eq!(mistakes.count, 1, "{mistakes:?}");
+        let Mistake {
+            line: at,
+            reason: said,
+        } = &mistakes.first()[0];
+        assert!(
+            *at == 2 && said.contains(reason),
+            "{mistakes:?}, not {reason}"
+        );
+    }
+    for (word, why) in [
+        ("2026-12-24", Some("its hour and minute are missing")),
+        ("2026-12-24T", Some("its hour and minute are missing")),
+        ("2026-12-24T:05", Some("its hour is missing, as in 00:05")),
+        ("2026-12-24 9:05", Some("it is written 09:05")),
+        ("2026-12-32T09:05", None),
+        ("", None),
+    ] {
+        assert!(Moment::of(word).is_none(), "{word}");
+        assert_eq!(Moment::amiss(word).as_deref(), why, "{word}");
     }
 }

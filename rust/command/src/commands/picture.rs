@@ -1,19 +1,21 @@
 //! `picture`: the graph of a table, for Graphviz or drawn by it.
 
+use crate::answer::Answer;
 use crate::drawing::{Limits, NotDrawn, draw};
 use crate::failure::{Done, Failure, status};
 use crate::files::{OUT, put, say};
 use crate::picture::{self, Graph, Options};
 use crate::source::{NAMES, SITE, Source, TEXT};
 use crate::svg::cleaned;
-use crate::table::Table;
 use crate::words::{Call, Command, Opt, Output};
+use shuntberry::Table;
 use std::io::{self, IsTerminal};
 
 const SVG: Opt = Opt {
     name: "--svg",
     value: None,
-    about: "runs dot of Graphviz, and writes what it draws",
+    about: "runs dot of Graphviz, and writes what it draws\n\
+        What is no drawing of just this table, with each state, step and word of it, is an error, and nothing is written.",
 };
 const DISTANCES: Opt = Opt {
     name: "--distances",
@@ -32,7 +34,7 @@ pub const PICTURE: Command = Command {
     words: "[FILE]",
     counts: (0, 1),
     about: "a file as a graph for Graphviz, or as an SVG",
-    more: "Without FILE standard input is read, without -o standard output written.",
+    more: "Its title says whether the table is safe, and a legend explains the drawing.",
     options: &[&SITE, &OUT, &SVG, &DISTANCES, &GROUPS, &TEXT, &NAMES],
     needs: &[],
     output: Output::File,
@@ -46,10 +48,10 @@ fn run(call: &Call) -> Done {
         distances: call.has(&DISTANCES),
         groups: call.has(&GROUPS),
     };
-    let graph = picture::graph(&table, &source.names, &source.shown, options)
-        .map_err(|refused| Failure::Refused(refused, refused.to_string()))?;
+    let answer = Answer::of(&source)?;
+    let graph = picture::graph(table, &answer, &source.names, &source.shown, options)?;
     if call.has(&SVG) {
-        say_drawing(PICTURE.name, &table);
+        say_drawing(PICTURE.name, table);
         put(call, &svg(graph)?)?;
     } else {
         put(call, graph.text.as_bytes())?;
@@ -76,7 +78,7 @@ fn svg(graph: Graph) -> Result<Vec<u8>, Failure> {
 /// Says on a terminal what takes its time.
 pub fn say_drawing(name: &str, table: &Table) {
     if io::stderr().is_terminal() {
-        let (n, steps) = (table.n(), table.steps());
+        let (n, steps) = (table.n(), table.steps().count());
         say(&format!("{name}: dot draws {n} states and {steps} steps\n"));
     }
 }
