@@ -21,7 +21,7 @@ _shuntberry() {
     next-open) words='--at --json --' ;;
     encode | generate) words='--site -o --' ;;
     decode) words='--site -o --text --names --' ;;
-    picture) words='--site -o --svg --distances --groups --text --names --' ;;
+    picture) words='--site -o --svg --distances --groups --all --text --names --' ;;
     rewrite) words='-o --' ;;
     esac
   else

@@ -2,7 +2,8 @@
 //!
 //! - [`commands`]: one module for each command;
 //! - [`words`], [`source`], [`files`], [`sys`]: the words of a call, the table that it is about, input and output, signals;
-//! - [`table`], [`text`], [`picture`], [`house`]: a table in its store, as text and as a picture; a house's windows and closed days;
+//! - [`table`], [`text`], [`picture`], [`part`], [`house`]: a table in its store, as text and as a picture, or a part of it; a house's windows and
+//!   closed days;
 //! - [`record`], [`drawing`], [`svg`], [`sha256`]: the record of a check, with a drawing by Graphviz in it;
 //! - [`lines`], [`shown`], [`json`], [`html`], [`calendar`], [`refusals`], [`failure`]: what they share.
 
@@ -13,6 +14,7 @@ pub mod failure;
 pub mod files;
 pub mod html;
 pub mod json;
+pub mod part;
 pub mod picture;
 pub mod record;
 pub mod refusals;

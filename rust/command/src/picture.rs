@@ -5,6 +5,7 @@
 //! Graphviz hands on to an SVG.
 
 use crate::lines::Names;
+use crate::part::Part;
 use crate::svg::Asked;
 use crate::table::{Set, Table};
 use shuntberry::{
@@ -18,42 +19,37 @@ pub struct Options {
     pub distances: bool,
     /// The groups that it is in.
     pub groups: bool,
+    /// Every state is drawn, however many there are.
+    pub all: bool,
 }
 
-/// A graph.
-#[derive(Debug)]
-pub struct Graph {
-    /// In Graphviz' language.
-    pub text: String,
-    /// What a drawing of it must have.
-    pub asked: Asked,
+/// How Graphviz lays a graph out.
+#[derive(Clone, Copy, Debug, PartialEq, Eq)]
+pub enum Layout {
+    /// By layers, from left to right.
+    Across,
+    /// By layers, from above.
+    Down,
+    /// By forces.
+    Forces,
 }
 
-/// The graph of a table, under a title, with names for the states that have one.
-pub fn graph(
-    table: &Table,
-    names: &Names,
-    title: &str,
-    options: Options,
-) -> Result<Graph, Refused> {
-    let mut away = vec![0; table.n()];
-    distances(table.store(), table.n(), table.g(), &mut away)?;
-    let picture = Picture {
-        table,
-        names,
-        found: Found::by_decide(table)?,
-        away: options.distances.then_some(away),
-        groups: options.groups,
-    };
-    Ok(Graph {
-        text: picture.graph(title),
-        asked: picture.asked(title),
-    })
+impl Layout {
+    fn attributes(self) -> &'static str {
+        match self {
+            Layout::Across => "rankdir=LR, ranksep=0.6, nodesep=0.35",
+            Layout::Down => "rankdir=TB, ranksep=0.6, nodesep=0.35",
+            Layout::Forces => {
+                r#"layout=sfdp, overlap=prism, overlap_scaling=2, sep="+10", outputorder=edgesfirst"#
+            }
+        }
+    }
 }
 
 // ---- What is known of a table and its states
 
 /// What a release check found.
+#[derive(Debug)]
 struct Found {
     verdict: String,
     path: Vec<usize>,
@@ -227,46 +223,86 @@ impl Look {
 /// So many steps are laid out by layers in a second or two; twice as many may take minutes.
 const MANY_STEPS: usize = 200;
 
-struct Picture<'t> {
+/// The picture of a table.
+#[derive(Debug)]
+pub struct Picture<'t> {
     table: &'t Table,
     names: &'t Names,
+    title: &'t str,
     found: Found,
     away: Option<Vec<u16>>,
     groups: bool,
+    part: Part,
 }
 
-impl Picture<'_> {
+impl<'t> Picture<'t> {
+    /// The picture of a table, under a title, with names for the states that have one.
+    pub fn of(
+        table: &'t Table,
+        names: &'t Names,
+        title: &'t str,
+        options: Options,
+    ) -> Result<Picture<'t>, Refused> {
+        let mut away = vec![0; table.n()];
+        distances(table.store(), table.n(), table.g(), &mut away)?;
+        let found = Found::by_decide(table)?;
+        let part = match options.all {
+            true => Part::all(table),
+            false => Part::of(table, &found.path),
+        };
+        Ok(Picture {
+            table,
+            names,
+            title,
+            found,
+            away: options.distances.then_some(away),
+            groups: options.groups,
+            part,
+        })
+    }
+
+    /// The layouts to try, from the one that is taken where nobody looks which fits best.
+    pub fn layouts(&self) -> &'static [Layout] {
+        match self.is_tangled() {
+            true => &[Layout::Forces],
+            false => &[Layout::Across, Layout::Down, Layout::Forces],
+        }
+    }
+
+    /// How many states and steps are drawn.
+    pub fn counts(&self) -> (usize, usize) {
+        let states = &self.part.states;
+        let steps = |&s: &usize| self.successors(s).count();
+        (states.len(), states.iter().map(steps).sum())
+    }
+
     /// The lines above the graph.
-    fn heading(&self, title: &str) -> [String; 3] {
+    fn heading(&self) -> Vec<String> {
         let n = self.table.n();
         let verdict = match n {
             0 => "an untouched draft, safe",
             _ => &self.found.verdict,
         };
         let sizes = [counted(n, "state"), counted(self.table.g(), "group")].join(", ");
-        [title.to_string(), verdict.to_string(), sizes]
+        let heading = [self.title.to_string(), verdict.to_string(), sizes];
+        heading.into_iter().chain(self.part.about.clone()).collect()
     }
 
-    fn graph(&self, title: &str) -> String {
-        let n = self.table.n();
-        let label = lines(self.heading(title).iter().map(String::as_str));
+    /// The graph in Graphviz' language.
+    pub fn graph(&self, layout: Layout) -> String {
+        let label = lines(self.heading().iter().map(String::as_str));
         // The legend stands below the graph; a layout by forces has no place for it but among the states.
-        let (layout, legend) = match self.is_tangled() {
-            true => (
-                "layout=sfdp, overlap=prism, outputorder=edgesfirst",
-                format!(
-                    "legend [shape=plaintext, fontsize=12, label={}]",
-                    self.legend()
-                ),
+        let legend = match layout {
+            Layout::Forces => format!(
+                "legend [shape=plaintext, fontsize=12, label={}]",
+                self.legend()
             ),
-            false => (
-                "rankdir=LR, ranksep=0.6, nodesep=0.35",
-                format!(
-                    "peripheries=0; labelloc=b; fontsize=12; label={}",
-                    self.legend()
-                ),
+            Layout::Across | Layout::Down => format!(
+                "peripheries=0; labelloc=b; fontsize=12; label={}",
+                self.legend()
             ),
         };
+        let layout = layout.attributes();
         let mut graph = vec![
             format!(
                 r#"graph [{layout}, labelloc=t, fontname="Helvetica", fontsize=18, label="{label}"]"#
@@ -276,7 +312,7 @@ impl Picture<'_> {
             "subgraph cluster_table {".to_string(),
             legend,
         ];
-        for s in 0..n {
+        for &s in &self.part.states {
             graph.push(self.state(s));
             if self.table.set(Set::Initial).contains(s) {
                 graph.push(format!(
@@ -285,21 +321,31 @@ impl Picture<'_> {
                 graph.push(format!(r#"start{s} -> s{s} [class="start"]"#));
             }
         }
-        for s in 0..n {
+        for &s in &self.part.states {
             graph.extend(self.successors(s).map(|t| self.step(s, t)));
         }
         graph.push("}".to_string());
         format!("digraph table {{\n  {}\n}}\n", graph.join("\n  "))
     }
 
+    /// Those of a state's successors that are drawn.
     fn successors(&self, s: usize) -> impl Iterator<Item = usize> {
-        self.table.set(Set::Successors(s)).states()
+        let all = self.table.set(Set::Successors(s)).states();
+        all.filter(|t| self.part.states.contains(t))
+    }
+
+    /// How many steps to or from a state are not drawn.
+    fn left_out(&self, s: usize) -> usize {
+        let is_hidden = |t: &usize| !self.part.states.contains(t);
+        let to = self.table.set(Set::Successors(s)).states();
+        let from = (0..self.table.n()).filter(|&t| self.table.set(Set::Successors(t)).contains(s));
+        to.chain(from).filter(is_hidden).count()
     }
 
     /// Whether a layout by layers could take minutes: many steps, and many more than a chain has.
     fn is_tangled(&self) -> bool {
-        let (n, steps) = (self.table.n(), self.table.steps());
-        steps > MANY_STEPS && 4 * steps > 5 * n
+        let (states, steps) = self.counts();
+        steps > MANY_STEPS && 4 * steps > 5 * states
     }
 
     fn kinds(&self, s: usize) -> Vec<Kind> {
@@ -329,7 +375,11 @@ impl Picture<'_> {
         let groups = (0..self.table.g())
             .filter(|&j| self.groups && self.table.set(Set::Group(j)).contains(s));
         let groups = joined(", ", groups).map(|groups| format!("in group {groups}"));
-        [Some(number), words, away, groups]
+        let left_out = match self.left_out(s) {
+            0 => None,
+            count => Some(format!("{} not drawn", counted(count, "step"))),
+        };
+        [Some(number), words, away, groups, left_out]
             .into_iter()
             .flatten()
             .collect()
@@ -362,7 +412,8 @@ impl Picture<'_> {
 
     /// For each kind that the picture has how it is drawn, and what that means; then what else is said.
     fn legend_rows(&self) -> Vec<(Option<Kind>, &'static str, &'static str)> {
-        let present = |kind: &Kind| (0..self.table.n()).any(|s| self.kinds(s).contains(kind));
+        let states = &self.part.states;
+        let present = |kind: &Kind| states.iter().any(|&s| self.kinds(s).contains(kind));
         let kinds = KINDS.into_iter().filter(present).map(|kind| {
             let (drawn, means) = kind.legend();
             (Some(kind), drawn, means)
@@ -393,13 +444,13 @@ impl Picture<'_> {
     }
 
     /// What a drawing must have.
-    fn asked(&self, title: &str) -> Asked {
+    pub fn asked(&self) -> Asked {
         let mut asked = Asked::default();
-        asked.words.extend(self.heading(title));
+        asked.words.extend(self.heading());
         for (_, drawn, means) in self.legend_rows() {
             asked.words.extend([drawn, means].map(str::to_string));
         }
-        for s in 0..self.table.n() {
+        for &s in &self.part.states {
             asked.titles.push(format!("s{s}"));
             asked.words.extend(self.said(s));
             if self.table.set(Set::Initial).contains(s) {

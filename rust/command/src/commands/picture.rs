@@ -1,12 +1,10 @@
 //! `picture`: the graph of a table, for Graphviz or drawn by it.
 
-use crate::drawing::{Limits, NotDrawn, draw};
+use crate::drawing::{Limits, NotDrawn, drawn};
 use crate::failure::{Done, Failure, status};
 use crate::files::{OUT, put, say};
-use crate::picture::{self, Graph, Options};
+use crate::picture::{Options, Picture};
 use crate::source::{NAMES, SITE, Source, TEXT};
-use crate::svg::cleaned;
-use crate::table::Table;
 use crate::words::{Call, Command, Opt, Output};
 use std::io::{self, IsTerminal};
 
@@ -25,6 +23,11 @@ const GROUPS: Opt = Opt {
     value: None,
     about: "says in each state which groups it is in",
 };
+const ALL: Opt = Opt {
+    name: "--all",
+    value: None,
+    about: "draws each state; without it, of more than 60 only the path with its neighbours, or starts and forbidden ones with theirs",
+};
 
 /// The command.
 pub const PICTURE: Command = Command {
@@ -33,7 +36,7 @@ pub const PICTURE: Command = Command {
     counts: (0, 1),
     about: "a file as a graph for Graphviz, or as an SVG",
     more: "Without FILE standard input is read, without -o standard output written.",
-    options: &[&SITE, &OUT, &SVG, &DISTANCES, &GROUPS, &TEXT, &NAMES],
+    options: &[&SITE, &OUT, &SVG, &DISTANCES, &GROUPS, &ALL, &TEXT, &NAMES],
     needs: &[],
     output: Output::File,
     run,
@@ -45,38 +48,36 @@ fn run(call: &Call) -> Done {
     let options = Options {
         distances: call.has(&DISTANCES),
         groups: call.has(&GROUPS),
+        all: call.has(&ALL),
     };
-    let graph = picture::graph(&table, &source.names, &source.shown, options)
+    let picture = Picture::of(&table, &source.names, &source.shown, options)
         .map_err(|refused| Failure::Refused(refused, refused.to_string()))?;
     if call.has(&SVG) {
-        say_drawing(PICTURE.name, &table);
-        put(call, &svg(graph)?)?;
+        say_drawing(PICTURE.name, &picture);
+        put(call, &svg(&picture)?)?;
     } else {
-        put(call, graph.text.as_bytes())?;
+        put(call, picture.graph(picture.layouts()[0]).as_bytes())?;
     }
     Ok(status::DONE)
 }
 
-/// What `dot` draws of a graph, if that is a drawing of just this table.
-fn svg(graph: Graph) -> Result<Vec<u8>, Failure> {
-    let svg = draw(&graph.text, Limits::NONE).map_err(|why| {
+/// What `dot` draws of a picture, if that is a drawing of just this table.
+fn svg(picture: &Picture) -> Result<Vec<u8>, Failure> {
+    let drawn = drawn(picture, Limits::NONE).map_err(|why| {
         Failure::Failed(match why {
             NotDrawn::Missing => "--svg needs the program dot of Graphviz, which is not installed; without --svg the graph itself is written".to_string(),
             _ => why.to_string(),
         })
     })?;
-    match cleaned(&svg, graph.asked) {
-        Ok(_) => Ok(svg), // as dot wrote it, with the classes of states and steps
-        Err(why) => Err(Failure::Failed(format!(
-            "what dot printed is no drawing of the table: {why}"
-        ))),
-    }
+    drawn.on_page().map_err(Failure::Failed)
 }
 
 /// Says on a terminal what takes its time.
-pub fn say_drawing(name: &str, table: &Table) {
+pub fn say_drawing(name: &str, picture: &Picture) {
     if io::stderr().is_terminal() {
-        let (n, steps) = (table.n(), table.steps());
-        say(&format!("{name}: dot draws {n} states and {steps} steps\n"));
+        let (states, steps) = picture.counts();
+        say(&format!(
+            "{name}: dot draws {states} states and {steps} steps\n"
+        ));
     }
 }
