@@ -7,6 +7,7 @@ from __future__ import annotations
 import ctypes
 import operator
 import os
+import sys
 from ctypes import POINTER, c_size_t, c_uint32
 from pathlib import Path
 from typing import Any, Callable, Dict, Iterator, List, Optional, Tuple
@@ -15,7 +16,10 @@ from ._raw import CALLS, MAX_ALLOWANCE, MAX_FAN_OUT, MAX_SITE, MAX_STATES, MAX_T
 from ._version import __version__
 
 MAJOR = __version__.split(".")[0]
-SONAME = f"libshuntberry.so.{MAJOR}"
+#: The library's name where it is no ELF file. Such a file has no versions of symbols: there it is asked for its own alone.
+ELSEWHERE = {"win32": "shuntberry.dll", "darwin": "libshuntberry.dylib"}
+IS_ELF = sys.platform not in ELSEWHERE
+FILE_NAME = ELSEWHERE.get(sys.platform, f"libshuntberry.so.{MAJOR}")
 #: The version under which a library of this major exports its calls.
 SYMBOL_VERSION = f"SHUNTBERRY_{MAJOR}"
 #: Names a library where none is found beside the module or by the system's loader.
@@ -62,14 +66,14 @@ def prefix() -> Optional[Path]:
 
 def beside() -> Iterator[Path]:
     """Where the library stands that came with the module: in its own folder, or in lib of the archive's."""
-    yield Path(__file__).resolve().with_name(SONAME)
+    yield Path(__file__).resolve().with_name(FILE_NAME)
     top = prefix()
     if top is not None:
-        yield top / "lib" / SONAME
+        yield top / "lib" / FILE_NAME
 
 
 def opened(name: str) -> ctypes.CDLL:
-    return ctypes.CDLL(name, mode=os.RTLD_NOW | os.RTLD_LOCAL)
+    return ctypes.CDLL(name, mode=getattr(os, "RTLD_NOW", 0) | getattr(os, "RTLD_LOCAL", 0))  # Windows has neither
 
 
 def found() -> Tuple[ctypes.CDLL, str]:
@@ -81,13 +85,13 @@ def found() -> Tuple[ctypes.CDLL, str]:
             except OSError as error:
                 raise ImportError(f"shuntberry: {path} came with this module and cannot be loaded: {error}. Install Shuntberry anew") from error
     try:
-        return opened(SONAME), SONAME
+        return opened(FILE_NAME), FILE_NAME
     except OSError as error:
         missing = error
     named = os.environ.get(VARIABLE)
     if not named:
         raise ImportError(
-            f"shuntberry: no {SONAME}, neither beside the module nor where the system looks ({missing}): install it, or name it in {VARIABLE}")
+            f"shuntberry: no {FILE_NAME}, neither beside the module nor where the system looks ({missing}): install it, or name it in {VARIABLE}")
     try:
         return opened(os.path.abspath(named)), named
     except OSError as error:
@@ -97,15 +101,31 @@ def found() -> Tuple[ctypes.CDLL, str]:
 # ---- The calls of the one that was found
 
 
-def addresses(library: ctypes.CDLL, name: str) -> Iterator[Tuple[str, int]]:
-    """Where each call stands that the library exports under this major; one that lacks a call is another version."""
+def versioned(library: ctypes.CDLL) -> Callable[[str], Optional[int]]:
+    """Where an ELF library has a symbol of this major."""
     try:
         look_up = ctypes.CDLL(None).dlvsym
     except AttributeError:
         raise ImportError("shuntberry: it takes the GNU C library, and this Python runs on another") from None
     look_up.argtypes, look_up.restype = [ctypes.c_void_p, ctypes.c_char_p, ctypes.c_char_p], ctypes.c_void_p
+
+    def address_of(symbol: str) -> Optional[int]:
+        address: Optional[int] = look_up(library._handle, symbol.encode(), SYMBOL_VERSION.encode())
+        return address
+
+    return address_of
+
+
+def unversioned(library: ctypes.CDLL) -> Callable[[str], Optional[int]]:
+    """Where any other library has a symbol."""
+    return lambda symbol: ctypes.cast(getattr(library, symbol), ctypes.c_void_p).value if hasattr(library, symbol) else None
+
+
+def addresses(library: ctypes.CDLL, name: str) -> Iterator[Tuple[str, int]]:
+    """Where each call stands that the library exports under this major; one that lacks a call is another version."""
+    look_up = versioned(library) if IS_ELF else unversioned(library)
     for call_name in CALLS:
-        address = look_up(library._handle, f"shuntberry_{call_name}".encode(), SYMBOL_VERSION.encode())
+        address = look_up(f"shuntberry_{call_name}")
         if not address:
             raise ImportError(
                 f"shuntberry: {name} has no shuntberry_{call_name} of version {MAJOR}: this module is {__version__}, and takes the library of its version")
@@ -137,17 +157,26 @@ class Symbol(ctypes.Structure):
 
 def file_of(library: ctypes.CDLL, name: str) -> str:
     """The file that the calls are from: the loader looks for a name without a folder in many."""
+    files = {file_on_windows(library)} if sys.platform == "win32" else {file_at(address) for _, address in addresses(library, name)}
+    if None in files:
+        raise ImportError(f"shuntberry: the system does not say which file {name} is")
+    if len(files) != 1:
+        raise ImportError(f"shuntberry: the calls of {name} are from several files: {', '.join(sorted(map(str, files)))}")
+    return os.path.abspath(str(files.pop()))
+
+
+def file_at(address: int) -> Optional[str]:
     look_up = ctypes.CDLL(None).dladdr
     look_up.argtypes, look_up.restype = [ctypes.c_void_p, POINTER(Symbol)], ctypes.c_int
-    files = set()
-    for _, address in addresses(library, name):
-        symbol = Symbol()
-        if not look_up(address, ctypes.byref(symbol)) or not symbol.file:
-            raise ImportError(f"shuntberry: the system does not say which file {name} is")
-        files.add(os.path.abspath(os.fsdecode(symbol.file)))
-    if len(files) != 1:
-        raise ImportError(f"shuntberry: the calls of {name} are from several files: {', '.join(sorted(files))}")
-    return files.pop()
+    symbol = Symbol()
+    return os.fsdecode(symbol.file) if look_up(address, ctypes.byref(symbol)) and symbol.file else None
+
+
+def file_on_windows(library: ctypes.CDLL) -> Optional[str]:
+    look_up = getattr(ctypes, "WinDLL")("kernel32").GetModuleFileNameW
+    look_up.argtypes, look_up.restype = [ctypes.c_void_p, ctypes.c_wchar_p, c_uint32], c_uint32
+    said = ctypes.create_unicode_buffer(1 << 15)  # no name is longer
+    return said.value if 0 < look_up(library._handle, said, len(said)) < len(said) else None
 
 
 _LIBRARY, _NAME = found()

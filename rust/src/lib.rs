@@ -92,10 +92,12 @@ mod builder;
 mod refusals;
 mod set;
 mod table;
+mod text;
 
 pub use builder::{NeedsInitial, NeedsMarked, NeedsSteps, TableBuilder};
 pub use set::{State, StateSet, States};
 pub use table::{Decision, Forbidden, ModalDecision, Report, Table, TableSession};
+pub use text::{Mistake, Mistakes, Names, TextError};
 
 use std::error::Error;
 use std::fmt;

@@ -2,6 +2,7 @@
 
 use crate::builder::{NeedsInitial, TableBuilder, put_step};
 use crate::checking::{CHECK_TEXT_BYTES, Checked, check};
+use crate::text::Names;
 use crate::{
     FILE_BYTES, INITIAL, MARKED, MAX_GROUPS, MAX_STATES, ModalVerdict, OWN_VERSION, PATH_PLACES,
     POSSIBLE_WORDS, RESTING, Refused, Replay, SET_WORDS, STORE_WORDS, State, StateSet, UNREACHABLE,
@@ -9,11 +10,12 @@ use crate::{
     remove_step, replay, row, shortest_path, version, within, write,
 };
 use std::fmt;
+use std::hash::{Hash, Hasher};
 
 /// A dialogue table that the library accepts, in a store of its own.
 ///
-/// It is accepted where it is made, out of states, sets and steps ([`Table::builder`]), a file ([`Table::from_bytes`]), a store ([`Table::from_store`])
-/// or a seed ([`Table::generate`]), and never changes after that: so a mistake in it (14, 15 and 17) is refused there, and a method only for what else
+/// It is accepted where it is made, out of states, sets and steps ([`Table::builder`]), a file ([`Table::from_bytes`]), a text ([`Table::from_text`]), a
+/// store ([`Table::from_store`]) or a seed ([`Table::generate`]), and never changes after that: so a mistake in it (14, 15 and 17) is refused there, and a method only for what else
 /// it is given, as it says. Where a method names no refusal, the proved library gives none; what is left is [`Refused::UNKNOWN_ANSWER`], of a
 /// library that is not the one that this package came with. With one of another version no table is made
 /// ([`Refused::OTHER_VERSION`]). Nothing panics.
@@ -36,12 +38,28 @@ use std::fmt;
 /// assert_eq!(Table::from_bytes(&file, 17)?, *session.table());
 /// # Ok::<(), shuntberry::Refused>(())
 /// ```
-#[derive(Clone, PartialEq, Eq, Hash)]
+#[derive(Clone)]
 pub struct Table {
     n: usize,
     g: usize,
     /// Just [`STORE_WORDS`] words, which the library accepts with `n` and `g`.
     store: Vec<u64>,
+    pub(crate) names: Names,
+}
+
+/// Tables are equal that have the same sets. Names make no difference: a file holds none.
+impl PartialEq for Table {
+    fn eq(&self, other: &Table) -> bool {
+        (self.n, self.g, &self.store) == (other.n, other.g, &other.store)
+    }
+}
+
+impl Eq for Table {}
+
+impl Hash for Table {
+    fn hash<H: Hasher>(&self, hasher: &mut H) {
+        (self.n, self.g, &self.store).hash(hasher);
+    }
 }
 
 /// What [`Table::decide`] found. It is no `bool`, has no default, and is warned of where it is not looked at:
@@ -236,7 +254,12 @@ impl Table {
         if n > MAX_STATES || g > MAX_GROUPS {
             return Err(Refused::UNKNOWN_ANSWER); // no library of ours accepts it, and there are no such rows to read
         }
-        Ok(Table { n, g, store })
+        Ok(Table {
+            n,
+            g,
+            store,
+            names: Names::new(),
+        })
     }
 }
 
@@ -499,6 +522,7 @@ impl fmt::Debug for Table {
             .field("resting", &self.resting())
             .field("groups", &self.groups().collect::<Vec<_>>())
             .field("steps", &self.steps().collect::<Vec<_>>())
+            .field("names", &self.names)
             .finish()
     }
 }
@@ -532,14 +556,14 @@ pub struct TableSession {
 impl TableSession {
     /// Adds a step; nothing changes if it exists. Refused with 27.
     pub fn add_step(&mut self, from: usize, to: usize) -> Result<(), Refused> {
-        let Table { n, g, store } = &mut self.table;
+        let Table { n, g, store, .. } = &mut self.table;
         self.reachable = add_step(store, *n, *g, self.reachable, from, to)?;
         Ok(())
     }
 
     /// Removes a step; nothing changes if there is none. Refused with 27.
     pub fn remove_step(&mut self, from: usize, to: usize) -> Result<(), Refused> {
-        let Table { n, g, store } = &mut self.table;
+        let Table { n, g, store, .. } = &mut self.table;
         self.reachable = remove_step(store, *n, *g, self.reachable, from, to)?;
         Ok(())
     }

@@ -22,8 +22,32 @@ ACCEPTED = [(path, expected) for path, expected in tables() if not expected.star
 RULES = dict(line.split("|", 1) for line in (TOP / "rust/command/refusals.txt").read_text().splitlines() if not line.startswith("#"))
 
 
-def said_of(status):
-    return DRAFT if status == NO_RELEASE else None
+OLD = "this is a file of the old form, of versions 1 to 3: the command rewrite makes a new one of it"
+MANY = "the program that wrote the file gave it too many groups"
+TEXT = "this looks like a text: check --text reads it, and the command encode makes a file of it"
+
+
+def refused(number, advice=None):
+    """A refusal in words: the ground, and what to do."""
+    ground, hint = RULES[str(number)].split("|")
+    return f"refused {number}: {ground}; {advice or 'look whether ' + hint}"
+
+
+def explanation(path, expected, names={}):
+    """What is said of a file of tests/files without being asked; nothing of a table that is safe, where that says something."""
+    words = expected.split()
+    if words[0] == "refused":
+        return refused(words[1], (OLD if path.read_bytes()[5] < 128 else MANY) if words[1] == "15" else None)
+    if words[1] == "0":
+        return "the table has no states, so that nothing is to be released: an empty input is a draft"
+    if words[4] == "unsafe":
+        return model.why_unsafe(model.table_of(path.with_suffix(".txt").read_text()), int(words[-1]), names)
+    return vacuous(path) and remark(vacuous(path))
+
+
+def just(why, command="check"):
+    """Just this on standard error, for gives."""
+    return why and "^" + re.escape(f"{command}: {why}\n") + r"\Z"
 
 
 def vacuous(path):
@@ -36,7 +60,7 @@ def vacuous(path):
 
 
 def remark(why):
-    return f"{why}; release declines such a table\n"
+    return f"{why}; release declines such a table"
 
 
 # ---- check, on every file
@@ -44,12 +68,16 @@ def remark(why):
 for path, expected in tables():
     status = status_of(expected)
     file = path.read_bytes()
-    gives(status, expected, "check", path, err=said_of(status))
-    gives(status, expected, path, under="/some/where/check", err=said_of(status))
+    err = just(explanation(path, expected))
+    gives(status, expected, "check", path, err=err)
+    gives(status, expected, path, under="/some/where/check", err=err)
     with open(path, "rb") as opened:
-        gives(status, expected, "check", stdin=opened, err=said_of(status))
-    gives(status, expected, under="check", input=file, err=said_of(status))
-    gives(status, "", "check", "--quiet", path, err=said_of(status))
+        gives(status, expected, "check", stdin=opened, err=err)
+    gives(status, expected, under="check", input=file, err=err)
+    # a script asks for the status alone; a draft is said, since it is mostly what a command that failed left
+    gives(status, "", "check", "--quiet", path, err=err if status == NO_RELEASE else None)
+found = {explanation(path, expected).split(", ", 1)[1].split(":")[0] for path, expected in tables() if status_of(expected) == UNSAFE}
+need(found == {"a hang", "forbidden since it is marked"}, "no path ends in a hang, or none in a marked state", found)
 group("check on the files of tests/files")
 
 for path, expected in ACCEPTED:
@@ -64,20 +92,22 @@ for path, expected in ACCEPTED:
     # 13 is sure: a byte that is off by less than 256 moves the sum by no multiple of the prime
     for number, places in (12, [0, 1, size - 512]), (13, [2, 255, 509, 510, 511, size - 212, size - 1]):
         for at in places:
-            gives(REFUSED, f"refused {number}\n", "check", input=damaged(at))
-    gives(REFUSED, "refused 11\n", "check", input=file[:-1])
-    gives(REFUSED, "refused 11\n", "check", input=file + b"\0")
+            gives(REFUSED, f"refused {number}\n", "check", input=damaged(at), err=just(refused(number)))
+    gives(REFUSED, "refused 11\n", "check", input=file[:-1], err=just(refused(11)))
+    gives(REFUSED, "refused 11\n", "check", input=file + b"\0", err=just(refused(11)))
 with open("/dev/zero", "rb") as zeros:
-    gives(REFUSED, "refused 11\n", "check", stdin=zeros)
-gives(REFUSED, "refused 11\n", "check", "/dev/zero")
+    gives(REFUSED, "refused 11\n", "check", stdin=zeros, err=just(refused(11)))
+gives(REFUSED, "refused 11\n", "check", "/dev/zero", err=just(refused(11)))
+gives(REFUSED, "", "check", "--quiet", "/dev/zero")
+gives(FAILED, "", "check", "--quiet", TABLES / "missing.table", err="No such file")  # a failure is never silent
 gives(NO_RELEASE, (TABLES / "empty.expected").read_text(), "check", err=DRAFT)
 group("check on damaged files and no input")
 
 
 # ---- its options
 
-def object_of(expected, why=None):
-    """The object of a text, and of why it says little that the table is safe."""
+def object_of(expected, why=None, end=None):
+    """The object of a text, of why it says little that the table is safe, and of what its path ends in."""
     words = expected.split()
     if words[0] == "refused":
         return {"verdict": "refused", "refusal": int(words[1]), "ground": RULES[words[1]].split("|")[0]}
@@ -88,31 +118,33 @@ def object_of(expected, why=None):
         found["invariant"] = sorted(model.numbers(words[9:]))
     elif words[4] == "unsafe":
         found["path"] = [int(word) for word in words[8:]]
+        found["ends_in"] = end
     return found
 
 
+def end_of(path, expected):
+    """What the path of an unsafe table ends in."""
+    return status_of(expected) == UNSAFE and ("hang" if "a hang" in explanation(path, expected) else "marked")
+
+
 for path, expected in tables():
-    status = status_of(expected)
-    why = vacuous(path)
-    given = gives(status, None, "check", "--json", path, err=why or said_of(status))
-    need(given.out.count(b"\n") == 1 and json.loads(given.out) == object_of(expected, why), "other JSON", given)
-    need(not why or given.err.decode() == f"check: {remark(why)}", given)
-    if status == REFUSED:
-        number = expected.split()[1]
-        ground, hint = RULES[number].split("|")
-        given = gives(REFUSED, expected, "check", "--explain", path, err="")
-        old = "check: this file is of the old form, and the command rewrite makes a new one of it\n" if number == "15" and path.read_bytes()[5] < 128 else ""
-        need(given.err.decode() == f"check: refused {number}: {ground}\ncheck: look whether {hint}\n{old}", "other words", given)
-    else:
-        given = gives(status, expected, "check", "--explain", path, err=why or said_of(status))
-        need(not why or given.err.decode() == f"check: {remark(why)}", given)
-        text = path.with_suffix(".txt")
-        gives(status, expected, "check", "--text", text, err=said_of(status))
-        gives(status, expected, "check", "--names", text, path, err=said_of(status))
-        given = gives(REFUSED, None, "check", "--explain", text, err="looks like a text: --text")
+    status, err = status_of(expected), just(explanation(path, expected))
+    given = gives(status, None, "check", "--json", path, err=err)
+    lines, found = model.repairs(model.table_of(path.with_suffix(".txt").read_text()), {}) if status == UNSAFE else ([], {})
+    need(given.out.count(b"\n") == 1 and json.loads(given.out) == object_of(expected, vacuous(path), end_of(path, expected)) | found, "other JSON", given)
+    given = gives(status, expected, "check", "--explain", path, err=err and err.removesuffix(r"\Z"))
+    need(given.err.decode().splitlines()[1:] == [f"check: {line}" for line in lines], lines, given)
+    gives(status, "", "check", "--explain", "--quiet", path, err=err if status == NO_RELEASE else None)
+    text = path.with_suffix(".txt")
+    if status != REFUSED:
+        gives(status, expected, "check", "--text", text, err=err)
+        gives(status, expected, "check", "--names", text, path, err=err)
+        given = gives(REFUSED, None, "check", text, err=re.escape(TEXT))
+        need(given.out.startswith(b"refused 1"), given)
 need({vacuous(path) for path, _ in tables()} > {None} and len({vacuous(path) for path, _ in tables()}) == 3, "no table is vacuous, or not for both reasons")
 subprocess.run(["python3", "-m", "json.tool"], input=call("check", "--json", TABLES / "b.table").out, check=True, stdout=subprocess.DEVNULL)
 
+UNDECIDED = "so many refinements do not tell safe from unsafe: check without --allowance, or allow more, up to 512"
 for path, expected in ACCEPTED:
     table = model.table_of(path.with_suffix(".txt").read_text())
     most = int(expected.split()[6])
@@ -121,9 +153,11 @@ for path, expected in ACCEPTED:
         if drafted is None:
             drafted = f"states {table.n} groups {len(table.groups)}\nundecided refinements {allowance}\n"
         status = status_of(drafted)
-        gives(status, drafted, "check", "--allowance", str(allowance), path, err=said_of(status) if table.n == 0 else None)
-gives(REFUSED, "refused 13\n", "check", "--allowance", "1", TABLES / "bad-check.table")
-given = gives(NO_RELEASE, None, "check", "--json", "--allowance=2", TABLES / "b.table")
+        undecided = status == NO_RELEASE and table.n
+        gives(status, drafted, "check", "--allowance", str(allowance), path, err=just(UNDECIDED if undecided else explanation(path, expected)))
+gives(REFUSED, "refused 13\n", "check", "--allowance", "1", TABLES / "bad-check.table", err=just(refused(13)))
+given = gives(NO_RELEASE, None, "check", "--json", "--allowance=2", TABLES / "b.table", err=just(UNDECIDED))
+gives(NO_RELEASE, "", "check", "--quiet", "--allowance=2", TABLES / "b.table")
 need(json.loads(given.out) == {"verdict": "undecided", "states": 5, "groups": 0, "refinements": 2}, given)
 
 for path, expected in ACCEPTED:
@@ -131,10 +165,11 @@ for path, expected in ACCEPTED:
         file = WORK / "site"
         file.write_bytes(model.at_site(path.read_bytes(), site))
         status = status_of(expected)
-        gives(status, expected, "check", "--site", str(site), file, err=said_of(status))
+        gives(status, expected, "check", "--site", str(site), file, err=just(explanation(path, expected)))
         if status != NO_RELEASE:
-            gives(REFUSED, "refused 13\n", "check", file)
-            gives(REFUSED, "refused 13\n", "check", "--site", str(site - 1), file)
+            # nothing that invites to another site
+            gives(REFUSED, "refused 13\n", "check", file, err=just(refused(13)))
+            gives(REFUSED, "refused 13\n", "check", "--site", str(site - 1), file, err=just(refused(13)))
 
 # names stand below the three lines, beside the numbers
 names = TOP / "examples/pump.txt"
@@ -151,7 +186,15 @@ for words in ("--names", names, pump), ("--text", names):
     found = json.loads(call("check", "--json", *words).out)
     need(found.pop("names") == {s: known[s] for s in listed if s in known} and found == object_of(plain), found)
 gives(REFUSED, "", "check", "--names", TABLES / "a.txt", pump, err="the text of another table")
-gives(REFUSED, "refused 13\n", "check", "--names", TABLES / "e.txt", TABLES / "bad-check.table")
+gives(REFUSED, "refused 13\n", "check", "--names", TABLES / "e.txt", TABLES / "bad-check.table", err=just(refused(13)))
+# a screen by its name, in what is said of the end of a path
+over = WORK / "over.txt"
+over.write_text(names.read_text().replace("end\n", "step running -> over-hard-limit\nend\n"))
+gives(UNSAFE, None, "check", "--text", over, err=just("the path ends in 7 over-hard-limit, forbidden since it is marked"))
+over.write_text("states 2\nstate 1 stuck\ninitial 0\nforbidden none\nstep 0 -> stuck\nend\n")
+gives(UNSAFE, None, "check", "--text", over, err=just("the path ends in 1 stuck, a hang: no step leads out, and it is not resting"))
+over.write_text("states 2\nstate 1 stuck\ninitial 0\nforbidden stuck\nstep 0 -> stuck\nend\n")  # marked, and it leads nowhere too
+gives(UNSAFE, None, "check", "--text", over, err=just("the path ends in 1 stuck, forbidden since it is marked"))
 group("options of check")
 
 
@@ -167,14 +210,14 @@ for words in (E, E), ("", E), ("-h",), ("-",), ("--explain", "--explain", E), ("
     "--text", "--names", E, E), ("--site=1=2", E), ("--json=x", E), ("--names",), ("--allowance", "99999999999999999999", E):
     wrong("usage: shuntberry check ", "check", *words)
     wrong("usage: check ", *words, under="check")
-wrong("is no option", "check", b"--names=\xff", E)
+wrong("unknown option", "check", b"--names=\xff", E)
 wrong("did you mean '--explain'", "check", "--explian", E)
 wrong("did you mean '--allowance'", "check", "--alowance", "3", E)
 wrong("expected a number from 0 to 512", "check", "--allowance", "600", E)
 wrong("did you mean 'check'", "chekc", E, out="failed\n")
 wrong("did you mean 'next-open'", "nextopen", out="failed\n")
 wrong("no command\nusage", out="failed\n")
-wrong("is no command\n", "frobnicate", out="failed\n")
+wrong("unknown command 'frobnicate'\n", "frobnicate", out="failed\n")
 wrong("No such file", "check", "")
 wrong("No such file", "check", TABLES / "missing.table", input=E.read_bytes())
 wrong("No such file", "check", "/dev/tcp/127.0.0.1/1")
@@ -182,14 +225,14 @@ wrong("is a directory", "check", "/")
 wrong("No such file", "check", "--", "--explain")
 
 # about itself: with 0 where no 0 can pass for a verdict
-for words in ["--help"], ["help"], *(["help", name] for name in "check check-all release report inspect within replay options next-open encode decode picture generate rewrite".split()):
+for words in ["--help"], ["help"], *(["help", name] for name in "check check-all release report inspect diff within replay options next-open encode decode picture generate rewrite".split()):
     given = gives(SAFE, None, *words)
     need(given.out.startswith(b"usage: shuntberry "), given)
     if len(words) == 2:
         about = gives(FAILED, None, words[1], "--help")
         need(about.out == given.out, about)
         gives(FAILED, f"shuntberry {words[1]} (Shuntberry) {VERSION}\n", words[1], "--version")
-        given = gives(FAILED, None, words[1], "--hepl", err="did you mean|is no option")
+        given = gives(FAILED, None, words[1], "--hepl", err="did you mean|unknown option")
         need(given.out == (b"failed\n" if words[1] in "encode decode picture generate rewrite".split() else b""), given)
 gives(SAFE, f"shuntberry (Shuntberry) {VERSION}\n", "--version")
 for command, usage in ("report", " -o OUT [--site N] [--names TEXT] FILE\n"), ("next-open", " --at DATE-TIME "), ("encode", " [-o OUT]"):  # what must be given has no brackets
@@ -231,13 +274,15 @@ def checks(*names, how=(), err=None):
     statuses = list(map(status_of, texts))
     paths = [f"{TABLES}/{name}.table" for name in names]
     lines = "".join(map(line_of, paths, texts)) + summary(statuses)
-    reasons = [vacuous(TABLES / f"{name}.table") for name in names]
-    said = "".join(f"check-all: {path}: {remark(why)}" for path, why in zip(paths, reasons) if why)
-    for json_too in (), ("--json",):
-        given = gives(worst(statuses), None if json_too else lines, "check-all", *json_too, *how, *paths, err=err or said and "")
+    files = [TABLES / f"{name}.table" for name in names]
+    reasons = [explanation(*found) if status_of(found[1]) in (SAFE, REFUSED) else None for found in zip(files, texts)]
+    said = "".join(f"check-all: {path}: {why}\n" for path, why in zip(paths, reasons) if why)
+    for more in (), ("--json",):
+        given = gives(worst(statuses), None if more else lines, "check-all", *more, *how, *paths, err=err or said and "")
         need(given.err.decode() == said, "other remarks", given)
+        quiet = gives(worst(statuses), given.out, "check-all", "--quiet", *more, *how, *paths, err=err)
     objects = [json.loads(line) for line in given.out.splitlines()]
-    need(objects[:-1] == [{"file": path} | object_of(*found) for path, *found in zip(paths, texts, reasons)], given)
+    need(objects[:-1] == [{"file": os.fspath(path)} | object_of(text, vacuous(path), end_of(path, text)) for path, text in zip(files, texts)], given)
     need(objects[-1] == counted(summary(statuses)), given)
 
 
@@ -255,6 +300,15 @@ checks(*every)
 random.shuffle(every)
 checks(*every)
 group("check-all on files of tests/files")
+
+# --quiet: no failure is silent, nor what was not checked
+quiet = WORK / "quiet"
+quiet.mkdir()
+for name, place in ("bad-check", "bad.table"), ("a", "other.bin"):
+    (quiet / place).write_bytes((TABLES / f"{name}.table").read_bytes())
+lines = f"{quiet}/bad.table: refused 13\n{TABLES}/missing: failed\n{summary([REFUSED, FAILED])}"
+given = gives(FAILED, lines, "check-all", "--quiet", quiet, TABLES / "missing", err=f"(?m)^check-all: {TABLES}/missing could not be read: No such file")
+need(f"check-all: not checked: {quiet}/other.bin\n" in given.err.decode() and b"refused" not in given.err, given)
 
 # folders: what ends in .table, in the order of names, below it too; what is passed over is said
 folder = WORK / "folder"
@@ -401,7 +455,7 @@ gives(UNSAFE, lines, "check-all", "-0", "--from", listed, cwd=place)
 objects = [json.loads(line) for line in call("check-all", "--json", "--", *names, cwd=place).out.splitlines()]
 need([found["file"] for found in objects[:-2]] == list(names)[:-1] and objects[-2]["file_hex"] == "fffe", objects)
 for name in names:
-    gives(UNSAFE, (TABLES / "b.expected").read_text(), "check", "--", name, cwd=place)
+    gives(UNSAFE, (TABLES / "b.expected").read_text(), "check", "--", name, cwd=place, err=just("the path ends in 3, forbidden since it is marked"))
 # a folder that cannot be looked at, where a file system does not say in its list what is a folder: it has failed, and is not passed over
 UNTOLD = r"""
 mkdir mnt && mount -o loop disk mnt 2>/dev/null || exit 77
@@ -444,7 +498,8 @@ for path, expected in tables():
                 out.write_bytes(before)
             remark = "no state is marked as forbidden, only hangs are" if table and table.forbidden() and not table.marked else None
             printed = expected + sum_line(path) if status == SAFE else expected
-            gives(status, printed, "release", *how, path, out, err=remark if status == SAFE else "nothing was released")
+            unsafe = f"nothing was released: it is unsafe: the path ends in [0-9]+, {'a hang: no step leads out' if end_of(path, expected) == 'hang' else 'forbidden since it is marked'}"
+            gives(status, printed, "release", *how, path, out, err=remark if status == SAFE else unsafe if status == UNSAFE else "nothing was released")
             after = out.read_bytes() if out.exists() else None
             need(after == (path.read_bytes() if status == SAFE else before), f"release {path}: another OUT")
 need(call("release", TABLES / "g.table", out).err.count(b"no initial state") == 1, "g has no initial state")
@@ -471,7 +526,7 @@ out.unlink()
 gives(FAILED, "", "release", TABLES / "missing", out, err="No such file")
 need(not out.exists(), "release of a file that is missing")
 gives(REFUSED, "refused 13\n", "release", TABLES / "bad-check.table", WORK / "never", err="nothing was released: it is refused 13: .*damaged, or was made for another site")
-gives(REFUSED, "refused 11\n", "release", TABLES / "e.txt", WORK / "never", err="it looks like a text, of which the command encode makes a file\n")
+gives(REFUSED, "refused 11\n", "release", TABLES / "e.txt", WORK / "never", err=re.escape(TEXT))
 # of an old file of another site no message sends to rewrite, which would refuse it
 old = (TABLES / "old-e.table").read_bytes()
 for site, err in (0, "the command rewrite makes a new one of it"), (7, "rewrite reads for site 0 alone: have it saved anew"):

@@ -2,6 +2,7 @@
 """inspect, within, replay, options and next-open: on every file of tests/files, and on random tables, logs and houses, held to model.py."""
 import json
 import random
+import re
 import resource
 from datetime import date, datetime, timedelta
 
@@ -59,7 +60,9 @@ def inspected(table, names):
         words += ["reachable" if s in reachable else "not reachable", f"distance {away.get(s, 'never')}"]
         said += f"state {screen(s, names)}: {', '.join(words)}\n"
     look = model.remarks(table, names)
-    return said + ("".join(f"look at: {words}\n" for words in look) or "look at nothing in particular\n")
+    said += "".join(f"look at: {words}\n" for words in look) or "look at nothing in particular\n"
+    wrong = model.repairs(table, names)[0] if reachable & table.forbidden() else []
+    return said + "".join(f"{line}\n" for line in wrong)
 
 
 def inspected_object(table, names):
@@ -70,7 +73,8 @@ def inspected_object(table, names):
             "groups": [j for j, states in enumerate(table.groups) if s in states], "reachable": s in reachable, "distance": away.get(s),
         } for s in range(table.n)
     ]
-    return {"states": table.n, "groups": len(table.groups), "screens": screens}
+    wrong = model.repairs(table, names)[1] if reachable & table.forbidden() else {}
+    return {"states": table.n, "groups": len(table.groups), "screens": screens} | wrong
 
 
 for table, path in EVERY:
@@ -83,6 +87,18 @@ for table, path in EVERY:
     look = found.pop("look_at")
     need(found == inspected_object(table, names), path, found)
     need(len(look) == max(expected.count("look at: "), 0), look)
+SINGLE = {bool(model.repairs(table, {})[1]["rub_out"]) for table, _ in EVERY if model.reached(table, table.initial) & table.forbidden()}
+need(SINGLE == {True, False}, "of no table a single step can be rubbed out, or of each", SINGLE)
+# a step less may be a hang more, and no repair; a second way leaves no single step; the cheapest stands first
+for steps, expected in [
+    ("step 0 -> 1\nstep 1 -> 2\nstep 2 -> 2\n", ["no single step of the path, rubbed out, does it"]),
+    ("forbidden 0\nstep 0 -> 1\nstep 1 -> 1\nstep 2 -> 2\n", ["no single step of the path, rubbed out, does it"]),  # a session starts there: there is none
+    ("step 0 -> 1 3\nstep 1 -> 2\nstep 2 -> 2\nstep 3 -> 2 3\n", ["no single step of the path, rubbed out, does it"]),
+    ("step 0 -> 0 1\nstep 1 -> 1 2\nstep 2 -> 2\n", [
+        "rub out 1 -> 2, and no forbidden screen can be reached; all others still can", "rub out 0 -> 1, and no forbidden screen can be reached; 1 other cannot either"]),
+]:
+    given = call("inspect", "--text", input=f"states 4\ninitial 0\nforbidden 2\nresting 3\n{steps}end\n".encode())
+    need([line for line in given.out.decode().splitlines() if "rub out" in line or "rubbed out" in line] == expected, expected, given)
 # the examples of the manual page
 page = (TOP / "man/shuntberry.1").read_text().replace("\\-", "-").replace("\\(aq", "'")
 example = WORK / "example.txt"
@@ -157,25 +173,29 @@ def walk(table):
 
 
 log = WORK / "log"
+statuses = set()
 for table, path in EVERY:
     for entries in [], walk(table), walk(table):
         log.write_bytes(b"".join(map(spec.two, entries)))
-        gives(SAFE, replayed(table, entries, {})[0], "replay", path, log)
         text, names = named(table)
         said, found = replayed(table, entries, names)
-        gives(SAFE, said, "replay", "--text", text, log)
-        need(json.loads(gives(SAFE, None, "replay", "--json", "--names", text, path, log).out) == found, found)
+        status = NO_RELEASE if found["breaks"] else SAFE
+        statuses.add(status)
+        gives(status, replayed(table, entries, {})[0], "replay", path, log)
+        gives(status, said, "replay", "--text", text, log)
+        need(json.loads(gives(status, None, "replay", "--json", "--names", text, path, log).out) == found, found)
         words = " ".join(names.get(s, str(s)) if random.random() < 0.8 else str(s) for s in entries)
         log.write_text(words.replace(" ", "\n", 1) + " # as the nurse said\nend\n")
-        gives(SAFE, said, "replay", "--text", "--text-log", text, log)
+        gives(status, said, "replay", "--text", "--text-log", text, log)
+need(statuses == {SAFE, NO_RELEASE}, "no walk breaks off, or each does", statuses)
 log.write_bytes(b"\0\0\1")
 gives(REFUSED, "", "replay", E, log, err=f"{log}: refused 25")
 log.write_text("0 1\n")
-gives(SAFE, None, "replay", E, log, err="looks like a text, which --text-log reads")
+gives(NO_RELEASE, None, "replay", E, log, err="looks like a text, which --text-log reads")
 for words in "0 1 #\n", "größe 1\r\n", "größe 12\r\n", "\ufeff0 1\n", "0\t1":
     log.write_bytes(words.encode())
     odd = log.stat().st_size % 2
-    gives(REFUSED if odd else SAFE, "" if odd else None, "replay", E, log, err="looks like a text, which --text-log reads")
+    gives(REFUSED if odd else NO_RELEASE, "" if odd else None, "replay", E, log, err="looks like a text, which --text-log reads")
 log.write_text("0 70000\nend\n")
 gives(REFUSED, "", "replay", "--text-log", E, log, err="'70000' is too large")
 for length, number in (32768, None), (32769, 25), (32770, 26), (40001, 25):
@@ -243,16 +263,20 @@ def modal_said(table, possible, names):
     if found["verdict"] == "safe":
         found |= {"vacuous": True, "why": why} if why else {"vacuous": False}
     if invariant is not None:
+        said += "with the certain steps alone:\n" * (verdict == "depends")
         said += f"invariant {len(invariant)}: {spec.listing(sorted(invariant))}\n"
         found["invariant"] = sorted(invariant)
     if path is not None:
+        said += "with every possible step:\n" * (verdict == "depends")
         said += f"path {joined(path)}\n"
         found["path"] = path
+        found["ends_in"] = "marked" if path[-1] in table.marked else "hang"
     states = [*(path or []), *sorted(invariant or [])]
     if names:
         found["names"] = {str(s): names[s] for s in states if s in names}
     status = NO_RELEASE if not table.n or verdict == "depends" else UNSAFE if verdict == "unsafe" else SAFE
-    return status, said + below(names, states), found, why and f"^options: {why}; release declines such a table\n$"
+    err = model.why_unsafe(table, path[-1], names) if path is not None else why and f"{why}; release declines such a table"
+    return status, said + below(names, states), found, err and "^" + re.escape(f"options: {err}\n") + r"\Z"
 
 
 seen, reasons = set(), set()
@@ -285,7 +309,8 @@ for words in (E,), ("--text", "--possible", E, E), ("--possible", E, E, E), ("--
     gives(FAILED, "", "options", *words, err="usage: shuntberry options")
 text = WORK / "possible.txt"
 text.write_text("states 3\ninitial 0\nforbidden 2\nstep 0 -> 0\nstep 1 -> 2\npossible 0 -> 1\nend\n")
-gives(NO_RELEASE, "states 3 groups 0\ndepends\ninvariant 1: 0\npath 0 1 2\n", "options", "--text", text)
+gives(NO_RELEASE, "states 3 groups 0\ndepends\nwith the certain steps alone:\ninvariant 1: 0\nwith every possible step:\npath 0 1 2\n", "options", "--text", text,
+      err="^options: the path ends in 2, forbidden since it is marked\n$")
 for command in "check", "inspect", "decode":
     gives(REFUSED, None, command, "--text", text, err="possible steps are for the command options alone")
 group("options")
@@ -302,6 +327,9 @@ def length_of(minutes):
     return random.choice([f"{minutes}m", "".join(f"{count}{unit}" for count, unit in [(days, "d"), (hours, "h"), (left, "m")] if count)])
 
 
+ALWAYS = "until never: from then on some window is always open\n"
+written = lambda moment: f"{moment:%Y-%m-%d %H:%M} {model.DAYS[moment.weekday()]}"
+seen = set()
 for _ in range(150):
     windows = [(random.randrange(7), random.randrange(24), random.choice([0, 1, 30, 59]), random.choice([1, 30, 60, 360, 1440, 4000, 10080])) for _ in range(random.choice([0, 1, 1, 2, 5]))]
     windows = list(dict.fromkeys(windows))
@@ -312,17 +340,31 @@ for _ in range(150):
     random.shuffle(lines)
     house.write_text("\n".join([*lines, "end\n"]))
     found = model.next_open(windows, closed, moment)
-    said = "never\n" if found is None else f"open {found:%Y-%m-%d %H:%M} {model.DAYS[found.weekday()]}\n"
+    closes = found and model.closes(windows, closed, found)
+    said = "never\n" if found is None else f"open {written(found)}\n" + (f"until {written(closes)}\n" if closes else ALWAYS)
     gives(SAFE, said, "next-open", house, "--at", at(moment))
     gives(SAFE, said, "next-open", f"--at={moment:%Y-%m-%d %H:%M}", house)
     object = {"at": at(moment), "open": None}
     if found is not None:
         minute = (found - datetime(2000, 1, 1)) // timedelta(minutes=1)
-        object |= {"open": at(found), "weekday": model.DAYS[found.weekday()], "minute": minute}
+        object |= {"open": at(found), "weekday": model.DAYS[found.weekday()], "minute": minute, "until": closes and at(closes)}
+    seen.add("never" if found is None else "until" if closes else "always")
     need(json.loads(call("next-open", "--json", "--at", at(moment), house).out) == object, object)
 house.write_text("window monday 22:00 for 6h\nclosed 2026-12-28\nend\n")
-gives(SAFE, "open 2026-12-29 00:00 tuesday\n", "next-open", house, "--at", "2026-12-28T13:05")
-gives(SAFE, "open 2000-01-03 22:00 monday\n", "next-open", house, "--at", "2000-01-01T00:00")
+need(seen == {"never", "until", "always"}, seen)
+gives(SAFE, "open 2026-12-29 00:00 tuesday\nuntil 2026-12-29 04:00 tuesday\n", "next-open", house, "--at", "2026-12-28T13:05")
+gives(SAFE, "open 2000-01-03 22:00 monday\nuntil 2000-01-04 04:00 tuesday\n", "next-open", house, "--at", "2000-01-01T00:00")
+# open until a closed day, through windows that meet, and up to the last time that can be asked
+house.write_text("window monday 22:00 for 2h\nwindow tuesday 00:00 for 1d\nwindow wednesday 00:00 for 10m\nclosed 2027-01-06\nend\n")
+gives(SAFE, "open 2026-12-28 23:59 monday\nuntil 2026-12-30 00:10 wednesday\n", "next-open", house, "--at", "2026-12-28T23:59")
+gives(SAFE, "open 2027-01-04 22:00 monday\nuntil 2027-01-06 00:00 wednesday\n", "next-open", house, "--at", "2027-01-01T00:00")
+house.write_text("window monday 00:00 for 7d\nclosed 2031-05-01\nend\n")
+gives(SAFE, "open 2026-12-28 13:05 monday\nuntil 2031-05-01 00:00 thursday\n", "next-open", house, "--at", "2026-12-28T13:05")
+gives(SAFE, "open 2031-05-02 00:00 friday\n" + ALWAYS, "next-open", house, "--at", "2031-05-01T00:00")
+house.write_text("window monday 00:00 for 7d\nclosed 9999-05-01\nend\n")
+given = gives(SAFE, f"open {written(datetime(6083, 1, 23, 2, 7))}\n", "next-open", house, "--at", "6083-01-23T02:07")  # when that ends cannot be asked
+need("until" not in json.loads(call("next-open", "--json", house, "--at", "6083-01-23T02:07").out), given)
+house.write_text("window monday 22:00 for 6h\nclosed 2026-12-28\nend\n")
 gives(REFUSED, "", "next-open", house, "--at", "9999-12-31T23:59", err="refused 31")
 gives(FAILED, "", "next-open", house, err="expected --at DATE-TIME")
 for word in "2026-12-24", "13:05", "1999-12-31T23:59", "2026-02-29T00:00", "2100-02-29T00:00", "2026-13-01T00:00", "2026-00-01T00:00", "2026-04-31T00:00", "2026-12-24T24:00", \

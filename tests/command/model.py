@@ -38,10 +38,13 @@ def at_site(file, site):
 
 
 def reached(table, states):
-    found, layer = set(states), set(states)
-    while layer:
-        layer = {b for a, b in table.steps if a in layer} - found
-        found |= layer
+    after, found, left = {}, set(states), list(states)
+    for a, b in table.steps:
+        after.setdefault(a, set()).add(b)
+    while left:
+        new = after.get(left.pop(), set()) - found
+        found |= new
+        left += new
     return found
 
 
@@ -59,6 +62,58 @@ def screen(s, names):
     return f"{s} {names[s]}" if s in names else str(s)
 
 
+def why_unsafe(table, last, names):
+    """Why a path ends in a state: a mark goes before a hang."""
+    return f"the path ends in {screen(last, names)}, {END[last in table.marked]}"
+
+
+END = {True: "forbidden since it is marked", False: "a hang: no step leads out, and it is not resting"}
+
+
+def way_to(state, initial, steps):
+    """The smallest of the shortest paths to a state, by its distances; none where there is no path."""
+    away, layer = {state: 0}, {state}
+    while layer and not layer & initial:
+        layer = {a for a, b in steps if b in layer} - set(away)
+        away |= dict.fromkeys(layer, max(away.values()) + 1)
+    if not layer:
+        return None
+    path = [min(layer & initial)]
+    while path[-1] != state:
+        path.append(min(b for a, b in steps if a == path[-1] and away.get(b) == away[a] - 1))
+    return path
+
+
+def rub_out(table):
+    """Each step of the path without which nothing forbidden can be reached, and how many others then cannot either; those that cost least first."""
+    path, found = spec.shortest_path(table), []
+    before = reached(table, table.initial) - table.forbidden()
+    for step in zip(path, path[1:]):
+        less = spec.Table(table.n, table.initial, table.marked, table.steps - {step}, table.groups, table.resting)
+        after = reached(less, table.initial)
+        if not after & less.forbidden():
+            found.append((*step, len(before - after)))
+    return sorted(found, key=lambda found: found[2])
+
+
+REPAIRS = {}
+
+
+def repairs(table, names):
+    """What is wrong with an unsafe table: a line each, and as JSON."""
+    if id(table) not in REPAIRS:
+        ways = [way_to(state, table.initial, table.steps) for state in sorted(table.forbidden())]
+        REPAIRS[id(table)] = table, [way for way in ways if way], rub_out(table)
+    _, ways, steps = REPAIRS[id(table)]
+    arrows = lambda states: " -> ".join(screen(s, names) for s in states)
+    lost = lambda count: "; all others still can" if not count else f"; {count} other{'s' * (count > 1)} cannot either"
+    lines = [f"reached: {arrows(way)}, {END[way[-1] in table.marked]}" for way in ways]
+    lines += [f"rub out {arrows(step)}, and no forbidden screen can be reached{lost(count)}" for *step, count in steps]
+    lines += [] if steps else ["no single step of the path, rubbed out, does it"]
+    found = {"reached": [{"ends_in": "marked" if way[-1] in table.marked else "hang", "path": way} for way in ways]}
+    return lines, found | {"rub_out": [dict(zip(("from", "to", "lost"), step)) for step in steps]}
+
+
 def remarks(table, names):
     """What a reviewer should look at, a sentence each."""
     reachable, hangs, look = reached(table, table.initial), table.dead_ends() - table.resting, []
@@ -72,7 +127,7 @@ def remarks(table, names):
         look.append("no state is marked as forbidden: only hangs are")
     for words, states in [
         ("forbidden screens that can be reached", table.forbidden() & reachable), ("hangs, which have no way out and do not rest", hangs),
-        ("screens that nothing reaches", table.states() - reachable - table.forbidden()),
+        ("screens that no session reaches", table.states() - reachable - table.forbidden()),
     ]:
         if states:
             look.append(f"{words}: {', '.join(screen(s, names) for s in sorted(states))}")
@@ -115,6 +170,14 @@ def next_open(windows, closed, at):
         if moment.date() not in closed and any(is_in(window, moment) for window in windows):
             return moment
         moment += timedelta(minutes=1)
+
+
+def closes(windows, closed, opened):
+    """The first minute from one on that is not open; none if there is no such. It is looked for one by one for a week, and on closed days: only such a day closes later."""
+    is_open = lambda moment: moment.date() not in closed and any(is_in(window, moment) for window in windows)
+    week = (opened + timedelta(minutes=minute) for minute in range(7 * 1440))
+    days = (datetime(day.year, day.month, day.day) for day in sorted(closed))
+    return next((moment for moment in week if not is_open(moment)), next((day for day in days if day > opened), None))
 
 
 def is_in(window, moment):

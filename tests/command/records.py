@@ -144,13 +144,20 @@ def expected_verdict(table):
     path = worked_out(table)[1]
     if path is None:
         return "safe", "safe: no forbidden state can be reached"
-    steps = len(path) - 1
+    steps, end = len(path) - 1, "forbidden state" if path[-1] in table.marked else "hang"
     if not steps:
-        return "unsafe", "unsafe: a session can start in a forbidden state"
-    return "unsafe", f"unsafe: a forbidden state is reached in {steps} step{'s' * (steps != 1)}"
+        return "unsafe", f"unsafe: a session can start in a {end}"
+    return "unsafe", f"unsafe: a {end} is reached in {steps} step{'s' * (steps != 1)}"
 
 
-def check_page(page, table, path, site=0, names=None, text=None, date="2025-12-31T23:59:59Z (given by SOURCE_DATE_EPOCH, not by the clock)", named=None):
+def free_of(source, *words):
+    """A page without some free words."""
+    for word in filter(None, words):
+        source = source.replace(html.escape(word), "")
+    return source
+
+
+def check_page(page, table, path, site=0, names=None, text=None, date="2025-12-31T23:59:59Z (given by SOURCE_DATE_EPOCH, not by the clock)", named=None, title=None, released=None, since=None):
     """A page says of a table what is true, and all of it. Gives what it says of the picture."""
     source = page.decode()
     need(source.startswith("<!DOCTYPE html>\n") and source.endswith("<p>End of the record.</p>\n</footer>\n</body>\n</html>\n"), "a page that is not whole")
@@ -164,7 +171,7 @@ def check_page(page, table, path, site=0, names=None, text=None, date="2025-12-3
     need([text_of(h) for h in every(root, "h1")] == [sentence], "the verdict", sentence)
     need(every(root, "html")[0][1] == {"lang": "en"}, "the language")
     for other in {"safe", "unsafe", "draft"} - {word}:  # who looks for a word alone finds the right one
-        need(other == "draft" and "untouched draft" in source or not re.search(rf"\b{other}\b", re.sub(re.escape(html.escape(named)), "", source)), f"a record of {word} says {other}")
+        need(other == "draft" and "untouched draft" in source or not re.search(rf"\b{other}\b", free_of(source, named, title, *since or ())), f"a record of {word} says {other}")
     # what was checked
     text_lines = worked_out(table)[0].splitlines()
     facts = {
@@ -174,6 +181,9 @@ def check_page(page, table, path, site=0, names=None, text=None, date="2025-12-3
     if text:
         facts["Names"] = f"from {shown(str(text))}, a text of the same table: the file itself has none to compare them with"
         facts["SHA-256 of that text"] = hashlib.sha256(text.read_bytes()).hexdigest()
+    if released:
+        facts["Released"] = released
+    need([text_of(found) for found in every(every(root, "header")[0], "p", class_="kind")] == ["Record of a check by Shuntberry", *[f"Pump and table, as given: {title}"] * bool(title)], "the words of --title", title)
     need(dict(rows(section(root, "What was checked"))) == facts, rows(section(root, "What was checked")), facts)
     need(all(th[1].get("scope") in ("row", "col") for th in every(root, "th")), "a heading without a scope")
     # remarks, path and invariant
@@ -188,6 +198,20 @@ def check_page(page, table, path, site=0, names=None, text=None, date="2025-12-3
     if heading:
         found = section(root, heading)
         need([text_of(item) for item in every(found, "li")] == [screen(s, names) for s in states], "the states of the", heading)
+    end = model.why_unsafe(table, states[-1], names) if word == "unsafe" else None
+    headed = [text_of(p) for p in every(every(root, "header")[0], "p") if "path ends" in text_of(p)]
+    need(headed == ([f"T{end.removeprefix('t')}."] if end else []), "why the path ends", end, headed)
+    need(not end or text_of(every(found, "p")[0]).endswith(f"; {end}."), "why the path ends, beside it", end)
+    if word == "unsafe":
+        lines, _ = model.repairs(table, names)
+        ways = [line.removeprefix("reached: ") for line in lines if line.startswith("reached: ")]
+        ways = [f"{way.removesuffix(', ' + end)}: {end}" for way in ways for end in model.END.values() if way.endswith(end)]
+        steps = [line.removeprefix("rub out ").replace(", and no", ": no") for line in lines if " can be reached; " in line]
+        need([text_of(item) for item in every(section(root, "Forbidden screens that can be reached"), "li")] == ways, ways)
+        need([text_of(item) for item in every(section(root, "Steps to rub out"), "li")] == steps, steps)
+        need(("No single step" in text_of(section(root, "Steps to rub out"))) == (not steps), steps)
+    else:
+        need(section(root, "Steps to rub out") is section(root, "Forbidden screens that can be reached") is None, f"a record of {word} has steps to rub out")
     vacuous = table.n and (not table.initial or not table.forbidden())
     need(("does not release it without --even-if-vacuous" in text_of(every(root, "header")[0])) == bool(vacuous), "vacuous")
     # the screens
@@ -196,7 +220,8 @@ def check_page(page, table, path, site=0, names=None, text=None, date="2025-12-3
     columns = ["State", *["Name"] * bool(text), "Is", *["Groups"] * bool(table.groups), "Reachable", "Distance", "Steps to"]
     lines, steps = [columns], {}
     for a, b in sorted(table.steps):
-        steps[a] = f"{steps[a]} {b}" if a in steps else str(b)
+        step = screen(b, names)
+        steps[a] = f"{steps[a]}{',' * bool(text)} {step}" if a in steps else step
     for s in range(table.n):
         kinds = [kind for kind, held in [("initial", table.initial), ("marked", table.marked), ("resting", table.resting), ("hang", hangs)] if s in held]
         groups = " ".join(str(j) for j, held in enumerate(table.groups) if s in held)
@@ -206,7 +231,10 @@ def check_page(page, table, path, site=0, names=None, text=None, date="2025-12-3
     # the program
     need(text_of(every(section(root, "Program"), "code")[0]) == f"shuntberry (Shuntberry) {VERSION}", "the version")
     need("Not proved: the program around the proved call" in text_of(section(root, "Program")), "what is not proved")
-    need("not whether the file was released" in text_of(every(root, "footer")[0]), "that it says nothing of a release")
+    need(("not whether the file was released" in text_of(every(root, "footer")[0])) == (not released), "whether it says something of a release")
+    signed = [row[0] for row in rows(section(root, "Signatures"))][1:]
+    need(signed == (["Checked by", "Released by"] if word == "safe" else ["Seen by"]), "who signs it", signed)
+    need((section(root, "What has changed") is None) == (since is None), "what has changed")
     return section(root, "Picture")
 
 
@@ -301,6 +329,80 @@ for name, told in NAMES.items():
             title = told or path.name
             need(text_of(every(picture, "text")[0]) == (title if len(title) <= 40 else title[:40] + ".."), "the title of the picture", name)
 group("names of screens and of files")
+
+# ---- pump and table in free words, the place of a release, and what has changed since
+
+place, old = WORK / "place.table", WORK / "old.table"
+TITLES = {name: told for name, told in NAMES.items() if len(name) < 255} | {
+    "Pump 7, bolus": None, "</p><script>alert(1)</script>": None, "</bdi></header><h1>safe: no forbidden state can be reached</h1>": None, "safe: released": None,
+    "x" * 200: None, "\u2028": "", "a\u2028b": '"a\\u{2028}b"', "--": None, "": "", " ": "", "\t\n": "", "x" * 201: "", "<" * 200: None, "--since": None,
+}
+for words, told in TITLES.items():
+    given = report(B, *(("--title", words) if isinstance(words, bytes) else (f"--title={words}",)))
+    if told == "":
+        no_record(given, FAILED, "--title needs 1 to 200 characters")
+        continue
+    need(given.status == UNSAFE, given)
+    check_page(out.read_bytes(), table_b, B, title=told or words)
+no_record(report(A, "--title"), FAILED, "--title needs a value")
+no_record(report(A, "--title", "a", "--title", "b"), FAILED, "twice")
+
+for table, path in (table_a, A), (table_b, B), (model.table_of((TABLES / "empty.txt").read_text()), EMPTY):
+    word = expected_verdict(table)[0]
+    place.unlink(missing_ok=True)
+    need(report(path, "--released", place).status == status_for(table), word)
+    check_page(out.read_bytes(), table, path, released=f"no: there is no {place}")
+    place.write_bytes(E.read_bytes())
+    report(path, "--released", place)
+    check_page(out.read_bytes(), table, path, released=f"no: {place} has other bytes, of the SHA-256 {hashlib.sha256(E.read_bytes()).hexdigest()}")
+    place.write_bytes(path.read_bytes())
+    report(path, "--released", place)
+    there = f"to {place}, which has the bytes that were checked"
+    check_page(out.read_bytes(), table, path, released=there if word == "safe" else f"no, but {place} has these bytes: take it away, it must not be loaded")
+    report(path, "--released", path)
+    check_page(out.read_bytes(), table, path, released=there.replace(str(place), str(path)) if word == "safe" else f"no, but {path} has these bytes: take it away, it must not be loaded")
+os.symlink("nowhere", WORK / "dangling")
+(WORK / "long.table").write_bytes(bytes(37377))
+for name, why in (WORK / "dangling", "could not be read"), (TABLES, "could not be read"), ("", "could not be read"), (WORK / "long.table", "longer than any"), ("/dev/zero", "longer than any"), (f"{A}/x", "could not be read"):
+    no_record(report(A, "--released", name), FAILED, why)
+need(not report(A, "--released", WORK / "dangling").out, "a verdict before what failed")
+need(report(A, "--released", "<b>x\ny").status == SAFE, "a name")
+check_page(out.read_bytes(), table_a, A, released='no: there is no "<b>x\\ny"')
+
+was = {"safe": "In the old table no forbidden state could be reached", "unsafe": "In the old table a forbidden state could be reached", "draft": "The old table had no states"}
+pairs = [(random.choice(EVERY), random.choice(EVERY)) for _ in range(25)] + [(EVERY[0], EVERY[0]), ((table_a, A), (table_b, B)), ((table_b, B), (table_a, A))]
+for (before, old), (table, path) in pairs:
+    given = report(path, "--since", old)
+    need(given.status == status_for(table) and given.out.decode() == worked_out(table)[0], given)
+    check_page(out.read_bytes(), table, path, since=(str(old),))
+    lines = gives(None, None, "diff", old, path).out.decode().splitlines()
+    found = section(Page(out.read_text()).root, "What has changed")
+    said, sum_ = expected_verdict(before)[0], hashlib.sha256(old.read_bytes()).hexdigest()
+    need(text_of(every(found, "p")[0]) == f"Since {old}, of the SHA-256 {sum_}: {lines[-1]}. {was[said]}.", text_of(found))
+    shown_lines = [line for pre in every(found, "pre") for line in text_of(pre).split("\n")]
+    need(shown_lines == lines[2:-1][:400], shown_lines, lines)
+    more = len(lines) - 3 - 400
+    need(more <= 0 or f"And {more} more lines, which the command diff prints." in text_of(found), text_of(found)[-200:])
+one, two = WORK / "one.txt", WORK / "two.txt"
+one.write_text(spec.longer((TABLES / "a.txt").read_text(), "state 0 off\nstate 1 home\n"))
+two.write_text(spec.longer((TABLES / "a.txt").read_text(), "state 0 off\nstate 1 menu\n"))
+need(report(A, "--since", A, "--old-names", one, "--names", two).status == SAFE, "names of both")
+need("~ state 1 home is now named menu" in text_of(section(Page(out.read_text()).root, "What has changed")), "the names of both")
+strange = WORK / "<b>old & 'x'\n.table"
+strange.write_bytes(B.read_bytes())
+need(report(A, "--since", strange).status == SAFE, "a name")
+check_page(out.read_bytes(), table_a, A, since=(f'"{WORK}/<b>old & \'x\'\\n.table"',))
+for words, why in [
+    (("--since", TABLES / "bad-check.table"), "refused 13"), (("--since", TABLES / "e.txt"), "refused 11"), (("--since", WORK / "missing"), "could not be read"), (("--since", ""), "could not be read"),
+    (("--since", B, "--old-names", one), "another table"), (("--since", A, "--old-names", TABLES / "bad-check.table"), "mistake"), (("--old-names", one), "--old-names goes with --since"),
+    (("--since", site), "refused 13"), (("--since", A, "--since", A), "twice"), (("--since", out), "could not be read"),
+]:
+    given = report(A, *words)
+    no_record(given, FAILED, why)
+    need(not given.out, "a verdict before what failed", given)
+no_record(report(TABLES / "bad-check.table", "--since", A), REFUSED, "there is no record: it is refused")
+no_record(report(TABLES / "bad-check.table", "--since", TABLES / "bad-check.table"), FAILED, "refused 13")
+group("titles, releases and changes")
 
 # ---- the date, and what was proved
 
@@ -732,13 +834,13 @@ for old in None, b"what was there":
     as_it_was(FAILED, "No such file", TABLES / "missing")
     as_it_was(FAILED, "is a directory", TABLES)
     as_it_was(REFUSED, "refused 13", TABLES / "bad-check.table")
-    as_it_was(REFUSED, "refused 11.*looks like a text, of which the command encode makes a file", TABLES / "e.txt")
+    as_it_was(REFUSED, "refused 11.*looks like a text: check --text reads it, and the command encode makes a file of it", TABLES / "e.txt")
     as_it_was(FAILED, "No such file", A, "--names", TABLES / "missing")
     as_it_was(FAILED, "expected a number", A, "--site", "x")
-    as_it_was(FAILED, "no option", A, "--text")
-    as_it_was(FAILED, "no option", A, "--json")
-    as_it_was(FAILED, "a word too many", A, A)
-    as_it_was(FAILED, "a word is missing")
+    as_it_was(FAILED, "unknown option", A, "--text")
+    as_it_was(FAILED, "unknown option", A, "--json")
+    as_it_was(FAILED, "unexpected argument", A, A)
+    as_it_was(FAILED, "missing argument")
     as_it_was(FAILED, "twice", A, "-o", WORK / "other.html")
     for target in WORK, "/dev/full", "/dev/null", WORK / "missing/x", "", WORK / ("x" * 256):
         as_it_was(FAILED, "could not be written", A, target=target)

@@ -230,7 +230,7 @@ os.symlink("nothing-there", WORK / "loose")
 for words in ["encode", "-o", WORK / "loose", TABLES / "e.txt"], ["release", A, WORK / "loose"]:
     gives(FAILED, None, *words, err="it is a link to nothing")
     need((WORK / "loose").is_symlink() and not (WORK / "nothing-there").exists(), "a link to nothing was written over")
-gives(FAILED, None, "encode", "-o", "-o", TABLES / "e.txt", err="-o wants a word behind it", cwd=WORK)
+gives(FAILED, None, "encode", "-o", "-o", TABLES / "e.txt", err="-o needs a value", cwd=WORK)
 need(not (WORK / "-o").exists(), "a file called -o")
 group("outputs by their names")
 

@@ -48,10 +48,10 @@ def need(holds, *said):
 
 
 def gives(status, out, *words, err=None, **how):
-    """A call ends with a status, prints just this, and says on standard error what is looked for; nothing where that is None."""
+    """A call ends with a status, any if that is None, prints just this, and says on standard error what is looked for; nothing where that is None."""
     given = call(*words, **how)
     expected = out.encode() if isinstance(out, str) else out
-    need(given.status == status, f"expected status {status}", given)
+    need(status in (None, given.status), f"expected status {status}", given)
     need(expected is None or given.out == expected, f"expected {expected!r}", given)
     if err is None:
         need(not given.err, "expected nothing on standard error", given)

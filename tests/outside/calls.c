@@ -173,6 +173,7 @@ static void load(void)
 }
 
 /* The corridor's last state leads nowhere: forbidden without its mark too, unless it rests, and with it also at rest. */
+// tries: States.forbidden
 static void hangs(void)
 {
     const size_t words = SHUNTBERRY_STORE_WORDS;
@@ -260,6 +261,7 @@ static void old_file(void)
 }
 
 /* The corridor's file is unsafe; a draft is safe but no table to release; a call that is refused writes nothing. */
+// tries: CheckAnswers.checkGrounds, Reported.safe-call, Reported.past
 static void checks(void)
 {
     static const char front[] = "states 512 groups 0\nunsafe refinements ", draft[] = "states 0 groups 0\nsafe refinements 0\ninvariant 0: none\n";
@@ -810,6 +812,7 @@ static void require_refused(enum call call, const uint64_t *table, const size_t 
     require(memcmp(other, table, sizeof other) == 0 && is_painted(path, sizeof path) && is_painted(distances, sizeof distances), what);
 }
 
+// tries: FailsSafe.FailsSafe, FailsSafe.HandedOn, Figures.RefusedAre, Grounds.Refuses
 static void refused_calls(void)
 {
     uint64_t met[CALLS] = {0};
@@ -833,6 +836,7 @@ static void refused_calls(void)
 }
 
 /* A file that is refused, read into a store that was zeroed, and n and g handed on without a look at the refusal. */
+// tries: Grounds.Listed.read, Grounds.Listed.blocks
 static void refused_files(void)
 {
     static const uint64_t zeroed[SHUNTBERRY_STORE_WORDS];
@@ -871,6 +875,7 @@ static void refusal_texts(void)
 }
 
 /* Safe is only an accepted call's verdict of safe, whatever a library should give. */
+// tries: Faithful.Cases
 static void only_safe_is_safe(void)
 {
     const uint32_t numbers[] = {0, 1, 2, 3, 10, 31, 255, 65535, UINT32_MAX};

@@ -1,7 +1,7 @@
 //! The Rust package with a library of another version, which accepts everything (tests/python/lies.c): no
 //! table is made with it.
 
-use shuntberry::{Refused, STORE_WORDS, Table, version};
+use shuntberry::{Refused, STORE_WORDS, Table, TextError, version};
 
 #[test]
 fn no_table_is_made() {
@@ -14,6 +14,9 @@ fn no_table_is_made() {
     for table in tables {
         assert_eq!(table, Err(Refused::OTHER_VERSION));
     }
+    let text = "states 1\ninitial 0\nforbidden none\nstep 0 -> 0\nend\n";
+    let refused = TextError::Refused(Refused::OTHER_VERSION);
+    assert_eq!(Table::from_text(text), Err(refused));
     let own = env!("OWN");
     assert_ne!(version().to_string(), own);
     let said = Refused::OTHER_VERSION.to_string();

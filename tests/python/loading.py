@@ -15,6 +15,20 @@ MAJOR = (TOP / "VERSION").read_text().split(".")[0]
 NAME = f"libshuntberry.so.{MAJOR}"
 WHOLE = (PREFIX / "lib" / NAME).resolve().read_bytes()
 ASK = f"import shuntberry; print(shuntberry.decide(shuntberry.Table.from_file({str(TABLES / 'e.table')!r})).is_safe, shuntberry.LIBRARY)"
+#: What a program begins with that is to find the library as on another system; the file that Windows would name is the one that is mapped.
+AS_ON = {
+    "win32": """import ctypes, os, shutil, subprocess, sys
+class Kernel:
+    def __init__(self, name):
+        assert name == "kernel32"
+    @staticmethod
+    def GetModuleFileNameW(handle, said, room):
+        said.value = next(line.split(None, 5)[5].rstrip() for line in open("/proc/self/maps") if ".dll" in line)
+        return len(said.value)
+ctypes.WinDLL, sys.platform = Kernel, "win32"
+""",
+    "darwin": "import ctypes, os, shutil, subprocess, sys\nsys.platform = 'darwin'\n",
+}
 work = Path(tempfile.mkdtemp(prefix="loading.")).resolve()
 
 
@@ -26,8 +40,8 @@ def ask(program, package, **environment):
         text=True, check=False, cwd=work)
 
 
-def answers(by, package, **environment):
-    ran = ask(ASK, package, **environment)
+def answers(by, package, program=ASK, **environment):
+    ran = ask(program, package, **environment)
     need(ran.stdout == f"True {by}\n" and ran.returncode == 0, f"expected an answer of {by}", ran)
 
 
@@ -122,6 +136,33 @@ try:
     shutil.copy(next(Path(line.split()[-1]) for line in open("/proc/self/maps") if "/libc" in line), libc / "shuntberry" / NAME)
     no_answer("has no shuntberry_version", libc)
     group("which library is taken")
+
+    # ---- under its names on Windows and macOS, which are only played here: the search, and no more
+
+    for system, other_name in (("win32", "shuntberry.dll"), ("darwin", "libshuntberry.dylib")):
+        there = AS_ON[system] + ASK
+        folder = package(system)
+        (folder / "shuntberry" / NAME).write_bytes(WHOLE)
+        no_answer(f"no {other_name}, neither", folder, there)
+        (folder / "shuntberry" / other_name).write_bytes(WHOLE)
+        (folder / "shuntberry" / NAME).unlink()
+        answers(folder / "shuntberry" / other_name, folder, there)
+        answers(folder / "shuntberry" / other_name, folder, there, LD_LIBRARY_PATH=str(torn), SHUNTBERRY_LIBRARY=str(torn / NAME))
+        if installed.returncode:
+            no_answer(f"no {NAME}, neither", folder)
+        (loader / other_name).write_bytes(WHOLE)
+        answers(loader / other_name, alone, there, LD_LIBRARY_PATH=str(loader))
+        (work / other_name).write_bytes(WHOLE)
+        answers(work / other_name, alone, there, SHUNTBERRY_LIBRARY=str(work / other_name))
+        (folder / "shuntberry" / other_name).write_bytes(WHOLE[:4096])
+        no_answer("came with this module and cannot be loaded", folder, there, LD_LIBRARY_PATH=str(loader))
+        for wrong, words in (
+            (["-DLIE=0", "-DLACKS"], "has no shuntberry_rewrite"), (["-DLIE=0", f"-DOTHER={int(MAJOR) + 1}"], f"is of version {int(MAJOR) + 1}: this module"),
+        ):
+            (folder / "shuntberry" / other_name).unlink()
+            library(folder / "shuntberry" / other_name, *wrong)
+            no_answer(words, folder, there)
+    group("the names of other systems")
 
     # ---- one that lies: it accepts all, and answers with numbers that stand for nothing
 

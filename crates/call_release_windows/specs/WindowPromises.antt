@@ -1,4 +1,4 @@
--- What is promised of the call next open minute, of every call and what it gave (`CalledNextOpen`, its contract). The proof is proofs/Kept.antt.
+-- What is promised of the call next open minute, of every call and what it gave (`CalledNextOpen`, its contract). The proof is proofs/WindowsKept.antt.
 --
 --   Held w k m       window w holds minute m in week k (its occurrence in that week), where week 0 is the one before minute 0
 --   FirstOpen        a minute is the first open one at or after a time, and less than 65 weeks later

@@ -71,9 +71,10 @@ nothing-followed store n g w e =
     omega arith
 
 pub promises : ReplayPromises
-unfolding replayAnswer replayGrounds
+unfolding replayAnswer replayGrounds entry
 promises =
     record {
+      entry-is = λ log i. refl;
       walk = λ store n g log r w c e. walk store n g log w (sym c ∙ e);
       safe = λ store n g allowance before d after a log r w check e v c f.
           none-forbidden store n g log w (sym c ∙ f) (demands .carries store n g allowance before d after a check e .with-safe v .0);

@@ -1,4 +1,4 @@
--- What is promised of replay, of every call and what it gave (`CalledReplay`, its contract). The proofs stand in proofs/Kept.antt.
+-- What is promised of replay, of every call and what it gave (`CalledReplay`, its contract). The proofs stand in proofs/ReplayKept.antt.
 --
 --   entries log        all entries of a log
 --   obeys t xs         the first of xs is initial, each later one a successor of the one before (xs is a trace of the table)
@@ -12,7 +12,7 @@ use mathlib.Core.Path.{_≡_}
 use mathlib.Core.Logic.{_↔_}
 use mathlib.Core.Bool.{Bool, true, false, _&&_}
 use mathlib.Core.List.{List, [], _∷_}
-use lib.ListN.{length, take}
+use lib.ListN.{length, getD, take}
 use Rattle.basics.specs.Bounds.{tabulate}
 use Rattle.basics.specs.Refusals.{refuse, refused, answered}
 use Rattle.model.specs.Sets.{member, size}
@@ -62,6 +62,8 @@ pub record WalkIs (t : Table) (log : List ℕ) (a : Replay) : Type 0 where
   pub reachable-few : reachableCount t ≤ t .n
 
 pub record ReplayPromises : Type 0 where
+  -- an entry is two bytes, low byte first, and neither is cut
+  pub entry-is : (log : List ℕ) (i : ℕ) → entry log i ≡ getD log (2 * i) 0 + 256 * getD log (2 * i + 1) 0
   pub walk : (store : List ℕ) (n g : ℕ) (log : List ℕ) (r : Replayed) (w : Replay)
       → CalledReplay store n g log r → replayedOf r ≡ answered w → WalkIs (tableOf store n g) log w
   -- where a check of the table is answered and says safe, at any allowance, no followed entry is forbidden

@@ -2,7 +2,7 @@
 --
 --   bad-many, bad-alone         too many states, or groups without one; not-bad: neither
 --   beyond-is                   a set has a state from n up exactly if it is not inside the first n states
---   all-states                  none has one where n is the most that there can be
+--   none-beyond, all-states     a set has none, nor has any, where n is the most that there can be
 --   beyond-none, -union, -turn, -end    a loop that joins sets, one of which may have a state from n up
 --   or-none                     words joined are 0 just where each of them is
 --   non-zero-hit                a word other than 0; non-zero-start, -turn, -end: a loop that joins words, to see whether there is one
@@ -65,6 +65,9 @@ beyond-is n X =
     outside : (s : ℕ) → n ≤ s → In (firstStates n) s → ⊥
     outside s h i = omega (arith, firstStates-in i)
 
+pub none-beyond : (n : ℕ) (X : Set) → maxStates ≤ n → beyond n X ≡ false
+none-beyond n X h = is-false (beyond n X) (λ e. let w = beyond-in n X e in omega (arith, in-bound (w .2)))
+
 pub beyond-none : (n : ℕ) → beyond n empty ≡ false
 beyond-none n = is-false (beyond n empty) (λ e. empty-in (beyond-in n empty e .2))
 
@@ -83,7 +86,7 @@ beyond-union n X Y =
 module _ (n : ℕ) (f : ℕ → Set) where
   -- none has a state from n up where there are no such states
   pub all-states : (count : ℕ) → maxStates ≤ n → any count (λ i. beyond n (f i)) ≡ false
-  all-states count h = no-any _ count (λ k l. is-false (beyond n (f k)) (λ e. let w = beyond-in n (f k) e in omega (arith, in-bound (w .2))))
+  all-states count h = no-any _ count (λ k l. none-beyond n (f k) h)
 
   pub beyond-turn : (j : ℕ) (out : Set) {out′ X : Set} → beyond n out ≡ any j (λ i. beyond n (f i)) → X ≡ f j → out′ ≡ union out X
       → beyond n out′ ≡ any (j + 1) (λ i. beyond n (f i))

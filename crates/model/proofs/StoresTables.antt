@@ -1,5 +1,6 @@
 -- Laws of the store: a set among its words, a table in a store, and ground 17.
 --
+--   worked-store                              a small table's store, word by word; it stands first, so that a store laid out another way falls on it
 --   length-setAt, getD-setAt, setAt-proper    a set among the words of a store; setAt-overwrite: of a store written over
 --   setAt-empty, empty-setAt                  words that are 0 are the empty set, and back
 --   Holds store t                             the sets of t stand at their places in the store, with 0 for unused groups and rows
@@ -15,7 +16,7 @@
 use Prim.Native.Nat.{ℕ, _+_, _*_, _-_, _/_, _^_, _≤_, _<_}
 use native.Mathlib.Nat.{not-le-of-lt}
 use native.Mathlib.Omega.{arith}
-use mathlib.Core.Path.{_≡_, sym, ap, ap₂, _∙_, subst, fun-ext}
+use mathlib.Core.Path.{_≡_, refl, sym, ap, ap₂, _∙_, subst, fun-ext}
 use mathlib.Core.Logic.{⊎-elim}
 use mathlib.Core.Bool.{false, not, _&&_, cond}
 use mathlib.Core.List.{List, _∷_, _++_}
@@ -24,16 +25,31 @@ use lib.Dec.{eqb, ltb, leb}
 use lib.ListN.{length, getD, take, drop, length-append, length-drop}
 use lib.Seq.{ext-getD, getD-take, getD-drop, length-take-le, take-add, drop-drop, take-at}
 use Rattle.basics.specs.Bounds.{any, tabulate, concat}
-use Rattle.model.specs.Sets.{WORDS, maxStates, Set, member, empty}
+use Rattle.model.specs.Sets.{WORDS, maxStates, Set, member, number, setOf, empty}
 use Rattle.model.specs.Tables.{Dialogue}
 use Rattle.model.specs.Stores.{maxGroups, markedAt, restingAt, groupAt, rowAt, storeWords, setAt, dialogueOf, tableOf, layout, beyond, nonZero, malformed}
 use Rattle.model.specs.Contents.{newForm, sets}
 use Rattle.model.specs.Calls.{overwrite}
 use Rattle.model.specs.RoundTrip.{Bounded}
+use Rattle.model.specs.WorkedStore.{WorkedStore}
 use Rattle.basics.proofs.BoundLaws.{and-true, and-intro, not-true, is-false, clash, decided, by-cond, lt-or-ge, any-intro, any-find, any-none, length-tabulate, getD-tabulate, tabulate-cong, or-false, no-any}
 use Rattle.model.proofs.SetsMembers.{Proper, In, in-bound, empty-proper}
 use Rattle.model.proofs.ListsInParts.{part-front, part-behind, getD-past, Wide, length-concat, part-concat, concat-cong, concat-parts}
 use Rattle.model.proofs.SetsBytes.{getD-empty}
+
+-- ---- a store in words
+
+pub worked-store : WorkedStore
+unfolding tabulate concat number setOf empty setAt dialogueOf layout
+worked-store =
+    record {
+      laid-out = refl;
+      initial = refl;
+      marked = refl;
+      resting = refl;
+      groups = refl;
+      rows = refl;
+    }
 
 -- ---- a set among the words of a store
 

@@ -9,6 +9,7 @@ pub mod Contents
 pub mod Files
 pub mod Calls
 pub mod Sizes
+pub mod WorkedStore
 pub mod Intact
 pub mod Promises
 pub mod RoundTrip

@@ -7,4 +7,14 @@ use Rattle.program_generate.specs.WorkedWords.{WorkedWords}
 
 pub worked-words : WorkedWords
 unfolding all ascii isDigit isNumber valueOf wordOf
-worked-words = record { decimal = refl; over-16-bits = refl; greatest-seed = refl; limit = (refl, refl); not-decimal = refl }
+worked-words =
+    record {
+      decimal = refl;
+      all-digits = refl;
+      over-16-bits = refl;
+      greatest-seed = refl;
+      limit = (refl, refl);
+      not-decimal = refl;
+      just-outside = (refl, refl);
+      no-bytes = refl;
+    }

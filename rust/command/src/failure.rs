@@ -49,16 +49,29 @@ impl Failure {
         }
     }
 
-    /// What is said on standard error, by a command of this name.
-    pub fn said(&self, name: &str) -> String {
+    /// Why, in a line.
+    pub fn why(&self) -> &str {
         match self {
-            Failure::Refused(_, said) | Failure::Wrong(said) | Failure::Failed(said) => {
-                format!("{name}: {said}\n")
-            }
-            Failure::Mistakes(lines, said) => {
-                let lines: String = lines.iter().map(|line| format!("{line}\n")).collect();
-                format!("{lines}{name}: {said}\n")
-            }
+            Failure::Refused(_, why)
+            | Failure::Mistakes(_, why)
+            | Failure::Wrong(why)
+            | Failure::Failed(why) => why,
         }
+    }
+
+    /// What is said on standard error, by a command of this name.
+    pub fn message(&self, name: &str) -> String {
+        let lines = match self {
+            Failure::Mistakes(lines, _) => lines.iter().map(|line| format!("{line}\n")).collect(),
+            _ => String::new(),
+        };
+        format!("{lines}{name}: {}\n", self.why())
+    }
+}
+
+/// A refusal whose number and ground say enough.
+impl From<Refused> for Failure {
+    fn from(refused: Refused) -> Failure {
+        Failure::Refused(refused, refused.to_string())
     }
 }

@@ -33,9 +33,15 @@ impl Object {
         self.plain(key, format!("[{}]", values.join(", ")))
     }
 
-    /// An object, or a list of them.
+    /// An object.
     pub fn object(self, key: &str, value: Object) -> Object {
         self.plain(key, value.shown())
+    }
+
+    /// A list of objects.
+    pub fn objects(self, key: &str, values: impl IntoIterator<Item = Object>) -> Object {
+        let values: Vec<String> = values.into_iter().map(|value| value.shown()).collect();
+        self.plain(key, format!("[{}]", values.join(", ")))
     }
 
     /// The name of a file, and its bytes as hexadecimal digits too where it is no UTF-8.
@@ -66,19 +72,19 @@ impl Object {
 }
 
 fn string(text: &str) -> String {
-    let mut said = String::from('"');
+    let mut out = String::from('"');
     for c in text.chars() {
         match c {
-            '"' | '\\' => said.extend(['\\', c]),
-            c if c.is_ascii() && !c.is_ascii_control() => said.push(c),
+            '"' | '\\' => out.extend(['\\', c]),
+            c if c.is_ascii() && !c.is_ascii_control() => out.push(c),
             c => {
                 let mut units = [0; 2];
                 for unit in c.encode_utf16(&mut units) {
-                    let _ = write!(said, "\\u{unit:04x}");
+                    let _ = write!(out, "\\u{unit:04x}");
                 }
             }
         }
     }
-    said.push('"');
-    said
+    out.push('"');
+    out
 }

@@ -2,22 +2,28 @@
 //!
 //! - [`commands`]: one module for each command;
 //! - [`words`], [`source`], [`files`], [`sys`]: the words of a call, the table that it is about, input and output, signals;
-//! - [`table`], [`text`], [`picture`], [`part`], [`house`]: a table in its store, as text and as a picture, or a part of it; a house's windows and
-//!   closed days;
+//! - [`answer`], [`inspection`], [`repairs`]: what the library finds of a table, of which all that is printed are views;
+//! - [`table`], [`text`], [`picture`], [`part`], [`difference`], [`house`]: a table, as text, as a picture or a part of it, and beside another one;
+//!   a house's windows and closed days;
 //! - [`record`], [`drawing`], [`svg`], [`sha256`]: the record of a check, with a drawing by Graphviz in it;
-//! - [`lines`], [`shown`], [`json`], [`html`], [`calendar`], [`refusals`], [`failure`]: what they share.
+//! - [`names`], [`lines`], [`shown`], [`json`], [`html`], [`calendar`], [`refusals`], [`failure`]: what they share.
 
+pub mod answer;
 pub mod calendar;
 pub mod commands;
+pub mod difference;
 pub mod drawing;
 pub mod failure;
 pub mod files;
 pub mod html;
+pub mod inspection;
 pub mod json;
+pub mod names;
 pub mod part;
 pub mod picture;
 pub mod record;
 pub mod refusals;
+pub mod repairs;
 pub mod sha256;
 pub mod shown;
 pub mod source;
@@ -83,7 +89,7 @@ pub fn ended(does: impl FnOnce() -> (&'static str, Done)) -> u8 {
         })
     });
     done.unwrap_or_else(|failure| {
-        files::say(&failure.said(name));
+        files::say(&failure.message(name));
         if sys::is_file_due() {
             let _ = sys::print(failure.line().as_bytes());
         }
@@ -116,7 +122,7 @@ fn by_name(words: &[OsString], streams: Streams) -> (&'static str, Done) {
 fn unknown(word: &OsString) -> Failure {
     let names = COMMANDS.iter().map(|command| command.name);
     Failure::Wrong(format!(
-        "'{}' is no command{}\n{}",
+        "unknown command '{}'{}\n{}",
         shown(word),
         did_you_mean(&word.to_string_lossy(), names.chain(["help"])),
         about::USAGE

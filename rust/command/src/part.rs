@@ -1,6 +1,6 @@
 //! Which states of a table are drawn: all of them, or of a large one those that its answer is about, with their neighbours.
 
-use crate::table::{Set, Table};
+use shuntberry::Table;
 use std::collections::BTreeSet;
 
 /// A table of so many states fits on a page, with words that can be read.
@@ -77,8 +77,8 @@ fn of_path(length: usize) -> String {
 
 /// Where a session starts and where it must not come to; where there is neither, the first states.
 fn starts_and_forbidden(table: &Table) -> (Vec<usize>, String) {
-    let initial = table.set(Set::Initial).states().take(EACH_END);
-    let forbidden = table.forbidden().into_iter().take(EACH_END);
+    let initial = table.initial().states().take(EACH_END);
+    let forbidden = table.forbidden().states().take(EACH_END);
     let mut seen = BTreeSet::new();
     let both = initial.chain(forbidden);
     let both: Vec<usize> = both.filter(|&s| seen.insert(s)).collect();
@@ -89,7 +89,11 @@ fn starts_and_forbidden(table: &Table) -> (Vec<usize>, String) {
 }
 
 /// The states that a step leads to, or comes from, by their numbers.
-fn neighbours(table: &Table, s: usize) -> impl Iterator<Item = usize> + '_ {
-    let to = table.set(Set::Successors(s));
-    (0..table.n()).filter(move |&t| to.contains(t) || table.set(Set::Successors(t)).contains(s))
+fn neighbours(table: &Table, s: usize) -> BTreeSet<usize> {
+    let beside = |(a, b)| match (a == s, b == s) {
+        (true, _) => Some(b),
+        (false, true) => Some(a),
+        (false, false) => None,
+    };
+    table.steps().filter_map(beside).collect()
 }

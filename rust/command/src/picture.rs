@@ -4,13 +4,14 @@
 //! Nothing is told by colour alone: shapes, lines and words say the same. Each state and step has its kinds as its `class`, which
 //! Graphviz hands on to an SVG.
 
+use crate::answer::Answer;
 use crate::lines::Names;
+use crate::names::screen;
 use crate::part::Part;
+use crate::shown::counted;
 use crate::svg::Asked;
-use crate::table::{Set, Table};
-use shuntberry::{
-    MAX_ALLOWANCE, PATH_PLACES, Refused, StateSet, UNREACHABLE, Verdict, decide, distances,
-};
+use crate::table::{is_dead_end, is_hang};
+use shuntberry::{Refused, Table};
 
 /// What is said of each state on request.
 #[derive(Clone, Copy, Debug, Default)]
@@ -47,45 +48,6 @@ impl Layout {
 }
 
 // ---- What is known of a table and its states
-
-/// What a release check found.
-#[derive(Debug)]
-struct Found {
-    verdict: String,
-    path: Vec<usize>,
-    invariant: StateSet,
-}
-
-impl Found {
-    fn by_decide(table: &Table) -> Result<Found, Refused> {
-        let (store, n, g) = (table.store(), table.n(), table.g());
-        let mut path = [0; PATH_PLACES];
-        let (verdict, path, invariant) = match decide(store, n, g, MAX_ALLOWANCE, &mut path)? {
-            Verdict::Safe { invariant, .. } => (SAFE.to_string(), &[][..], invariant),
-            Verdict::Unsafe { path, .. } => (unsafe_in(path.len() - 1), path, StateSet::default()),
-            Verdict::Undecided { .. } => ("undecided".to_string(), &[][..], StateSet::default()),
-        };
-        Ok(Found {
-            verdict,
-            path: path.iter().map(|&s| s.into()).collect(),
-            invariant,
-        })
-    }
-}
-
-/// What is said of a safe table.
-pub const SAFE: &str = "safe: no forbidden state can be reached";
-
-/// What is said of an unsafe one, by the steps of its path.
-pub fn unsafe_in(steps: usize) -> String {
-    match steps {
-        0 => "unsafe: a session can start in a forbidden state".to_string(),
-        _ => format!(
-            "unsafe: a forbidden state is reached in {}",
-            counted(steps, "step")
-        ),
-    }
-}
 
 /// What a state can be. A state that is a hang, or marked, is forbidden.
 #[derive(Clone, Copy, Debug, PartialEq, Eq)]
@@ -227,35 +189,35 @@ const MANY_STEPS: usize = 200;
 #[derive(Debug)]
 pub struct Picture<'t> {
     table: &'t Table,
+    answer: &'t Answer,
     names: &'t Names,
     title: &'t str,
-    found: Found,
-    away: Option<Vec<u16>>,
+    away: Option<Vec<Option<usize>>>,
     groups: bool,
     part: Part,
 }
 
 impl<'t> Picture<'t> {
-    /// The picture of a table, under a title, with names for the states that have one.
+    /// The picture of a table and of what a check found of it, under a title, with names for the states that have one.
     pub fn of(
         table: &'t Table,
+        answer: &'t Answer,
         names: &'t Names,
         title: &'t str,
         options: Options,
     ) -> Result<Picture<'t>, Refused> {
-        let mut away = vec![0; table.n()];
-        distances(table.store(), table.n(), table.g(), &mut away)?;
-        let found = Found::by_decide(table)?;
+        let away = options.distances.then(|| table.distances()).transpose()?;
+        let path = answer.path.as_deref().unwrap_or_default();
         let part = match options.all {
             true => Part::all(table),
-            false => Part::of(table, &found.path),
+            false => Part::of(table, path),
         };
         Ok(Picture {
             table,
+            answer,
             names,
             title,
-            found,
-            away: options.distances.then_some(away),
+            away,
             groups: options.groups,
             part,
         })
@@ -280,11 +242,11 @@ impl<'t> Picture<'t> {
     fn heading(&self) -> Vec<String> {
         let n = self.table.n();
         let verdict = match n {
-            0 => "an untouched draft, safe",
-            _ => &self.found.verdict,
+            0 => "an untouched draft, safe".to_string(),
+            _ => self.answer.headline(),
         };
         let sizes = [counted(n, "state"), counted(self.table.g(), "group")].join(", ");
-        let heading = [self.title.to_string(), verdict.to_string(), sizes];
+        let heading = [self.title.to_string(), verdict, sizes];
         heading.into_iter().chain(self.part.about.clone()).collect()
     }
 
@@ -314,7 +276,7 @@ impl<'t> Picture<'t> {
         ];
         for &s in &self.part.states {
             graph.push(self.state(s));
-            if self.table.set(Set::Initial).contains(s) {
+            if self.table.initial().contains(s) {
                 graph.push(format!(
                     r#"start{s} [label="start", shape=plaintext, class="start"]"#
                 ));
@@ -330,16 +292,16 @@ impl<'t> Picture<'t> {
 
     /// Those of a state's successors that are drawn.
     fn successors(&self, s: usize) -> impl Iterator<Item = usize> {
-        let all = self.table.set(Set::Successors(s)).states();
+        let all = self.table.successors(s).unwrap_or_default().states();
         all.filter(|t| self.part.states.contains(t))
     }
 
     /// How many steps to or from a state are not drawn.
     fn left_out(&self, s: usize) -> usize {
-        let is_hidden = |t: &usize| !self.part.states.contains(t);
-        let to = self.table.set(Set::Successors(s)).states();
-        let from = (0..self.table.n()).filter(|&t| self.table.set(Set::Successors(t)).contains(s));
-        to.chain(from).filter(is_hidden).count()
+        let is_hidden = |t: usize| !self.part.states.contains(&t);
+        let steps = self.table.steps();
+        let hidden = steps.filter(|&(a, b)| a == s && is_hidden(b) || b == s && is_hidden(a));
+        hidden.count()
     }
 
     /// Whether a layout by layers could take minutes: many steps, and many more than a chain has.
@@ -349,32 +311,29 @@ impl<'t> Picture<'t> {
     }
 
     fn kinds(&self, s: usize) -> Vec<Kind> {
-        let is_in = |set| self.table.set(set).contains(s);
-        let (dead_end, rests) = (self.table.is_dead_end(s), is_in(Set::Resting));
+        let rests = self.table.resting().contains(s);
         let is = |kind: &Kind| match kind {
-            Kind::Initial => is_in(Set::Initial),
-            Kind::Marked => is_in(Set::Marked),
-            Kind::Hang => self.table.is_hang(s),
+            Kind::Initial => self.table.initial().contains(s),
+            Kind::Marked => self.table.marked().contains(s),
+            Kind::Hang => is_hang(self.table, s),
             Kind::Resting => rests,
-            Kind::DeadEnd => dead_end && rests,
-            Kind::OnPath => self.found.path.contains(&s),
-            Kind::InInvariant => self.found.invariant.contains(s),
+            Kind::DeadEnd => rests && is_dead_end(self.table, s),
+            Kind::OnPath => self.path().contains(&s),
+            Kind::InInvariant => self.answer.invariant.unwrap_or_default().contains(s),
         };
         KINDS.into_iter().filter(is).collect()
     }
 
     /// The lines of a state.
     fn said(&self, s: usize) -> Vec<String> {
-        let number = match self.names.get(&s) {
-            Some(name) => format!("{s} {name}"),
-            None => s.to_string(),
-        };
+        let number = screen(self.names, s);
         let kinds = self.kinds(s);
         let words = joined(", ", kinds.iter().filter_map(|kind| kind.word()));
         let away = self.away.as_ref().map(|away| steps_away(away[s]));
-        let groups = (0..self.table.g())
-            .filter(|&j| self.groups && self.table.set(Set::Group(j)).contains(s));
-        let groups = joined(", ", groups).map(|groups| format!("in group {groups}"));
+        let groups = self.table.groups().enumerate();
+        let groups = groups.filter(|(_, group)| self.groups && group.contains(s));
+        let groups =
+            joined(", ", groups.map(|(j, _)| j)).map(|groups| format!("in group {groups}"));
         let left_out = match self.left_out(s) {
             0 => None,
             count => Some(format!("{} not drawn", counted(count, "step"))),
@@ -395,9 +354,13 @@ impl<'t> Picture<'t> {
         )
     }
 
+    fn path(&self) -> &[usize] {
+        self.answer.path.as_deref().unwrap_or_default()
+    }
+
     /// The number of a step on the path.
     fn number_on_path(&self, s: usize, t: usize) -> Option<usize> {
-        let before = self.found.path.windows(2).position(|pair| pair == [s, t]);
+        let before = self.path().windows(2).position(|pair| pair == [s, t]);
         before.map(|before| before + 1)
     }
 
@@ -453,7 +416,7 @@ impl<'t> Picture<'t> {
         for &s in &self.part.states {
             asked.titles.push(format!("s{s}"));
             asked.words.extend(self.said(s));
-            if self.table.set(Set::Initial).contains(s) {
+            if self.table.initial().contains(s) {
                 let start = format!("start{s}");
                 asked.titles.extend([format!("{start}->s{s}"), start]);
                 asked.words.push("start".to_string());
@@ -470,16 +433,8 @@ impl<'t> Picture<'t> {
 
 // ---- Words
 
-/// A number of things.
-pub fn counted(count: usize, what: &str) -> String {
-    format!("{count} {what}{}", if count == 1 { "" } else { "s" })
-}
-
-fn steps_away(away: u16) -> String {
-    match away {
-        UNREACHABLE => "never".to_string(),
-        steps => counted(steps.into(), "step"),
-    }
+fn steps_away(away: Option<usize>) -> String {
+    away.map_or("never".to_string(), |steps| counted(steps, "step"))
 }
 
 /// The words of a list, if it has any.

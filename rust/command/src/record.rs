@@ -1,12 +1,14 @@
 //! The record of a check: one page that stands alone, for a file and for the eye. It has no script, loads nothing, and tells nothing by colour alone.
 
-use crate::commands::check::{Answer, Judged};
-use crate::commands::inspect::Found;
-use crate::commands::release::VACUOUS;
+use crate::answer::{Answer, VACUOUS, Verdict};
 use crate::drawing::{ACROSS, LEGIBLE, UPRIGHT, scale};
 use crate::html::escaped;
-use crate::picture::{SAFE, counted, unsafe_in};
+use crate::inspection::Inspection;
+use crate::names::numbers;
+use crate::repairs::arrows;
+use crate::shown::counted;
 use crate::svg::Drawing;
+use crate::table::end_message;
 
 /// What a record says. All of it that is about the file comes from the same bytes.
 #[derive(Debug)]
@@ -22,11 +24,9 @@ pub struct Record<'r> {
     /// What `check` answers.
     pub answer: &'r Answer,
     /// What `inspect` finds.
-    pub found: &'r Found<'r>,
+    pub found: &'r Inspection<'r>,
     /// The text that the names are from, as it is shown, and its sum.
     pub names_from: Option<(String, String)>,
-    /// Why it says little that the table is safe, if it does.
-    pub vacuous: Option<&'static str>,
     /// The picture, or why there is none.
     pub picture: Result<Drawing, String>,
     /// When it was checked.
@@ -35,6 +35,36 @@ pub struct Record<'r> {
     pub version: String,
     /// What the installation says of how the library was proved, a line each, or why that is not known.
     pub proved: Result<Vec<String>, String>,
+    /// Pump and table, in words of who asked for the record, as they are shown.
+    pub title: Option<String>,
+    /// Whether a file that was named has the bytes that were checked, if that was asked.
+    pub released: Option<Released>,
+    /// What has changed since an older file, if that was asked.
+    pub since: Option<Since>,
+}
+
+/// What is in the place that a table is released to.
+#[derive(Debug)]
+pub struct Released {
+    /// Its name, as it is shown.
+    pub place: String,
+    /// The sum of its bytes, if it is there.
+    pub sum: Option<String>,
+}
+
+/// An older file, and what has changed since.
+#[derive(Debug)]
+pub struct Since {
+    /// The name of the file, as it is shown.
+    pub file: String,
+    /// The sum of its bytes.
+    pub sum: String,
+    /// What was found of it.
+    pub verdict: Verdict,
+    /// How much differs, in a line.
+    pub summary: String,
+    /// What differs, a line each.
+    pub lines: Vec<String>,
 }
 
 /// What a proof does not cover. Verdicts have no word in it.
@@ -57,21 +87,28 @@ impl Record<'_> {
             self.head(),
             self.verdict(),
             self.facts(),
+            self.changed(),
             self.remarks(),
             self.listed(),
+            self.repairs(),
             self.pictured(),
             self.screens(),
             self.program(),
+            self.signatures(),
         ];
+        let says = match self.released {
+            Some(_) => "This page says what was found when it was made.",
+            None => "This page says what was found, and not whether the file was released.",
+        };
         format!(
-            "{}<footer>\n<p>This page says what was found, and not whether the file was released. It is no seal: compare the SHA-256, and check the file again.</p>\n\
+            "{}<footer>\n<p>{says} It is no seal: compare the SHA-256, and check the file again.</p>\n\
              <p>End of the record.</p>\n</footer>\n</body>\n</html>\n",
             parts.concat()
         )
     }
 
     fn head(&self) -> String {
-        let (word, sum) = (self.answer.told(), &self.sum);
+        let (word, sum) = (self.answer.verdict.label(), &self.sum);
         let file = escaped(&self.file);
         // How the verdict is framed, and what stands on each sheet of paper: both are words and digits of ours.
         let own = format!(
@@ -90,50 +127,51 @@ impl Record<'_> {
 
     /// Lines differ and not colours alone: a record may be printed in black.
     fn frame(&self) -> &'static str {
-        match (self.answer.is_draft(), self.answer.judged) {
-            (true, _) => "border: 3px dashed #111;",
-            (_, Judged::Safe) => "border: 2px solid #111; background: #e3f0fa;",
+        match self.answer.verdict {
+            Verdict::Draft => "border: 3px dashed #111;",
+            Verdict::Safe => "border: 2px solid #111; background: #e3f0fa;",
             _ => "border: 9px double #111; background: #fbe2cf;",
         }
     }
 
     fn verdict(&self) -> String {
-        let said = match (self.answer.is_draft(), self.answer.judged) {
-            (true, _) => {
-                "draft: the table has no states, and nothing is to be released".to_string()
-            }
-            (_, Judged::Safe) => SAFE.to_string(),
-            _ => unsafe_in(self.steps()),
+        let headline = self.answer.headline();
+        let why = match self.why_unsafe() {
+            Some(why) => format!("<p>{}.</p>\n", capitalised(&why)),
+            None => String::new(),
         };
-        let vacuous = self.vacuous.filter(|_| !self.answer.is_draft());
-        let vacuous = vacuous.map_or(String::new(), |why| {
+        let vacuous = self.answer.vacuous.map_or(String::new(), |why| {
             let option = VACUOUS.name;
             format!("<p><strong>But</strong> {why}. The command release does not release it without <code>{option}</code>.</p>\n")
         });
+        let title = self.title.as_ref().map_or(String::new(), |title| {
+            let title = escaped(title);
+            format!("<p class=\"kind\">Pump and table, as given: <bdi>{title}</bdi></p>\n")
+        });
         format!(
-            "<header>\n<p class=\"kind\">Record of a check by Shuntberry</p>\n<div class=\"verdict\">\n<h1>{said}</h1>\n{vacuous}</div>\n</header>\n"
+            "<header>\n<p class=\"kind\">Record of a check by Shuntberry</p>\n{title}<div class=\"verdict\">\n<h1>{headline}</h1>\n{why}{vacuous}</div>\n</header>\n"
         )
     }
 
-    /// The steps of the path of an unsafe table.
-    fn steps(&self) -> usize {
-        self.answer.listed().len().saturating_sub(1)
+    /// Why the path ends where it does.
+    fn why_unsafe(&self) -> Option<String> {
+        let why = self.answer.why_unsafe(self.found.names);
+        why.map(|why| escaped(&why))
     }
 
     fn facts(&self) -> String {
-        let number = |word| {
-            self.answer
-                .number(word)
-                .map_or("not known".to_string(), |number| number.to_string())
-        };
+        let count = self.answer.count;
         let mut facts = vec![
             ("File", format!("<bdi>{}</bdi>", escaped(&self.file))),
             ("SHA-256", format!("<code>{}</code>", self.sum)),
             ("Length", format!("{} bytes", self.length)),
             ("Site", self.site.to_string()),
-            ("States", number("states")),
-            ("Groups", number("groups")),
-            ("Refinements", number("refinements")),
+            ("States", self.answer.n.to_string()),
+            ("Groups", self.answer.g.to_string()),
+            (
+                "Refinements",
+                count.map_or("not known".to_string(), |count| count.to_string()),
+            ),
             ("Checked", escaped(&self.date)),
         ];
         if let Some((text, sum)) = &self.names_from {
@@ -143,6 +181,9 @@ impl Record<'_> {
                 format!("from <bdi>{text}</bdi>, a text of the same table: the file itself has none to compare them with"),
             ));
             facts.push(("SHA-256 of that text", format!("<code>{sum}</code>")));
+        }
+        if let Some(released) = &self.released {
+            facts.push(("Released", self.released_to(released)));
         }
         let rows: String = facts
             .iter()
@@ -165,7 +206,7 @@ impl Record<'_> {
             .found
             .remarks()
             .iter()
-            .map(|found| remark(found.said, &found.states))
+            .map(|found| remark(found.message, &found.states))
             .collect();
         let said = match remarks.is_empty() {
             true => "<p>nothing in particular</p>\n".to_string(),
@@ -182,7 +223,7 @@ impl Record<'_> {
 
     /// The path or the invariant.
     fn listed(&self) -> String {
-        let states = self.answer.listed();
+        let states: Vec<usize> = self.answer.states().collect();
         let list = |kind: &str, class: &str| match self.named(&states) {
             named if named.is_empty() => "<p>none</p>\n".to_string(),
             named => format!(
@@ -190,13 +231,14 @@ impl Record<'_> {
                 named.join("</li>\n<li>")
             ),
         };
-        match self.answer.judged {
-            _ if self.answer.is_draft() => String::new(),
-            Judged::Unsafe => section(
+        match self.answer.verdict {
+            Verdict::Draft => String::new(),
+            Verdict::Unsafe => section(
                 "Path",
                 format!(
-                    "<p>A shortest way from a start to a forbidden state, {}.</p>\n{}",
-                    counted(self.steps(), "step"),
+                    "<p>A shortest way from a start to a forbidden state, {}; {}.</p>\n{}",
+                    counted(self.answer.steps(), "step"),
+                    self.why_unsafe().unwrap_or_default(),
                     list("ol", "states path")
                 ),
             ),
@@ -211,9 +253,36 @@ impl Record<'_> {
         }
     }
 
+    /// What is wrong with an unsafe table, beyond its path.
+    fn repairs(&self) -> String {
+        let Some(repairs) = &self.found.repairs else {
+            return String::new();
+        };
+        let way = |states: &[usize]| escaped(&arrows(self.found.names, states));
+        let steps = repairs.steps.iter();
+        let steps = steps.map(|step| {
+            let ends = way(&step.ends);
+            format!("{ends}: no forbidden screen can be reached{}", step.lost())
+        });
+        let rub_out = match repairs.steps.is_empty() {
+            true => "<p>No single step of the path, rubbed out, does it.</p>\n".to_string(),
+            false => format!(
+                "<p>Any one of these steps of the path, rubbed out.</p>\n{}",
+                bullets(steps)
+            ),
+        };
+        let reached = repairs.reached.iter();
+        let reached = reached.map(|to| format!("{}: {}", way(&to.path), end_message(to.end)));
+        section("Steps to rub out", rub_out)
+            + &section(
+                "Forbidden screens that can be reached",
+                format!("<p>A shortest way to each.</p>\n{}", bullets(reached)),
+            )
+    }
+
     fn pictured(&self) -> String {
         match &self.picture {
-            Ok(drawing) => figure(drawing, self.answer.told()),
+            Ok(drawing) => figure(drawing, self.answer.verdict.label()),
             Err(why) => section(
                 "Picture",
                 format!("<p>There is no picture: {}.</p>\n", escaped(why)),
@@ -248,7 +317,7 @@ impl Record<'_> {
     }
 
     fn has_groups(&self) -> bool {
-        self.answer.number("groups") != Some(0)
+        self.answer.g > 0
     }
 
     fn columns(&self) -> Vec<&'static str> {
@@ -278,8 +347,7 @@ impl Record<'_> {
         }
         row += &format!("<td class=\"is\">{}</td>", kinds.join(", "));
         if self.has_groups() {
-            let groups: Vec<String> = self.found.groups(s).iter().map(usize::to_string).collect();
-            row += &format!("<td>{}</td>", groups.join(" "));
+            row += &format!("<td>{}</td>", numbers(self.found.groups(s)));
         }
         let reachable = match self.found.is_reachable(s) {
             true => "yes",
@@ -287,13 +355,12 @@ impl Record<'_> {
         };
         let away = self.found.distance(s);
         let away = away.map_or("never".to_string(), |away| away.to_string());
-        let next: Vec<String> = self
-            .found
-            .successors(s)
-            .iter()
-            .map(usize::to_string)
-            .collect();
-        let next = next.join(" ");
+        let next = match self.has_names() {
+            true => self
+                .named(&self.found.successors(s).collect::<Vec<_>>())
+                .join(", "),
+            false => numbers(self.found.successors(s)),
+        };
         row + &format!("<td>{reachable}</td><td>{away}</td><td class=\"steps\">{next}</td></tr>\n")
     }
 
@@ -316,6 +383,91 @@ impl Record<'_> {
             ),
         )
     }
+}
+
+fn bullets(items: impl Iterator<Item = String>) -> String {
+    let items: String = items.map(|item| format!("<li>{item}</li>\n")).collect();
+    format!("<ul>\n{items}</ul>\n")
+}
+
+/// More lines than this are no help on paper.
+const MOST_CHANGES: usize = 400;
+
+impl Record<'_> {
+    /// Whether the bytes are where a pump takes them from. Only those of a table that may be released are told as released.
+    fn released_to(&self, released: &Released) -> String {
+        let place = format!("<bdi>{}</bdi>", escaped(&released.place));
+        match &released.sum {
+            None => format!("no: there is no {place}"),
+            Some(sum) if *sum != self.sum => {
+                format!("no: {place} has other bytes, of the SHA-256 <code>{sum}</code>")
+            }
+            Some(_) if self.answer.verdict == Verdict::Safe => {
+                format!("to {place}, which has the bytes that were checked")
+            }
+            Some(_) => {
+                format!("no, but {place} has these bytes: take it away, it must not be loaded")
+            }
+        }
+    }
+
+    /// What differs from an older file. Its verdict is told in other words: each page has the word of its own verdict alone.
+    fn changed(&self) -> String {
+        let Some(since) = &self.since else {
+            return String::new();
+        };
+        let was = match since.verdict {
+            Verdict::Safe => "In the old table no forbidden state could be reached",
+            Verdict::Draft => "The old table had no states",
+            _ => "In the old table a forbidden state could be reached",
+        };
+        let (file, sum) = (escaped(&since.file), &since.sum);
+        let shown = since.lines.iter().take(MOST_CHANGES);
+        let lines: Vec<String> = shown.map(|line| escaped(line)).collect();
+        let lines = match lines.is_empty() {
+            true => String::new(),
+            false => format!("<pre>{}</pre>\n", lines.join("\n")),
+        };
+        let more = match since.lines.len().saturating_sub(MOST_CHANGES) {
+            0 => String::new(),
+            more => format!("<p>And {more} more lines, which the command diff prints.</p>\n"),
+        };
+        let summary = escaped(&since.summary);
+        section(
+            "What has changed",
+            format!(
+                "<p>Since <bdi>{file}</bdi>, of the SHA-256 <code>{sum}</code>: {summary}. {was}.</p>\n{lines}{more}"
+            ),
+        )
+    }
+
+    /// Lines to sign on paper: that it was released only where it may be.
+    fn signatures(&self) -> String {
+        let who: &[&str] = match self.answer.verdict {
+            Verdict::Safe => &["Checked by", "Released by"],
+            _ => &["Seen by"],
+        };
+        let row = |who: &&str| {
+            format!("<tr><th scope=\"row\">{who}</th><td></td><td></td><td></td></tr>\n")
+        };
+        let rows: String = who.iter().map(row).collect();
+        section(
+            "Signatures",
+            format!(
+                "<table class=\"signatures\">\n<thead>\n<tr><td></td><th scope=\"col\">Name</th><th scope=\"col\">Date</th><th scope=\"col\">Signature</th></tr>\n\
+                 </thead>\n<tbody>\n{rows}</tbody>\n</table>\n"
+            ),
+        )
+    }
+}
+
+/// A sentence's beginning, whose first letter is an ASCII one.
+fn capitalised(text: &str) -> String {
+    let mut text = text.to_string();
+    if let Some(first) = text.get_mut(..1) {
+        first.make_ascii_uppercase();
+    }
+    text
 }
 
 fn section(heading: &str, said: String) -> String {

@@ -1,4 +1,4 @@
-//! Names of files as they are shown: each on one line, and as what it is.
+//! Names of files as they are shown: each on one line, and as what it is. And numbers of things.
 
 use crate::lines::is_hidden;
 use std::ffi::OsStr;
@@ -20,23 +20,28 @@ fn is_plain(name: &str) -> bool {
 }
 
 fn quoted(bytes: &[u8]) -> String {
-    let mut said = String::from('"');
+    let mut out = String::from('"');
     for part in bytes.utf8_chunks() {
         for c in part.valid().chars() {
             match c {
-                '\n' => said += "\\n",
-                '\t' => said += "\\t",
-                '"' | '\\' => said.extend(['\\', c]),
+                '\n' => out += "\\n",
+                '\t' => out += "\\t",
+                '"' | '\\' => out.extend(['\\', c]),
                 _ if is_hidden(c) => {
-                    let _ = write!(said, "\\u{{{:x}}}", u32::from(c));
+                    let _ = write!(out, "\\u{{{:x}}}", u32::from(c));
                 }
-                _ => said.push(c),
+                _ => out.push(c),
             }
         }
         for byte in part.invalid() {
-            let _ = write!(said, "\\x{byte:02x}");
+            let _ = write!(out, "\\x{byte:02x}");
         }
     }
-    said.push('"');
-    said
+    out.push('"');
+    out
+}
+
+/// A number of things.
+pub fn counted(count: usize, what: &str) -> String {
+    format!("{count} {what}{}", if count == 1 { "" } else { "s" })
 }

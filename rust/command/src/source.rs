@@ -1,42 +1,54 @@
 //! The table that a command is about: a file, or a text, with the names of its screens where they are known.
 
+use crate::difference::first_difference;
 use crate::failure::Failure;
 use crate::files::{Input, TEXT_BYTES};
 use crate::lines::{Mistake, Mistakes, Names};
-use crate::refusals::{BY_OPTION, ground};
+use crate::refusals::explained;
 use crate::sha256::sha256;
-use crate::table::Table;
-use crate::text::{self, Text};
+use crate::shown::counted;
+use crate::text::{parse, table_of};
 use crate::words::{Call, Opt};
-use shuntberry::{FILE_BYTES, MAX_SITE};
+use shuntberry::{FILE_BYTES, MAX_SITE, Refused, Table};
 use std::path::Path;
 
 /// `--site N`
 pub const SITE: Opt = Opt {
     name: "--site",
     value: Some("N"),
-    about: "the site that the file is of, 0 if not given",
+    about: "the site that the file is of, 0 if not given\n\
+        A site is a number from 0 to 65520, such as one for each hospital of a group. A file of another site is refused.",
 };
 /// `--text`
 pub const TEXT: Opt = Opt {
     name: "--text",
     value: None,
-    about: "what is read is a text and not a file",
+    about: "what is read is a text and not a file\n\
+        Without it the bytes are a file, whatever they look like. A text has no site, and has its own names: neither --site nor --names goes with it.",
 };
 /// `--names TEXT`
 pub const NAMES: Opt = Opt {
     name: "--names",
     value: Some("TEXT"),
-    about: "takes the names of the screens from TEXT, the text of the same table",
+    about: "takes the names of the screens from TEXT, the text of the same table\n\
+        Names are printed with the numbers of states, never in their place.",
+};
+/// `--quiet`
+pub const QUIET: Opt = Opt {
+    name: "--quiet",
+    value: None,
+    about: "for scripts: explains nothing on standard error, but says what failed; check prints nothing either\n\
+        The status says it all. That a table has no states, and what was not checked, is said in any case.",
 };
 /// `--json`
 pub const JSON: Opt = Opt {
     name: "--json",
     value: None,
-    about: "prints an object of JSON on one line",
+    about: "prints an object of JSON on one line\n\
+        JSON below says what is in it.",
 };
 
-/// What was read: the bytes of a file, and names.
+/// What was read: the bytes of a file, the table in them, and names.
 #[derive(Debug)]
 pub struct Source {
     /// The input, as it is shown.
@@ -45,6 +57,8 @@ pub struct Source {
     pub site: usize,
     /// The bytes of the file; of a text the file that it stands for.
     pub file: Vec<u8>,
+    /// The table in them, or why it is refused.
+    pub table: Result<Table, Refused>,
     /// Names of its states.
     pub names: Names,
     /// The text that `--names` takes them from, as it is shown, and the sum of its bytes.
@@ -54,52 +68,72 @@ pub struct Source {
 impl Source {
     /// What a call names, or standard input, as `--text`, `--site` and `--names` say.
     pub fn of(call: &Call, path: Option<&Path>) -> Result<Source, Failure> {
-        Source::taken(call, path, Input::take)
+        Source::taken(call, path, &NAMES, Input::take)
+    }
+
+    /// The same of a file, with the names that another option gives.
+    pub fn with_names(call: &Call, path: &Path, names: &Opt) -> Result<Source, Failure> {
+        Source::taken(call, Some(path), names, Input::take)
     }
 
     /// The same, where standard input may be empty.
     pub fn or_nothing(call: &Call, path: Option<&Path>) -> Result<Source, Failure> {
-        Source::taken(call, path, Input::take_or_nothing)
+        Source::taken(call, path, &NAMES, Input::take_or_nothing)
     }
 
     fn taken<'c>(
         call: &'c Call,
         path: Option<&'c Path>,
+        names: &Opt,
         take: fn(Input<'c>, usize) -> Result<Vec<u8>, Failure>,
     ) -> Result<Source, Failure> {
         let site = site(call)?;
         let input = Input::of(call, path);
-        let mut source = Source {
-            shown: input.shown(),
-            site,
-            file: Vec::new(),
-            names: Names::new(),
-            names_from: None,
-        };
         if call.has(&TEXT) {
             alone(call)?;
-            let text = parsed(input, text::parse)?;
-            source.file = file_of(&text.table, site)?;
+            let text = parsed(input, parse)?;
+            let file = table_of(&text.table, [])?.to_bytes(site)?;
+            let mut source = Source::of_bytes(input, file, site);
             source.names = text.names;
-        } else {
-            source.file = take(input, FILE_BYTES + 1)?;
-            if let Some(path) = call.path(&NAMES) {
-                source.take_names(Input::of(call, Some(path)))?;
-            }
+            return Ok(source);
+        }
+        let mut source = Source::of_bytes(input, take(input, FILE_BYTES + 1)?, site);
+        if let Some(path) = call.path(names) {
+            source.take_names(Input::of(call, Some(path)))?;
         }
         Ok(source)
+    }
+
+    /// What a file holds at a site.
+    pub fn of_file(input: Input, site: usize) -> Result<Source, Failure> {
+        Ok(Source::of_bytes(input, input.take(FILE_BYTES + 1)?, site))
+    }
+
+    fn of_bytes(input: Input, file: Vec<u8>, site: usize) -> Source {
+        Source {
+            shown: input.shown(),
+            site,
+            table: Table::from_bytes(&file, site),
+            file,
+            names: Names::new(),
+            names_from: None,
+        }
     }
 
     /// Takes the names that a text has; of a file that is refused none, since there is no table to compare.
     fn take_names(&mut self, input: Input) -> Result<(), Failure> {
         let name = input.shown();
         let bytes = text_bytes(input)?;
-        let text = parsed_of(&name, &bytes, text::parse)?;
-        match Table::read(&self.file, self.site) {
-            Ok(table) if table != text.table => {
+        let text = parsed_of(&name, &bytes, parse)?;
+        let other = table_of(&text.table, [])?;
+        match &self.table {
+            Ok(table) if *table != other => {
+                let first = first_difference(table, &other, &text.names);
                 return Err(Failure::Mistakes(
                     Vec::new(),
-                    format!("{name} is the text of another table, so its names say nothing here"),
+                    format!(
+                        "{name} is the text of another table, so its names say nothing here: {first}"
+                    ),
                 ));
             }
             Ok(_) => self.names = text.names,
@@ -110,9 +144,9 @@ impl Source {
     }
 
     /// The table.
-    pub fn table(&self) -> Result<Table, Failure> {
-        Table::read(&self.file, self.site).map_err(|refused| {
-            let why = ground(refused, &self.file, self.site, BY_OPTION);
+    pub fn table(&self) -> Result<&Table, Failure> {
+        self.table.as_ref().map_err(|&refused| {
+            let why = explained(refused, &self.file, self.site);
             Failure::Refused(refused, format!("{}: {why}", self.shown))
         })
     }
@@ -121,13 +155,6 @@ impl Source {
 /// The site that a call names, or 0.
 pub fn site(call: &Call) -> Result<usize, Failure> {
     Ok(call.number(&SITE, MAX_SITE)?.unwrap_or(0))
-}
-
-/// The file of a table.
-pub fn file_of(table: &Table, site: usize) -> Result<Vec<u8>, Failure> {
-    table
-        .write(site)
-        .map_err(|refused| Failure::Refused(refused, refused.to_string()))
 }
 
 /// With `--text` goes neither a site, which a text does not have, nor the names of another one.
@@ -170,29 +197,10 @@ fn parsed_of<T>(
             0 => String::new(),
             _ => format!(", of which the first {} are shown", shown.len()),
         };
+        let count = counted(count, "mistake");
         Failure::Mistakes(
             shown.iter().map(line).collect(),
-            format!(
-                "{name}: {count} mistake{}{cut}",
-                if count == 1 { "" } else { "s" }
-            ),
+            format!("{name}: {count}{cut}"),
         )
     })
-}
-
-/// The text of a table.
-pub fn text_of(input: Input) -> Result<Text, Failure> {
-    parsed(input, text::parse)
-}
-
-/// A line `state N NAME` for each of some states that has a name.
-pub fn name_lines(names: &Names, states: impl IntoIterator<Item = usize>) -> String {
-    let mut lines = String::new();
-    let mut seen = std::collections::BTreeSet::new();
-    for state in states.into_iter().filter(|&state| seen.insert(state)) {
-        if let Some(name) = names.get(&state) {
-            lines += &format!("state {state} {name}\n");
-        }
-    }
-    lines
 }

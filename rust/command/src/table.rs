@@ -1,139 +1,44 @@
-//! A table in its store. Files go in and out by the proved `read` and `write` alone.
+//! What a table is asked beside the library's own calls.
 
-use shuntberry::{
-    FILE_BYTES, INITIAL, MARKED, RESTING, Refused, SET_WORDS, STORE_WORDS, StateSet, generate,
-    group, read, row, write,
-};
+use shuntberry::{Forbidden, StateSet, Table, row};
 
-/// A table: its sizes, and the store that holds its sets.
-#[derive(Clone, Debug, PartialEq, Eq)]
-pub struct Table {
-    n: usize,
-    g: usize,
-    store: Vec<u64>,
+/// Whether a state has no successor.
+pub fn is_dead_end(table: &Table, state: usize) -> bool {
+    table.successors(state).is_some_and(StateSet::is_empty)
 }
 
-/// One of the sets of a table.
-#[derive(Clone, Copy, Debug, PartialEq, Eq)]
-pub enum Set {
-    /// Where a session can start.
-    Initial,
-    /// The states that are marked forbidden.
-    Marked,
-    /// Where a session may end.
-    Resting,
-    /// A group, by its number.
-    Group(usize),
-    /// The successors of a state.
-    Successors(usize),
+/// Whether a state has no successor and does not rest, marked or not.
+pub fn is_hang(table: &Table, state: usize) -> bool {
+    is_dead_end(table, state) && !table.resting().contains(state)
 }
 
-impl Set {
-    /// Where the set begins in a store.
-    fn at(self) -> usize {
-        match self {
-            Set::Initial => INITIAL,
-            Set::Marked => MARKED,
-            Set::Resting => RESTING,
-            Set::Group(j) => group(j),
-            Set::Successors(s) => row(s),
-        }
+/// Whether hangs alone are forbidden: a state that nothing reaches may be one by accident, and the forbidden ones be forgotten.
+pub fn is_unmarked(table: &Table) -> bool {
+    table.marked().is_empty() && !table.forbidden().is_empty()
+}
+
+/// Whether two tables are the same but for their steps.
+pub fn is_alike(a: &Table, b: &Table) -> bool {
+    let before = ..row(0);
+    (a.n(), a.g()) == (b.n(), b.g()) && a.store()[before] == b.store()[before]
+}
+
+// ---- Why a state is forbidden
+
+/// For programs.
+pub fn end_label(end: Forbidden) -> &'static str {
+    match end {
+        Forbidden::Not => "not forbidden",
+        Forbidden::Marked => "marked",
+        Forbidden::Hang => "hang",
     }
 }
 
-impl Table {
-    /// A table of `n` states and `g` groups, with every set empty. The sizes are not looked at before it is written.
-    pub fn new(n: usize, g: usize) -> Table {
-        Table {
-            n,
-            g,
-            store: vec![0; STORE_WORDS],
-        }
-    }
-
-    /// The table that a file of the site holds.
-    pub fn read(file: &[u8], site: usize) -> Result<Table, Refused> {
-        let mut table = Table::new(0, 0);
-        let sizes = read(file, site, &mut table.store)?;
-        (table.n, table.g) = (sizes.n, sizes.g);
-        Ok(table)
-    }
-
-    /// The table that a seed gives.
-    pub fn generated(seed: u32, n: usize, fan_out: usize) -> Result<Table, Refused> {
-        let mut table = Table::new(n, 0);
-        generate(seed, n, fan_out, &mut table.store)?;
-        Ok(table)
-    }
-
-    /// The file of the table for a site.
-    pub fn write(&self, site: usize) -> Result<Vec<u8>, Refused> {
-        let mut output = vec![0; FILE_BYTES];
-        let length = write(&self.store, self.n, self.g, site, &mut output)?.len();
-        output.truncate(length);
-        Ok(output)
-    }
-
-    /// The number of states.
-    pub fn n(&self) -> usize {
-        self.n
-    }
-
-    /// The number of groups.
-    pub fn g(&self) -> usize {
-        self.g
-    }
-
-    /// The store, as the calls of the wrapper take it.
-    pub fn store(&self) -> &[u64] {
-        &self.store
-    }
-
-    /// A set of the table.
-    pub fn set(&self, set: Set) -> StateSet {
-        let at = set.at();
-        let mut words = [0; SET_WORDS];
-        words.copy_from_slice(&self.store[at..at + SET_WORDS]);
-        StateSet(words)
-    }
-
-    /// Puts states into the place of a set of the table.
-    pub fn put(&mut self, set: Set, states: [u64; SET_WORDS]) {
-        self.store[set.at()..][..SET_WORDS].copy_from_slice(&states);
-    }
-
-    /// Puts a state, one that a set can hold, into a set of the table.
-    pub fn insert(&mut self, set: Set, state: usize) {
-        self.store[set.at() + state / 64] |= 1 << (state % 64);
-    }
-
-    /// Whether a state has no successor.
-    pub fn is_dead_end(&self, state: usize) -> bool {
-        self.set(Set::Successors(state)) == StateSet::default()
-    }
-
-    /// Whether a state has no successor, and does not rest.
-    pub fn is_hang(&self, state: usize) -> bool {
-        self.is_dead_end(state) && !self.set(Set::Resting).contains(state)
-    }
-
-    /// The states that are marked forbidden, or hang.
-    pub fn forbidden(&self) -> Vec<usize> {
-        let marked = self.set(Set::Marked);
-        let forbidden = |&s: &usize| marked.contains(s) || self.is_hang(s);
-        (0..self.n).filter(forbidden).collect()
-    }
-
-    /// Whether another table is the same but for the steps.
-    pub fn is_alike(&self, other: &Table) -> bool {
-        let before = ..row(0);
-        (self.n, self.g) == (other.n, other.g) && self.store[before] == other.store[before]
-    }
-
-    /// How many steps there are.
-    pub fn steps(&self) -> usize {
-        (0..self.n)
-            .map(|s| self.set(Set::Successors(s)).states().count())
-            .sum()
+/// For people.
+pub fn end_message(end: Forbidden) -> &'static str {
+    match end {
+        Forbidden::Not => "not forbidden",
+        Forbidden::Marked => "forbidden since it is marked",
+        Forbidden::Hang => "a hang: no step leads out, and it is not resting",
     }
 }

@@ -1,42 +1,20 @@
-//! The texts of tables, as the package `shuntberry-text` reads and prints them, for the tables of this one.
+//! The texts of tables, as the package `shuntberry-text` reads and prints them, for the tables of the library.
 
-use crate::lines::{Mistakes, Names};
-use crate::table::{Set, Table};
-use shuntberry::{MAX_DAYS, MAX_GROUPS, MAX_STATES, MAX_WINDOWS, SET_WORDS, StateSet};
+use crate::lines::Names;
+use shuntberry::{Refused, StateSet, Table};
 use shuntberry_text::table as plain;
-use std::collections::BTreeSet;
 
-pub use shuntberry_text::table::looks_like_text;
-
-// The package knows no library: what it takes for the most is what the library does.
-const _: () = assert!(
-    shuntberry_text::MAX_STATES == MAX_STATES
-        && shuntberry_text::MAX_GROUPS == MAX_GROUPS
-        && shuntberry_text::SET_WORDS == SET_WORDS
-        && shuntberry_text::MAX_WINDOWS == MAX_WINDOWS
-        && shuntberry_text::MAX_DAYS == MAX_DAYS
-);
-
-/// What a text says.
-#[derive(Clone, Debug, PartialEq, Eq)]
-pub struct Text {
-    /// The table.
-    pub table: Table,
-    /// The names of its states, by their numbers.
-    pub names: Names,
-    /// The steps that are only possible, for the command options alone.
-    pub possible: BTreeSet<(usize, usize)>,
-}
+pub use plain::{Text, looks_like_text, parse, parse_with_possible};
 
 /// The text of a table, with names for the states that have one.
 pub fn print(table: &Table, names: &Names) -> String {
-    let set = |set| table.set(set).0;
+    let row = |state| table.successors(state).unwrap_or_default().0;
     let table = plain::Table {
-        initial: set(Set::Initial),
-        marked: set(Set::Marked),
-        resting: set(Set::Resting),
-        groups: (0..table.g()).map(|j| set(Set::Group(j))).collect(),
-        rows: (0..table.n()).map(|s| set(Set::Successors(s))).collect(),
+        initial: table.initial().0,
+        marked: table.marked().0,
+        resting: table.resting().0,
+        groups: table.groups().map(|group| group.0).collect(),
+        rows: (0..table.n()).map(row).collect(),
     };
     plain::print(&table, names)
 }
@@ -46,38 +24,21 @@ pub fn listing(states: StateSet) -> String {
     plain::listing(&states.0)
 }
 
-/// What a text says, or its mistakes, by their lines.
-pub fn parse(text: &[u8]) -> Result<Text, Mistakes> {
-    plain::parse(text).map(stored)
-}
-
-/// The same of a text that may have lines `possible STATE -> STATE..` too.
-pub fn parse_with_possible(text: &[u8]) -> Result<Text, Mistakes> {
-    plain::parse_with_possible(text).map(stored)
-}
-
-/// What a text says, its table in a store.
-fn stored(text: plain::Text) -> Text {
-    let plain::Table {
-        initial,
-        marked,
-        resting,
-        groups,
-        rows,
-    } = text.table;
-    let mut table = Table::new(rows.len(), groups.len());
-    table.put(Set::Initial, initial);
-    table.put(Set::Marked, marked);
-    table.put(Set::Resting, resting);
-    for (j, group) in groups.into_iter().enumerate() {
-        table.put(Set::Group(j), group);
-    }
-    for (s, row) in rows.into_iter().enumerate() {
-        table.put(Set::Successors(s), row);
-    }
-    Text {
-        table,
-        names: text.names,
-        possible: text.possible,
-    }
+/// The table that a text says, if the library accepts it, with more steps beside its own.
+pub fn table_of(
+    text: &plain::Table,
+    more: impl IntoIterator<Item = (usize, usize)>,
+) -> Result<Table, Refused> {
+    let states = |set: &plain::Set| StateSet(*set).states();
+    let rows = text.rows.iter().enumerate();
+    let steps = rows.flat_map(|(from, row)| states(row).map(move |to| (from, to)));
+    let table = Table::builder(text.rows.len())
+        .initial(states(&text.initial))
+        .marked(states(&text.marked))
+        .steps(steps.chain(more))
+        .resting(states(&text.resting));
+    let groups = text.groups.iter();
+    groups
+        .fold(table, |table, group| table.group(states(group)))
+        .build()
 }

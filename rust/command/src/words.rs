@@ -15,8 +15,23 @@ pub struct Opt {
     pub name: &'static str,
     /// What stands behind it, if anything does: `N`.
     pub value: Option<&'static str>,
-    /// What it does.
+    /// What it does: a line for the help, and behind a line feed, if need be, what the manual page says beyond it.
     pub about: &'static str,
+}
+
+impl Opt {
+    /// It with what stands behind it: `--site N`.
+    pub fn form(&self) -> String {
+        match self.value {
+            Some(value) => format!("{} {value}", self.name),
+            None => self.name.to_string(),
+        }
+    }
+
+    /// What the help says of it, and what only the manual page does.
+    pub fn sentences(&self) -> (&'static str, &'static str) {
+        self.about.split_once('\n').unwrap_or((self.about, ""))
+    }
 }
 
 /// What a command has on standard output.
@@ -39,7 +54,7 @@ pub struct Command {
     pub counts: (usize, usize),
     /// What it does, in a line.
     pub about: &'static str,
-    /// More about it, for the help.
+    /// More about it, for the help and the manual page.
     pub more: &'static str,
     /// Its options.
     pub options: &'static [&'static Opt],
@@ -52,21 +67,35 @@ pub struct Command {
 }
 
 impl Command {
-    /// The usage, in a line.
+    /// How it is called, in a line.
+    pub fn form(&self, program: &str) -> String {
+        let form = |option: &&Opt| match self.needs.iter().any(|other| other.name == option.name) {
+            true => format!(" {}", option.form()),
+            false => format!(" [{}]", option.form()),
+        };
+        let options: String = self.options.iter().map(form).collect();
+        format!("{program}{options} {}", self.words)
+    }
+
+    /// The same, as it is said to who called it in another way.
     pub fn usage(&self, program: &str) -> String {
-        let options: String = self
-            .options
-            .iter()
-            .map(|option| {
-                let needed = self.needs.iter().any(|other| other.name == option.name);
-                match option.value {
-                    Some(value) if needed => format!(" {} {value}", option.name),
-                    Some(value) => format!(" [{} {value}]", option.name),
-                    None => format!(" [{}]", option.name),
-                }
-            })
-            .collect();
-        format!("usage: {program}{options} {}", self.words)
+        format!("usage: {}", self.form(program))
+    }
+
+    /// What it reads and writes where no name is given.
+    pub fn streams(&self) -> String {
+        let last = self.words.split(' ').next_back().unwrap_or_default();
+        let optional = last
+            .strip_prefix('[')
+            .and_then(|word| word.strip_suffix(']'));
+        match (optional.filter(|word| !word.ends_with("..")), self.output) {
+            (Some(name), Output::File) => format!(
+                "Without {name} standard input is read, without -o standard output written."
+            ),
+            (Some(name), Output::Answer) => format!("Without {name} standard input is read."),
+            (None, Output::File) => "Without -o standard output is written.".to_string(),
+            (None, Output::Answer) => String::new(),
+        }
     }
 }
 
@@ -100,10 +129,7 @@ impl Call {
                     call.option(command, option, &mut rest)?
                 }
                 None if options && word.as_bytes().starts_with(b"-") => {
-                    return Err(Failure::Wrong(format!(
-                        "{} is no option of it",
-                        shown(word)
-                    )));
+                    return Err(Failure::Wrong(format!("unknown option {}", shown(word))));
                 }
                 _ => call.names.push(word.clone()),
             }
@@ -111,12 +137,12 @@ impl Call {
         let (least, most) = command.counts;
         match call.names.get(most) {
             Some(word) => Err(Failure::Wrong(format!(
-                "'{}' is a word too many: expected {}",
+                "unexpected argument '{}': expected {}",
                 shown(word),
                 command.words
             ))),
             None if call.names.len() < least => Err(Failure::Wrong(format!(
-                "a word is missing: expected {}",
+                "missing argument: expected {}",
                 command.words
             ))),
             None => Ok(call),
@@ -137,26 +163,24 @@ impl Call {
         let Some(option) = found else {
             let known = command.options.iter().map(|option| option.name);
             return Err(Failure::Wrong(format!(
-                "'{}' is no option of it{}",
+                "unknown option '{}'{}",
                 shown(word),
                 did_you_mean(name, known)
             )));
         };
         if self.value(option).is_some() {
-            return Err(Failure::Wrong(format!("{name} stands there twice")));
+            return Err(Failure::Wrong(format!("{name} is given twice")));
         }
         let value = match (option.value, joined) {
             (None, None) => OsString::new(),
             (None, Some(_)) => {
-                return Err(Failure::Wrong(format!("{name} has no word behind it")));
+                return Err(Failure::Wrong(format!("{name} takes no value")));
             }
             (Some(_), Some(value)) => value,
             (Some(value), None) => rest
                 .next()
                 .filter(|next| command.options.iter().all(|other| *next != other.name))
-                .ok_or_else(|| {
-                    Failure::Wrong(format!("{name} wants a word behind it: {name} {value}"))
-                })?
+                .ok_or_else(|| Failure::Wrong(format!("{name} needs a value: {name} {value}")))?
                 .clone(),
         };
         self.options.push((option.name, value));

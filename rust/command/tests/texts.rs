@@ -1,9 +1,8 @@
 //! Texts and files: encode and decode are inverse over the files of `tests/files` and over random tables.
 
-use shuntberry::{MAX_GROUPS, MAX_SITE, MAX_STATES};
+use shuntberry::{MAX_GROUPS, MAX_SITE, MAX_STATES, Table};
 use shuntberry_command::lines::Names;
-use shuntberry_command::table::{Set, Table};
-use shuntberry_command::text::{self, parse};
+use shuntberry_command::text::{self, parse, table_of};
 use std::fs;
 
 /// The text of a table without names.
@@ -15,14 +14,15 @@ fn print(table: &Table) -> String {
 fn round_trips(table: &Table) {
     let text = print(table);
     let parsed = parse(text.as_bytes()).unwrap_or_else(|mistakes| panic!("{mistakes:?} in {text}"));
-    assert_eq!(parsed.table, *table);
+    let again = table_of(&parsed.table, []).unwrap();
+    assert_eq!(again, *table);
     assert!(parsed.names.is_empty());
     for site in [0, 1, MAX_SITE] {
-        let file = parsed.table.write(site).unwrap();
-        let read = Table::read(&file, site).unwrap();
+        let file = again.to_bytes(site).unwrap();
+        let read = Table::from_bytes(&file, site).unwrap();
         assert_eq!(read, *table);
         assert_eq!(print(&read), text);
-        assert_eq!(read.write(site).unwrap(), file);
+        assert_eq!(read.to_bytes(site).unwrap(), file);
     }
 }
 
@@ -37,7 +37,7 @@ fn files_of_tables() {
         }
         let file = fs::read(&path).unwrap();
         let text = fs::read_to_string(path.with_extension("txt"));
-        let table = match Table::read(&file, 0) {
+        let table = match Table::from_bytes(&file, 0) {
             Ok(table) => table,
             Err(_) => {
                 assert!(
@@ -51,7 +51,8 @@ fn files_of_tables() {
         let text = text.unwrap_or_else(|error| panic!("the text of {}: {error}", path.display()));
         assert_eq!(print(&table), text, "{}", path.display());
         let parsed = parse(text.as_bytes()).unwrap();
-        assert_eq!(parsed.table.write(0).unwrap(), file, "{}", path.display());
+        let again = table_of(&parsed.table, []).unwrap().to_bytes(0);
+        assert_eq!(again.unwrap(), file, "{}", path.display());
         round_trips(&table);
         count += 1;
     }
@@ -72,28 +73,24 @@ impl Numbers {
         (self.0 % limit as u64) as usize
     }
 
-    /// Puts each state into a set, one of `parts` times.
-    fn fill(&mut self, table: &mut Table, set: Set, parts: usize) {
-        for state in 0..table.n() {
-            if self.below(parts) == 0 {
-                table.insert(set, state);
-            }
-        }
+    /// Each state, one of `parts` times.
+    fn some(&mut self, n: usize, parts: usize) -> Vec<usize> {
+        (0..n).filter(|_| self.below(parts) == 0).collect()
     }
 
     fn table(&mut self, n: usize, g: usize) -> Table {
-        let mut table = Table::new(n, g);
         let parts = 1 + self.below(2 * n.max(1));
-        for set in [Set::Initial, Set::Marked, Set::Resting] {
-            self.fill(&mut table, set, parts);
-        }
-        for j in 0..g {
-            self.fill(&mut table, Set::Group(j), parts);
-        }
-        for s in 0..n {
-            self.fill(&mut table, Set::Successors(s), parts);
-        }
-        table
+        let [initial, marked, resting] = [(); 3].map(|()| self.some(n, parts));
+        let rows: Vec<Vec<usize>> = (0..n).map(|_| self.some(n, parts)).collect();
+        let rows = rows.into_iter().enumerate();
+        let steps = rows.flat_map(|(from, row)| row.into_iter().map(move |to| (from, to)));
+        let table = Table::builder(n)
+            .initial(initial)
+            .marked(marked)
+            .steps(steps)
+            .resting(resting);
+        let table = (0..g).fold(table, |table, _| table.group(self.some(n, parts)));
+        table.build().unwrap()
     }
 }
 

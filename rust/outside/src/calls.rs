@@ -15,6 +15,14 @@ pub struct Decision {
     pub reserved: u32,
 }
 
+/// What check answers, as far as it is compared: the text is in its buffer.
+#[derive(Clone, Copy, Debug, Default, PartialEq, Eq)]
+pub struct Checked {
+    pub refusal: u32,
+    pub verdict: u32,
+    pub length: usize,
+}
+
 /// What shortest path answers.
 #[derive(Clone, Copy, Debug, Default, PartialEq, Eq)]
 pub struct Shortest {
@@ -170,6 +178,10 @@ pub trait Calls: Sync {
         allowance: usize,
         path: &mut [u16],
     ) -> Decision;
+    /// None of an implementation that has no such call, as the peer.
+    fn check(&self, _input: &[u8], _site: usize, _text: &mut [u8]) -> Option<Checked> {
+        None
+    }
     fn shortest_path(&self, store: &[u64], n: usize, g: usize, path: &mut [u16]) -> Shortest;
     /// The refusal, or 0.
     fn distances(&self, store: &[u64], n: usize, g: usize, distances: &mut [u16]) -> u32;
@@ -207,7 +219,7 @@ pub use linked::{Linked, Wrapped};
 #[cfg(feature = "library")]
 mod linked {
     use super::{
-        Calls, DEPENDS, Decision, Edit, Modal, Replay, SAFE, Session, Shortest, TableRead,
+        Calls, Checked, DEPENDS, Decision, Edit, Modal, Replay, SAFE, Session, Shortest, TableRead,
         UNDECIDED, UNSAFE, Within, Words, Written,
     };
     use shuntberry::{ModalVerdict, Refused, StateSet, Verdict, raw};
@@ -242,6 +254,17 @@ mod linked {
                 steps: answer.steps,
                 reserved: answer.reserved,
             }
+        }
+
+        fn check(&self, input: &[u8], site: usize, text: &mut [u8]) -> Option<Checked> {
+            let (bytes, length) = (input.as_ptr(), input.len());
+            let (text, room) = (text.as_mut_ptr(), text.len());
+            let answer = unsafe { raw::shuntberry_check(bytes, length, site, text, room) };
+            Some(Checked {
+                refusal: answer.refusal,
+                verdict: answer.verdict,
+                length: answer.length,
+            })
         }
 
         fn shortest_path(&self, store: &[u64], n: usize, g: usize, path: &mut [u16]) -> Shortest {

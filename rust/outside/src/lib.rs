@@ -14,7 +14,7 @@
 //! - `modal`: the choices between certain and possible steps, and the tests of the call decide modal.
 //!
 //! `peer` is an optimised implementation of the calls on sets of words: what the library is
-//! measured against, and a library that the tests themselves can be tested with.
+//! measured against, and a library that the tests themselves can be tested with. `portable` is the library's source by rustc.
 //!
 //! `windows` is the call next open minute by itself: what is expected of it, and its tests.
 //!
@@ -37,6 +37,8 @@ pub mod logs;
 pub mod modal;
 pub mod named;
 pub mod peer;
+#[cfg(feature = "beside")]
+pub mod portable;
 pub mod regroup;
 pub mod rewriting;
 pub mod rounds;

@@ -204,6 +204,7 @@ pub fn random_logs(
     Ok(())
 }
 
+// tries: ReplayPromises.ReplayPromises.safe
 /// The library's own two answers: where its decide says safe, its replay follows no forbidden entry.
 fn follows_none_where_safe(
     library: &dyn Calls,
@@ -226,6 +227,7 @@ fn follows_none_where_safe(
     }
 }
 
+// tries: ReplayPromises.FollowedIs, ReplayPromises.SeenIs, ReplayPromises.CoverageIs
 /// What the specification says of an answer, tried on the definition's own words; whether a state was followed
 /// that is forbidden without being marked.
 fn promises(dialogue: &Dialogue, log: &[u8], answer: &Replay) -> Result<bool, String> {

@@ -295,6 +295,7 @@ fn accepted(
     Ok(())
 }
 
+// tries: ModalPromises.OfChoices.safe, ModalPromises.OfChoices.unsafe, ModalPromises.OfChoices.verdict
 /// The verdict is the one that the choices give, and what comes with it belongs to each of them.
 fn of_choices(
     optional: &Optional,
@@ -334,6 +335,7 @@ fn of_choices(
     Ok(())
 }
 
+// tries: ModalPromises.OfChoices.checked-safe, ModalPromises.ComesWith
 /// Two release checks by the library itself. Where both rows of each state are equal, one of the store as it is.
 fn release_checks(library: &dyn Calls, optional: &Optional, answer: &Modal) -> Outcome {
     let (n, g) = (optional.dialogue.n, optional.dialogue.g());
@@ -621,6 +623,7 @@ fn uncertain(libraries: &[&dyn Calls], random: &mut Random) -> Outcome {
     Ok(())
 }
 
+// tries: ModalPromises.ModalPromises.draft, ModalPromises.ModalPromises.draft-17
 /// A table without states: safe where the possible words are all 0, 17 where one is not; what lies past them plays no part.
 fn drafts(libraries: &[&dyn Calls], random: &mut Random) -> Outcome {
     let store = named::draft().to_store();

@@ -108,6 +108,7 @@ fn accepted_by_all(seed: u32, n: usize, fan_out: usize) {
 
 const SEEDS: [u32; 4] = [0, 1, u32::MAX, 12_345];
 
+// tries: Load.numbers
 #[test]
 fn the_specifications_numbers() {
     let numbers: Vec<u64> = Numbers::new(12_345).take(2).collect();
@@ -152,6 +153,7 @@ fn random_loads() {
     }
 }
 
+// tries: Loads.accepted
 #[test]
 fn every_call_accepts_a_load() {
     let mut random = Random::new(4);

@@ -569,6 +569,7 @@ fn methods_refuse_numbers_that_are_too_large() {
 
 // ---- A draft
 
+// tries: Draft.decide
 #[test]
 fn a_draft_is_never_safe() {
     let by_builder = Table::builder(0).initial([]).marked([]).steps([]).build();

@@ -139,6 +139,23 @@ pub fn parse_with_possible(text: &[u8]) -> Result<Text, Mistakes> {
     reader.read(text)
 }
 
+/// The mistakes of names that a table of n states is to have, by the lines of its text ([`print`]) that would say them.
+pub fn mistakes_of(names: &Names, n: usize) -> Mistakes {
+    let mut reader = Reader {
+        n: Some(n),
+        ..Reader::default()
+    };
+    for (line, (state, name)) in (2..).zip(names) {
+        reader.at = line;
+        reader.name(&Line {
+            number: line,
+            fact: "state",
+            words: &[&state.to_string(), name],
+        });
+    }
+    reader.mistakes
+}
+
 /// The words that a line begins with.
 const FACTS: [&str; 8] = [
     "states",

@@ -13,4 +13,4 @@ text-of-spec =
     (λ c. search needs)
     (λ c. rw (c .before .input .given .1) refl)
     (λ c. rw (c .enum-told .given .1) refl)
-    (λ c. search needs))
+    (λ c. rw (c .enum-told2 .given .1) refl))

@@ -11,13 +11,22 @@ use std::ffi::OsString;
 /// The usage of the program.
 pub const USAGE: &str = "usage: shuntberry COMMAND .., or shuntberry help [COMMAND]";
 
-const STATUSES: &str = "\
-status: 0  safe, and all of it printed; or the thing asked for was written whole
-        1  unsafe
-        2  refused, or mistakes in a text
-        3  anything else: called wrongly, could not read, could not print
-        4  answered, but nothing that may be released: no states, undecided, depends, not within K
-";
+/// What each status means, for every command, in their order.
+pub const STATUSES: [&str; 5] = [
+    "safe, and all of it printed; or the thing asked for was written whole",
+    "unsafe",
+    "refused, or mistakes in a text",
+    "anything else: called wrongly, could not read, could not print",
+    "answered, but nothing that may be released: no states, undecided, depends, not within K, different, a log that breaks off",
+];
+
+fn statuses() -> String {
+    let line = |(status, means): (usize, &&str)| match status {
+        0 => format!("status: {status}  {means}\n"),
+        _ => format!("        {status}  {means}\n"),
+    };
+    STATUSES.iter().enumerate().map(line).collect()
+}
 
 /// What `help` has beside the commands: how texts are written.
 const TEXT: &str = "text";
@@ -38,7 +47,7 @@ pub fn help(words: &[OsString], streams: Streams) -> Done {
     let found = COMMANDS.iter().find(|command| command.name == word);
     let Some(command) = found else {
         return Err(Failure::Wrong(format!(
-            "'{}' is no command{}\n{USAGE}",
+            "unknown command '{}'{}\n{USAGE}",
             shown(word),
             did_you_mean(&word.to_string_lossy(), names)
         )));
@@ -84,26 +93,37 @@ fn overview() -> String {
         said += &format!("  {:<10}  {}\n", command.name, command.about);
     }
     said += "\nshuntberry help text says how a table is written.\n\n";
-    said + STATUSES + "\nThe manual page shuntberry(1) has all of it.\n"
+    said + &statuses() + "\nThe manual page shuntberry(1) has all of it.\n"
 }
 
 /// Prints the help of a command.
 pub fn help_of(program: &str, command: &Command) -> Done {
-    let mut said = format!("{}\n\n{}.\n", command.usage(program), command.about);
-    if !command.more.is_empty() {
-        said += &format!("{}\n", command.more);
+    let mut said = format!("{}\n\n{}\n", command.usage(program), ended(command.about));
+    for more in [command.more, &command.streams()] {
+        if !more.is_empty() {
+            said += &format!("{more}\n");
+        }
     }
     said += "\n";
     for option in command.options {
-        let name = match option.value {
-            Some(value) => format!("{} {value}", option.name),
-            None => option.name.to_string(),
-        };
-        said += &format!("  {name:<20}  {}\n", option.about);
+        let (line, _) = option.sentences();
+        said += &format!("  {:<20}  {line}\n", option.form());
     }
-    said += &format!(
-        "  {:<20}  what follows are names, though they begin with a dash\n\n",
-        "--"
-    );
-    print((said + STATUSES).as_bytes()).map(|()| status::DONE)
+    let (name, about) = NAMES_FOLLOW;
+    said += &format!("  {name:<20}  {about}\n\n");
+    print((said + &statuses()).as_bytes()).map(|()| status::DONE)
+}
+
+/// What every command takes besides its options.
+pub const NAMES_FOLLOW: (&str, &str) = (
+    "--",
+    "what follows are names, though they begin with a dash",
+);
+
+/// A sentence with its end.
+pub fn ended(said: &str) -> String {
+    match said.ends_with(['.', '?']) {
+        true => said.to_string(),
+        false => format!("{said}."),
+    }
 }

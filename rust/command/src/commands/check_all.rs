@@ -1,14 +1,13 @@
 //! `check-all`: a line for each of many files, by the same proved call as `check`.
 
-use crate::commands::check::{Answer, DECLINED, Judged};
+use crate::answer::{Answer, Verdict};
 use crate::failure::{Done, Failure, status};
 use crate::files::{Input, TEXT_BYTES, print, say};
 use crate::json::Object;
 use crate::lines::Names;
-use crate::shown::shown;
-use crate::source::{JSON, SITE, site};
+use crate::shown::{counted, shown};
+use crate::source::{JSON, QUIET, SITE, Source, site};
 use crate::words::{Call, Command, Opt, Output};
-use shuntberry::FILE_BYTES;
 use std::ffi::OsStr;
 use std::fs;
 use std::io::{self, IsTerminal};
@@ -19,17 +18,22 @@ use std::time::{Duration, Instant};
 const FROM: Opt = Opt {
     name: "--from",
     value: Some("LIST"),
-    about: "takes the names of more files from the file LIST, one a line",
+    about: "takes the names of more files from the file LIST, one a line\n\
+        The last name too must have its end: without it the list may be cut, and nothing is checked. \
+        A list has at most 100,000 names, of 4,095 bytes each, and 16 MiB in all.",
 };
 const ZERO: Opt = Opt {
     name: "-0",
     value: None,
-    about: "the names of LIST end with a zero byte each, and not with a line",
+    about: "the names of LIST end with a zero byte each, and not with a line\n\
+        So does `find -print0` write them.",
 };
 const COUNT: Opt = Opt {
     name: "--count",
     value: Some("N"),
-    about: "checks nothing, and fails, unless there are just N files in all",
+    about: "checks nothing, and fails, unless there are just N files in all\n\
+        The words, the folders and LIST count together, as in the last line. Standard error says both numbers. \
+        Only this finds a list that was cut just behind a name, and a folder from which a file is missing.",
 };
 
 /// The command.
@@ -39,7 +43,7 @@ pub const CHECK_ALL: Command = Command {
     counts: (0, usize::MAX),
     about: "check many files, with a line for each",
     more: "A folder stands for the files in it, and in its folders, whose names end in .table, in capitals or not. The others are named on standard error.",
-    options: &[&SITE, &FROM, &ZERO, &COUNT, &JSON],
+    options: &[&SITE, &FROM, &ZERO, &COUNT, &QUIET, &JSON],
     needs: &[],
     output: Output::Answer,
     run,
@@ -63,12 +67,9 @@ fn run(call: &Call) -> Done {
     let mut lines = Vec::new();
     for (done, file) in files.iter().enumerate() {
         progress.show(done, &counts, &mut lines)?;
-        let answer = file.answer(site);
-        let remark = match &answer {
-            Ok(answer) => answer
-                .vacuous
-                .map(|why| format!("{}: {why}; {DECLINED}", shown(file.path()))),
-            Err(why) => Some(why.clone()),
+        let (answer, remark) = match file.answer(site) {
+            Ok((answer, remark)) => (Ok(answer), remark.filter(|_| !call.has(&QUIET))),
+            Err(why) => (Err(why.clone()), Some(why)),
         };
         if let Some(remark) = remark {
             progress.clear();
@@ -242,7 +243,10 @@ fn search(folder: &Path, files: &mut Vec<Entry>, passed: &mut Passed) {
             Ok(kind) => kind.is_dir(),
             Err(error) => {
                 // it may be a folder, with tables in it
-                files.push(Entry::Fails(path, format!("it cannot be looked at: {error}")));
+                files.push(Entry::Fails(
+                    path,
+                    format!("it cannot be looked at: {error}"),
+                ));
                 continue;
             }
         };
@@ -265,8 +269,8 @@ impl Entry {
         }
     }
 
-    /// What is found of the file, or why it failed.
-    fn answer(&self, site: usize) -> Result<Answer, String> {
+    /// What is found of the file and what is to be said of that, or why it failed. A line says that a table is unsafe, or a draft.
+    fn answer(&self, site: usize) -> Result<(Answer, Option<String>), String> {
         match self {
             Entry::Fails(path, why) => return Err(format!("{}: {why}", shown(path))),
             // A pipe could wait for ever; one that is named is meant.
@@ -275,16 +279,15 @@ impl Entry {
             }
             _ => {}
         }
-        let why = |failure: Failure| match failure {
-            Failure::Refused(_, why)
-            | Failure::Mistakes(_, why)
-            | Failure::Wrong(why)
-            | Failure::Failed(why) => why,
+        let why = |failure: Failure| failure.why().to_string();
+        let source = Source::of_file(Input::named(self.path()), site).map_err(why)?;
+        let answer = Answer::of(&source).map_err(why)?;
+        let remark = match answer.verdict {
+            Verdict::Unsafe | Verdict::Draft => None,
+            _ => answer.explanation(&source),
         };
-        let file = Input::named(self.path())
-            .take(FILE_BYTES + 1)
-            .map_err(why)?;
-        Answer::of(&file, site).map_err(why)
+        let remark = remark.map(|why| format!("{}: {why}", source.shown));
+        Ok((answer, remark))
     }
 
     fn line(&self, answer: &Result<Answer, String>, json: bool) -> String {
@@ -296,16 +299,12 @@ impl Entry {
                 Err(why) => object.text("verdict", "failed").text("why", why).line(),
             };
         }
-        let word = match answer {
-            Ok(answer) if answer.is_draft() => "draft".to_string(),
-            Ok(Answer {
-                judged: Judged::Refused(refused),
-                ..
-            }) => format!("refused {}", refused.0),
-            Ok(answer) => answer.word().to_string(),
+        let label = match answer.as_ref().map(|answer| answer.verdict) {
+            Ok(Verdict::Refused(refused)) => format!("refused {}", refused.0),
+            Ok(verdict) => verdict.label().to_string(),
             Err(_) => "failed".to_string(),
         };
-        format!("{}: {word}\n", shown(path))
+        format!("{}: {label}\n", shown(path))
     }
 }
 
@@ -324,12 +323,12 @@ impl Counts {
     fn count(&mut self, answer: &Result<Answer, String>) {
         *match answer {
             Err(_) => &mut self.failed,
-            Ok(answer) => match answer.status() {
-                status::DONE => &mut self.safe,
-                status::UNSAFE => &mut self.is_unsafe,
-                status::REFUSED => &mut self.refused,
-                status::NO_RELEASE => &mut self.drafts,
-                _ => &mut self.failed,
+            Ok(answer) => match answer.verdict {
+                Verdict::Safe => &mut self.safe,
+                Verdict::Unsafe => &mut self.is_unsafe,
+                Verdict::Refused(_) => &mut self.refused,
+                Verdict::Draft => &mut self.drafts,
+                Verdict::Undecided | Verdict::Depends => &mut self.failed,
             },
         } += 1;
     }
@@ -338,14 +337,13 @@ impl Counts {
         self.safe + self.is_unsafe + self.refused + self.drafts + self.failed
     }
 
-    fn said(&self) -> String {
+    fn label(&self) -> String {
         format!(
-            "{} safe, {} unsafe, {} refused, {} draft{}, {} failed",
+            "{} safe, {} unsafe, {} refused, {}, {} failed",
             self.safe,
             self.is_unsafe,
             self.refused,
-            self.drafts,
-            if self.drafts == 1 { "" } else { "s" },
+            counted(self.drafts, "draft"),
             self.failed
         )
     }
@@ -363,11 +361,7 @@ impl Counts {
                 .plain("not_checked", passed.others)
                 .plain("not_followed", passed.links)
                 .line(),
-            false => format!(
-                "{all} file{}: {}\n",
-                if all == 1 { "" } else { "s" },
-                self.said()
-            ),
+            false => format!("{}: {}\n", counted(all, "file"), self.label()),
         }
     }
 
@@ -417,7 +411,7 @@ impl Progress {
         say(&format!(
             "\r\x1b[K{done} of {} files: {}",
             self.files,
-            counts.said()
+            counts.label()
         ));
         self.last = Some(Instant::now());
         self.shown = true;

@@ -12,7 +12,7 @@ pub const DECODE: Command = Command {
     words: "[FILE]",
     counts: (0, 1),
     about: "a file as text",
-    more: "Without FILE standard input is read, without -o standard output written.",
+    more: "The text that it gives, encoded, is the same file again.",
     options: &[&SITE, &OUT, &TEXT, &NAMES],
     needs: &[],
     output: Output::File,
@@ -21,7 +21,6 @@ pub const DECODE: Command = Command {
 
 fn run(call: &Call) -> Done {
     let source = Source::of(call, call.name(0))?;
-    let table = source.table()?;
-    put(call, text::print(&table, &source.names).as_bytes())?;
+    put(call, text::print(source.table()?, &source.names).as_bytes())?;
     Ok(status::DONE)
 }

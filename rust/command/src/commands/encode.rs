@@ -2,7 +2,8 @@
 
 use crate::failure::{Done, status};
 use crate::files::{Input, OUT, put_file};
-use crate::source::{SITE, file_of, site, text_of};
+use crate::source::{SITE, parsed, site};
+use crate::text::{parse, table_of};
 use crate::words::{Call, Command, Output};
 
 /// The command.
@@ -11,7 +12,7 @@ pub const ENCODE: Command = Command {
     words: "[TEXT]",
     counts: (0, 1),
     about: "a text as a file",
-    more: "Without TEXT standard input is read, without -o standard output written.",
+    more: "A text that has mistakes gives none: standard error has each of them with its line.",
     options: &[&SITE, &OUT],
     needs: &[],
     output: Output::File,
@@ -20,7 +21,7 @@ pub const ENCODE: Command = Command {
 
 fn run(call: &Call) -> Done {
     let site = site(call)?;
-    let text = text_of(Input::of(call, call.name(0)))?;
-    put_file(call, &file_of(&text.table, site)?)?;
+    let text = parsed(Input::of(call, call.name(0)), parse)?;
+    put_file(call, &table_of(&text.table, [])?.to_bytes(site)?)?;
     Ok(status::DONE)
 }

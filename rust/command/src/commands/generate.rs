@@ -2,9 +2,9 @@
 
 use crate::failure::{Done, Failure, status};
 use crate::files::{OUT, put_file};
-use crate::source::{SITE, file_of, site};
-use crate::table::Table;
+use crate::source::{SITE, site};
 use crate::words::{Call, Command, Output, number_up_to};
+use shuntberry::Table;
 
 /// The command.
 pub const GENERATE: Command = Command {
@@ -27,8 +27,7 @@ fn run(call: &Call) -> Done {
     let seed = number_up_to(seed, "seed", u32::MAX as usize)?;
     let states = number_up_to(states, "number of states", usize::MAX)?;
     let fan_out = number_up_to(fan_out, "fan-out", usize::MAX)?;
-    let table = Table::generated(seed as u32, states, fan_out)
-        .map_err(|refused| Failure::Refused(refused, refused.to_string()))?;
-    put_file(call, &file_of(&table, site)?)?;
+    let table = Table::generate(seed as u32, states, fan_out)?;
+    put_file(call, &table.to_bytes(site)?)?;
     Ok(status::DONE)
 }

@@ -4,6 +4,7 @@ pub mod about;
 pub mod check;
 pub mod check_all;
 pub mod decode;
+pub mod diff;
 pub mod encode;
 pub mod generate;
 pub mod inspect;
@@ -19,12 +20,13 @@ pub mod within;
 use crate::words::Command;
 
 /// All of them, in the order of the help.
-pub const COMMANDS: [&Command; 14] = [
+pub const COMMANDS: [&Command; 15] = [
     &check::CHECK,
     &check_all::CHECK_ALL,
     &release::RELEASE,
     &report::REPORT,
     &inspect::INSPECT,
+    &diff::DIFF,
     &within::WITHIN,
     &replay::REPLAY,
     &options::OPTIONS,

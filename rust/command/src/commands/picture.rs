@@ -1,5 +1,6 @@
 //! `picture`: the graph of a table, for Graphviz or drawn by it.
 
+use crate::answer::Answer;
 use crate::drawing::{Limits, NotDrawn, drawn};
 use crate::failure::{Done, Failure, status};
 use crate::files::{OUT, put, say};
@@ -11,7 +12,8 @@ use std::io::{self, IsTerminal};
 const SVG: Opt = Opt {
     name: "--svg",
     value: None,
-    about: "runs dot of Graphviz, and writes what it draws",
+    about: "runs dot of Graphviz, and writes what it draws\n\
+        What is no drawing of just this table, with each state, step and word of it, is an error, and nothing is written.",
 };
 const DISTANCES: Opt = Opt {
     name: "--distances",
@@ -26,7 +28,9 @@ const GROUPS: Opt = Opt {
 const ALL: Opt = Opt {
     name: "--all",
     value: None,
-    about: "draws each state; without it, of more than 60 only the path with its neighbours, or starts and forbidden ones with theirs",
+    about: "draws each state, however many there are\n\
+        Without it, of a table of more than 60 states at most 40 are drawn: those of the path, or of a safe table the initial and forbidden ones, then their \
+        neighbours. The title says so, and each state how many of its steps are not drawn.",
 };
 
 /// The command.
@@ -35,7 +39,7 @@ pub const PICTURE: Command = Command {
     words: "[FILE]",
     counts: (0, 1),
     about: "a file as a graph for Graphviz, or as an SVG",
-    more: "Without FILE standard input is read, without -o standard output written.",
+    more: "Its title says whether the table is safe, and a legend explains the drawing.",
     options: &[&SITE, &OUT, &SVG, &DISTANCES, &GROUPS, &ALL, &TEXT, &NAMES],
     needs: &[],
     output: Output::File,
@@ -50,8 +54,8 @@ fn run(call: &Call) -> Done {
         groups: call.has(&GROUPS),
         all: call.has(&ALL),
     };
-    let picture = Picture::of(&table, &source.names, &source.shown, options)
-        .map_err(|refused| Failure::Refused(refused, refused.to_string()))?;
+    let answer = Answer::of(&source)?;
+    let picture = Picture::of(table, &answer, &source.names, &source.shown, options)?;
     if call.has(&SVG) {
         say_drawing(PICTURE.name, &picture);
         put(call, &svg(&picture)?)?;

@@ -4,16 +4,17 @@ use crate::failure::{Done, Failure, status};
 use crate::files::{Input, TEXT_BYTES, print, say};
 use crate::json::Object;
 use crate::lines::{Mistake, Mistakes, Names, number, quoted, said};
+use crate::names::{screen, with_names};
 use crate::source::{JSON, NAMES, SITE, Source, TEXT, parsed};
-use crate::table::Table;
 use crate::words::{Call, Command, Opt, Output};
-use shuntberry::{MAX_LOG, Refused, StateSet, open, replay};
+use shuntberry::{MAX_LOG, Refused, StateSet, Table};
 use std::collections::BTreeMap;
 
 const TEXT_LOG: Opt = Opt {
     name: "--text-log",
     value: None,
-    about: "LOG is a text of numbers and names of screens with a last line end, and no list of two-byte numbers",
+    about: "LOG is a text of numbers and names of screens with a last line end, and no list of two-byte numbers\n\
+        It has at most 515 of them on a line, and 16 MiB in all; what follows a # is a comment.",
 };
 
 /// The command.
@@ -22,7 +23,7 @@ pub const REPLAY: Command = Command {
     words: "FILE LOG",
     counts: (2, 2),
     about: "a pump's log walked through a table",
-    more: "LOG has a state number of two bytes, low byte first, for each screen that was shown.",
+    more: "LOG has a state number of two bytes, low byte first, for each screen that was shown. The status is 4 where it breaks off.",
     options: &[&SITE, &TEXT, &NAMES, &TEXT_LOG, &JSON],
     needs: &[],
     output: Output::Answer,
@@ -46,19 +47,22 @@ fn run(call: &Call) -> Done {
             log_input.shown()
         ));
     }
-    let walk = Walk::of(&table, &source.names, &log).map_err(|refused| {
+    let walk = Walk::of(table, &source.names, &log).map_err(|refused| {
         let about = match refused {
             Refused::LOG_ODD | Refused::LOG_LONG => log_input.shown(),
             _ => source.shown.clone(),
         };
         Failure::Refused(refused, format!("{about}: {refused}"))
     })?;
-    let said = match call.has(&JSON) {
+    let lines = match call.has(&JSON) {
         true => walk.object().line(),
         false => walk.lines(),
     };
-    print(said.as_bytes())?;
-    Ok(status::DONE)
+    print(lines.as_bytes())?;
+    Ok(match walk.broken() {
+        Some(_) => status::NO_RELEASE,
+        None => status::DONE,
+    })
 }
 
 /// Whether bytes are such as stand in a text. In a log every second one is the high byte of a state's number, 0 or 1.
@@ -143,23 +147,19 @@ struct Walk<'t> {
 
 impl<'t> Walk<'t> {
     fn of(table: &'t Table, names: &'t Names, log: &[u8]) -> Result<Walk<'t>, Refused> {
-        let (store, n, g) = (table.store(), table.n(), table.g());
-        let found = replay(store, n, g, log)?;
+        let found = table.replay(log)?;
         let entry = |two: &[u8]| usize::from(u16::from_le_bytes([two[0], two[1]]));
         Ok(Walk {
             table,
             names,
             entries: log.chunks_exact(2).map(entry).collect(),
             found,
-            reachable: open(store, n, g)?,
+            reachable: table.reachable()?,
         })
     }
 
     fn screen(&self, s: usize) -> String {
-        match self.names.get(&s) {
-            Some(name) => format!("{s} {name}"),
-            None => s.to_string(),
-        }
+        screen(self.names, s)
     }
 
     /// The first entry that breaks the walk, and why it does.
@@ -178,7 +178,7 @@ impl<'t> Walk<'t> {
     /// The first entry that shows a forbidden screen, followed or not: the pump was there, also if the table has no step that leads there.
     fn forbidden(&self) -> Option<usize> {
         let forbidden = self.table.forbidden();
-        self.entries.iter().position(|s| forbidden.contains(s))
+        self.entries.iter().position(|&s| forbidden.contains(s))
     }
 
     /// The screens that can be reached and that no followed entry shows.
@@ -191,27 +191,27 @@ impl<'t> Walk<'t> {
     fn lines(&self) -> String {
         let (n, g) = (self.table.n(), self.table.g());
         let found = &self.found;
-        let mut said = format!(
+        let mut lines = format!(
             "states {n} groups {g}\nentries {} followed {}\n",
             self.entries.len(),
             found.followed
         );
         if let Some(at) = self.forbidden() {
             let screen = self.screen(self.entries[at]);
-            said += &format!("entry {} is forbidden: {screen}\n", at + 1);
+            lines += &format!("entry {} is forbidden: {screen}\n", at + 1);
         }
         if let Some((place, entry, why)) = self.broken() {
-            said += &format!(
+            lines += &format!(
                 "entry {place} breaks the walk: {}: {why}\n",
                 self.screen(entry)
             );
         }
-        said += &format!(
+        lines += &format!(
             "coverage {} percent remainder {}: {} of {}\n",
             found.percent,
             found.remainder,
             found.seen,
-            self.reachable.states().count()
+            self.reachable.len()
         );
         let left: Vec<String> = self.not_seen().iter().map(|s| self.screen(*s)).collect();
         let listed = if left.is_empty() {
@@ -219,7 +219,7 @@ impl<'t> Walk<'t> {
         } else {
             left.join(", ")
         };
-        said + &format!("not seen {}: {listed}\n", left.len())
+        lines + &format!("not seen {}: {listed}\n", left.len())
     }
 
     fn object(&self) -> Object {
@@ -245,10 +245,10 @@ impl<'t> Walk<'t> {
         };
         let object = object
             .plain("seen", found.seen)
-            .plain("reachable", self.reachable.states().count())
+            .plain("reachable", self.reachable.len())
             .plain("percent", found.percent)
             .plain("remainder", found.remainder)
             .numbers("not_seen", self.not_seen());
-        crate::commands::check::with_names(object, self.names, 0..self.table.n())
+        with_names(object, self.names, 0..self.table.n())
     }
 }

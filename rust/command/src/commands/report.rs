@@ -1,27 +1,46 @@
 //! `report`: the record of a check, as a page. What is checked, summed up, looked at and drawn are the bytes of one read.
 
+use crate::answer::{Answer, Verdict};
 use crate::calendar::utc;
 use crate::commands::about::{VERSION, version_line};
-use crate::commands::check::{Answer, Judged};
-use crate::commands::inspect::Found;
+use crate::commands::diff::{Draft, OLD_NAMES, changes, compared, not_compared};
 use crate::commands::picture::say_drawing;
 use crate::drawing::{Limits, NotDrawn, drawn};
 use crate::failure::{Done, Failure};
 use crate::files::{Input, OUT, need_place, print, replace, say};
+use crate::inspection::Inspection;
 use crate::lines::{cut, number};
 use crate::picture::{Options, Picture};
-use crate::record::Record;
-use crate::refusals::{BY_ENCODE, ground};
+use crate::record::{Record, Released, Since};
+use crate::refusals::explained;
 use crate::sha256::sha256;
 use crate::shown::shown;
 use crate::source::{NAMES, SITE, Source};
 use crate::svg::Drawing;
-use crate::table::Table;
-use crate::words::{Call, Command, Output};
-use shuntberry::Refused;
-use std::env;
+use crate::words::{Call, Command, Opt, Output};
+use shuntberry::{FILE_BYTES, Table};
 use std::path::Path;
 use std::time::{Duration, SystemTime, UNIX_EPOCH};
+use std::{env, io};
+
+const TITLE: Opt = Opt {
+    name: "--title",
+    value: Some("WORDS"),
+    about: "pump and table in words of your own, for the head of the record\n\
+        They are shown as they are, up to 200 characters, and nothing is looked up by them.",
+};
+const RELEASED: Opt = Opt {
+    name: "--released",
+    value: Some("PLACE"),
+    about: "says in the record whether the file PLACE has the bytes that were checked\n\
+        PLACE is what release wrote. A record without this option does not say whether the file was released.",
+};
+const SINCE: Opt = Opt {
+    name: "--since",
+    value: Some("OLD"),
+    about: "says in the record what has changed since the file OLD, as diff does\n\
+        Where OLD is refused or cannot be read there is no record, and the status is 3.",
+};
 
 /// The command.
 pub const REPORT: Command = Command {
@@ -30,7 +49,7 @@ pub const REPORT: Command = Command {
     counts: (1, 1),
     about: "check a file, and write the record of that as a page",
     more: "-o OUT names the page, which is HTML and stands alone. Of a file that is refused there is none. dot of Graphviz draws the picture, if it is there.",
-    options: &[&OUT, &SITE, &NAMES],
+    options: &[&OUT, &SITE, &NAMES, &TITLE, &RELEASED, &SINCE, &OLD_NAMES],
     needs: &[&OUT],
     output: Output::Answer,
     run,
@@ -51,15 +70,17 @@ fn run(call: &Call) -> Done {
     let date = date()?;
     let source = Source::of(call, Some(from))?;
     need_place(to)?;
-    let answer = Answer::of(&source.file, source.site)?;
+    let answer = Answer::of(&source)?;
+    let (title, released) = (title(call)?, released(call)?);
+    let since = since(call, &source, &answer).map_err(not_compared)?;
     print(answer.text.as_bytes())?;
-    if let Judged::Refused(refused) = answer.judged {
-        let why = ground(refused, &source.file, source.site, BY_ENCODE);
+    if let Verdict::Refused(refused) = answer.verdict {
+        let why = explained(refused, &source.file, source.site);
         let name = &source.shown;
         say(&format!(
             "report: {name}: there is no record: it is {why}\n"
         ));
-        return Ok(answer.status());
+        return Ok(answer.verdict.status());
     }
     let table = source.table()?;
     let record = Record {
@@ -68,25 +89,24 @@ fn run(call: &Call) -> Done {
         sum: sha256(&source.file),
         site: source.site,
         answer: &answer,
-        found: &Found::of(&table, &source.names).map_err(refused)?,
+        found: &Inspection::of(table, &answer, &source.names)?,
         names_from: source.names_from.clone(),
-        vacuous: answer.vacuous,
-        picture: pictured(&table, &source, from)?,
+        picture: pictured(table, &answer, &source, from)?,
         date,
         version: version_line("shuntberry"),
         proved: proved(),
+        title,
+        released,
+        since,
     };
     replace(to, record.page().as_bytes())?;
-    Ok(answer.status())
-}
-
-fn refused(refused: Refused) -> Failure {
-    Failure::Refused(refused, refused.to_string())
+    Ok(answer.verdict.status())
 }
 
 /// The picture, or why there is none: a record is one without it too.
 fn pictured(
     table: &Table,
+    answer: &Answer,
     source: &Source,
     from: &Path,
 ) -> Result<Result<Drawing, String>, Failure> {
@@ -95,14 +115,83 @@ fn pictured(
     }
     // The whole name stands above; a long one would make all else small.
     let title = cut(&shown(from.file_name().unwrap_or(from.as_os_str())));
-    let picture = Picture::of(table, &source.names, &title, Options::default());
-    let picture = picture.map_err(refused)?;
+    let picture = Picture::of(table, answer, &source.names, &title, Options::default())?;
     say_drawing(REPORT.name, &picture);
     let drawn = drawn(&picture, PICTURE).map_err(|why| match why {
         NotDrawn::Other(why) => format!("what dot printed is left out, since {why}"),
         _ => why.to_string(),
     });
     Ok(drawn.map(|drawn| drawn.drawing))
+}
+
+// ---- What is asked for beside the check
+
+/// More is no title.
+const TITLE_LETTERS: usize = 200;
+
+/// The words of `--title`, as they are shown.
+fn title(call: &Call) -> Result<Option<String>, Failure> {
+    let Some(words) = call.value(&TITLE) else {
+        return Ok(None);
+    };
+    match words.to_string_lossy().trim().chars().count() {
+        1..=TITLE_LETTERS => Ok(Some(shown(words))),
+        _ => Err(Failure::Wrong(format!(
+            "{} needs 1 to {TITLE_LETTERS} characters",
+            TITLE.name
+        ))),
+    }
+}
+
+/// What is in the place of `--released`. That it cannot be read is no answer.
+fn released(call: &Call) -> Result<Option<Released>, Failure> {
+    let Some(place) = call.path(&RELEASED) else {
+        return Ok(None);
+    };
+    let is_gone = |error: &io::Error| error.kind() == io::ErrorKind::NotFound;
+    let sum = match place.symlink_metadata() {
+        Err(error) if is_gone(&error) && !place.as_os_str().is_empty() => None,
+        _ => {
+            let bytes = Input::of(call, Some(place)).take(FILE_BYTES + 1)?;
+            if bytes.len() > FILE_BYTES {
+                let place = shown(place);
+                return Err(Failure::Failed(format!(
+                    "{place} is longer than any table's file"
+                )));
+            }
+            Some(sha256(&bytes))
+        }
+    };
+    Ok(Some(Released {
+        place: shown(place),
+        sum,
+    }))
+}
+
+/// What has changed since the file of `--since`.
+fn since(call: &Call, source: &Source, answer: &Answer) -> Result<Option<Since>, Failure> {
+    let Some(path) = call.path(&SINCE) else {
+        return match call.has(&OLD_NAMES) {
+            true => Err(Failure::Wrong(
+                "--old-names goes with --since OLD".to_string(),
+            )),
+            false => Ok(None),
+        };
+    };
+    let old = Source::with_names(call, path, &OLD_NAMES)?;
+    let before = Draft::of(&old, &Answer::of(&old)?)?;
+    if matches!(answer.verdict, Verdict::Refused(_)) {
+        return Ok(None);
+    }
+    let now = Draft::of(source, answer)?;
+    let found = compared(&before, &now)?;
+    Ok(Some(Since {
+        file: old.shown,
+        sum: sha256(&old.file),
+        verdict: before.verdict,
+        summary: found.summary(),
+        lines: changes(&before, &now, &found),
+    }))
 }
 
 /// A variable that gives the date, for records that must come out the same.

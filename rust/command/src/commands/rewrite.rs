@@ -13,7 +13,7 @@ pub const REWRITE: Command = Command {
     words: "[OLD]",
     counts: (0, 1),
     about: "a file of the old form in the new one, with its dead ends resting",
-    more: "OLD is a file of site 0. Without OLD standard input is read, without -o standard output written.",
+    more: "OLD is a file of site 0, as versions 1 to 3 wrote it.",
     options: &[&OUT],
     needs: &[],
     output: Output::File,
@@ -25,8 +25,8 @@ fn run(call: &Call) -> Done {
     let old = input.take(FILE_BYTES + 1)?;
     let mut room = vec![0; FILE_BYTES];
     let new = rewrite(&old, &mut room).map_err(|refused| {
-        let said = old_ground(refused, &old);
-        Failure::Refused(refused, format!("{}: {said}", input.shown()))
+        let why = old_ground(refused, &old);
+        Failure::Refused(refused, format!("{}: {why}", input.shown()))
     })?;
     put_file(call, new)?;
     Ok(status::DONE)

@@ -134,6 +134,7 @@ impl Arguments {
     }
 }
 
+// tries: Grounds.Listed, Promises.Untouched, Stores.sharedGrounds
 /// The calls that are lent a table, with one to three faults in their arguments.
 pub(super) fn spoiled_arguments(
     libraries: &[&dyn Calls],

@@ -11,6 +11,7 @@ use crate::table::{Dialogue, Table, set_where};
 /// Up to this size the plain implementations are themselves held to trying everything.
 pub(super) const SMALL: usize = 6;
 
+// tries: DistancePromises.DistanceIs, DistancePromises.agree
 /// The distances, which are found backward, and the path, which is found forward: the nearest initial
 /// state is as far as the path is long. Small tables are held to trying everything.
 pub(super) fn agreement(table: &Table, judged: &Judged, far: &[u16]) -> Outcome {
@@ -27,6 +28,8 @@ pub(super) fn agreement(table: &Table, judged: &Judged, far: &[u16]) -> Outcome 
     Ok(())
 }
 
+// tries: Promises.Demand2.unsafe-path, Promises.Demand2.path-unsafe, Promises.Demand2.smallest-path
+// tries: Promises.Demand2.invariant, Paths.isPath
 /// Demand 2: the verdict is unsafe just where a depth-first search, which knows no rounds, finds a
 /// forbidden state; a safe set is an invariant; a path is one.
 pub(super) fn demand_2(
@@ -54,6 +57,8 @@ pub(super) fn demand_2(
     Ok(())
 }
 
+// tries: Promises.Demand3.count-backward, Promises.Demand3.count-path, Promises.Demand3.enough
+// tries: Promises.larger
 /// Demand 3: the count is at most the backward number, and for unsafe at most the length of any path;
 /// an allowance of at least the backward number is never undecided; a larger allowance never changes
 /// a verdict that was given.
@@ -86,6 +91,7 @@ pub(super) fn demand_3(
     Ok(())
 }
 
+// tries: Promises.Operations.post-members, Promises.Operations.cover-members, Promises.IsSmallest
 /// The plain implementations against trying all sets and all sequences of states.
 pub(super) fn try_everything(table: &Table, judged: &Judged) -> Outcome {
     ensure(judged.path == search::first_path_of_all(table), || {

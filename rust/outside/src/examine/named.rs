@@ -15,6 +15,7 @@ use crate::named;
 use crate::rounds;
 use crate::sessions;
 
+// tries: Worked.Worked, Resting.ForbiddenIs
 /// A to H and the ninth table, with the figures of the texts, and the edges that the specification names.
 pub fn named_tables(libraries: &[&dyn Calls], random: &mut Random, tally: &mut Tally) -> Outcome {
     for named in named::decided() {

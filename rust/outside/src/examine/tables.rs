@@ -32,6 +32,7 @@ pub fn random_table(libraries: &[&dyn Calls], random: &mut Random, tally: &mut T
         .map_err(|fault| format!("{kind:?}: {fault}"))
 }
 
+// tries: Promises.stops, Paths.smallestPath, Calls.decideAnswer, Calls.shortestAnswer
 /// The calls on a table, with demands 2 and 3, both round trips, and what distances and within share.
 pub fn accepted_table(
     libraries: &[&dyn Calls],
@@ -140,6 +141,7 @@ fn count_forbidden(dialogue: &Dialogue, table: &Table, tally: &mut Tally) {
     tally.count("hangs in a table", hangs.count());
 }
 
+// tries: RoundTrip.WriteRead, RoundTrip.ReadWrite
 /// What is written is the expected file and reads back as the store; what is read from the file is
 /// written again as the file. With an output that is just long enough, longer, and one byte short.
 fn round_trips(

@@ -1,6 +1,7 @@
 //! The benchmark: the library's calls beside the optimised peer, in one run.
 //!
 //!     bench [--peer] [--repetitions R] [--only WORDS]..   the tables of docs/PERFORMANCE.md
+//!     bench --portable [..]                               the library's source by rustc beside the archive (feature `beside`)
 //!     bench --rows [..]                                   a line for each call and family
 //!     bench --runs N [..]                                 nothing is measured: each row N times, for a profiler
 //!
@@ -25,6 +26,7 @@ const REPETITIONS: usize = 41;
 
 struct Options {
     peer: bool,
+    portable: bool,
     rows: bool,
     repetitions: usize,
     only: Vec<String>,
@@ -33,21 +35,26 @@ struct Options {
 
 fn main() -> ExitCode {
     let Some(options) = options() else {
-        eprintln!("usage: bench [--peer] [--rows] [--repetitions R] [--only WORDS].. [--runs N]");
+        eprintln!(
+            "usage: bench [--peer|--portable] [--rows] [--repetitions R] [--only WORDS].. [--runs N]"
+        );
         return ExitCode::from(2);
     };
-    let Some(subject) = subject(options.peer) else {
-        eprintln!("bench: built without the library; only --peer can be measured");
+    let Some(sides) = sides(&options) else {
+        eprintln!(
+            "bench: built without the library, which leaves --peer, or without the feature `beside`, which --portable needs"
+        );
         return ExitCode::from(2);
     };
-    let rows = rows::rows(&options.only);
+    let mut rows = rows::rows(&options.only);
+    rows.retain(|row| row.is_of(options.portable));
     if rows.is_empty() {
         eprintln!("bench: no row has '{}' in it", options.only.join("' or '"));
         return ExitCode::from(2);
     }
     if let Some(runs) = options.runs {
-        watch(subject, &rows, runs);
-    } else if let Err(fault) = print(subject, &rows, &options) {
+        watch(sides[0], &rows, runs);
+    } else if let Err(fault) = print(sides, &rows, &options) {
         eprintln!("bench: {fault}");
         return ExitCode::FAILURE;
     }
@@ -57,6 +64,7 @@ fn main() -> ExitCode {
 fn options() -> Option<Options> {
     let mut options = Options {
         peer: false,
+        portable: false,
         rows: false,
         repetitions: REPETITIONS,
         only: Vec::new(),
@@ -67,6 +75,7 @@ fn options() -> Option<Options> {
         let mut number = || words.next()?.parse().ok().filter(|&number| number > 0);
         match word.as_str() {
             "--peer" => options.peer = true,
+            "--portable" => options.portable = true,
             "--rows" => options.rows = true,
             "--repetitions" => options.repetitions = number()?,
             "--runs" => options.runs = Some(number()?),
@@ -77,14 +86,18 @@ fn options() -> Option<Options> {
     Some(options)
 }
 
-fn subject(peer_only: bool) -> Option<Library> {
-    if peer_only {
-        return Some(PEER);
+/// What is measured, and what it is measured beside.
+fn sides(options: &Options) -> Option<[Library; 2]> {
+    match (options.peer, options.portable) {
+        (true, true) => None,
+        (true, false) => Some([PEER, PEER]),
+        #[cfg(feature = "library")]
+        (false, false) => Some([rows::LIBRARY, PEER]),
+        #[cfg(feature = "beside")]
+        (false, true) => Some([rows::PORTABLE, rows::LIBRARY]),
+        #[allow(unreachable_patterns)] // where both features are set
+        _ => None,
     }
-    #[cfg(feature = "library")]
-    return Some(rows::LIBRARY);
-    #[cfg(not(feature = "library"))]
-    None
 }
 
 /// Goes through the cases of each row, for a profiler to watch.
@@ -99,24 +112,26 @@ fn watch(subject: Library, rows: &[Row], runs: usize) {
     }
 }
 
-fn print(subject: Library, rows: &[Row], options: &Options) -> Result<(), String> {
+fn print(sides: [Library; 2], rows: &[Row], options: &Options) -> Result<(), String> {
     let repetitions = options.repetitions;
     println!(
         "{}, {repetitions} repetitions, seed {SEED}. Times are medians of processor time in microseconds for one call.",
         processor(),
     );
     if options.rows {
-        tables::head_of_rows(subject.name());
+        tables::head_of_rows(sides[0].name());
     }
     let mut measured = Vec::new();
     for row in rows {
-        let figures = measure(subject, row, repetitions)?;
+        let figures = measure(sides, row, repetitions)?;
         if options.rows {
             tables::print_row(row, &figures);
         }
         measured.push((row, figures));
     }
-    if !options.rows {
+    if options.portable && !options.rows {
+        tables::print_portable(&measured);
+    } else if !options.rows {
         tables::print_calls(&measured);
         tables::print_edits(&measured);
         tables::print_growth(&measured);

@@ -40,8 +40,8 @@ pub struct Figures {
 }
 
 /// Measures a row, once both sides are seen to answer the same.
-pub fn measure(subject: Library, row: &Row, repetitions: usize) -> Result<Figures, String> {
-    let sides = row.sides(subject);
+pub fn measure(sides: [Library; 2], row: &Row, repetitions: usize) -> Result<Figures, String> {
+    let sides = row.sides(sides);
     for case in &row.cases {
         agree(sides, row, case)?;
     }

@@ -5,8 +5,8 @@ use std::hint::black_box;
 use shuntberry_outside::accept::{MAX_ALLOWANCE, MAX_LOG};
 use shuntberry_outside::blocks::{Form, LARGEST};
 use shuntberry_outside::calls::{
-    Calls, DEPENDS, Decision, Edit, Modal, Replay, SAFE, Shortest, TableRead, UNSAFE, Within,
-    Words, Written,
+    Calls, Checked, DEPENDS, Decision, Edit, Modal, Replay, SAFE, Shortest, TableRead, UNSAFE,
+    Within, Words, Written,
 };
 use shuntberry_outside::families::{self, GROWTH};
 use shuntberry_outside::generate::Random;
@@ -19,6 +19,8 @@ use shuntberry_outside::windows::{self, DAY, Minute, NextOpen, WEEK};
 use crate::edits::{self, Kind};
 
 pub const SEED: u64 = 1;
+/// More than the longest text of check takes.
+const TEXT: usize = 1 << 12;
 /// The site of the files.
 const SITE: usize = 0;
 
@@ -40,6 +42,12 @@ pub const LIBRARY: Library = Library {
     opener: &windows::Linked,
 };
 
+#[cfg(feature = "beside")]
+pub const PORTABLE: Library = Library {
+    calls: &shuntberry_outside::portable::Portable,
+    opener: &shuntberry_outside::portable::Portable,
+};
+
 impl Library {
     pub fn name(&self) -> &'static str {
         self.calls.name()
@@ -51,6 +59,8 @@ pub enum Call {
     Decide,
     /// The plain peer's decide, whatever is measured.
     DecidePlainly,
+    /// A release check, from the file's bytes to the text; the peer has none.
+    Check,
     ShortestPath,
     Distances,
     Within,
@@ -75,6 +85,7 @@ impl Call {
         match self {
             Call::Decide => "decide",
             Call::DecidePlainly => "the plain peer",
+            Call::Check => "check",
             Call::ShortestPath => "shortest path",
             Call::Distances => "distances",
             Call::Within => "within",
@@ -102,6 +113,15 @@ impl Call {
         }
     }
 
+    /// The greatest ratio of the portable source to the archive that is aimed at, on every family.
+    pub fn portable_target(self) -> Option<f64> {
+        match self {
+            Call::Decide => Some(2.5),
+            Call::Acceptance => None,
+            _ => Some(6.0),
+        }
+    }
+
     /// The bytes that the call has to read and to write on a case.
     pub fn bytes(self, case: &Case) -> (usize, usize) {
         let store = size_of::<[u64; STORE_WORDS]>();
@@ -112,6 +132,7 @@ impl Call {
             Call::DecideModal | Call::DecideTwice => (store + size_of_val(&case.possible[..]), 0),
             Call::Distances => (store, size_of::<u16>() * case.n),
             Call::Read => (case.file.len(), store),
+            Call::Check => (case.file.len(), 0),
             Call::Write => (store, case.file.len()),
             Call::Generate => (0, store),
             Call::Replay => (store + case.log.len(), 0),
@@ -134,6 +155,7 @@ impl Call {
                 let plain = Peer(Looks::Whole);
                 Answer::Decision(plain.decide(store, n, g, MAX_ALLOWANCE, &mut buffers.places))
             }
+            Call::Check => Answer::Checked(calls.check(&case.file, SITE, &mut buffers.text)),
             Call::ShortestPath => {
                 Answer::Shortest(calls.shortest_path(store, n, g, &mut buffers.places))
             }
@@ -196,6 +218,7 @@ fn decide_twice(calls: &dyn Calls, case: &Case, path: &mut [u16]) -> Modal {
 #[derive(Debug, PartialEq)]
 pub enum Answer {
     Decision(Decision),
+    Checked(Option<Checked>),
     Shortest(Shortest),
     Refusal(u32),
     Within(Within),
@@ -214,6 +237,7 @@ pub struct Buffers {
     places: [u16; MAX_STATES],
     store: [u64; STORE_WORDS],
     file: [u8; LARGEST],
+    text: [u8; TEXT],
 }
 
 impl Buffers {
@@ -222,6 +246,7 @@ impl Buffers {
             places: [0; MAX_STATES],
             store: [0; STORE_WORDS],
             file: [0; LARGEST],
+            text: [0; TEXT],
         }
     }
 
@@ -321,9 +346,17 @@ impl Row {
     }
 
     /// What is measured, and what it is measured beside.
-    pub fn sides(&self, subject: Library) -> [Side; 2] {
+    pub fn sides(&self, [subject, other]: [Library; 2]) -> [Side; 2] {
         let beside = self.beside.map(|call| (call, subject));
-        [(self.call, subject), beside.unwrap_or((self.call, PEER))]
+        [(self.call, subject), beside.unwrap_or((self.call, other))]
+    }
+
+    /// Whether the row is of the portable source beside the archive, or of the library beside the peer, which has no check.
+    pub fn is_of(&self, portable: bool) -> bool {
+        match portable {
+            true => self.beside.is_none(),
+            false => self.call != Call::Check,
+        }
     }
 
     /// How many calls a run makes: one on each case, or one for each edit.
@@ -368,6 +401,7 @@ pub fn rows(only: &[String]) -> Vec<Row> {
     let (all, sizes) = ("", "growth, fan-out");
     for (call, kind, more) in [
         (Call::Decide, all, &rounds),
+        (Call::Check, all, &rounds),
         (Call::ShortestPath, all, &paths),
         (Call::Distances, all, &distances),
         (Call::Within, all, &distances),

@@ -79,6 +79,21 @@ where
 }
 
 pub fn print_calls(measured: &[Measured]) {
+    print_table(
+        "| call | families | library | ratio: least | median | greatest | target |\n|---|--:|--:|---|--:|---|---|",
+        lines(measured, Call::target),
+    );
+}
+
+/// The same of the portable source, beside the archive.
+pub fn print_portable(measured: &[Measured]) {
+    print_table(
+        "| call | families | portable | beside the archive: least | median | greatest | target |\n|---|--:|--:|---|--:|---|---|",
+        lines(measured, Call::portable_target),
+    );
+}
+
+fn lines(measured: &[Measured], most: fn(Call) -> Option<f64>) -> Vec<String> {
     let line = |rows: &&[Measured]| {
         let by_time = sorted(rows.iter(), |figures| figures.library);
         let by_ratio = sorted(rows.iter(), |figures| figures.ratio.middle);
@@ -93,19 +108,16 @@ pub fn print_calls(measured: &[Measured]) {
             at(by_ratio[0]),
             by_ratio[last / 2].1.ratio.middle,
             at(by_ratio[last]),
-            target(rows),
+            target(rows, most),
         )
     };
-    print_table(
-        "| call | families | library | ratio: least | median | greatest | target |\n|---|--:|--:|---|--:|---|---|",
-        by_call(measured).iter().map(line).collect(),
-    );
+    by_call(measured).iter().map(line).collect()
 }
 
 /// The target of a call, and on how many families its median ratio is over that.
-fn target(rows: &[Measured]) -> String {
+fn target(rows: &[Measured], most: fn(Call) -> Option<f64>) -> String {
     let (row, _) = rows[0];
-    let Some(most) = row.call.target().filter(|_| row.beside.is_none()) else {
+    let Some(most) = most(row.call).filter(|_| row.beside.is_none()) else {
         return String::new();
     };
     match rows.iter().filter(|row| row.1.ratio.middle > most).count() {
