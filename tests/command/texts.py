@@ -332,6 +332,15 @@ if shutil.which("dot"):
             sizes.append(on_page(*map(float, re.search(r'viewBox="0.00 0.00 ([\d.]+) ([\d.]+)"', svg).groups())))
         width, height = map(float, re.search(rb'viewBox="0.00 0.00 ([\d.]+) ([\d.]+)"', call("picture", "--svg", path).out).groups())
         need(abs(on_page(width, height) - max(sizes)) < 0.001 or min(on_page(width, height), max(sizes)) >= 1, path, sizes, on_page(width, height))
+    # where the second way cannot be drawn, or something else is, there is still the first
+    row, box = WORK / "row.table", rb'viewBox="[^"]*"'
+    first = subprocess.run(["dot", "-Tsvg"], input=call("picture", row).out, capture_output=True, check=True).stdout
+    need(re.search(box, call("picture", "--svg", row).out)[0] != re.search(box, first)[0], "the second way of drawing a row is not the better one")
+    for bad in "exit 1", "echo '<svg/>'; exit 0", "kill -9 $$", f"{shutil.which('dot')} -Tsvg <{WORK}/other.dot; exit 0":
+        (WORK / "other.dot").write_bytes(call("picture", E).out)
+        dot(f'graph=$(/bin/cat); case $graph in *rankdir=TB*|*sfdp*) {bad};; esac; printf "%s" "$graph" | {shutil.which("dot")} "$@"')
+        given = gives(SAFE, None, "picture", "--svg", row, env={"PATH": str(fakes)})
+        need(re.search(box, given.out)[0] == re.search(box, first)[0] and given.out.count(b"<title>s") == first.count(b"<title>s"), bad)
     for name in "b", "e", "d", "hang", "resting", "empty", "largest":
         for how in (), ("--distances", "--groups"), ("--names", TABLES / f"{name}.txt"):
             given = gives(SAFE, None, "picture", "--svg", *how, TABLES / f"{name}.table")
