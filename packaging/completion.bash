@@ -23,7 +23,7 @@ _shuntberry() {
     next-open) words='--at --json --' ;;
     encode) words='--site -o --' ;;
     decode) words='--site -o --text --names --' ;;
-    picture) words='--site -o --svg --distances --groups --text --names --' ;;
+    picture) words='--site -o --svg --distances --groups --all --text --names --' ;;
     generate) words='--site -o --' ;;
     rewrite) words='-o --' ;;
     esac

@@ -2,8 +2,9 @@
 """Holds pictures to their tables: python3 tests/command/pictures.py PROGRAM FILE..
 
 PROGRAM is the command, each FILE a NAME.table with NAME.txt, its text, and NAME.expected, what `check` prints for it, beside it; the two are worked out by
-tests/expected/spec.py. Every state and step of the text is drawn, and no other; the kinds of a state are told by its class and by its look; the path and the
-invariant are those of `check`; the distances are searched for here.
+tests/expected/spec.py. With --all every state and step of the text is drawn, and no other; without, of more than 60 states those of `part_of`, each with how many of
+its steps are not there. The kinds of a state are told by its class and by its look; the path and the invariant are those of `check`; the distances are searched
+for here.
 """
 
 import re
@@ -22,6 +23,32 @@ LEGEND = {  # what the legend says where such a state is there
     "initial": "a session can start here", "forbidden": "marked so", "hang": "a hang:", "resting": "resting:", "dead-end": "a dead end:", "path": "on the path",
     "invariant": "the invariant:",
 }
+
+
+def part_of(n, path, initial, forbidden, steps):
+    """The states that are drawn without --all, and what is said of them: of more than 60 at most 40. Those of the path, or starts and forbidden ones; then their
+    neighbours, from the last one's on, as far as there is room."""
+    if n <= 60:
+        return set(range(n)), None
+    first, what = path, "those of the path"
+    if len(path) > 40:
+        first, what = path[:20] + path[-20:], "the first and the last 20 of the path"
+    if not path:
+        first, what = list(dict.fromkeys([*sorted(initial)[:20], *sorted(forbidden)[:20]])), "starts and forbidden ones"
+    if not first:
+        first, what = list(range(20)), "the first 20"
+    around = [t for s in reversed(first) for t in sorted({b for a, b in steps if a == s} | {a for a, b in steps if b == s})]
+    drawn = set(first)
+    for t in around:
+        if len(drawn) < 40:
+            drawn.add(t)
+    return drawn, f"{len(drawn)} of {n} states are drawn: {what}, with {'' if set(around) <= drawn else 'some of '}their neighbours"
+
+
+def left_out(s, part, steps):
+    """What a state says of its steps that are not drawn."""
+    count = sum((a == s and b not in part) + (b == s and a not in part) for a, b in steps)
+    return f"{count} step{'s' * (count > 1)} not drawn" if count else ""
 
 
 def numbers(words):
@@ -62,7 +89,7 @@ def told(away):
     return "never" if away is None else "1 step" if away == 1 else f"{away} steps"
 
 
-def check(table, lines, label_of):
+def check(table, lines, label_of, part, about):
     states, steps, path, starts, rest = {}, set(), {}, set(), []
     for line in lines:
         if m := STATE.fullmatch(line):
@@ -79,8 +106,8 @@ def check(table, lines, label_of):
         else:
             assert FRAME.fullmatch(line), line
             rest.append(line)
-    assert sorted(states) == list(range(table.n)) and steps == table.steps and starts == table.initial
-    assert path == dict(enumerate(zip(table.path, table.path[1:]), 1)), path
+    assert set(states) == part and steps == {(a, b) for a, b in table.steps if {a, b} <= part} and starts == table.initial & part
+    assert path == {i: (a, b) for i, (a, b) in enumerate(zip(table.path, table.path[1:]), 1) if {a, b} <= part}, path
     fills = {"forbidden": set(), "invariant": set(), "other": set()}
     for s, drawn in states.items():
         kinds = set(drawn["kinds"].split())
@@ -96,9 +123,10 @@ def check(table, lines, label_of):
     assert all(len(fill) == 1 for fill in colours) and len(set().union(*colours)) == len(colours), fills
     frame = "\n".join(rest)
     verdict = "an untouched draft" if not table.n else "\\nsafe: " if table.safe else "\\nunsafe: "
-    assert verdict in frame and f"{table.n} state" in frame and f"{len(table.groups)} group" in frame, frame
+    assert verdict in frame and f"\\n{table.n} state" in frame and f"{len(table.groups)} group" in frame, frame
+    assert re.findall(r'\\n([^\\"]* states are drawn[^"]*)"', frame) == ([about] if about else []), (about, frame)
     for kind, words in LEGEND.items():
-        assert (words in frame) == any(kind in table.kinds(s) for s in range(table.n)), kind
+        assert (words in frame) == any(kind in table.kinds(s) for s in part), kind
 
 
 def words_of(table, s):
@@ -114,11 +142,12 @@ def main():
         away = table.distances()
         groups = lambda s: ", ".join(str(j) for j, group in enumerate(table.groups) if s in group)
         label = lambda *lines: "\\n".join(line for line in lines if line)
+        part, about = part_of(table.n, table.path, table.initial, table.marked | table.hangs, table.steps)
         try:
-            check(table, drawn(), lambda s: label(str(s), words_of(table, s)))
+            check(table, drawn("--all"), lambda s: label(str(s), words_of(table, s)), set(range(table.n)), None)
             check(
                 table, drawn("--distances", "--groups"),
-                lambda s: label(str(s), words_of(table, s), told(away.get(s)), groups(s) and "in group " + groups(s)),
+                lambda s: label(str(s), words_of(table, s), told(away.get(s)), groups(s) and "in group " + groups(s), left_out(s, part, table.steps)), part, about,
             )
         except AssertionError as error:
             error.add_note(name)

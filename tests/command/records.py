@@ -20,6 +20,7 @@ import support
 from support import FAILED, NO_RELEASE, PROGRAM, REFUSED, SAFE, TABLES, TOP, UNSAFE, WORK, call, gives, group, need, status_of, tables
 import drafts
 import model
+import pictures
 import spec
 from model import screen
 
@@ -243,13 +244,19 @@ def words_of(table, names, title):
     count = lambda number, what: f"{number} {what}{'s' * (number != 1)}"
     lines = [title, sentence, f"{count(table.n, 'state')}, {count(len(table.groups), 'group')}"]
     hangs = table.dead_ends() - table.resting
-    for s in range(table.n):
+    part, about = part_of(table)
+    for s in part:
         kinds = [("forbidden", table.marked), ("hang", hangs), ("resting", table.resting), ("dead end", table.dead_ends() & table.resting)]
-        lines += [screen(s, names), ", ".join(kind for kind, held in kinds if s in held)]
-    lines += ["start"] * len(table.initial)
+        lines += [screen(s, names), ", ".join(kind for kind, held in kinds if s in held), pictures.left_out(s, part, table.steps)]
+    lines += ["start"] * len(table.initial & part)
     path = worked_out(table)[1] or []
-    lines += [str(k) for k in range(1, len(path))]
-    return [line for line in lines if line]
+    lines += [str(k) for k in range(1, len(path)) if {path[k - 1], path[k]} <= part]
+    return [line for line in [*lines, about] if line]
+
+
+def part_of(table):
+    """The states that are drawn, and what is said of them."""
+    return pictures.part_of(table.n, worked_out(table)[1] or [], table.initial, table.marked | table.dead_ends() - table.resting, table.steps)
 
 
 def report(*words, env=NO_DOT, **how):
@@ -531,12 +538,20 @@ def drawn(content):
     svg.write_bytes(content if isinstance(content, bytes) else content.encode())
 
 
+def on_page(content):
+    """A drawing in the size in which it fits A4, upright or across; all else is as it is."""
+    width, height = map(float, re.search(rb'viewBox="0.00 0.00 ([\d.]+) ([\d.]+)"', content).groups())
+    part = max(min(510 / width, 666 / height), min(757 / width, 411 / height))
+    sides = f' width="{width * part:.2f}pt" height="{height * part:.2f}pt"'.encode()
+    return re.sub(rb' width="[\d.]+pt" height="[\d.]+pt"', sides, content, count=1) if part < 1 else content
+
+
 def pictured(why=None):
-    """picture --svg holds the same drawing to the table: it is written as it is, or not at all."""
+    """picture --svg holds the same drawing to the table: it is written in a size that fits the page, or not at all."""
     target = WORK / "pictured.svg"
     target.write_bytes(b"as it was")
     gives(FAILED if why is not None else SAFE, "", "picture", "--svg", "-o", target, "b.table", cwd=TABLES, env=FAKE_DOT, err=why and f"no drawing of the table: .*({why})|dot could not draw")
-    need(target.read_bytes() == (b"as it was" if why is not None else svg.read_bytes()), f"another picture: {why}")
+    need(target.read_bytes() == (b"as it was" if why is not None else on_page(svg.read_bytes())), f"another picture: {why}")
 
 
 def accepted(content, does=None):
@@ -556,7 +571,7 @@ need(accepted(good.replace("\n", "\r\n")), "other ends of lines")
 drawn(good)
 for size in "1", str(2**62), str(2**64 - 1):
     need(report(B, env=FAKE_DOT | {"RUST_MIN_STACK": size}).status == UNSAFE and out.read_text() == page, f"a record with RUST_MIN_STACK={size}")
-    gives(SAFE, good, "picture", "--svg", "b.table", cwd=TABLES, env=FAKE_DOT | {"RUST_MIN_STACK": size})
+    gives(SAFE, on_page(good.encode()), "picture", "--svg", "b.table", cwd=TABLES, env=FAKE_DOT | {"RUST_MIN_STACK": size})
 need(accepted(good.replace('stroke="transparent"', 'stroke="none"').replace("<text ", '<text xml:space="preserve" ')), "as newer versions print it")
 
 
@@ -736,10 +751,12 @@ if shutil.which("dot"):
         if table.n:
             need(every(picture, "svg"), f"no picture of {path}", text_of(picture)[:500])
             found = sorted(text_of(word) for word in every(picture, "text"))
+            last = worked_out(table)[0].splitlines()[2]
             kinds = {
                 "initial": table.initial, "forbidden": table.marked, "hang": table.dead_ends() - table.resting, "resting": table.resting, "dead-end": table.dead_ends() & table.resting,
-                "path": worked_out(table)[1], "invariant": worked_out(table)[1] is None and not worked_out(table)[0].endswith(": none\n"),
+                "path": set(worked_out(table)[1] or []), "invariant": {int(word) for word in last.split(": ")[1].split() if word != "none"} if last.startswith("invariant") else set(),
             }
+            kinds = {kind: held & part_of(table)[0] for kind, held in kinds.items()}
             for line in words_of(table, names, path.name) + [LEGEND[kind] for kind, held in kinds.items() if held]:
                 need(line in found, f"the picture of {path} has no {line!r}")
                 found.remove(line)

@@ -60,7 +60,24 @@ gives(SAFE, call("encode", TOP / "examples/pump.txt").out, "encode", input=re.su
 group(f"texts and files both ways, seed {SEED}")
 
 shutil.copy(TOP / "examples/pump.txt", WORK / "pump.txt")
-python(HERE / "pictures.py", PROGRAM, *accepted)
+
+
+def large(name, n, initial, marked, steps):
+    """A table with its text and what check prints, to be drawn in part."""
+    table = spec.Table(n, initial, marked, steps, [], set())
+    path = WORK / f"{name}.table"
+    path.write_bytes(spec.encode(table)), path.with_suffix(".txt").write_text(spec.text(table)), path.with_suffix(".expected").write_text(spec.printed(table))
+    return path
+
+
+ring = lambda n: {(s, (s + 1) % n) for s in range(n)}
+chords = lambda n, count: {(random.randrange(n), random.randrange(n)) for _ in range(count)}
+large_ones = [
+    large("ring60", 60, {0}, {59}, ring(60)), large("ring61", 61, {0}, {60}, ring(61)), large("short", 61, {7}, {9}, ring(61) | chords(61, 90)),
+    large("long", 512, {0}, {511}, ring(512)), large("hub", 200, {0}, {1}, ring(200) | {(s, 0) for s in range(200)}), large("hangs", 100, {5}, set(), ring(50)),
+    large("safe", 90, {3}, {80}, ring(80) | {(80, 81)} | {(s, 80) for s in range(81, 90)}), large("nothing", 70, set(), set(), ring(70)),
+]
+python(HERE / "pictures.py", PROGRAM, *accepted, *large_ones)
 for path, expected in tables():
     if status_of(expected) == REFUSED:
         for command in "decode", "picture":
@@ -278,7 +295,7 @@ for commands in "exit 1", 'echo "<svg/>"; kill -9 $$', "true":
     drawn_by(FAILED, "failed\n", "dot could not draw")
     dot(f"/bin/cat >/dev/null; {commands}")
     drawn_by(FAILED, "failed\n", "dot could not draw")
-tangled = lambda n, steps: b"layout=sfdp" in call("picture", "--text", input=(
+tangled = lambda n, steps: b"layout=sfdp" in call("picture", "--all", "--text", input=(
     f"states {n}\ninitial 0\nforbidden none\n" + "".join(f"step {a} -> {b}\n" for a, b in steps) + "end\n").encode()).out
 chain = [(s, s + 1) for s in range(511)]
 need(not tangled(512, chain), "a corridor is drawn by layers")
@@ -287,8 +304,43 @@ need(tangled(512, chain + [(2 * s, s) for s in range(256)]), "767 steps of 512 s
 bland = WORK / "bland.txt"
 bland.write_text("states 2\ninitial none\nforbidden none\nstep 0 -> 1\nstep 1 -> 0\nend\n")
 need(b'label=""' in call("picture", "--text", bland).out, "the legend of no kinds")
+need(b"40 of 512 states are drawn: the first and the last 20 of the path, with some of their neighbours" in call("picture", WORK / "long.table").out, "a part of a path")
+need(b"13 of 90 states are drawn: starts and forbidden ones, with their neighbours" in call("picture", WORK / "safe.table").out, "a part of a safe table")
 if shutil.which("dot"):
     need(b"</svg>" in call("picture", "--svg", "--text", bland).out, "a picture without a legend")
+
+    def fits(*words):
+        """The layout that was taken, by where the last state lies; the drawing fits A4, upright or across, and has its whole legend on the paper."""
+        svg = gives(SAFE, None, "picture", "--svg", *words).out.decode()
+        width, height = map(float, re.search(r'<svg width="([\d.]+)pt" height="([\d.]+)pt"', svg).groups())
+        need(width <= 510.5 and height <= 666.5 or width <= 757.5 and height <= 411.5, f"{words} is drawn in {width} by {height} points")
+        whole = list(map(float, re.search(r'viewBox="0.00 0.00 ([\d.]+) ([\d.]+)"', svg).groups()))
+        need(abs(whole[0] / whole[1] - width / height) < 0.02, f"{words} is drawn in another form than it has")
+        lines = [(float(x), float(y)) for x, y in re.findall(r'<text [^>]*x="([-\d.]+)" y="([-\d.]+)"[^>]*font-size="12.00"', svg)]
+        need(all(0 <= x <= whole[0] and -whole[1] <= y <= 0 for x, y in lines), f"the legend of {words} is not on its paper")
+        return width, height
+
+    for path in [*large_ones, TABLES / "largest.table", pump]:
+        fits(path)
+    fits("--all", WORK / "long.table"), fits("--distances", "--groups", TABLES / "largest.table")
+    # of the two ways to lay out layers the one that is larger on the page, as dot draws them for this test too
+    on_page = lambda width, height: max(min(510 / width, 666 / height), min(757 / width, 411 / height))
+    for path in large("row", 12, {0}, {11}, ring(12) - {(11, 0)}), large("fan", 12, {0}, {11}, {(0, s) for s in range(1, 12)}), pump:
+        graph, sizes = call("picture", path).out.decode(), []
+        for way in "LR", "TB":
+            svg = subprocess.run(["dot", "-Tsvg"], input=graph.replace("rankdir=LR", f"rankdir={way}"), capture_output=True, text=True, check=True).stdout
+            sizes.append(on_page(*map(float, re.search(r'viewBox="0.00 0.00 ([\d.]+) ([\d.]+)"', svg).groups())))
+        width, height = map(float, re.search(rb'viewBox="0.00 0.00 ([\d.]+) ([\d.]+)"', call("picture", "--svg", path).out).groups())
+        need(abs(on_page(width, height) - max(sizes)) < 0.001 or min(on_page(width, height), max(sizes)) >= 1, path, sizes, on_page(width, height))
+    # where the second way cannot be drawn, or something else is, there is still the first
+    row, box = WORK / "row.table", rb'viewBox="[^"]*"'
+    first = subprocess.run(["dot", "-Tsvg"], input=call("picture", row).out, capture_output=True, check=True).stdout
+    need(re.search(box, call("picture", "--svg", row).out)[0] != re.search(box, first)[0], "the second way of drawing a row is not the better one")
+    for bad in "exit 1", "echo '<svg/>'; exit 0", "kill -9 $$", f"{shutil.which('dot')} -Tsvg <{WORK}/other.dot; exit 0":
+        (WORK / "other.dot").write_bytes(call("picture", E).out)
+        dot(f'graph=$(/bin/cat); case $graph in *rankdir=TB*|*sfdp*) {bad};; esac; printf "%s" "$graph" | {shutil.which("dot")} "$@"')
+        given = gives(SAFE, None, "picture", "--svg", row, env={"PATH": str(fakes)})
+        need(re.search(box, given.out)[0] == re.search(box, first)[0] and given.out.count(b"<title>s") == first.count(b"<title>s"), bad)
     for name in "b", "e", "d", "hang", "resting", "empty", "largest":
         for how in (), ("--distances", "--groups"), ("--names", TABLES / f"{name}.txt"):
             given = gives(SAFE, None, "picture", "--svg", *how, TABLES / f"{name}.table")

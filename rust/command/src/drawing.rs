@@ -1,5 +1,8 @@
-//! `dot` of Graphviz: run within a time, and ended with all that it started where that is over.
+//! `dot` of Graphviz: run within a time, and ended with all that it started where that is over. Of several layouts that one is taken which is largest
+//! on a page.
 
+use crate::picture::{Layout, Picture};
+use crate::svg::{Drawing, cleaned, resized};
 use crate::sys;
 use std::fmt::{self, Display, Formatter};
 use std::io::{self, Read, Write};
@@ -24,7 +27,93 @@ impl Limits {
         within: Duration::MAX,
         bytes: usize::MAX,
     };
+
+    /// What is left of them.
+    fn after(self, time: Duration) -> Limits {
+        Limits {
+            within: self.within.saturating_sub(time),
+            ..self
+        }
+    }
 }
+
+// ---- The page
+
+/// The paper between the margins, below a heading, in points: A4 upright.
+pub const UPRIGHT: (f64, f64) = (510.0, 666.0);
+/// The same across.
+pub const ACROSS: (f64, f64) = (757.0, 411.0);
+/// Below this part of their size words cannot be read.
+pub const LEGIBLE: f64 = 0.35;
+/// Below this part a layout by forces is better than one by layers, which is easier to follow.
+const CROWDED: f64 = 0.45;
+
+/// What part of its size a drawing has where it just fits a paper, at most all of it.
+pub fn scale(drawing: &Drawing, (width, height): (f64, f64)) -> f64 {
+    (width / drawing.width)
+        .min(height / drawing.height)
+        .min(1.0)
+}
+
+/// The same on A4, held in the way that is better for it.
+fn scale_on_page(drawing: &Drawing) -> f64 {
+    scale(drawing, UPRIGHT).max(scale(drawing, ACROSS))
+}
+
+/// A drawing, and the SVG that it is of.
+#[derive(Debug)]
+pub struct Drawn {
+    /// The drawing.
+    pub drawing: Drawing,
+    svg: Vec<u8>,
+}
+
+impl Drawn {
+    fn by(picture: &Picture, layout: Layout, limits: Limits) -> Result<Drawn, NotDrawn> {
+        let svg = draw(&picture.graph(layout), limits)?;
+        let drawing = cleaned(&svg, picture.asked()).map_err(NotDrawn::Other)?;
+        Ok(Drawn { drawing, svg })
+    }
+
+    /// The SVG as `dot` wrote it, with the classes of states and steps; a large one in a size that fits the page.
+    pub fn on_page(self) -> Result<Vec<u8>, String> {
+        let Drawing { width, height, .. } = self.drawing;
+        match scale_on_page(&self.drawing) {
+            part if part < 1.0 => resized(&self.svg, (width * part, height * part)),
+            _ => Ok(self.svg),
+        }
+    }
+}
+
+/// The drawing of a picture that is largest on a page. Another layout is tried only where the page is too small for those before it.
+pub fn drawn(picture: &Picture, limits: Limits) -> Result<Drawn, NotDrawn> {
+    let began = Instant::now();
+    let (first, others) = match picture.layouts() {
+        [first, others @ ..] => (*first, others),
+        [] => (Layout::Across, &[][..]),
+    };
+    let mut best = Drawn::by(picture, first, limits)?;
+    for &layout in others {
+        let so_far = scale_on_page(&best.drawing);
+        let enough = match layout {
+            Layout::Forces => CROWDED,
+            _ => 1.0,
+        };
+        let limits = limits.after(began.elapsed());
+        if so_far >= enough || limits.within.is_zero() {
+            continue;
+        }
+        // Without this one there is still another.
+        if let Ok(other) = Drawn::by(picture, layout, limits) {
+            if scale_on_page(&other.drawing) > so_far {
+                best = other;
+            }
+        }
+    }
+    Ok(best)
+}
+
+// ---- The program
 
 /// So often it is looked whether `dot`, which has printed all, has ended.
 const PAUSE: Duration = Duration::from_millis(2);
@@ -36,6 +125,8 @@ pub enum NotDrawn {
     Missing,
     /// It was not done when the time was over.
     Late(Duration),
+    /// What it printed is no drawing of the table.
+    Other(String),
     /// Anything else.
     Failed(String),
 }
@@ -49,13 +140,16 @@ impl Display for NotDrawn {
             NotDrawn::Late(within) => {
                 write!(f, "dot was not done after {} seconds", within.as_secs())
             }
+            NotDrawn::Other(why) => {
+                write!(f, "what dot printed is no drawing of the table: {why}")
+            }
             NotDrawn::Failed(why) => write!(f, "dot could not draw the graph: {why}"),
         }
     }
 }
 
 /// What `dot` prints of a graph, as SVG.
-pub fn draw(graph: &str, limits: Limits) -> Result<Vec<u8>, NotDrawn> {
+fn draw(graph: &str, limits: Limits) -> Result<Vec<u8>, NotDrawn> {
     let began = Instant::now();
     let mut dot = Command::new("dot")
         .arg("-Tsvg")

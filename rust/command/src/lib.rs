@@ -3,7 +3,8 @@
 //! - [`commands`]: one module for each command;
 //! - [`words`], [`source`], [`files`], [`sys`]: the words of a call, the table that it is about, input and output, signals;
 //! - [`answer`], [`inspection`], [`repairs`]: what the library finds of a table, of which all that is printed are views;
-//! - [`table`], [`text`], [`picture`], [`difference`], [`house`]: a table, as text, as a picture and beside another one; a house's windows and closed days;
+//! - [`table`], [`text`], [`picture`], [`part`], [`difference`], [`house`]: a table, as text, as a picture or a part of it, and beside another one;
+//!   a house's windows and closed days;
 //! - [`record`], [`drawing`], [`svg`], [`sha256`]: the record of a check, with a drawing by Graphviz in it;
 //! - [`names`], [`lines`], [`shown`], [`json`], [`html`], [`calendar`], [`refusals`], [`failure`]: what they share.
 
@@ -18,6 +19,7 @@ pub mod html;
 pub mod inspection;
 pub mod json;
 pub mod names;
+pub mod part;
 pub mod picture;
 pub mod record;
 pub mod refusals;

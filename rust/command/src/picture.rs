@@ -7,6 +7,7 @@
 use crate::answer::Answer;
 use crate::lines::Names;
 use crate::names::screen;
+use crate::part::Part;
 use crate::shown::counted;
 use crate::svg::Asked;
 use crate::table::{is_dead_end, is_hang};
@@ -19,37 +20,31 @@ pub struct Options {
     pub distances: bool,
     /// The groups that it is in.
     pub groups: bool,
+    /// Every state is drawn, however many there are.
+    pub all: bool,
 }
 
-/// A graph.
-#[derive(Debug)]
-pub struct Graph {
-    /// In Graphviz' language.
-    pub text: String,
-    /// What a drawing of it must have.
-    pub asked: Asked,
+/// How Graphviz lays a graph out.
+#[derive(Clone, Copy, Debug, PartialEq, Eq)]
+pub enum Layout {
+    /// By layers, from left to right.
+    Across,
+    /// By layers, from above.
+    Down,
+    /// By forces.
+    Forces,
 }
 
-/// The graph of a table and of what a check found of it, under a title, with names for the states that have one.
-pub fn graph(
-    table: &Table,
-    answer: &Answer,
-    names: &Names,
-    title: &str,
-    options: Options,
-) -> Result<Graph, Refused> {
-    let away = options.distances.then(|| table.distances()).transpose()?;
-    let picture = Picture {
-        table,
-        answer,
-        names,
-        away,
-        groups: options.groups,
-    };
-    Ok(Graph {
-        text: picture.graph(title),
-        asked: picture.asked(title),
-    })
+impl Layout {
+    fn attributes(self) -> &'static str {
+        match self {
+            Layout::Across => "rankdir=LR, ranksep=0.6, nodesep=0.35",
+            Layout::Down => "rankdir=TB, ranksep=0.6, nodesep=0.35",
+            Layout::Forces => {
+                r#"layout=sfdp, overlap=prism, overlap_scaling=2, sep="+10", outputorder=edgesfirst"#
+            }
+        }
+    }
 }
 
 // ---- What is known of a table and its states
@@ -190,46 +185,86 @@ impl Look {
 /// So many steps are laid out by layers in a second or two; twice as many may take minutes.
 const MANY_STEPS: usize = 200;
 
-struct Picture<'t> {
+/// The picture of a table.
+#[derive(Debug)]
+pub struct Picture<'t> {
     table: &'t Table,
     answer: &'t Answer,
     names: &'t Names,
+    title: &'t str,
     away: Option<Vec<Option<usize>>>,
     groups: bool,
+    part: Part,
 }
 
-impl Picture<'_> {
+impl<'t> Picture<'t> {
+    /// The picture of a table and of what a check found of it, under a title, with names for the states that have one.
+    pub fn of(
+        table: &'t Table,
+        answer: &'t Answer,
+        names: &'t Names,
+        title: &'t str,
+        options: Options,
+    ) -> Result<Picture<'t>, Refused> {
+        let away = options.distances.then(|| table.distances()).transpose()?;
+        let path = answer.path.as_deref().unwrap_or_default();
+        let part = match options.all {
+            true => Part::all(table),
+            false => Part::of(table, path),
+        };
+        Ok(Picture {
+            table,
+            answer,
+            names,
+            title,
+            away,
+            groups: options.groups,
+            part,
+        })
+    }
+
+    /// The layouts to try, from the one that is taken where nobody looks which fits best.
+    pub fn layouts(&self) -> &'static [Layout] {
+        match self.is_tangled() {
+            true => &[Layout::Forces],
+            false => &[Layout::Across, Layout::Down, Layout::Forces],
+        }
+    }
+
+    /// How many states and steps are drawn.
+    pub fn counts(&self) -> (usize, usize) {
+        let states = &self.part.states;
+        let steps = |&s: &usize| self.successors(s).count();
+        (states.len(), states.iter().map(steps).sum())
+    }
+
     /// The lines above the graph.
-    fn heading(&self, title: &str) -> [String; 3] {
+    fn heading(&self) -> Vec<String> {
         let n = self.table.n();
         let verdict = match n {
             0 => "an untouched draft, safe".to_string(),
             _ => self.answer.headline(),
         };
         let sizes = [counted(n, "state"), counted(self.table.g(), "group")].join(", ");
-        [title.to_string(), verdict, sizes]
+        let heading = [self.title.to_string(), verdict, sizes];
+        heading.into_iter().chain(self.part.about.clone()).collect()
     }
 
-    fn graph(&self, title: &str) -> String {
-        let n = self.table.n();
-        let label = lines(self.heading(title).iter().map(String::as_str));
+    /// The graph in Graphviz' language.
+    pub fn graph(&self, layout: Layout) -> String {
+        let label = lines(self.heading().iter().map(String::as_str));
         // The legend stands below the graph; a layout by forces has no place for it but among the states.
-        let (layout, legend) = match self.is_tangled() {
-            true => (
-                "layout=sfdp, overlap=prism, outputorder=edgesfirst",
-                format!(
-                    "legend [shape=plaintext, fontsize=12, label={}]",
-                    self.legend()
-                ),
+        let legend = match layout {
+            Layout::Forces => format!(
+                "legend [shape=plaintext, fontsize=12, label={}]",
+                self.legend()
             ),
-            false => (
-                "rankdir=LR, ranksep=0.6, nodesep=0.35",
-                format!(
-                    "peripheries=0; labelloc=b; fontsize=12; label={}",
-                    self.legend()
-                ),
+            Layout::Across | Layout::Down => format!(
+                "peripheries=0; labelloc=b; fontsize=12; label={}",
+                self.legend()
             ),
         };
+        let layout = layout.attributes();
         let mut graph = vec![
             format!(
                 r#"graph [{layout}, labelloc=t, fontname="Helvetica", fontsize=18, label="{label}"]"#
@@ -239,7 +274,7 @@ impl Picture<'_> {
             "subgraph cluster_table {".to_string(),
             legend,
         ];
-        for s in 0..n {
+        for &s in &self.part.states {
             graph.push(self.state(s));
             if self.table.initial().contains(s) {
                 graph.push(format!(
@@ -248,21 +283,31 @@ impl Picture<'_> {
                 graph.push(format!(r#"start{s} -> s{s} [class="start"]"#));
             }
         }
-        for s in 0..n {
+        for &s in &self.part.states {
             graph.extend(self.successors(s).map(|t| self.step(s, t)));
         }
         graph.push("}".to_string());
         format!("digraph table {{\n  {}\n}}\n", graph.join("\n  "))
     }
 
+    /// Those of a state's successors that are drawn.
     fn successors(&self, s: usize) -> impl Iterator<Item = usize> {
-        self.table.successors(s).unwrap_or_default().states()
+        let all = self.table.successors(s).unwrap_or_default().states();
+        all.filter(|t| self.part.states.contains(t))
+    }
+
+    /// How many steps to or from a state are not drawn.
+    fn left_out(&self, s: usize) -> usize {
+        let is_hidden = |t: usize| !self.part.states.contains(&t);
+        let steps = self.table.steps();
+        let hidden = steps.filter(|&(a, b)| a == s && is_hidden(b) || b == s && is_hidden(a));
+        hidden.count()
     }
 
     /// Whether a layout by layers could take minutes: many steps, and many more than a chain has.
     fn is_tangled(&self) -> bool {
-        let (n, steps) = (self.table.n(), self.table.steps().count());
-        steps > MANY_STEPS && 4 * steps > 5 * n
+        let (states, steps) = self.counts();
+        steps > MANY_STEPS && 4 * steps > 5 * states
     }
 
     fn kinds(&self, s: usize) -> Vec<Kind> {
@@ -289,7 +334,11 @@ impl Picture<'_> {
         let groups = groups.filter(|(_, group)| self.groups && group.contains(s));
         let groups =
             joined(", ", groups.map(|(j, _)| j)).map(|groups| format!("in group {groups}"));
-        [Some(number), words, away, groups]
+        let left_out = match self.left_out(s) {
+            0 => None,
+            count => Some(format!("{} not drawn", counted(count, "step"))),
+        };
+        [Some(number), words, away, groups, left_out]
             .into_iter()
             .flatten()
             .collect()
@@ -326,7 +375,8 @@ impl Picture<'_> {
 
     /// For each kind that the picture has how it is drawn, and what that means; then what else is said.
     fn legend_rows(&self) -> Vec<(Option<Kind>, &'static str, &'static str)> {
-        let present = |kind: &Kind| (0..self.table.n()).any(|s| self.kinds(s).contains(kind));
+        let states = &self.part.states;
+        let present = |kind: &Kind| states.iter().any(|&s| self.kinds(s).contains(kind));
         let kinds = KINDS.into_iter().filter(present).map(|kind| {
             let (drawn, means) = kind.legend();
             (Some(kind), drawn, means)
@@ -357,13 +407,13 @@ impl Picture<'_> {
     }
 
     /// What a drawing must have.
-    fn asked(&self, title: &str) -> Asked {
+    pub fn asked(&self) -> Asked {
         let mut asked = Asked::default();
-        asked.words.extend(self.heading(title));
+        asked.words.extend(self.heading());
         for (_, drawn, means) in self.legend_rows() {
             asked.words.extend([drawn, means].map(str::to_string));
         }
-        for s in 0..self.table.n() {
+        for &s in &self.part.states {
             asked.titles.push(format!("s{s}"));
             asked.words.extend(self.said(s));
             if self.table.initial().contains(s) {

@@ -1,6 +1,7 @@
 //! The record of a check: one page that stands alone, for a file and for the eye. It has no script, loads nothing, and tells nothing by colour alone.
 
 use crate::answer::{Answer, VACUOUS, Verdict};
+use crate::drawing::{ACROSS, LEGIBLE, UPRIGHT, scale};
 use crate::html::escaped;
 use crate::inspection::Inspection;
 use crate::names::numbers;
@@ -76,14 +77,8 @@ const STYLE: &str = include_str!("record.css");
 const POLICY: &str = "script-src 'none'; connect-src 'none'; img-src 'none'; font-src 'none'; media-src 'none'; object-src 'none'; frame-src 'none'; \
     form-action 'none'; base-uri 'none'";
 
-/// The paper between the margins, in points: A4 upright.
-const PAPER: (f64, f64) = (510.0, 666.0);
-/// The same across.
-const PAPER_ACROSS: (f64, f64) = (757.0, 411.0);
 /// Below this part of its size a picture's words are small, and it goes across the paper if that helps.
 const SMALL: f64 = 0.6;
-/// Below this part they cannot be read.
-const LEGIBLE: f64 = 0.35;
 
 impl Record<'_> {
     /// The page.
@@ -487,11 +482,11 @@ fn figure(drawing: &Drawing, word: &str) -> String {
         shapes,
         ..
     } = drawing;
-    let scale = |paper: (f64, f64)| (paper.0 / width).min(paper.1 / height);
-    let across = scale(PAPER) < SMALL && scale(PAPER_ACROSS) > scale(PAPER).max(LEGIBLE);
+    let scale = |paper| scale(drawing, paper);
+    let across = scale(UPRIGHT) < SMALL && scale(ACROSS) > scale(UPRIGHT).max(LEGIBLE);
     let (class, paper) = match across {
-        true => (" class=\"wide\"", PAPER_ACROSS),
-        false => ("", PAPER),
+        true => (" class=\"wide\"", ACROSS),
+        false => ("", UPRIGHT),
     };
     let small = match scale(paper) < LEGIBLE {
         true => " On paper it is too small to read: look at it on a screen.",

@@ -40,6 +40,22 @@ pub fn cleaned(svg: &[u8], asked: Asked) -> Result<Drawing, String> {
     cleaner.drawing(asked)
 }
 
+/// An SVG that has a drawing, shown in another size: all else stays as it is.
+pub fn resized(svg: &[u8], (width, height): (f64, f64)) -> Result<Vec<u8>, String> {
+    let svg = std::str::from_utf8(svg).map_err(|_| "it is no UTF-8".to_string())?;
+    let (before, tag) = svg.split_once("<svg").ok_or("it is no SVG")?;
+    let tag = with_side(tag, "width", width).and_then(|tag| with_side(&tag, "height", height));
+    let tag = tag.ok_or("its size cannot be read")?;
+    Ok(format!("{before}<svg{tag}").into_bytes())
+}
+
+/// What stands behind `<svg`, with another width or height.
+fn with_side(tag: &str, name: &str, side: f64) -> Option<String> {
+    let (before, rest) = tag.split_once(&format!(" {name}=\""))?;
+    let (_, behind) = rest.split_once('"')?;
+    Some(format!("{before} {name}=\"{side:.2}pt\"{behind}"))
+}
+
 // ---- What is let through
 
 /// Any other encoding would make other words of the bytes.

@@ -5,18 +5,18 @@ use crate::calendar::utc;
 use crate::commands::about::{VERSION, version_line};
 use crate::commands::diff::{Draft, OLD_NAMES, changes, compared, not_compared};
 use crate::commands::picture::say_drawing;
-use crate::drawing::{Limits, draw};
+use crate::drawing::{Limits, NotDrawn, drawn};
 use crate::failure::{Done, Failure};
 use crate::files::{Input, OUT, need_place, print, replace, say};
 use crate::inspection::Inspection;
 use crate::lines::{cut, number};
-use crate::picture::{self, Options};
+use crate::picture::{Options, Picture};
 use crate::record::{Record, Released, Since};
 use crate::refusals::explained;
 use crate::sha256::sha256;
 use crate::shown::shown;
 use crate::source::{NAMES, SITE, Source};
-use crate::svg::{Drawing, cleaned};
+use crate::svg::Drawing;
 use crate::words::{Call, Command, Opt, Output};
 use shuntberry::{FILE_BYTES, Table};
 use std::path::Path;
@@ -115,13 +115,13 @@ fn pictured(
     }
     // The whole name stands above; a long one would make all else small.
     let title = cut(&shown(from.file_name().unwrap_or(from.as_os_str())));
-    let graph = picture::graph(table, answer, &source.names, &title, Options::default())?;
-    say_drawing(REPORT.name, table);
-    let drawn = draw(&graph.text, PICTURE).map_err(|why| why.to_string());
-    Ok(drawn.and_then(|svg| {
-        let left_out = |why| format!("what dot printed is left out, since {why}");
-        cleaned(&svg, graph.asked).map_err(left_out)
-    }))
+    let picture = Picture::of(table, answer, &source.names, &title, Options::default())?;
+    say_drawing(REPORT.name, &picture);
+    let drawn = drawn(&picture, PICTURE).map_err(|why| match why {
+        NotDrawn::Other(why) => format!("what dot printed is left out, since {why}"),
+        _ => why.to_string(),
+    });
+    Ok(drawn.map(|drawn| drawn.drawing))
 }
 
 // ---- What is asked for beside the check
