@@ -16,7 +16,7 @@ use std::collections::BTreeSet;
 pub const OLD_NAMES: Opt = Opt {
     name: "--old-names",
     value: Some("TEXT"),
-    about: "takes the names of the screens of OLD from TEXT, as --names does for NEW",
+    about: "takes the names of the screens of OLD from TEXT, the text of that table",
 };
 
 /// The command.
