@@ -378,7 +378,6 @@ class App {
     globalThis.addEventListener("beforeunload", (event) => {
       if (this.isUnsaved) event.preventDefault();
     });
-    globalThis.addEventListener("beforeprint", () => this.#picture.fit());
     for (const event of ["error", "unhandledrejection"]) {
       globalThis.addEventListener(event, (found) => this.#failed(found.reason ?? found.error ?? found.message));
     }

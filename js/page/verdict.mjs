@@ -7,6 +7,9 @@ import { called, hasOptions, isHang } from "./model.mjs";
 
 const MARKS = { safe: "✓", unsafe: "✕", depends: "◐", draft: "…", vacuous: "!", mistakes: "✎", none: "?" };
 
+/** A path of more screens is printed small. */
+const LONG_PATH = 40;
+
 /** Why a screen is forbidden. */
 export const whyForbidden = (d, s) =>
   isHang(d, s) ? "a hang: no step leads out, and it is not resting" : "forbidden, since it is marked so";
@@ -89,6 +92,7 @@ export class VerdictPlace {
     $("verdict-path").replaceChildren(...steps);
     $("verdict-path").setAttribute("aria-label", `The path from ${called(d, path[0])}, screen by screen`);
     $("verdict-path").hidden = false;
+    $("verdict-path").classList.toggle("long", path.length > LONG_PATH);
     $("verdict-mend").hidden = path.length < 2;
   }
 }

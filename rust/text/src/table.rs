@@ -84,17 +84,30 @@ pub fn print(table: &Table, names: &Names) -> String {
 
 /// The same with a line `possible` for each row of further steps that is not empty.
 pub fn print_with_possible(table: &Table, names: &Names, possible: &[Set]) -> String {
+    let word = |state: usize| names.get(&state).cloned().unwrap_or(state.to_string());
     let mut text = format!("states {}\n", table.rows.len());
     if !table.rows.is_empty() {
-        text += &facts(table, names);
-        text += &steps("possible", possible, &word_by(names));
+        text += &facts(table, names, &word);
+        text += &steps("step", &table.rows, &word);
+        text += &steps("possible", possible, &word);
     }
     text + END + "\n"
 }
 
-/// How a state is meant: by its name, or by its number where it has none.
-fn word_by(names: &Names) -> impl Fn(usize) -> String + '_ {
-    |state| names.get(&state).cloned().unwrap_or(state.to_string())
+/// All but the steps.
+fn facts(table: &Table, names: &Names, word: &dyn Fn(usize) -> String) -> String {
+    let mut text = String::new();
+    for (state, name) in names {
+        text += &format!("state {state} {name}\n");
+    }
+    let mut say = |fact: &str, states: &Set| text += &format!("{fact} {}\n", listed(states, word));
+    say("initial", &table.initial);
+    say("forbidden", &table.marked);
+    say("resting", &table.resting);
+    for group in &table.groups {
+        say("group", group);
+    }
+    text
 }
 
 /// A line for each row that is not empty.
@@ -103,22 +116,6 @@ fn steps(fact: &str, rows: &[Set], word: &dyn Fn(usize) -> String) -> String {
     rows.filter(|(_, row)| **row != Set::default())
         .map(|(s, row)| format!("{fact} {} {ARROW} {}\n", word(s), listed(row, word)))
         .collect()
-}
-
-fn facts(table: &Table, names: &Names) -> String {
-    let mut text = String::new();
-    for (state, name) in names {
-        text += &format!("state {state} {name}\n");
-    }
-    let word = word_by(names);
-    let mut say = |fact: &str, states: &Set| text += &format!("{fact} {}\n", listed(states, &word));
-    say("initial", &table.initial);
-    say("forbidden", &table.marked);
-    say("resting", &table.resting);
-    for group in &table.groups {
-        say("group", group);
-    }
-    text + &steps("step", &table.rows, &word)
 }
 
 /// The numbers of the states of a set, or `none`.
