@@ -294,8 +294,8 @@ export function tables(engine) {
       return this.#n === n && this.#g === g && this.#store.every((byte, k) => byte === store[k]);
     }
 
-    /** The one text of the table, and of the possible steps of another. A name that a text does not take is an
-     * error: the text is read back. */
+    /** The one text of the table, and of the possible steps of another. A name that a text does not take is
+     * an error: the text is read back. */
     toText(possible) {
       const more = arguments.length > 0 ? this.#rowsOfOther(possible, "possible") : null;
       const rows = this.#store.subarray(SET_BYTES * FIRST_ROW);
@@ -306,7 +306,8 @@ export function tables(engine) {
       const isNamed = ([number, name]) => back.table.#names.get(number) === name;
       const isSame = back.table.#names.size === this.#names.size && [...this.#names].every(isNamed);
       const isStepped = only === null || only.every((byte, k) => byte === back.possible[k]);
-      if (!isSame || !isStepped || !this.equals(back.table)) throw new RangeError("the names are none of a text's");
+      const isWhole = isSame && isStepped && this.equals(back.table);
+      if (!isWhole) throw new RangeError("the names are none of a text's");
       return text;
     }
 

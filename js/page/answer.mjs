@@ -30,7 +30,7 @@ export function vacuous(d) {
   return null;
 }
 
-/** Whether states are a path of the library's verdict: each step a step, from an initial to a forbidden one. */
+/** Whether states are a path: each step a step, from an initial to a forbidden one. */
 function isPath(d, path) {
   const isStep = (s, k) => k === 0 || has(possible(d, path[k - 1]), s);
   return path.length > 0 && path.every((s, k) => s < d.n && isStep(s, k)) && has(d.initial, path[0]) &&
@@ -64,8 +64,8 @@ export class Answers {
     hold(isUnsafe === (path !== null), "whether there is a path");
     hold(path === null || isPath(d, path), "what the path is");
     // a path on the certain steps alone may be longer than one with an option's
-    const isShortest = path === null || (verdict === "unsafe" && certain !== all) || path.length - 1 === nearest;
-    hold(isShortest, "how long the path is");
+    const isLonger = verdict === "unsafe" && certain !== all;
+    hold(path === null || isLonger || path.length - 1 === nearest, "how long the path is");
     hold(decision.isSafe === (verdict === "safe" && d.n > 0), "whether it is safe");
     return Object.freeze({ verdict, isSafe: decision.isSafe, path, invariant, reached, distances });
   }

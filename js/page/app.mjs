@@ -1,12 +1,14 @@
-// The page: the draft and its history, and what is shown after each change. The verdict's place is emptied before
-// each answer is asked for; whatever goes wrong on the way, it says "no answer".
+// The page: the draft and its history, and what is shown after each change. The verdict's place is emptied
+// before each answer is asked for; whatever goes wrong on the way, it says "no answer".
 import { load } from "../shuntberry.mjs";
 import { Answers } from "./answer.mjs";
 import { Asked } from "./ask.mjs";
 import { $, button, counted } from "./dom.mjs";
 import * as files from "./files.mjs";
 import { List } from "./list.mjs";
-import { History, NEW_DRAFT, NotDone, draftOfText, hasOptions, isSameDraft, screen, storeOf, textOf } from "./model.mjs";
+import {
+  History, NEW_DRAFT, NotDone, draftOfText, hasOptions, isSameDraft, screen, storeOf, textOf,
+} from "./model.mjs";
 import { Picture } from "./picture.mjs";
 import { ScreenEditor } from "./screen.mjs";
 import { TextEditor } from "./text.mjs";
@@ -16,6 +18,8 @@ import { viewOf } from "./view.mjs";
 /** Typing that pauses for less than this is one edit, and is undone as one. */
 const ONE_EDIT = 1500;
 const LARGER = 1.25;
+const OLD_FORM = "This file is of the old form (versions 1 to 3): shuntberry rewrite, or the button here, " +
+  "makes the same table of it, in which its dead ends, and no other screens, are resting.";
 const TABS = ["list", "text", "ask"];
 
 class App {
@@ -62,7 +66,7 @@ class App {
     return this.#answer;
   }
 
-  /** The text of the draft: the one that was read where there is one, with its comments; else as it is printed. */
+  /** The text of the draft: the one that was read, with its comments, if it was; else as it is printed. */
   text() {
     return this.#history.text ?? textOf(this.library, this.draft);
   }
@@ -92,21 +96,22 @@ class App {
       this.#fields();
       return;
     }
-    this.#verdict.none(`Something went wrong: ${error?.message ?? error}. Save the text, and open the page anew.`);
+    const why = error?.message ?? error;
+    this.#verdict.none(`Something went wrong: ${why}. Save the text, and open the page anew.`);
     this.#answer = null;
   }
 
   /** An edit by hand. */
   change(next, what) {
     if (this.#text.mistakes !== null) {
-      throw new NotDone("the text has mistakes: mend them, or put back the last text without, before you edit by hand");
+      throw new NotDone("the text has mistakes: mend them, or put back the last text without, first");
     }
     const hadComments = this.#history.text?.includes("#") ?? false;
     this.#history.add(next, what);
     this.#typedAt = -Infinity;
     this.#text.changed();
     this.render();
-    if (hadComments) this.#say("The text was written anew by this edit: its comments are gone. Undo brings them back.");
+    if (hadComments) this.#say("The text was written anew, without its comments. Undo brings them back.");
   }
 
   /** What was typed is another text of the draft, or of another one. */
@@ -151,7 +156,7 @@ class App {
     });
   }
 
-  /** The screens whose name or number has the words of the search; the picture shows them, as far as it can. */
+  /** The screens whose name or number has the words of the search. */
   #found() {
     const words = $("search").value.trim().toLowerCase();
     const every = this.draft.names.map((_, s) => s);
@@ -160,8 +165,8 @@ class App {
 
   #search() {
     this.#picture.find($("search").value);
-    const count = this.#found().length;
-    $("picture-words").textContent = $("search").value.trim() === "" ? "" : `${counted(count, "screen")} found; Enter goes from one to the next`;
+    const found = `${counted(this.#found().length, "screen")} found; Enter goes from one to the next`;
+    $("picture-words").textContent = $("search").value.trim() === "" ? "" : found;
   }
 
   /** Chooses the next screen that was found. */
@@ -229,10 +234,13 @@ class App {
     const isDrawn = this.#text.mistakes === null;
     $("save-file").disabled = !isDrawn;
     $("save-which").hidden = !hasOptions(this.draft);
-    $("list-words").textContent = `${counted(this.draft.n, "screen")}. Arrows go up and down, Enter edits, Delete removes.`;
+    const count = counted(this.draft.n, "screen");
+    $("list-words").textContent = `${count}. Arrows go up and down, Enter edits, Delete removes.`;
     this.#part("the text", () => this.#text.show());
     this.#part("what was asked", () => this.#asked.show(isDrawn));
-    if (this.chosen !== null && isDrawn) this.#part("the screen", () => this.#screen.show(this.draft, this.#answer, this.chosen));
+    if (this.chosen !== null && isDrawn) {
+      this.#part("the screen", () => this.#screen.show(this.draft, this.#answer, this.chosen));
+    }
     this.#keep();
   }
 
@@ -255,15 +263,15 @@ class App {
     if (found.text !== undefined) {
       this.#openText(found.text);
     } else if (found.rewritten !== undefined) {
-      this.#say("This file is of the old form (versions 1 to 3): shuntberry rewrite, or the button here, makes the same table of it, in which its dead ends, and no other screens, are resting.",
-        button("Rewrite and open", () => this.attempt(() => this.begin(found.rewritten, "open", null, null))));
+      const rewrite = () => this.attempt(() => this.begin(found.rewritten, "open", null, null));
+      this.#say(OLD_FORM, button("Rewrite and open", rewrite));
     } else {
       this.begin(found.draft, "open");
       if (found.isEmpty) this.#say("This file has no bytes, which is a draft without screens.");
     }
   }
 
-  /** A text without mistakes is the draft; one with some stands in its field, beside a draft without screens. */
+  /** A text without mistakes is the draft; one with some stands in its field, beside an empty draft. */
   #openText(text, isSaved = true) {
     let next = null;
     try {
@@ -298,7 +306,8 @@ class App {
     const which = hasOptions(d) ? $("save-which").value : "all";
     const table = this.library.Table.fromStore(d.n, d.groups.length, storeOf(d, which === "all"));
     const bytes = this.library.write(table, site);
-    if (!this.library.read(bytes, site).equals(table)) throw new Error("what was written is not read as the same table");
+    const isSame = this.library.read(bytes, site).equals(table);
+    if (!isSame) throw new Error("what was written is not read as the same table");
     const ending = hasOptions(d) ? (which === "all" ? "-with-options" : "-without-options") : "";
     files.download(`${name}${ending}.table`, "application/octet-stream", bytes);
     const isWhole = !hasOptions(d) && d.names.every((one) => one === null);
@@ -339,7 +348,8 @@ class App {
   // ---- wires
 
   #wire() {
-    const on = (id, event, work) => $(id).addEventListener(event, (happened) => this.attempt(() => work(happened)));
+    const on = (id, event, work) =>
+      $(id).addEventListener(event, (happened) => this.attempt(() => work(happened)));
     on("new", "click", () => this.begin(NEW_DRAFT, "new"));
     on("open", "click", () => $("open-file").click());
     on("example", "click", () => {
@@ -379,7 +389,8 @@ class App {
       if (this.isUnsaved) event.preventDefault();
     });
     for (const event of ["error", "unhandledrejection"]) {
-      globalThis.addEventListener(event, (found) => this.#failed(found.reason ?? found.error ?? found.message));
+      globalThis.addEventListener(event, ({ reason, error, message }) =>
+        this.#failed(reason ?? error ?? message));
     }
   }
 
@@ -419,7 +430,8 @@ class App {
 
   #key(event) {
     if (!(event.ctrlKey || event.metaKey) || event.altKey) return;
-    const isTyping = event.target instanceof Element && event.target.closest("input:not([type=checkbox]), textarea");
+    const fields = "input:not([type=checkbox]), textarea";
+    const isTyping = event.target instanceof Element && event.target.closest(fields) !== null;
     const key = event.key.toLowerCase();
     const work = {
       s: () => this.#save("text"),
@@ -441,6 +453,6 @@ try {
 } catch (error) {
   $("verdict").dataset.verdict = "none";
   $("verdict-word").textContent = "no answer";
-  $("verdict-words").textContent =
-    `The page could not be started (${error?.message ?? error}). It needs WebAssembly: Chrome 94, Firefox 93, Safari 16.4 or newer.`;
+  $("verdict-words").textContent = `The page could not be started (${error?.message ?? error}). It needs ` +
+    "WebAssembly: Chrome 94, Firefox 93, Safari 16.4 or newer.";
 }

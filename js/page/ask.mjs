@@ -1,5 +1,5 @@
-// Questions. What is answered is of the draft that is shown: with each change the answers go, and are asked anew
-// where they are looked at.
+// Questions. What is answered is of the draft that is shown: with each change the answers go, and are asked
+// anew where they are looked at.
 import { MAX_ALLOWANCE } from "../shuntberry.mjs";
 import { decided, vacuous } from "./answer.mjs";
 import { changes } from "./changes.mjs";
@@ -30,8 +30,11 @@ export function released(library, d, withOptions, site) {
   return checked.text;
 }
 
-const part = (words, id, ...children) => element("section", { className: "question" }, element("h3", {}, words),
-  ...children, element("div", { id, className: "answer" }));
+const part = (words, id, ...children) => element("section", { className: "question" },
+  element("h3", {}, words), ...children, element("div", { id, className: "answer" }));
+const PLACES = ["quick", "release-check", "repairs", "remarks", "options", "log-answer", "other-answer"];
+const UNDECIDED = "Move the slider to the right for a larger allowance, put screens that belong together into " +
+  "a group, or take the release check's answer below, which always decides.";
 const fileField = (id, label) => element("input", { id, type: "file", hidden: true, aria: { label } });
 const lines = (items) => element("ul", {}, ...items);
 
@@ -47,13 +50,14 @@ export class Asked {
       id: "allowance", type: "range", min: "0", max: String(MAX_ALLOWANCE), value: String(FIRST_ALLOWANCE),
     });
     slider.addEventListener("input", () => this.#ask("quick", () => this.#quick()));
-    const label = element("label", { className: "wide" }, "Allowance: ", element("output", { id: "allowance-value" }),
-      " refinements", slider);
+    const value = element("output", { id: "allowance-value" });
+    const label = element("label", { className: "wide" }, "Allowance: ", value, " refinements", slider);
+    const tried = () => app.attempt(() => this.#findRepairs());
     $("panel-ask").replaceChildren(
       part("A quick answer", "quick", label),
       part("The release check's answer", "release-check"),
       part("Which single step makes it safe", "repairs",
-        button("Try each step of the path", () => app.attempt(() => this.#findRepairs()), { id: "repairs-ask" })),
+        button("Try each step of the path", tried, { id: "repairs-ask" })),
       part("What to look at", "remarks"),
       part("What options make of it", "options"),
       part("How much a pump's log covers", "log-answer", ...this.#logFields()),
@@ -78,10 +82,10 @@ export class Asked {
       id: "log-text", rows: 3, spellcheck: false, placeholder: "or its screens, by name or number",
       aria: { label: "A log as text: screens by name or number" },
     });
+    const walk = () => this.#app.attempt(() => this.#takeLog({ words: text.value }));
     return [
-      this.#fileButton("log", "Open a log…", (bytes, name) => this.#takeLog({ bytes, name })),
-      text,
-      button("Walk it", () => this.#app.attempt(() => this.#takeLog({ words: text.value, name: "the log" })), { id: "log-ask" }),
+      this.#fileButton("log", "Open a log…", (bytes) => this.#takeLog({ bytes })), text,
+      button("Walk it", walk, { id: "log-ask" }),
     ];
   }
 
@@ -91,7 +95,7 @@ export class Asked {
   show(isDrawn) {
     this.#repairs = null;
     if ($("panel-ask").hidden || !isDrawn) {
-      for (const id of ["quick", "release-check", "repairs", "remarks", "options", "log-answer", "other-answer"]) {
+      for (const id of PLACES) {
         this.#put(id, isDrawn ? [] : ["no answer: the text has mistakes"]);
       }
       return;
@@ -134,7 +138,8 @@ export class Asked {
     const found = this.#app.library.decide(all, allowance);
     const about = hasOptions(d) ? " (with every option)" : "";
     if (found.verdict === "undecided") {
-      return ["undecided", element("strong", {}, "undecided"), `${about} after ${counted(found.count, "refinement")}. Move the slider to the right for a larger allowance, put screens that belong together into a group, or take the release check's answer below, which always decides.`];
+      const after = `${about} after ${counted(found.count, "refinement")}. ${UNDECIDED}`;
+      return ["undecided", element("strong", {}, "undecided"), after];
     }
     const little = found.isSafe ? vacuous(d) : null;
     const more = little === null ? "" : `, but ${little}`;
@@ -151,8 +156,10 @@ export class Asked {
       ...(words === "" ? [] : [element("p", {}, `The file ${words}:`)]),
       element("pre", {}, released(this.#app.library, d, withOptions, site)),
     ]);
-    return ["said", element("p", { className: "light" }, "What ", element("code", {}, "shuntberry check"),
-      ` prints of the file for site ${site}. Releasing is done by `, element("code", {}, "shuntberry release"), "."), ...parts];
+    const about = element("p", { className: "light" }, "What ", element("code", {}, "shuntberry check"),
+      ` prints of the file for site ${site}. Releasing is done by `,
+      element("code", {}, "shuntberry release"), ".");
+    return ["said", about, ...parts];
   }
 
   #repair() {
@@ -169,7 +176,8 @@ export class Asked {
   }
 
   #repairLine(d, from, to) {
-    const words = `${called(d, from)} → ${called(d, to)}${stepKind(d, from, to) === "option" ? " (option)" : ""}`;
+    const option = stepKind(d, from, to) === "option" ? " (option)" : "";
+    const words = `${called(d, from)} → ${called(d, to)}${option}`;
     const rub = button("Rub out", () => this.#app.attempt(() =>
       this.#app.change(setStep(this.#app.draft, from, to, "none"), `rub out ${words}`)),
     { className: "rub-out", aria: { label: `Rub out ${words}` } });
@@ -213,9 +221,11 @@ export class Asked {
       depends: "safe without any option, and unsafe with all of them",
     }[found.verdict];
     const path = found.path === null ? [] : [element("p", {}, `Path: ${this.#screens(found.path)}`)];
-    const kept = found.invariant === null ? [] : [element("p", {},
-      `${found.verdict === "depends" ? "Without options a session stays" : "A session stays"} in: ${found.invariant.map((s) => screen(draft, s)).join(", ") || "none"}`)];
-    return [little === null ? found.verdict : "vacuous", element("strong", {}, found.verdict), `: ${words}`, ...path, ...kept];
+    const without = found.verdict === "depends" ? "Without options a session" : "A session";
+    const stays = (found.invariant ?? []).map((s) => screen(draft, s)).join(", ") || "none";
+    const kept = found.invariant === null ? [] : [element("p", {}, `${without} stays in: ${stays}`)];
+    const verdict = little === null ? found.verdict : "vacuous";
+    return [verdict, element("strong", {}, found.verdict), `: ${words}`, ...path, ...kept];
   }
 
   // ---- a log
@@ -246,7 +256,8 @@ export class Asked {
     const { draft, library } = this.#app;
     const found = changes(library, this.#other.draft, draft);
     const head = element("p", {}, `From ${this.#other.name} to this draft:`);
-    const items = found.slice(0, SHOWN_CHANGES).map(({ kind, words }) => element("li", { data: { change: kind } }, words));
+    const item = ({ kind, words }) => element("li", { data: { change: kind } }, words);
+    const items = found.slice(0, SHOWN_CHANGES).map(item);
     if (found.length > items.length) items.push(element("li", {}, `and ${found.length - items.length} more`));
     return ["said", head, items.length === 0 ? "Nothing has changed." : lines(items)];
   }

@@ -1,5 +1,5 @@
-// Sets of screens as the bytes of a store: screen s is the bit of value 2^(s % 8) in byte s / 8. A set that was
-// handed out is never written to.
+// Sets of screens as the bytes of a store: screen s is the bit of value 2^(s % 8) in byte s / 8. A set that
+// was handed out is never written to.
 import { MAX_STATES } from "../shuntberry.mjs";
 
 export const SET_BYTES = MAX_STATES / 8;

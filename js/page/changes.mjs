@@ -1,10 +1,11 @@
-// What has changed from one draft to another. Screens are the same by their names where both drafts name them,
-// else by their numbers.
+// What has changed from one draft to another. Screens are the same by their names where both drafts name
+// them, else by their numbers.
 import { decided } from "./answer.mjs";
 import { has, members } from "./bits.mjs";
 import { called, screen, stepKind, successors } from "./model.mjs";
 
 const MARKS = [["initial", "initial"], ["marked", "forbidden"], ["resting", "resting"]];
+const WAS = { certain: "certain", option: "an option's" };
 const KINDS = { certain: "", option: " (only with an option)" };
 
 /** For each screen of the new draft the same one of the old, or null. */
@@ -26,8 +27,9 @@ export function changes(library, old, now) {
   const after = new Map(before.flatMap((s, t) => (s === null ? [] : [[s, t]])));
   const found = [];
   const say = (kind, words) => found.push({ kind, words });
-  old.names.forEach((_, s) => { if (!after.has(s)) say("screen-gone", `screen ${screen(old, s)} is gone`); });
-  now.names.forEach((_, t) => { if (before[t] === null) say("screen-new", `screen ${screen(now, t)} is new`); });
+  const gone = old.names.map((_, s) => s).filter((s) => !after.has(s));
+  for (const s of gone) say("screen-gone", `screen ${screen(old, s)} is gone`);
+  before.forEach((s, t) => { if (s === null) say("screen-new", `screen ${screen(now, t)} is new`); });
   for (const [s, t] of after) {
     if (s !== t) say("renumbered", `${called(now, t)} had the number ${s}, and has ${t}: logs go by number`);
     if (old.names[s] !== now.names[t]) say("renamed", `screen ${screen(old, s)} is called ${screen(now, t)}`);
@@ -50,7 +52,7 @@ function steps(old, now, before, after, say) {
       const [kind, earlier] = [stepKind(now, from, to), was(before[from], before[to])];
       const words = `${called(now, from)} → ${called(now, to)}${KINDS[kind]}`;
       if (earlier === "none") say("step-new", `the step ${words} is new`);
-      else if (earlier !== kind) say("step-kind", `the step ${words} was ${earlier === "option" ? "an option's" : "certain"}`);
+      else if (earlier !== kind) say("step-kind", `the step ${words} was ${WAS[earlier]}`);
     }
   }
   for (let from = 0; from < old.n; from++) {

@@ -1,4 +1,4 @@
-// What is opened and saved. Everything goes through the browser's own fields and downloads; nothing is fetched.
+// What is opened and saved, all by the browser's own fields and downloads; nothing is fetched.
 import { MAX_SITE } from "../shuntberry.mjs";
 import { $ } from "./dom.mjs";
 import { NotDone, draftOf, draftOfText } from "./model.mjs";
@@ -8,6 +8,11 @@ const STATED = /^(states?|initial|forbidden|resting|group|step|possible)$/;
 /** The number of the refusal of a file of versions 1 to 3. */
 const OLD_FORM = 15;
 const NEW_FORM = 0x80;
+
+const NO_TABLE = "this is a text, but not of a table: its first word is none of states, state, initial, " +
+  "forbidden, resting, group, step, possible";
+const OTHER_SITE = "this file is of the old form (versions 1 to 3), which is rewritten for site 0 alone: have " +
+  "it saved anew by the program that made it";
 
 /** What to look at in a file that is refused, by the number, from the header. */
 let hints = new Map();
@@ -39,8 +44,8 @@ function refusal(error) {
   return `refused ${error.number}: ${error.ground}${hint ? `; ${hint}` : ""}`;
 }
 
-/** What bytes are: `{draft}` of a file, `{text}` that may have mistakes, `{rewritten}` of an old file; else an
- * error says why they are nothing of it. */
+/** What bytes are: `{draft}` of a file, `{text}` that may have mistakes, `{rewritten}` of an old file; else
+ * an error says why they are nothing of it. */
 export function opened(library, bytes, site) {
   if (bytes.length === 0) return { draft: draftOf(library.read(bytes, site)), isEmpty: true };
   try {
@@ -50,16 +55,12 @@ export function opened(library, bytes, site) {
     const text = textIn(bytes);
     if (text !== null && saysFacts(text)) return { text };
     if (error.number === OLD_FORM && bytes[5] < NEW_FORM) return old(library, bytes, site);
-    throw new NotDone(text !== null
-      ? "this is a text, but not of a table: its first word is none of states, state, initial, forbidden, resting, group, step, possible"
-      : refusal(error));
+    throw new NotDone(text === null ? refusal(error) : NO_TABLE);
   }
 }
 
 function old(library, bytes, site) {
-  if (site !== 0) {
-    throw new NotDone("this file is of the old form (versions 1 to 3), which is rewritten for site 0 alone: have it saved anew by the program that made it");
-  }
+  if (site !== 0) throw new NotDone(OTHER_SITE);
   try {
     return { rewritten: draftOf(library.read(library.rewrite(bytes), 0)) };
   } catch (error) {
@@ -103,7 +104,8 @@ export function download(name, kind, data) {
 }
 
 /** The name of the draft, as a file's. */
-export const fileName = () => $("title").value.trim().replace(/[^\p{L}\p{N}._-]+/gu, "-").replace(/^[-.]+/, "") || "draft";
+export const fileName = () =>
+  $("title").value.trim().replace(/[^\p{L}\p{N}._-]+/gu, "-").replace(/^[-.]+/, "") || "draft";
 
 // ---- the draft that is kept in the browser, where that was switched on
 

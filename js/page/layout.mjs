@@ -1,8 +1,8 @@
 // Where each screen of a table stands in its picture: by layers, from the initial screens outward, on a grid.
 // No part of a page is needed for it.
 //
-//   shownOf(view, chosen)              what is drawn of a table: all of it, or where it has too many steps, a part
-//   arranged(view, chosen, previous)   the places. A screen whose layer is as it was keeps its place in that layer
+//   shownOf(view, chosen)              what is drawn: all, or a part where steps are too many
+//   arranged(view, chosen, previous)   the places. A screen whose layer is as it was keeps its place in it
 
 /** Above so many steps a part is drawn. */
 export const MANY_STEPS = 2000;
@@ -52,12 +52,15 @@ function stepsOf(view, s) {
 }
 
 /**
- * The screens and steps that are drawn. Of a table with too many steps that is the path and the chosen screen,
- * each with the steps that lead from it or to it; `isCut` where the path's neighbours are not all there.
+ * The screens and steps that are drawn. Of a table with too many steps that is the path and the chosen
+ * screen, each with the steps that lead from it or to it; `isCut` where the path's neighbours are not all
+ * there.
  */
 export function shownOf(view, chosen) {
   if (view.stepCount <= MANY_STEPS) {
-    return { states: Array.from({ length: view.n }, (_, s) => s), steps: view.steps, isPart: false, isCut: false };
+    return {
+      states: Array.from({ length: view.n }, (_, s) => s), steps: view.steps, isPart: false, isCut: false
+    };
   }
   const path = view.path ?? [];
   const steps = new Map();
@@ -97,7 +100,8 @@ function distancesFrom(roots, next, layer) {
 
 /**
  * Of each screen whether it stands apart, since it cannot be reached, and its layer: of one that can be, by
- * steps from the initial ones; of one apart, from those that no other one apart leads to, then from the first.
+ * steps from the initial ones; of one apart, from those that no other one apart leads to, then from the
+ * first.
  */
 export function layersOf(view) {
   const apart = Array.from({ length: view.n }, (_, s) => !view.reached.has(s));
@@ -151,7 +155,9 @@ function mean(near, s, of, otherwise) {
 function crossings(above, place, near, isBelow) {
   const ends = [];
   for (const s of above) {
-    const below = (near.get(s) ?? []).filter(([t]) => isBelow(t)).map(([t, weight]) => [place.get(t), weight]);
+    const below = (near.get(s) ?? []).filter(([t]) => isBelow(t)).map(
+      ([t, weight]) => [place.get(t), weight]
+    );
     ends.push(...below.sort((a, b) => a[0] - b[0]));
   }
   const size = 1 + Math.max(0, ...ends.map(([at]) => at));
@@ -183,7 +189,9 @@ function ordered(layers, near, layerOf) {
       const at = downward ? k : now.length - 1 - k;
       const beside = downward ? at - 1 : at + 1;
       const key = new Map(
-        now[at].map((s) => [s, mean(near, s, (t) => (layerOf[t] === beside ? place.get(t) : undefined), place.get(s))]),
+        now[at].map(
+          (s) => [s, mean(near, s, (t) => (layerOf[t] === beside ? place.get(t) : undefined), place.get(s))]
+        ),
       );
       now[at].sort((a, b) => key.get(a) - key.get(b) || place.get(a) - place.get(b));
       settle(now[at]);
@@ -269,7 +277,9 @@ function placedAnew(layers, near, layerOf, room) {
       const at = pass % 2 === 0 ? k : order.length - 1 - k;
       const states = order[at];
       if (folded(states.length, rows) > 1) continue;
-      const beside = (t) => (pass > 1 || layerOf[t] === at + (pass % 2 === 0 ? -1 : 1) ? place.get(t)?.row : undefined);
+      const beside = (t) => (
+        pass > 1 || layerOf[t] === at + (pass % 2 === 0 ? -1 : 1) ? place.get(t)?.row : undefined
+      );
       const wishes = states.map((s) => mean(near, s, beside, place.get(s).row));
       put(states, spread(wishes, rows).map((row) => ({ column: 0, row })));
     }
@@ -306,7 +316,8 @@ function placedAgain(layers, near, frame, kept, room) {
       for (let column = 0; column < columns; column++) {
         for (let row = 0; row < rows; row++) {
           const cost = Math.abs(row - wish) + column;
-          if (!taken.has(key({ column, row })) && (best === null || cost < best.cost)) best = { column, row, cost };
+          const isBetter = best === null || cost < best.cost;
+          if (isBetter && !taken.has(key({ column, row }))) best = { column, row, cost };
         }
       }
       const found = { column: best.column, row: best.row };
@@ -319,7 +330,8 @@ function placedAgain(layers, near, frame, kept, room) {
 
 // ---- The same screen in two tables
 
-/** For each screen its number in the table before: the one of its name; else of its number, if that name is gone. */
+/** For each screen its number in the table before: the one of its name; else of its number, if that name
+ * is gone. */
 function formerOf(view, previous) {
   const numbers = new Map();
   previous.names.forEach((name, s) => numbers.set(name, numbers.has(name) ? null : s));
@@ -327,7 +339,9 @@ function formerOf(view, previous) {
   return Array.from({ length: view.n }, (_, s) => {
     const same = numbers.get(view.names[s]);
     if (typeof same === "number") return same;
-    return s < previous.names.length && (view.names[s] === previous.names[s] || !names.has(previous.names[s])) ? s : null;
+    return s < previous.names.length && (
+      view.names[s] === previous.names[s] || !names.has(previous.names[s])
+    ) ? s : null;
   });
 }
 

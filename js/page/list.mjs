@@ -1,4 +1,4 @@
-// The list of all screens: the same facts as the picture has, in words. Sorted by each column, used by keyboard.
+// The list of all screens: the facts of the picture in words. Sorted by each column, used by keyboard.
 import { $, button, element } from "./dom.mjs";
 
 /** So many steps stand in a row; the others are counted until they are asked for. */
@@ -25,7 +25,9 @@ const COLUMNS = [
   ["steps", "Steps to", (view, s) => view.successors(s).length],
 ];
 
-const TITLES = { distance: "Steps to the nearest forbidden screen", reached: "Whether a session can come there" };
+const TITLES = {
+  distance: "Steps to the nearest forbidden screen", reached: "Whether a session can come there",
+};
 
 const compare = (a, b) =>
   typeof a === "number" ? a - b : a.localeCompare(b, "en", { numeric: true, sensitivity: "base" });
@@ -47,7 +49,8 @@ export class List {
     this.#onChoose = onChoose;
     this.#onAct = onAct;
     const heads = COLUMNS.map(([key, words]) =>
-      element("th", { scope: "col", data: { sort: key } }, button(words, () => this.sort(key), { title: TITLES[key] ?? "" })));
+      element("th", { scope: "col", data: { sort: key } },
+        button(words, () => this.sort(key), { title: TITLES[key] ?? "" })));
     $("list").tHead.rows[0].replaceChildren(...heads);
     $("list").tBodies[0].addEventListener("keydown", (event) => this.#key(event));
     this.#heads();
@@ -75,7 +78,8 @@ export class List {
     // To scroll has the whole page laid out at once, so it is done where there is something to go to.
     const isOther = chosen !== this.#chosen;
     this.#chosen = chosen;
-    if (isOther && chosen !== null && !$("panel-list").hidden) this.#rows[chosen]?.scrollIntoView({ block: "nearest" });
+    if (!isOther || chosen === null || $("panel-list").hidden) return;
+    this.#rows[chosen]?.scrollIntoView({ block: "nearest" });
   }
 
   sort(key) {
@@ -100,7 +104,8 @@ export class List {
     order.sort((a, b) => (this.#isDown ? -1 : 1) * compare(values[a], values[b]) || a - b);
     const isSame = order.length === this.#order.length && order.every((s, k) => s === this.#order[k]);
     this.#order = order;
-    if (!isSame || body.rows.length !== order.length) body.replaceChildren(...order.map((s) => this.#rows[s]));
+    if (isSame && body.rows.length === order.length) return;
+    body.replaceChildren(...order.map((s) => this.#rows[s]));
   }
 
   #row(s) {
@@ -136,7 +141,10 @@ export class List {
     const row = this.#rows[s];
     words.forEach((said, k) => { row.cells[k].textContent = said; });
     const left = to.length - shown.length;
-    if (left > 0) row.cells[words.length - 1].append(" ", button(`and ${left} more`, () => this.#more(s), { className: "more" }));
+    if (left > 0) {
+      const more = button(`and ${left} more`, () => this.#more(s), { className: "more" });
+      row.cells[words.length - 1].append(" ", more);
+    }
     row.dataset.reached = isReached ? "yes" : "no";
     row.dataset.distance = distance === null ? "" : String(distance);
     row.classList.toggle("forbidden", view.forbidden.has(s) || view.hang.has(s));

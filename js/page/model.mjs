@@ -49,7 +49,8 @@ export function storeOf(d, withOptions) {
 
 /** The tables of a draft: of its certain steps, and of all possible ones; the same one where no option is. */
 export function tablesOf(library, d, names) {
-  const table = (withOptions) => library.Table.fromStore(d.n, d.groups.length, storeOf(d, withOptions), names);
+  const table = (withOptions) =>
+    library.Table.fromStore(d.n, d.groups.length, storeOf(d, withOptions), names);
   const all = table(true);
   return { all, certain: hasOptions(d) ? table(false) : all };
 }
@@ -128,7 +129,11 @@ export function checkedName(library, d, s, words) {
 export function addScreen(d, name = null) {
   if (d.n >= MAX_STATES) throw new NotDone(`a table has at most ${MAX_STATES} screens`);
   return draft({
-    ...d, n: d.n + 1, names: [...d.names, name], certain: [...d.certain, EMPTY], options: [...d.options, EMPTY],
+    ...d,
+    n: d.n + 1,
+    names: [...d.names, name],
+    certain: [...d.certain, EMPTY],
+    options: [...d.options, EMPTY],
   });
 }
 

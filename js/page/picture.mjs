@@ -1,5 +1,6 @@
-// The picture of a table: its screens by layers, its steps, its path. Each meaning has a shape or a word besides
-// its colour; the colours are those of the record. Every word from outside is the text of a text node.
+// The picture of a table: its screens by layers, its steps, its path. Each meaning has a shape or a word
+// besides its colour; the colours are those of the record. Every word from outside is the text of a text
+// node.
 //
 //   new Picture(svg, { onChoose(state|null), onStep(from, to), onMove(scale), legend })
 //   show(view)       after each change: what is as it was is not touched, and a screen keeps its place
@@ -11,7 +12,6 @@ import { BOX, arranged } from "./layout.mjs";
 import { routesOf } from "./routes.mjs";
 import { COLOURS, badge, box, element, legendRows, named, plainly, titleOf } from "./shapes.mjs";
 
-const SVG = "http://www.w3.org/2000/svg";
 const ZOOM = { least: 0.05, most: 4, step: 1.25 };
 /** A pointer that moves less has clicked. */
 const CLICK = 5;
@@ -56,7 +56,9 @@ export class Picture {
     this.#legend = legend ?? null;
     svg.setAttribute("tabindex", "0");
     svg.setAttribute("role", "application");
-    svg.setAttribute("aria-label", "Picture of the table. Arrow keys choose a screen, plus and minus zoom, 0 shows all.");
+    svg.setAttribute(
+      "aria-label", "Picture of the table. Arrow keys choose a screen, plus and minus zoom, 0 shows all."
+    );
     this.#parts.heads = markers();
     this.#parts.world = element("g");
     for (const name of ["bands", "steps", "pathSteps", "boxes", "badges", "drag"]) {
@@ -73,7 +75,9 @@ export class Picture {
     globalThis.addEventListener("beforeprint", () => this.#forPaper());
     globalThis.addEventListener("afterprint", () => svg.removeAttribute("viewBox"));
     this.#size = { width: svg.clientWidth, height: svg.clientHeight };
-    new ResizeObserver(([{ contentRect: { width, height } }]) => this.#resized({ width, height })).observe(svg);
+    new ResizeObserver(
+      ([{ contentRect: { width, height } }]) => this.#resized({ width, height })
+    ).observe(svg);
   }
 
   // ---- What is shown
@@ -85,7 +89,9 @@ export class Picture {
     this.#chosen = view.chosen;
     this.#layout = arranged(view, view.chosen, before);
     this.#draw();
-    const isOther = !isFirst && before.frames.some((frame, k) => frame?.rows !== this.#layout.frames[k]?.rows);
+    const isOther = !isFirst && before.frames.some(
+      (frame, k) => frame?.rows !== this.#layout.frames[k]?.rows
+    );
     if (isFirst || !this.#isFitted || (!this.#isMoved && (isOther || !this.#isInside()))) this.fit();
   }
 
@@ -138,7 +144,10 @@ export class Picture {
     if (apart !== null) {
       const band = element("g");
       const { width } = this.#layout;
-      element("path", { d: `M8 ${apart.y - 6}H${width - 8}`, stroke: COLOURS.quiet, "stroke-dasharray": "2 5" }, band);
+      element(
+        "path", { d: `M8 ${apart.y - 6}H${width - 8}`, stroke: COLOURS.quiet, "stroke-dasharray": "2 5" },
+        band
+      );
       const label = element("text", { x: 50, y: apart.y + 12, "font-size": 12, fill: COLOURS.quiet }, band);
       label.textContent = this.#view.isAnswered
         ? "not reachable: no steps lead here from a start"
@@ -189,9 +198,11 @@ export class Picture {
     for (const s of states) {
       gone.delete(s);
       const facts = {
-        name: named(this.#view, s), initial: this.#view.initial.has(s), forbidden: this.#view.forbidden.has(s),
+        name: named(this.#view, s), initial: this.#view.initial.has(s),
+        forbidden: this.#view.forbidden.has(s),
         hang: this.#view.hang.has(s), resting: this.#view.resting.has(s), reached: this.#view.reached.has(s),
-        isDeadEnd: this.#view.resting.has(s) && this.#view.successors(s).length === 0, path: onPath.has(s), chosen: this.#chosen === s,
+        isDeadEnd: this.#view.resting.has(s) && this.#view.successors(s).length === 0, path: onPath.has(s),
+        chosen: this.#chosen === s,
         found: this.#found === null ? null : this.#found.has(s), groups: groups.get(s) ?? [],
         distance: this.#view.distance[s], isAnswered: this.#view.isAnswered,
       };
@@ -218,7 +229,9 @@ export class Picture {
   /** The numbers on the screens of the path; from afar also their names. */
   #drawBadges(places) {
     const wanted = (this.#view.path ?? []).map((s) => ({ name: named(this.#view, s), place: places.get(s) }));
-    const isSame = wanted.length === this.#badges.length && wanted.every(({ name }, k) => name === this.#badges[k].name);
+    const isSame = wanted.length === this.#badges.length && wanted.every(
+      ({ name }, k) => name === this.#badges[k].name
+    );
     this.#badges = wanted.map((one, k) => ({ ...(isSame ? this.#badges[k] : badge(k, one.name)), ...one }));
     if (!isSame) this.#parts.badges.replaceChildren(...this.#badges.map(({ made }) => made));
     this.#placeBadges();
@@ -272,7 +285,8 @@ export class Picture {
   #isInside() {
     const { x, y, scale } = this.#at;
     const { width, height } = this.#size;
-    return x >= 0 && y >= 0 && x + this.#layout.width * scale <= width && y + this.#layout.height * scale <= height;
+    return x >= 0 && y >= 0 && x + this.#layout.width * scale <= width &&
+      y + this.#layout.height * scale <= height;
   }
 
   #isSeen(s) {
@@ -292,7 +306,9 @@ export class Picture {
     const top = this.#noteHeight;
     const room = Math.min((width - MARGIN) / whole.width, (height - top - MARGIN) / whole.height);
     const scale = clamped(room, ZOOM.least, 1.25);
-    this.#look({ x: (width - whole.width * scale) / 2, y: top + (height - top - whole.height * scale) / 2, scale });
+    this.#look(
+      { x: (width - whole.width * scale) / 2, y: top + (height - top - whole.height * scale) / 2, scale }
+    );
   }
 
   centre(state) {
@@ -302,7 +318,8 @@ export class Picture {
     const scale = Math.max(this.#at.scale, 0.8);
     this.#isMoved = true;
     this.#look({
-      x: width / 2 - (place.x + BOX.width / 2) * scale, y: height / 2 - (place.y + BOX.height / 2) * scale, scale,
+      x: width / 2 - (place.x + BOX.width / 2) * scale, y: height / 2 - (place.y + BOX.height / 2) * scale,
+      scale,
     });
   }
 
@@ -310,7 +327,9 @@ export class Picture {
     const scale = clamped(this.#at.scale * factor, ZOOM.least, ZOOM.most);
     const part = scale / this.#at.scale;
     this.#isMoved = true;
-    this.#look({ x: about.x - (about.x - this.#at.x) * part, y: about.y - (about.y - this.#at.y) * part, scale });
+    this.#look(
+      { x: about.x - (about.x - this.#at.x) * part, y: about.y - (about.y - this.#at.y) * part, scale }
+    );
   }
 
   #pan(dx, dy) {
@@ -323,7 +342,9 @@ export class Picture {
     if (this.#layout === null) return;
     const { x, y, scale } = this.#at;
     const { width, height } = this.#layout;
-    this.#svg.setAttribute("viewBox", [x, y - this.#noteHeight, width * scale, height * scale + this.#noteHeight].join(" "));
+    this.#svg.setAttribute(
+      "viewBox", [x, y - this.#noteHeight, width * scale, height * scale + this.#noteHeight].join(" ")
+    );
   }
 
   #resized(size) {
@@ -360,7 +381,10 @@ export class Picture {
   #down(event) {
     if (event.button !== 0 || this.#drag !== null) return;
     const point = this.#pointOf(event);
-    this.#drag = { id: event.pointerId, from: this.#stateAt(point), start: point, last: point, isDrag: false, hasLeft: false };
+    this.#drag = {
+      id: event.pointerId, from: this.#stateAt(point), start: point, last: point, isDrag: false,
+      hasLeft: false
+    };
     this.#svg.setPointerCapture(event.pointerId);
     this.#svg.focus({ preventScroll: true });
     event.preventDefault();
@@ -379,7 +403,8 @@ export class Picture {
   /** What is said of a screen is put to it when it is pointed at: 512 titles take their time. */
   #over(event) {
     const drawn = this.#boxes.get(Number(event.target.closest?.("[data-state]")?.dataset.state));
-    if (drawn !== undefined && drawn.made.querySelector("title") === null) drawn.made.append(titleOf(JSON.parse(drawn.look)));
+    if (drawn === undefined || drawn.made.querySelector("title") !== null) return;
+    drawn.made.append(titleOf(JSON.parse(drawn.look)));
   }
 
   /** The line of a step that is being drawn. */
@@ -390,7 +415,8 @@ export class Picture {
     const place = this.#layout.places.get(drag.from);
     const end = this.#worldOf(point);
     const line = element("path", {
-      d: `M${place.x + BOX.width / 2} ${place.y + BOX.height / 2}L${end.x} ${end.y}`, fill: "none", stroke: COLOURS.chosen,
+      d: `M${place.x + BOX.width / 2} ${place.y + BOX.height / 2}L${end.x} ${end.y}`, fill: "none",
+      stroke: COLOURS.chosen,
       "stroke-width": 3 / this.#at.scale, "marker-end": "url(#picture-chosen)", "pointer-events": "none",
     });
     const parts = [line];
@@ -444,7 +470,9 @@ export class Picture {
     const here = places.get(this.#chosen);
     let best = here === undefined ? { s: places.keys().next().value } : null;
     for (const [s, { x, y }] of here === undefined ? [] : places) {
-      const [ahead, aside] = [(x - here.x) * dx + (y - here.y) * dy, Math.abs((x - here.x) * dy) + Math.abs((y - here.y) * dx)];
+      const [ahead, aside] = [
+        (x - here.x) * dx + (y - here.y) * dy, Math.abs((x - here.x) * dy) + Math.abs((y - here.y) * dx)
+      ];
       const cost = ahead + 2 * aside;
       if (ahead > 0 && (best === null || cost < best.cost)) best = { s, cost };
     }
@@ -456,15 +484,22 @@ export class Picture {
   // ---- To keep
 
   svgText(lines = []) {
-    const { width, height, shown } = this.#layout ?? { width: 300, height: 20, shown: { isPart: false, steps: [] } };
-    const words = [...lines.map(plainly), ...(this.#view === null ? [] : noteLines(this.#view, this.#chosen, shown))];
+    const {
+      width, height, shown
+    } = this.#layout ?? { width: 300, height: 20, shown: { isPart: false, steps: [] } };
+    const words = [
+      ...lines.map(plainly), ...(this.#view === null ? [] : noteLines(this.#view, this.#chosen, shown))
+    ];
     const top = 24 * words.length;
     const rows = this.#view === null ? [] : legendRows(this.#view, this.#chosen, shown);
-    const wide = Math.max(width, LEGEND.column + 2 * MARGIN, ...words.map((line) => 2 * MARGIN + 9 * line.length));
+    const wide = Math.max(
+      width, LEGEND.column + 2 * MARGIN, ...words.map((line) => 2 * MARGIN + 9 * line.length)
+    );
     const columns = Math.max(1, Math.floor((wide - 2 * MARGIN) / LEGEND.column));
     const high = top + height + LEGEND.row * Math.ceil(rows.length / columns) + MARGIN;
     const file = element("svg", {
-      width: Math.ceil(wide), height: Math.ceil(high), viewBox: `0 0 ${Math.ceil(wide)} ${Math.ceil(high)}`, "font-family": FONT,
+      width: Math.ceil(wide), height: Math.ceil(high), viewBox: `0 0 ${Math.ceil(wide)} ${Math.ceil(high)}`,
+      "font-family": FONT,
     });
     file.append(markers());
     element("rect", { width: "100%", height: "100%", fill: "#fff" }, file);
@@ -477,15 +512,21 @@ export class Picture {
       world.append(this.#parts[name].cloneNode(true));
     }
     for (const copy of world.querySelectorAll("[data-state]")) {
-      if (copy.querySelector("title") === null) copy.append(titleOf(JSON.parse(this.#boxes.get(Number(copy.dataset.state)).look)));
+      const { look } = this.#boxes.get(Number(copy.dataset.state));
+      if (copy.querySelector("title") === null) copy.append(titleOf(JSON.parse(look)));
     }
     const copies = [...world.lastElementChild.children];
-    this.#badges.forEach(({ place }, k) => copies[k].setAttribute("transform", `translate(${place.x - CORNER} ${place.y - CORNER})`));
+    this.#badges.forEach(
+      ({ place }, k) => copies[k].setAttribute(
+        "transform", `translate(${place.x - CORNER} ${place.y - CORNER})`
+      )
+    );
     for (const label of world.querySelectorAll("[visibility]")) label.remove();
     world.children[2].setAttribute("stroke-width", 4);
     rows.forEach(({ sample, words: means }, k) => {
       const row = element("g", {
-        transform: `translate(${MARGIN + LEGEND.column * (k % columns)} ${top + height + LEGEND.row * Math.floor(k / columns)})`,
+        transform: `translate(${MARGIN + LEGEND.column * (k % columns)} ${
+          top + height + LEGEND.row * Math.floor(k / columns)})`,
       }, file);
       row.append(sample);
       element("text", { x: LEGEND.sample, y: 16, "font-size": 12 }, row).textContent = means;
@@ -527,7 +568,8 @@ function markers() {
   const heads = { step: [COLOURS.step, 8], chosen: [COLOURS.chosen, 5], path: [COLOURS.path, 3.6] };
   for (const [name, [colour, size]] of Object.entries(heads)) {
     const marker = element("marker", {
-      id: `picture-${name}`, viewBox: "0 0 10 10", refX: 9, refY: 5, markerWidth: size, markerHeight: size, orient: "auto",
+      id: `picture-${name}`, viewBox: "0 0 10 10", refX: 9, refY: 5, markerWidth: size, markerHeight: size,
+      orient: "auto",
     }, defs);
     element("path", { d: "M0 0.8L10 5L0 9.2z", fill: colour }, marker);
   }
@@ -559,7 +601,7 @@ function noteLines(view, chosen, { isPart, isCut, steps }) {
   const what = parts.length > 0 ? parts.join(", ") : "the starts; choose a screen to see its own steps";
   return [
     `${counted(view.stepCount, "step")} are too many to draw. Shown: ${what}.`,
-    `${counted(steps.length, "step")} ${steps.length === 1 ? "is" : "are"} drawn${isCut ? ", not all of these" : ""}. The list has all.`,
+    `Drawn: ${counted(steps.length, "step")}${isCut ? ", not all of these" : ""}. The list has all.`,
   ];
 }
 
@@ -567,7 +609,11 @@ function noteOf(lines) {
   const note = element("g");
   const width = 24 + 7.2 * Math.max(...lines.map((line) => line.length));
   const height = NOTE.rim + NOTE.line * lines.length;
-  element("rect", { x: NOTE.top, y: NOTE.top, width, height, rx: 5, fill: "#fff", stroke: COLOURS.line, opacity: 0.95 }, note);
+  element(
+    "rect",
+    { x: NOTE.top, y: NOTE.top, width, height, rx: 5, fill: "#fff", stroke: COLOURS.line, opacity: 0.95 },
+    note
+  );
   lines.forEach((line, k) => {
     element("text", { x: 18, y: 29 + NOTE.line * k, "font-size": 14 }, note).textContent = line;
   });

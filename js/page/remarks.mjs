@@ -17,7 +17,8 @@ export function remarks(d, answer) {
       "no state is marked as forbidden: only hangs are"],
   ];
   const some = [
-    ["forbidden-reached", "forbidden screens that can be reached", forbidden.filter((s) => answer.reached.has(s))],
+    ["forbidden-reached", "forbidden screens that can be reached",
+      forbidden.filter((s) => answer.reached.has(s))],
     ["hang", "hangs, which have no way out and do not rest", every.filter((s) => isHang(d, s))],
     // That a forbidden one is not is what is wanted.
     ["not-reached", "screens that nothing reaches",
@@ -25,6 +26,6 @@ export function remarks(d, answer) {
   ];
   return [
     ...whole.filter(([holds]) => holds).map(([, word, said]) => ({ word, said, states: [] })),
-    ...some.filter(([, , states]) => states.length > 0).map(([word, said, states]) => ({ word, said, states })),
+    ...some.map(([word, said, states]) => ({ word, said, states })).filter(({ states }) => states.length > 0),
   ];
 }

@@ -1,6 +1,6 @@
-// The line of each step, between the places of two screens. It runs in the gaps of the grid and crosses no box:
-// to the next column straight, else along the gap beside its first screen, then along the one beside the row of
-// its last. Lines to the same screen run together, and lines to others beside them.
+// The line of each step, between the places of two screens. It runs in the gaps of the grid and crosses no
+// box: to the next column straight, else along the gap beside its first screen, then along the one beside the
+// row of its last. Lines to the same screen run together, and lines to others beside them.
 import { BOX, GAP } from "./layout.mjs";
 
 /** Steps to the right leave and enter above the middle of a side, steps to the left below it. */
@@ -22,7 +22,8 @@ function cornered(points) {
     const after = Math.min(CORNER, Math.hypot(x2 - x1, y2 - y1) / 2);
     const [ux, uy] = [Math.sign(x1 - x0), Math.sign(y1 - y0)];
     const [vx, vy] = [Math.sign(x2 - x1), Math.sign(y2 - y1)];
-    line += `L${point(x1 - ux * before, y1 - uy * before)}Q${point(x1, y1)} ${point(x1 + vx * after, y1 + vy * after)}`;
+    const [start, end] = [point(x1 - ux * before, y1 - uy * before), point(x1 + vx * after, y1 + vy * after)];
+    line += `L${start}Q${point(x1, y1)} ${end}`;
   }
   return `${line}L${point(...points.at(-1))}`;
 }
@@ -34,7 +35,8 @@ function curve(x0, y0, x1, y1, pull) {
 /** A step of a screen to itself: a loop at its upper right. */
 function loop({ x, y }) {
   const right = x + BOX.width;
-  return `M${point(right - 26, y)}C${point(right - 26, y - 20)} ${point(right + 18, y - 16)} ${point(right, y + 8)}`;
+  const pulls = `${point(right - 26, y - 20)} ${point(right + 18, y - 16)}`;
+  return `M${point(right - 26, y)}C${pulls} ${point(right, y + 8)}`;
 }
 
 /** Two screens of a column: an arc in the gap to their right. */

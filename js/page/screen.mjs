@@ -1,11 +1,10 @@
 // The chosen screen, edited by hand; and new screens.
-import { has, members } from "./bits.mjs";
+import { EMPTY, has, members, put } from "./bits.mjs";
 import { $, button, counted, element } from "./dom.mjs";
 import {
-  NotDone, addGroup, addScreen, called, checkedName, mark, predecessors, removeGroup, removeScreen, rename, screen,
-  screenOf, setGroup, setStep, stepKind, successors,
+  NotDone, addGroup, addScreen, called, checkedName, mark, predecessors, removeGroup, removeScreen, rename,
+  screen, screenOf, setGroup, setStep, stepKind, successors,
 } from "./model.mjs";
-import { EMPTY, put } from "./bits.mjs";
 import { whyForbidden } from "./verdict.mjs";
 
 const MARKS = { "screen-initial": "initial", "screen-forbidden": "marked", "screen-resting": "resting" };
@@ -82,7 +81,10 @@ export class ScreenEditor {
     }
     const kind = this.#kind();
     if (to.length === 1) this.draw(s, to[0], kind);
-    else this.#app.change(to.reduce((next, t) => setStep(next, s, t, kind), d), `draw ${called(d, s)} → ${words.join(", ")}`);
+    else {
+      const next = to.reduce((drawn, t) => setStep(drawn, s, t, kind), d);
+      this.#app.change(next, `draw ${called(d, s)} → ${words.join(", ")}`);
+    }
     $("step-to").value = "";
     $("step-to").focus();
   }
@@ -99,9 +101,10 @@ export class ScreenEditor {
   /** Draws a step, or makes another kind of it, or rubs it out ("none"). */
   draw(from, to, kind) {
     const d = this.#app.draft;
-    if (stepKind(d, from, to) === kind) throw new NotDone(`that step is there: ${called(d, from)} → ${called(d, to)}`);
+    const words = `${called(d, from)} → ${called(d, to)}`;
+    if (stepKind(d, from, to) === kind) throw new NotDone(`that step is there: ${words}`);
     const does = { certain: "draw", option: "only with an option:", none: "rub out" }[kind];
-    this.#app.change(setStep(d, from, to, kind), `${does} ${called(d, from)} → ${called(d, to)}`);
+    this.#app.change(setStep(d, from, to, kind), `${does} ${words}`);
   }
 
   // ---- what is shown
@@ -125,7 +128,8 @@ export class ScreenEditor {
     const shown = this.#open === s ? others : others.slice(0, SHOWN_STEPS);
     const items = shown.map(item);
     const left = others.length - shown.length;
-    if (left > 0) items.push(element("li", {}, button(`and ${left} more`, () => this.#all(s), { className: "more" })));
+    const more = () => button(`and ${left} more`, () => this.#all(s), { className: "more" });
+    if (left > 0) items.push(element("li", {}, more()));
     $(id).replaceChildren(...items);
   }
 
@@ -138,7 +142,8 @@ export class ScreenEditor {
   #names(d) {
     if (this.#listed === d.names) return;
     this.#listed = d.names;
-    $("screen-list").replaceChildren(...d.names.map((name, s) => element("option", { value: name ?? String(s) })));
+    const options = d.names.map((name, s) => element("option", { value: name ?? String(s) }));
+    $("screen-list").replaceChildren(...options);
   }
 
   #facts(d, answer, s) {

@@ -92,12 +92,13 @@ export class TextEditor {
     const first = this.#mistakes?.first ?? [];
     const count = $("text").value.split("\n").length;
     const wrong = new Set(first.map(({ line }) => line));
-    const numbers = Array.from({ length: count }, (_, k) => (wrong.has(k + 1) ? `✕ ${k + 1}` : String(k + 1)));
-    $("text-lines").replaceChildren(...numbers.map((number, k) =>
-      element("div", { className: wrong.has(k + 1) ? "wrong" : "" }, number)));
+    const number = (line) => element("div", { className: wrong.has(line) ? "wrong" : "" },
+      wrong.has(line) ? `✕ ${line}` : String(line));
+    $("text-lines").replaceChildren(...Array.from({ length: count }, (_, k) => number(k + 1)));
     $("text-lines").scrollTop = $("text").scrollTop;
+    const link = (line) => button(`line ${line}`, () => this.#goTo(line), { className: "link" });
     const items = first.map(({ line, reason }) =>
-      element("li", { data: { line } }, button(`line ${line}`, () => this.#goTo(line), { className: "link" }), `: ${reason}`));
+      element("li", { data: { line } }, link(line), `: ${reason}`));
     const others = (this.#mistakes?.count ?? 0) - first.length;
     if (others > 0) items.push(element("li", {}, `and ${counted(others, "more mistake")}`));
     $("text-mistakes").replaceChildren(...items);

@@ -1,11 +1,14 @@
-// The place of the verdict. It is emptied before each answer is asked for, and filled by that answer alone: what
-// goes wrong on the way leaves "no answer" there, and never an old verdict.
+// The place of the verdict. It is emptied before each answer is asked for, and filled by that answer alone:
+// what goes wrong on the way leaves "no answer" there, and never an old verdict.
 import { vacuous } from "./answer.mjs";
 import { members } from "./bits.mjs";
 import { $, button, counted, element } from "./dom.mjs";
 import { called, hasOptions, isHang } from "./model.mjs";
 
-const MARKS = { safe: "✓", unsafe: "✕", depends: "◐", draft: "…", vacuous: "!", mistakes: "✎", none: "?" };
+const MARKS = {
+  safe: "✓", unsafe: "✕", depends: "◐", draft: "…", vacuous: "!", mistakes: "✎", none: "?",
+};
+const EMPTY_DRAFT = "Add a screen, open a text or a file, or look at the example.";
 
 /** A path of more screens is printed small. */
 const LONG_PATH = 40;
@@ -28,18 +31,22 @@ const todo = (d) =>
 /** What the verdict's place says of a draft and its answer: its kind, its word, a sentence. */
 export function wordsOf(d, answer) {
   const options = hasOptions(d);
-  if (d.n === 0) return ["draft", "a draft without screens", "Add a screen, open a text or a file, or look at the example."];
+  if (d.n === 0) return ["draft", "a draft without screens", EMPTY_DRAFT];
   if (answer.verdict === "unsafe") {
     const what = unsafeIn(answer.path.length - 1);
     return ["unsafe", "unsafe", options ? `On every pump, whatever options it has. ${what}` : what];
   }
   if (answer.verdict === "depends") {
-    return ["depends", "depends on the options", `Not safe: with every option a forbidden screen is reached in ${
-      counted(answer.path.length - 1, "step")}, and without any option none is.`];
+    const steps = counted(answer.path.length - 1, "step");
+    const reached = `with every option a forbidden screen is reached in ${steps}`;
+    return ["depends", "depends on the options", `Not safe: ${reached}, and without any option none is.`];
   }
   if (answer.verdict !== "safe" || !answer.isSafe) throw new Error("an answer that is none");
-  if (vacuous(d) !== null) return ["vacuous", "nothing is said yet", `${todo(d)} The command release declines such a table.`];
-  return ["safe", "safe", `No forbidden screen can be reached${options ? ", whatever options a pump has" : ""}.`];
+  if (vacuous(d) !== null) {
+    return ["vacuous", "nothing is said yet", `${todo(d)} The command release declines such a table.`];
+  }
+  const whatever = options ? ", whatever options a pump has" : "";
+  return ["safe", "safe", `No forbidden screen can be reached${whatever}.`];
 }
 
 export class VerdictPlace {
@@ -69,7 +76,8 @@ export class VerdictPlace {
 
   /** The text that was typed is no table. */
   mistakes(count) {
-    this.#put("mistakes", "no answer", `The text has ${counted(count, "mistake")}; what is drawn is the last text without.`);
+    const words = `The text has ${counted(count, "mistake")}; what is drawn is the last text without.`;
+    this.#put("mistakes", "no answer", words);
   }
 
   answer(d, answer) {
@@ -85,7 +93,8 @@ export class VerdictPlace {
 
   #path(d, path) {
     const steps = path.map((s, k) => {
-      const item = element("li", { data: { state: s } }, button(called(d, s), () => this.#onChoose(s), { title: `screen ${s}` }));
+      const choose = button(called(d, s), () => this.#onChoose(s), { title: `screen ${s}` });
+      const item = element("li", { data: { state: s } }, choose);
       if (k === path.length - 1) item.append(element("strong", {}, ` ${whyForbidden(d, s)}`));
       return item;
     });

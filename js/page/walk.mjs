@@ -52,7 +52,8 @@ export function walked(library, d, table, reached, log) {
       : before === undefined ? "it is not initial" : `no step leads there from ${shown(before)}`;
     lines.push(`entry ${found.followed + 1} breaks the walk: ${shown(entry)}: ${why}`);
   }
-  lines.push(`coverage ${found.percent} percent remainder ${found.remainder}: ${found.seen} of ${reached.size}`);
+  const { percent, remainder } = found;
+  lines.push(`coverage ${percent} percent remainder ${remainder}: ${found.seen} of ${reached.size}`);
   lines.push(`not seen ${left.length}: ${left.map(shown).join(", ") || "none"}`);
   return lines;
 }

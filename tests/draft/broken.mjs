@@ -1,5 +1,5 @@
-// The page where something is broken: a module that is missing, damaged, another's, stops or lies; a script that was
-// altered; an error in the page; a text with mistakes. The verdict's place never says safe then.
+// The page where something is broken: a module that is missing, damaged, another's, stops or lies; a script that
+// was altered; an error in the page; a text with mistakes. The verdict's place never says safe then.
 import assert from "node:assert/strict";
 import { readFileSync, writeFileSync } from "node:fs";
 import { pathToFileURL } from "node:url";
@@ -12,7 +12,8 @@ let facts = 0;
 
 const verdict = () => browser.run(() => {
   const place = document.getElementById("verdict");
-  return { kind: place.dataset.verdict, words: place.innerText, title: document.title, path: document.querySelectorAll("#verdict-path li").length };
+  const path = document.querySelectorAll("#verdict-path li").length;
+  return { kind: place.dataset.verdict, words: place.innerText, title: document.title, path };
 });
 
 /** There is no answer, and no word of one; what may stand there is what the release does. */
@@ -31,7 +32,8 @@ async function says(kind, what) {
   assert.equal((await verdict()).kind, kind, what);
 }
 
-const ready = () => browser.until(() => document.getElementById("verdict").dataset.edit !== undefined, "the page is ready");
+const ready = () =>
+  browser.until(() => document.getElementById("verdict").dataset.edit !== undefined, "the page is ready");
 async function open(text = whole) {
   writeFileSync(`${work}/page.html`, text);
   await browser.open("about:blank");
@@ -87,7 +89,8 @@ try {
   const module = /(<script type="text\/plain" id="wasm">)[^<]*/;
   const EMPTY_MODULE = "AGFzbQEAAAA=";
   for (const [what, bytes] of [
-    ["no module", ""], ["half a module", whole.match(module)[0].slice(40, 40 + 60_000)], ["no base64", "*"], ["another module", EMPTY_MODULE],
+    ["no module", ""], ["half a module", whole.match(module)[0].slice(40, 40 + 60_000)], ["no base64", "*"],
+    ["another module", EMPTY_MODULE],
   ]) {
     await open(whole.replace(module, `$1${bytes}`));
     await browser.until(() => document.getElementById("verdict-word").textContent === "no answer", what);
@@ -110,7 +113,8 @@ try {
   const unsafe = (text) => text.replace(/end\n$/, "step running -> over-hard-limit\nend\n");
   for (const [name, how] of [
     ["decide", "stops"], ["decide", "zeros"], ["decide", "nothing"], ["distances", "stops"], ["distances", "nothing"],
-    ["open", "stops"], ["open", "zeros"], ["add_step", "stops"], ["add_step", "zeros"], ["within", "stops"], ["text_read", "stops"],
+    ["open", "stops"], ["open", "zeros"], ["add_step", "stops"], ["add_step", "zeros"], ["within", "stops"],
+    ["text_read", "stops"],
   ]) {
     await example();
     const text = await typed();

@@ -1,5 +1,5 @@
-// Drafts edited by chance: each is what its plain twin says, by the text; what was undone and done again is the
-// same draft; and the answers, with the session kept over the edits, are those of a search by hand.
+// Drafts edited by chance: each is what its plain twin says, by the text; what was undone and done again is
+// the same draft; and the answers, with the session kept over the edits, are those of a search by hand.
 import { Answers, vacuous } from "../../js/page/answer.mjs";
 import { members } from "../../js/page/bits.mjs";
 import { repairs } from "../../js/page/ask.mjs";
@@ -63,7 +63,10 @@ for (let k = 0; k < count; k++) {
   const hasOptions = below(2) === 0;
   let [d, plain] = [model.NEW_DRAFT, new Plain()];
   const drafts = [d];
-  for (let i = 0; i < 3 + below(6); i++) [d, plain] = [model.addScreen(d), Object.assign(plain.copy(), { names: [...plain.names, [-1 - i, null]] })];
+  for (let i = 3 + below(6); i > 0; i--) {
+    d = model.addScreen(d);
+    plain.names.push([-i, null]);
+  }
   history.add(d, "screens");
   drafts.push(d);
   for (let i = 0; i < EDITS; i++) {
@@ -99,13 +102,15 @@ for (let j = 0; j < 64; j++) grouped = model.addGroup(grouped);
 throws(() => model.addGroup(grouped), model.NotDone);
 throws(() => model.addGroup(model.NEW_DRAFT), model.NotDone);
 const named = model.addScreen(grouped, "over-limit");
-for (const name of ["", "12", "none", "end", "home", "a#b", "ó\u0300", "дом", "a\u202eb", "x".repeat(65), "->", "<b>"]) {
+const wrong = ["", "12", "none", "end", "home", "a#b", "ó\u0300", "дом", "a\u202eb", "x".repeat(65), "->", "<b>"];
+for (const name of wrong) {
   throws(() => model.checkedName(library, named, 2, name), model.NotDone, name);
 }
 same(model.checkedName(library, named, 2, " hard limit "), "hard-limit");
 same(model.checkedName(library, model.NEW_DRAFT, 0, "a"), "a");
 same(model.checkedName(library, model.NEW_DRAFT, 0, "дом"), "дом");
-same([model.screenOf(named, "over-limit"), model.screenOf(named, "1"), model.screenOf(named, "1 over-limit"), model.screenOf(named, "1 home"), model.screenOf(named, "2"), model.screenOf(named, "01")], [1, 1, 1, null, null, null]);
+const words = ["over-limit", "over limit", "1", "1 over-limit", "1 home", "2", "01", "-1", ""];
+same(words.map((one) => model.screenOf(named, one)), [1, 1, 1, 1, null, null, null, null, null]);
 same(vacuous(named), "the table has no initial state, so that it is safe whatever else is in it");
 same(vacuous(model.mark(model.setStep(model.addScreen(model.NEW_DRAFT), 0, 0, "certain"), "initial", 0, true)),
   "nothing in the table is forbidden, so that it is safe whatever else is in it");

@@ -1,4 +1,4 @@
-"""The page as a file: tests/draft/file.py PAGE. What its policy allows is what stands in it, and nothing else."""
+"""The page as a file: tests/draft/file.py PAGE. What its policy allows stands in it, and nothing else."""
 import base64
 import hashlib
 import re
@@ -34,7 +34,8 @@ def hashed(text):
 text = open(sys.argv[1], "rb").read().decode()
 page = Page()
 page.feed(text)
-policies = [attrs["content"] for tag, attrs in page.elements if attrs.get("http-equiv") == "Content-Security-Policy"]
+is_policy = [attrs.get("http-equiv") == "Content-Security-Policy" for _, attrs in page.elements]
+policies = [attrs["content"] for is_one, (_, attrs) in zip(is_policy, page.elements) if is_one]
 assert len(policies) == 1, policies
 policy = dict((part.split()[0], part.split()[1:]) for part in policies[0].split(";"))
 scripts = [body for tag, attrs, body in page.texts if tag == "script" and attrs.get("type") != "text/plain"]
@@ -49,17 +50,21 @@ assert policy == {
     "form-action": ["'none'"],
 }, policy
 # The policy stands before all that it is for; no attribute is a script, a style or a place to load from.
-before = [tag for tag, attrs in page.elements[: [a.get("http-equiv") for _, a in page.elements].index("Content-Security-Policy")]]
+before = [tag for tag, _ in page.elements[: is_policy.index(True)]]
 assert before == ["html", "head", "meta"], before
 for tag, attrs in page.elements:
     for name in attrs:
-        assert not name.startswith("on") and name not in ("style", "src", "href", "srcset", "action"), (tag, attrs)
+        assert not name.startswith("on"), (tag, attrs)
+        assert name not in ("style", "src", "href", "srcset", "action"), (tag, attrs)
     assert tag not in ("iframe", "object", "embed", "link", "base", "img"), tag
 # Places are named for namespaces alone; nothing in the script asks the network or makes markup of words.
 places = set(re.findall(r"https?://[^\s\"'`<>)]+", text))
-assert places <= {"http://www.w3.org/2000/svg", "http://www.w3.org/1999/xhtml", "http://www.w3.org/1999/xlink"}, places
-for word in ("innerHTML", "outerHTML", "insertAdjacentHTML", "document.write", "XMLHttpRequest", "WebSocket", "sendBeacon", "eval(", "new Function",
-             'setAttribute("style"', "EventSource", "importScripts", "DOMParser", "createContextualFragment"):
+assert places <= {"http://www.w3.org/2000/svg", "http://www.w3.org/1999/xhtml"}, places
+for word in (
+    "innerHTML", "outerHTML", "insertAdjacentHTML", "document.write", "DOMParser", "createContextualFragment",
+    "XMLHttpRequest", "WebSocket", "EventSource", "sendBeacon", "importScripts", "eval(", "new Function",
+    'setAttribute("style"',
+):
     assert word not in scripts[0], word
 assert len(re.findall(r"\bfetch\(", scripts[0])) == 1, "only the module's own, which the page never calls"
 assert len(text.encode()) <= 700_000

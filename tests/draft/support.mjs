@@ -19,7 +19,8 @@ export function chance(seed) {
 /** A draft as plain sets, edited by its own rules: what the page's draft is held to. */
 export class Plain {
   constructor() {
-    Object.assign(this, { names: [], initial: new Set(), marked: new Set(), resting: new Set(), groups: [], steps: new Map() });
+    Object.assign(this, { names: [], initial: new Set(), marked: new Set(), resting: new Set() });
+    Object.assign(this, { groups: [], steps: new Map() });
   }
 
   copy() {
@@ -36,8 +37,10 @@ export class Plain {
     const number = new Map(this.names.map(([id], s) => [id, s]));
     const list = (ids) => [...ids].map((id) => number.get(id)).sort((a, b) => a - b).join(" ") || "none";
     const rows = (kind) => this.names.flatMap(([from]) => {
-      const to = [...this.steps].filter(([key, value]) => value === kind && key.startsWith(`${from}>`)).map(([key]) => Number(key.split(">")[1]));
-      return to.length === 0 ? [] : [`${kind === "certain" ? "step" : "possible"} ${number.get(from)} -> ${list(to)}`];
+      const ours = [...this.steps].filter(([key, value]) => value === kind && key.startsWith(`${from}>`));
+      const to = ours.map(([key]) => Number(key.split(">")[1]));
+      const fact = kind === "certain" ? "step" : "possible";
+      return to.length === 0 ? [] : [`${fact} ${number.get(from)} -> ${list(to)}`];
     });
     if (this.names.length === 0) return "states 0\nend\n";
     return [

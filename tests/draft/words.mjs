@@ -1,4 +1,4 @@
-// What to look at, and what a log says, beside the commands inspect and replay: the same words of the same tables.
+// What to look at, and what a log says, beside the commands inspect and replay: the same words.
 import { execFileSync } from "node:child_process";
 import { writeFileSync } from "node:fs";
 import { Answers } from "../../js/page/answer.mjs";
@@ -38,7 +38,8 @@ for (let k = 0; k < count; k++) {
   writeFileSync(`${work}/log.txt`, `${words}\nend\n`);
   const { all } = model.tablesOf(library, d);
   const log = logOf(d, { words });
-  same(walked(library, d, all, answer.reached, log), run("replay", "--text", "--text-log", file, `${work}/log.txt`).split("\n").slice(1, -1), what);
+  const replayed = run("replay", "--text", "--text-log", file, `${work}/log.txt`).split("\n").slice(1, -1);
+  same(walked(library, d, all, answer.reached, log), replayed, what);
   same(logOf(d, { bytes: new TextEncoder().encode(`${words}\nend\n`) }), log, what);
 }
 end("words", 3 * count);

@@ -12,5 +12,6 @@ Path(sys.argv[1]).write_text(
     f"""<!DOCTYPE html><meta charset="utf-8"><title>A picture</title>
 <svg id="picture" width="900" height="500"></svg><ul id="legend"></ul>
 <script type="module">{script}
-globalThis.picture = new module_page_picture.Picture(document.getElementById("picture"), {{ legend: document.getElementById("legend") }});
+const [svg, legend] = ["picture", "legend"].map((id) => document.getElementById(id));
+globalThis.picture = new module_page_picture.Picture(svg, {{ legend }});
 </script>""")

@@ -1,5 +1,5 @@
-// Random drafts, each edited many times by the page's own fields and buttons: after each edit the page shows what
-// the archive answers. The cases are read from standard input.
+// Random drafts, each edited many times by the page's own fields and buttons: after each edit the page shows
+// what the archive answers. The cases are read from standard input.
 import { readFileSync } from "node:fs";
 import { agrees, end, onPage, same, shown } from "./support.mjs";
 
@@ -30,7 +30,9 @@ function edited(text, edits, shownBy) {
     turn: (from, to) => { choose(from); step(to).querySelector(".option").click(); },
     mark: (name, s) => { choose(s); $(`screen-${name}`).click(); },
     "new group": (s) => { choose(s); $("group-new").click(); },
-    group: (j, s) => { choose(s); document.querySelector(`#screen-groups input[data-group="${j}"]`).click(); },
+    group: (j, s) => {
+      choose(s); document.querySelector(`#screen-groups input[data-group="${j}"]`).click();
+    },
     add: (name) => { fill("screen-new", name); $("screen-add").click(); },
     rename: (s, name) => { choose(s); fill("screen-name", name); commit("screen-name"); },
     remove: (s) => { choose(s); $("screen-remove").click(); },

@@ -50,10 +50,11 @@ class Draft:
     def table(self, steps):
         rows = {s: sorted(b for a, b in steps if a == s) for s in range(self.n)}
         return shuntberry.Table(
-            self.n, initial=self.initial, marked=self.marked, resting=self.resting, groups=self.groups, steps=rows)
+            self.n, initial=self.initial, marked=self.marked, resting=self.resting, groups=self.groups,
+            steps=rows)
 
     def answers(self):
-        """What the archive says. Reachable screens and distances are of the table with every possible step."""
+        """What the archive says. Reachable screens and distances are of the table with all possible steps."""
         every = self.certain | self.options
         table = self.table(every)
         if self.options:
@@ -120,12 +121,11 @@ def stepped(draft):
     steps = draft.certain | draft.options
     if steps and random.random() < 0.4:
         a, b = random.choice(sorted(steps))
-    to = draft.called(b) if random.random() < 0.5 and draft.called(b) not in map(str, range(draft.n)) else str(b)
+    to = draft.called(b) if random.random() < 0.5 else str(b)
     if (a, b) in steps:
         if random.random() < 0.3:  # only with an option, or no longer
-            here, there = (draft.certain, draft.options) if (a, b) in draft.certain else (draft.options, draft.certain)
-            here.discard((a, b))
-            there.add((a, b))
+            for steps in draft.certain, draft.options:
+                steps ^= {(a, b)}
             return ["turn", a, b]
         draft.certain.discard((a, b))
         draft.options.discard((a, b))

@@ -1,11 +1,13 @@
-// What is opened and saved: every file of tests/files, texts, old files, by the field, by drop and by paste; what is
-// downloaded; a draft that is kept; that a page with unsaved changes asks.
+// What is opened and saved: every file of tests/files, texts, old files, by the field, by drop and by paste;
+// what is downloaded; a draft that is kept; that a page with unsaved changes asks.
 import { readFileSync, readdirSync, rmSync, writeFileSync } from "node:fs";
 import { join, resolve } from "node:path";
 import { WORDS, WORK, anew, downloaded, downloads, end, holds, onPage, same, shown } from "./support.mjs";
 
 const files = resolve("tests/files");
-const note = () => (document.getElementById("note").hidden ? null : document.getElementById("note-words").textContent);
+const note = () => (
+  document.getElementById("note").hidden ? null : document.getElementById("note-words").textContent
+);
 const title = () => document.getElementById("title").value;
 /** Whether the browser would ask before the page is left. */
 const asks = () => !dispatchEvent(new Event("beforeunload", { cancelable: true }));
@@ -18,7 +20,8 @@ async function open(browser, file) {
   });
   await browser.type("#open-file", file);
   await browser.until(
-    () => document.getElementById("verdict").dataset.edit !== globalThis.before || !document.getElementById("note").hidden,
+    () => document.getElementById("verdict").dataset.edit !== globalThis.before ||
+      !document.getElementById("note").hidden,
     `${file} is opened or refused`,
   );
 }
@@ -28,7 +31,9 @@ await onPage(async (browser) => {
   let opened = 0;
   const said = { safe: 0, unsafe: 0, refused: 0, old: 0 };
   for (const name of readdirSync(files).filter((one) => one.endsWith(".table"))) {
-    const [first, second, third] = readFileSync(join(files, name.replace(".table", ".expected")), "utf8").split("\n");
+    const [
+      first, second, third
+    ] = readFileSync(join(files, name.replace(".table", ".expected")), "utf8").split("\n");
     await browser.click("#new");
     await open(browser, join(files, name));
     const found = await browser.run(shown);
@@ -44,7 +49,10 @@ await onPage(async (browser) => {
     } else {
       const [verdict] = second.split(" ");
       said[verdict]++;
-      holds([verdict, "vacuous", "draft"].includes(found.verdict) && WORDS[found.verdict] === found.word, `${name}: ${found.verdict}`);
+      holds(
+        [verdict, "vacuous", "draft"].includes(found.verdict) && WORDS[found.verdict] === found.word,
+        `${name}: ${found.verdict}`
+      );
       if (verdict === "unsafe") same(found.verdict, "unsafe", name);
       if (verdict === "unsafe") same(found.path, third.split(" ").slice(1).map(Number), `${name}: the path`);
       same(found.states.length, Number(first.split(" ")[1]), `${name}: its screens`);
@@ -78,7 +86,8 @@ await onPage(async (browser) => {
 
   // ---- what is no table says why
   for (const [name, data, words] of [
-    ["letter.txt", "Dear drafter,\nthis is a letter.\n", "not of a table"], ["picture.png", Buffer.from([137, 80, 78, 71, 13, 10, 26, 10, 0]), "refused"],
+    ["letter.txt", "Dear drafter,\nthis is a letter.\n", "not of a table"],
+    ["picture.png", Buffer.from([137, 80, 78, 71, 13, 10, 26, 10, 0]), "refused"],
   ]) {
     writeFileSync(join(WORK, name), data);
     await browser.click("#new");
@@ -97,37 +106,58 @@ await onPage(async (browser) => {
     const data = new DataTransfer();
     if (kind === "drop") data.items.add(new File([text], "dropped.txt"));
     else data.setData("text/plain", text);
-    const event = kind === "drop" ? new DragEvent("drop", { dataTransfer: data, bubbles: true, cancelable: true })
+    const event = kind === "drop" ? new DragEvent(
+      "drop", { dataTransfer: data, bubbles: true, cancelable: true }
+    )
       : new ClipboardEvent("paste", { clipboardData: data, bubbles: true, cancelable: true });
     document.body.dispatchEvent(event);
   };
   for (const kind of ["drop", "paste"]) {
     await browser.click("#new");
     await browser.run(give, kind, "states 2\ninitial 0\nforbidden 1\nresting none\nstep 0 -> 1\nend\n");
-    await browser.until(() => document.getElementById("verdict").dataset.verdict === "unsafe", `a text by ${kind}`);
+    await browser.until(
+      () => document.getElementById("verdict").dataset.verdict === "unsafe", `a text by ${kind}`
+    );
   }
 
   // ---- save: the text, the file, the picture
   await browser.click("#new");
   await browser.click("#example");
   await browser.click("#save-text");
-  same(String(await downloaded("example.txt")), readFileSync("examples/pump.txt", "utf8"), "the text is the one that was opened");
+  same(
+    String(await downloaded("example.txt")), readFileSync("examples/pump.txt", "utf8"),
+    "the text is the one that was opened"
+  );
   await browser.click("#save-file");
-  same((await downloaded("example.table")).toString("hex"), readFileSync("examples/pump.table").toString("hex"), "the file of the example");
+  same(
+    (await downloaded("example.table")).toString("hex"), readFileSync("examples/pump.table").toString("hex"),
+    "the file of the example"
+  );
   await browser.click("#save-svg");
   const svg = String(await downloaded("example.svg"));
-  for (const name of ["off", "set-rate", "running", "forbidden", "resting"]) holds(svg.includes(name), `the picture has ${name}`);
+  for (
+    const name of ["off", "set-rate", "running", "forbidden", "resting"]
+  ) holds(svg.includes(name), `the picture has ${name}`);
   const drawn = await browser.run((text) => {
     const page = new DOMParser().parseFromString(text, "image/svg+xml");
     const all = [...page.querySelectorAll("*")];
     return {
       root: page.documentElement.localName, boxes: page.querySelectorAll("g[data-state]").length,
-      steps: page.querySelectorAll("path[data-step]").length, kinds: [...new Set(all.map((one) => one.localName))].sort(),
-      odd: all.flatMap((one) => [...one.attributes]).filter(({ name, value }) => /^on|href|style/.test(name) || /:\/\//.test(value) && name !== "xmlns").length,
+      steps: page.querySelectorAll("path[data-step]").length,
+      kinds: [...new Set(all.map((one) => one.localName))].sort(),
+      odd: all.flatMap((one) => [...one.attributes]).filter(
+        ({ name, value }) => /^on|href|style/.test(name) || /:\/\//.test(value) && name !== "xmlns"
+      ).length,
     };
   }, svg);
-  same([drawn.root, drawn.boxes, drawn.steps, drawn.odd], ["svg", 9, 14, 0], "the picture as a file that stands alone");
-  holds(!drawn.kinds.some((kind) => ["script", "image", "foreignObject", "use", "a", "style"].includes(kind)), `of plain shapes: ${drawn.kinds}`);
+  same(
+    [drawn.root, drawn.boxes, drawn.steps, drawn.odd], ["svg", 9, 14, 0],
+    "the picture as a file that stands alone"
+  );
+  holds(
+    !drawn.kinds.some((kind) => ["script", "image", "foreignObject", "use", "a", "style"].includes(kind)),
+    `of plain shapes: ${drawn.kinds}`
+  );
   same(await browser.run(asks), false, "saved");
 
   // ---- unsaved changes: the page asks
@@ -152,7 +182,10 @@ await onPage(async (browser) => {
   await anew(browser);
   same((await browser.run(shown)).verdict, "draft", "a new page has no table");
   await browser.click("#offer-take");
-  holds(await browser.run(() => document.getElementById("list").textContent.includes("kept-screen")), "it is there again");
+  holds(
+    await browser.run(() => document.getElementById("list").textContent.includes("kept-screen")),
+    "it is there again"
+  );
   same(await browser.run(asks), true, "and it is not saved yet");
   await browser.click("#keep");
   same(await browser.run(kept), 0, "switched off, nothing is kept");

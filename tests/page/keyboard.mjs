@@ -1,10 +1,12 @@
-// The same by keyboard alone: from the first Tab to the saved text no mouse is used, and no focus is set by script.
+// The same by keyboard alone: from the first Tab to the saved text no mouse is used, and no focus is set by
+// script.
 import { agrees, downloaded, end, holds, onPage, same, shown } from "./support.mjs";
 
 const RUNNING = 4, LIMIT = 7;
 const NEVER = null;
 const UNSAFE = {
-  verdict: "unsafe", path: [0, 1, 2, 3, 4, 7], reached: [0, 1, 2, 3, 4, 5, 6, 7, 8], distances: [5, 4, 3, 2, 1, 2, 3, 0, NEVER],
+  verdict: "unsafe", path: [0, 1, 2, 3, 4, 7], reached: [0, 1, 2, 3, 4, 5, 6, 7, 8],
+  distances: [5, 4, 3, 2, 1, 2, 3, 0, NEVER],
 };
 const focus = () => {
   const on = document.activeElement;
@@ -64,7 +66,9 @@ await onPage(async (browser) => {
 
   // ---- the picture: choose, zoom
   await goTo("picture");
-  const scale = () => Number(/scale\(([^)]*)\)/.exec(document.querySelector("#picture > g").getAttribute("transform"))[1]);
+  const scale = () => Number(
+    /scale\(([^)]*)\)/.exec(document.querySelector("#picture > g").getAttribute("transform"))[1]
+  );
   const first = await browser.run(scale);
   await browser.keys("+");
   holds((await browser.run(scale)) > first, "plus makes it larger");
@@ -80,7 +84,10 @@ await onPage(async (browser) => {
   // ---- search
   await goTo("search", ["Shift", "Tab"]);
   await browser.write("limit");
-  same(await browser.run(() => document.querySelectorAll("#picture rect[fill='#ffd75e']").length), 1, "the search finds one");
+  same(
+    await browser.run(() => document.querySelectorAll("#picture rect[fill='#ffd75e']").length), 1,
+    "the search finds one"
+  );
   await browser.keys(["Control", "a"], "Delete");
 
   // ---- add a screen, mark it, remove it
@@ -90,10 +97,16 @@ await onPage(async (browser) => {
   same((await browser.run(shown)).states.length, 10, "a screen added");
   await goTo("screen-resting");
   await browser.keys("Space");
-  holds(await browser.run(() => document.querySelector("#list tr[data-state='9'] .is").textContent === "resting"), "it rests");
+  holds(
+    await browser.run(() => document.querySelector("#list tr[data-state='9'] .is").textContent === "resting"),
+    "it rests"
+  );
   await goTo("group-new");
   await browser.keys("Enter");
-  same(await browser.run(() => document.querySelector("#list tr[data-state='9'] .groups").textContent), "0", "in a group");
+  same(
+    await browser.run(() => document.querySelector("#list tr[data-state='9'] .groups").textContent), "0",
+    "in a group"
+  );
   await tabTo(({ kind }) => kind === "tr", "a row");
   await browser.keys("End");
   same((await browser.run(focus)).state, "9", "End goes to the last");
@@ -128,7 +141,10 @@ await onPage(async (browser) => {
   await browser.keys("Right");
   await goTo("repairs-ask");
   await browser.keys("Enter");
-  holds((await browser.run(() => document.querySelectorAll("#repairs li[data-from]").length)) > 0, "which step to rub out");
+  holds(
+    (await browser.run(() => document.querySelectorAll("#repairs li[data-from]").length)) > 0,
+    "which step to rub out"
+  );
   await tabTo(({ kind }) => kind === "button", "a button");
   await goTo("allowance", ["Shift", "Tab"]);
   await browser.keys("Home");

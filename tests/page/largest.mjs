@@ -1,18 +1,20 @@
-// 512 screens: dense ones, and a pump of that size. What the archive says of them is what the page shows; how long an
-// edit takes is measured.
+// 512 screens: dense ones, and a pump of that size. What the archive says of them is what the page shows; how
+// long an edit takes is measured.
 import { readFileSync } from "node:fs";
 import { agrees, anew, end, holds, onPage, same, shown } from "./support.mjs";
 
 const [DENSE, SPARSE] = process.argv.slice(2); // files
 const expected = JSON.parse(readFileSync(0, "utf8"));
-/** What an edit and a start may take, in milliseconds, on a machine that does other work too. The bars are 100 and 500: look
- * at what is printed. */
+/** What an edit and a start may take, in milliseconds, on a machine that does other work too. The bars are
+ * 100 and 500: look at what is printed. */
 const SLOW = 1500;
 
 async function open(browser, file) {
   const before = await browser.run(() => document.getElementById("verdict").dataset.edit);
   await browser.type("#open-file", file);
-  await browser.until((edit) => document.getElementById("verdict").dataset.edit !== edit, "the file is opened", before);
+  await browser.until(
+    (edit) => document.getElementById("verdict").dataset.edit !== edit, "the file is opened", before
+  );
 }
 
 /** Draws a step and undoes it, some times: the median time until everything is shown. */
@@ -42,7 +44,9 @@ await onPage(async (browser) => {
   same(dense.states.length, 512, "the list has all");
   await browser.run(() => document.querySelector("#list tr[data-state='300'] .number").click());
   const chosen = await browser.run(shown);
-  holds(chosen.drawn.includes(300) && chosen.drawn.length > dense.drawn.length, "the chosen screen with its own");
+  holds(
+    chosen.drawn.includes(300) && chosen.drawn.length > dense.drawn.length, "the chosen screen with its own"
+  );
   const [from, to] = expected.missing;
   const denseTime = await browser.run(timed, from, to);
 
@@ -53,7 +57,8 @@ await onPage(async (browser) => {
   const sparseTime = await browser.run(timed, 5, 400);
   holds(ready < SLOW, `ready after ${ready} ms`);
   holds(Math.max(denseTime, sparseTime) < SLOW, `an edit takes ${denseTime} and ${sparseTime} ms`);
-  console.log(`page: ready after ${ready.toFixed(0)} ms; an edit of 512 dense screens is shown in ${denseTime.toFixed(0)} ms, ` +
+  const [start, slower] = [ready.toFixed(0), denseTime.toFixed(0)];
+  console.log(`page: ready after ${start} ms; an edit of 512 dense screens is shown in ${slower} ms, ` +
     `of a pump of 512 in ${sparseTime.toFixed(0)} ms`);
 });
 end("512 screens", 20);

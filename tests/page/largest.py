@@ -27,10 +27,11 @@ def answers(table):
     }
 
 
-# Each screen leads to each; to the forbidden one only the last but one does, which only the one before it leads to, and so on for three.
+# Each screen leads to each; but to the forbidden one only the last but one does, to which only the one before
+# it does, and so on for three.
 behind = {LAST: {LAST - 1}, LAST - 1: {LAST - 2}, LAST - 2: {LAST - 3}}
-dense = shuntberry.Table(
-    N, initial={0}, marked={LAST}, resting=set(), steps={s: [t for t in EVERY if s in behind.get(t, EVERY)] for s in EVERY})
+rows = {s: [t for t in EVERY if s in behind.get(t, EVERY)] for s in EVERY}
+dense = shuntberry.Table(N, initial={0}, marked={LAST}, resting=set(), steps=rows)
 sparse = shuntberry.Table(
     N, initial={0}, marked={LAST}, resting=set(EVERY), groups=[set(range(10)), {500, 501}],
     steps={s: sorted({(2 * s + 1) % N, (2 * s + 2) % N} - {LAST}) for s in EVERY})

@@ -1,5 +1,5 @@
-// Where the picture puts screens and steps, on random tables: no box lies on another, no step crosses one, layers
-// are distances from the initial screens, a screen keeps its place over edits that are not about it.
+// Where the picture puts screens and steps, on random tables: no box lies on another, no step crosses one,
+// layers are distances from the initial screens, a screen keeps its place over edits that are not about it.
 import assert from "node:assert/strict";
 import { BOX, MANY_STEPS, arranged, shownOf } from "../../js/page/layout.mjs";
 import { routesOf } from "../../js/page/routes.mjs";
@@ -19,7 +19,8 @@ function random(bound) {
 }
 const some = (n, most) => new Set(Array.from({ length: random(most + 1) }, () => random(n)));
 
-/** Distances from a set of screens, by relaxing every step until nothing changes: not as the layout does it. */
+/** Distances from a set of screens, by relaxing every step until nothing changes: not as the layout does
+ * it. */
 function relaxed(n, roots, steps) {
   const away = Array.from({ length: n }, (_, s) => (roots.has(s) ? 0 : Infinity));
   for (let changed = true; changed;) {
@@ -56,15 +57,22 @@ function viewOf(n, names, initial, steps) {
   let path = null;
   if (reached.size > 0 && random(2) === 0) {
     path = [[...reached][random(reached.size)]];
-    while (away[path[0]] > 0) path.unshift(steps.find(({ from, to }) => to === path[0] && away[from] === away[to] - 1).from);
+    while (away[path[0]] > 0) path.unshift(
+      steps.find(({ from, to }) => to === path[0] && away[from] === away[to] - 1).from
+    );
   }
   return {
-    n, names, initial, reached, ...stepping(n, steps), path, isAnswered: true, chosen: random(3) === 0 && n > 0 ? random(n) : null,
-    forbidden: new Set(path?.slice(-1)), hang: new Set(), resting: some(n, 3), groups: [], groupNames: [], distance: away,
+    n, names, initial, reached, ...stepping(n, steps), path, isAnswered: true,
+    chosen: random(3) === 0 && n > 0 ? random(n) : null,
+    forbidden: new Set(path?.slice(-1)), hang: new Set(), resting: some(n, 3), groups: [], groupNames: [],
+    distance: away,
   };
 }
 
-const NAMES = ["", "__proto__", "constructor", "<script>", "\u202e", "x".repeat(9999), "toString", "a", "a", "0", "1", "\ud800"];
+const NAMES = [
+  "", "__proto__", "constructor", "<script>", "\u202e", "x".repeat(9999), "toString", "a", "a", "0", "1",
+  "\ud800"
+];
 function randomView(n, most) {
   const steps = [];
   const drawn = new Set();
@@ -104,7 +112,11 @@ function pointsOf(d) {
       for (let k = 1; k <= 24; k++) {
         let hull = [last, ...ends];
         while (hull.length > 1) {
-          hull = hull.slice(1).map(([x, y], j) => [hull[j][0] + ((x - hull[j][0]) * k) / 24, hull[j][1] + ((y - hull[j][1]) * k) / 24]);
+          hull = hull.slice(1).map(
+            ([x, y], j) => [
+              hull[j][0] + ((x - hull[j][0]) * k) / 24, hull[j][1] + ((y - hull[j][1]) * k) / 24
+            ]
+          );
         }
         points.push(hull[0]);
       }
@@ -126,7 +138,8 @@ function crossing(steps, places) {
       if (points.some(inside)) return steps[k];
     }
     const touches = ([x, y], place) =>
-      x >= place.x - 0.1 && x <= place.x + BOX.width + 0.1 && y >= place.y - 0.1 && y <= place.y + BOX.height + 0.1;
+      x >= place.x - 0.1 && x <= place.x + BOX.width + 0.1 && y >= place.y - 0.1 &&
+        y <= place.y + BOX.height + 0.1;
     assert.ok(touches(points[0], places.get(steps[k].from)), d);
     assert.ok(touches(points.at(-1), places.get(steps[k].to)), d);
   }
@@ -137,25 +150,40 @@ const inLayer = ({ apart, layer, inLayer, inShelf }) => JSON.stringify([apart, l
 
 function look(view, layout, what) {
   const { places, shown, width, height } = layout;
-  holds(places.size === shown.states.length && shown.states.every((s) => places.has(s)), what, "each screen has a place");
+  holds(
+    places.size === shown.states.length && shown.states.every((s) => places.has(s)), what,
+    "each screen has a place"
+  );
   holds(noOverlap(places), what, "no box lies on another");
   const all = [...places.values()];
-  holds(all.every(({ x, y }) => x >= 0 && y >= 0 && x + BOX.width <= width && y + BOX.height <= height), what, "within the picture");
+  holds(
+    all.every(({ x, y }) => x >= 0 && y >= 0 && x + BOX.width <= width && y + BOX.height <= height), what,
+    "within the picture"
+  );
   const away = relaxed(view.n, view.initial, view.steps);
   for (const [s, place] of places) {
     holds(place.apart === !view.reached.has(s), what, `${s} is apart only if it cannot be reached`);
     if (!place.apart) holds(place.layer === away[s], what, `${s} is in the layer of its distance`);
   }
-  const [lowest, highest] = [true, false].map((apart) => all.filter((place) => place.apart === apart).map(({ y }) => y));
+  const [lowest, highest] = [true, false].map(
+    (apart) => all.filter((place) => place.apart === apart).map(({ y }) => y)
+  );
   holds(Math.max(0, ...highest) < Math.min(Infinity, ...lowest), what, "those apart are below");
   const [one] = all.filter(({ apart }) => !apart);
   for (const place of all) {
     if (place.apart || one.apart || place.y !== one.y) continue;
-    holds(place.layer === one.layer || place.layer > one.layer === place.x > one.x, what, "later layers stand to the right");
+    holds(
+      place.layer === one.layer || place.layer > one.layer === place.x > one.x, what,
+      "later layers stand to the right"
+    );
   }
   const crossed = crossing(shown.steps, places);
   holds(crossed === null, what, "crosses a box:", JSON.stringify(crossed));
-  holds(JSON.stringify([...arranged(view, view.chosen).places]) === JSON.stringify([...arranged(view, view.chosen).places]), what, "the same again");
+  holds(
+    JSON.stringify(
+      [...arranged(view, view.chosen).places]
+    ) === JSON.stringify([...arranged(view, view.chosen).places]), what, "the same again"
+  );
 }
 
 /** One step drawn or rubbed out: who is in the same layer as before has the same place in it. */
@@ -184,7 +212,8 @@ function edited(view, layout, what) {
   }
 }
 
-/** A screen taken away: the numbers above it go down by one, and each that keeps its layer keeps its place. */
+/** A screen taken away: the numbers above it go down by one, and each that keeps its layer keeps its
+ * place. */
 function without(view, layout, what) {
   const gone = random(view.n);
   const next = (s) => (s > gone ? s - 1 : s);
@@ -214,7 +243,10 @@ for (let k = 0; k < COUNT; k++) {
   const renamed = { ...view, names: view.names.map((name, s) => (s === 0 ? "another-name" : name)) };
   if (new Set(view.names).size === n) {
     layout = arranged(renamed, renamed.chosen, layout);
-    holds(JSON.stringify([...layout.places]) === JSON.stringify([...arranged(view, view.chosen).places]), what, "a new name moves nothing");
+    holds(
+      JSON.stringify([...layout.places]) === JSON.stringify([...arranged(view, view.chosen).places]), what,
+      "a new name moves nothing"
+    );
   }
 }
 
@@ -229,24 +261,46 @@ const large = randomView(512, 1500);
 look(large, arranged(large, null), "512 screens at random");
 
 const every = [];
-for (let from = 0; from < 512; from++) for (let to = 0; to < 512; to++) if (to !== 9 || from === 3) every.push({ from, to, option: false });
-const dense = { ...viewOf(512, [], new Set([0]), every), names: new Array(512).fill(""), path: [0, 3, 9], chosen: null };
+for (
+  let from = 0; from < 512; from++
+) for (let to = 0; to < 512; to++) if (to !== 9 || from === 3) every.push({ from, to, option: false });
+const dense = {
+  ...viewOf(512, [], new Set([0]), every), names: new Array(512).fill(""), path: [0, 3, 9], chosen: null
+};
 const has = ({ steps }, { from, to }) => steps.some((step) => step.from === from && step.to === to);
 const part = shownOf(dense, null);
 holds(part.isPart && part.isCut && part.steps.length <= MANY_STEPS, "dense: a part is drawn, and it is said");
 for (const [from, to] of [[0, 3], [3, 9]]) {
-  holds(part.steps.some((step) => step.from === from && step.to === to), "dense: the path is drawn", from, to);
+  holds(
+    part.steps.some((step) => step.from === from && step.to === to), "dense: the path is drawn", from, to
+  );
 }
-holds(part.steps.every(({ from, to }) => [0, 3, 9].includes(from) || [0, 3, 9].includes(to)), "dense: only the path's neighbours");
-for (const s of [0, 3, 9]) holds(part.steps.some(({ from, to }) => from === s || to === s), "dense: each has neighbours");
+holds(
+  part.steps.every(({ from, to }) => [0, 3, 9].includes(from) || [0, 3, 9].includes(to)),
+  "dense: only the path's neighbours"
+);
+for (
+  const s of [0, 3, 9]
+) holds(part.steps.some(({ from, to }) => from === s || to === s), "dense: each has neighbours");
 const chosen = shownOf(dense, 100);
-holds(every.filter(({ from, to }) => from === 100 || to === 100).every((step) => has(chosen, step)), "dense: the chosen one's own");
+holds(
+  every.filter(({ from, to }) => from === 100 || to === 100).every((step) => has(chosen, step)),
+  "dense: the chosen one's own"
+);
 const few = shownOf({ ...dense, path: null }, null);
-holds(few.states.length === 1 && few.steps.length === 0, "dense and safe, nothing chosen: the initial screen");
+holds(
+  few.states.length === 1 && few.steps.length === 0, "dense and safe, nothing chosen: the initial screen"
+);
 const wide = { ...dense, ...stepping(512, every.filter((_, k) => k % 100 === 0)) };
 const beside = wide.steps.filter(({ from, to }) => [0, 3, 9].includes(from) || [0, 3, 9].includes(to));
-holds(wide.steps.length > MANY_STEPS && !shownOf(wide, null).isCut, "of few neighbours it is not said that they are cut");
-holds(beside.length > 20 && beside.every((step) => has(shownOf(wide, null), step)), "of few neighbours all are drawn");
+holds(
+  wide.steps.length > MANY_STEPS && !shownOf(wide, null).isCut,
+  "of few neighbours it is not said that they are cut"
+);
+holds(
+  beside.length > 20 && beside.every((step) => has(shownOf(wide, null), step)),
+  "of few neighbours all are drawn"
+);
 look(dense, arranged(dense, null), "dense");
 
 assert.ok(facts >= 20 * COUNT, `only ${facts} facts`);

@@ -1,4 +1,5 @@
-// Firefox by its own remote protocol, Marionette: messages of JSON with their length before them, over a socket.
+// Firefox by its own remote protocol, Marionette: messages of JSON with their length before them, over a
+// socket.
 import { spawn } from "node:child_process";
 import { existsSync, mkdirSync, readFileSync, writeFileSync } from "node:fs";
 import { connect } from "node:net";
@@ -9,11 +10,16 @@ const STARTING = 60_000;
 const later = (time) => new Promise((resolve) => setTimeout(resolve, time));
 
 const preferences = (downloads) => ({
-  "marionette.port": 0, "browser.download.folderList": 2, "browser.download.dir": downloads, "browser.download.useDownloadDir": true,
-  "browser.download.always_ask_before_handling_new_types": false, "browser.shell.checkDefaultBrowser": false, "app.update.enabled": false,
-  "browser.startup.homepage": "about:blank", "browser.aboutwelcome.enabled": false, "datareporting.policy.dataSubmissionEnabled": false,
-  "toolkit.telemetry.reportingpolicy.firstRun": false, "network.captive-portal-service.enabled": false, "network.connectivity-service.enabled": false,
-  "extensions.systemAddon.update.enabled": false, "app.normandy.enabled": false, "services.settings.server": "data:,",
+  "marionette.port": 0, "browser.download.folderList": 2, "browser.download.dir": downloads,
+  "browser.download.useDownloadDir": true,
+  "browser.download.always_ask_before_handling_new_types": false, "browser.shell.checkDefaultBrowser": false,
+  "app.update.enabled": false,
+  "browser.startup.homepage": "about:blank", "browser.aboutwelcome.enabled": false,
+  "datareporting.policy.dataSubmissionEnabled": false,
+  "toolkit.telemetry.reportingpolicy.firstRun": false, "network.captive-portal-service.enabled": false,
+  "network.connectivity-service.enabled": false,
+  "extensions.systemAddon.update.enabled": false, "app.normandy.enabled": false,
+  "services.settings.server": "data:,",
 });
 
 export class Firefox {
@@ -27,9 +33,13 @@ export class Firefox {
   static async start({ downloads, profile }) {
     const firefox = new Firefox();
     mkdirSync(profile, { recursive: true });
-    const lines = Object.entries(preferences(downloads)).map(([name, value]) => `user_pref(${JSON.stringify(name)}, ${JSON.stringify(value)});`);
+    const lines = Object.entries(
+      preferences(downloads)
+    ).map(([name, value]) => `user_pref(${JSON.stringify(name)}, ${JSON.stringify(value)});`);
     writeFileSync(join(profile, "user.js"), `${lines.join("\n")}\n`);
-    firefox.#program = spawn("firefox-esr", ["--headless", "--marionette", "--no-remote", "--profile", profile], { stdio: "ignore" });
+    firefox.#program = spawn(
+      "firefox-esr", ["--headless", "--marionette", "--no-remote", "--profile", profile], { stdio: "ignore" }
+    );
     try {
       await firefox.#connect(await firefox.#port(join(profile, "MarionetteActivePort")));
       await firefox.ask("WebDriver:NewSession", {});
@@ -96,7 +106,12 @@ export class Firefox {
 
   /** What a function gives back in the page; what it is given is JSON. */
   run = async (work, ...given) =>
-    (await this.ask("WebDriver:ExecuteScript", { script: `return (${work}).apply(null, arguments)`, args: given, sandbox: null })).value;
+    (
+      await this.ask(
+        "WebDriver:ExecuteScript",
+        { script: `return (${work}).apply(null, arguments)`, args: given, sandbox: null }
+      )
+    ).value;
 
   async click(selector) {
     const { value } = await this.ask("WebDriver:FindElement", { using: "css selector", value: selector });
@@ -113,7 +128,9 @@ export class Firefox {
   }
 
   async screenshot(file) {
-    writeFileSync(file, Buffer.from((await this.ask("WebDriver:TakeScreenshot", { full: false })).value, "base64"));
+    writeFileSync(
+      file, Buffer.from((await this.ask("WebDriver:TakeScreenshot", { full: false })).value, "base64")
+    );
   }
 
   async end() {

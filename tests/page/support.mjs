@@ -24,10 +24,13 @@ export const end = (name, least) => {
   console.log(`page: ${name}: ${facts} facts as expected`);
 };
 
-/** Does something in a browser that has the page, and looks at what the browser has to say of it at the end. */
+/** Does something in a browser that has the page, and looks at what the browser has to say of it at the
+ * end. */
 export async function onPage(work, { width = 1280, height = 860 } = {}) {
   mkdirSync(downloads, { recursive: true });
-  const browser = await Browser.start({ downloads, profile: join(WORK, `profile-${process.pid}`), width, height });
+  const browser = await Browser.start(
+    { downloads, profile: join(WORK, `profile-${process.pid}`), width, height }
+  );
   try {
     await anew(browser);
     await work(browser);
@@ -41,7 +44,8 @@ export async function onPage(work, { width = 1280, height = 860 } = {}) {
 export async function anew(browser) {
   await browser.open(url);
   return browser.until(
-    () => (document.getElementById("verdict").dataset.edit === undefined ? 0 : performance.now()), "the page is ready",
+    () => (document.getElementById("verdict").dataset.edit === undefined ? 0 : performance.now()),
+    "the page is ready",
   );
 }
 
@@ -59,14 +63,19 @@ export async function quiet(browser) {
     const { method, params } = JSON.parse(message).message;
     if (method !== "Network.requestWillBeSent" && method !== "Network.webSocketCreated") continue;
     const asked = params.request?.url ?? params.url;
-    if (params.documentURL?.startsWith("chrome:") && asked.startsWith("chrome:")) continue; // the browser's own first tab
+    const isOwnTab = params.documentURL?.startsWith("chrome:") && asked.startsWith("chrome:");
+    if (isOwnTab) continue; // the browser's own first one
     count++;
-    holds(asked === url || others.has(asked) || asked.startsWith("data:") || asked.startsWith(`blob:${new URL(url).protocol}`), `a request: ${asked}`);
+    holds(
+      asked === url || others.has(asked) || asked.startsWith("data:") ||
+        asked.startsWith(`blob:${new URL(url).protocol}`), `a request: ${asked}`
+    );
   }
   holds(count > 0, "the browser tells of requests");
 }
 
-/** What the page shows: the verdict with its path, and of each screen whether it can be reached and how far it is. */
+/** What the page shows: the verdict with its path, and of each screen whether it can be reached and how
+ * far it is. */
 export function shown() {
   const $ = (id) => document.getElementById(id);
   const numbers = (nodes, name) => [...nodes].map((node) => Number(node.dataset[name]));
@@ -74,26 +83,35 @@ export function shown() {
   const words = (row, name) => row.querySelector(`.${name}`).textContent.replace(/^[●○] /, "");
   const path = numbers($("verdict-path").children, "state");
   const boxes = [...$("picture").querySelectorAll("g[data-state]")];
-  const lit = boxes.filter((box) => ["#c6e2f5", "#e8833a"].includes(box.querySelector("path").getAttribute("fill")));
+  const lit = boxes.filter(
+    (box) => ["#c6e2f5", "#e8833a"].includes(box.querySelector("path").getAttribute("fill"))
+  );
   const onPath = [...$("picture").querySelectorAll("path[data-step][marker-end='url(#picture-path)']")];
   return {
-    verdict: $("verdict").dataset.verdict, word: $("verdict-word").textContent, hidden: $("verdict-path").hidden,
+    verdict: $("verdict").dataset.verdict, word: $("verdict-word").textContent,
+    hidden: $("verdict-path").hidden,
     path: path.length > 0 ? path : null,
-    states: numbers(rows, "state"), edit: Number($("verdict").dataset.edit), note: $("note").hidden ? null : $("note-words").textContent,
+    states: numbers(rows, "state"), edit: Number($("verdict").dataset.edit),
+    note: $("note").hidden ? null : $("note-words").textContent,
     reached: numbers(rows.filter((row) => row.dataset.reached === "yes"), "state"),
     reachedWords: rows.flatMap((row) => (words(row, "reached") === "yes" ? [Number(row.dataset.state)] : [])),
     distances: rows.map((row) => (row.dataset.distance === "" ? null : Number(row.dataset.distance))),
-    distanceWords: rows.map((row) => (words(row, "distance") === "never" ? null : Number(words(row, "distance")))),
+    distanceWords: rows.map(
+      (row) => (words(row, "distance") === "never" ? null : Number(words(row, "distance")))
+    ),
     drawn: numbers(boxes, "state").sort((a, b) => a - b), lit: numbers(lit, "state").sort((a, b) => a - b),
     pathSteps: onPath.map((line) => line.dataset.step).sort(),
-    numbered: [...$("picture").querySelectorAll("g[data-path]")].map((badge) => badge.querySelector("text").textContent),
+    numbered: [
+      ...$("picture").querySelectorAll("g[data-path]")
+    ].map((badge) => badge.querySelector("text").textContent),
     isPart: boxes.length < rows.length,
   };
 }
 
 /** The words of the verdict that go with each kind. */
 export const WORDS = {
-  safe: "safe", unsafe: "unsafe", depends: "depends on the options", draft: "a draft without screens", vacuous: "nothing is said yet",
+  safe: "safe", unsafe: "unsafe", depends: "depends on the options", draft: "a draft without screens",
+  vacuous: "nothing is said yet",
 };
 
 /** What the page shows is what is expected: in the verdict, in the list, in its words, and in the picture. */
@@ -114,14 +132,17 @@ export function agrees(found, expected, what) {
 /** The place of a screen in the picture, in the window. */
 export function placeOf(state) {
   const shape = document.querySelector(`#picture g[data-state="${state}"] path`).getBoundingClientRect();
-  return { x: shape.x + shape.width / 2, y: shape.y + shape.height / 2, width: shape.width, height: shape.height };
+  return {
+    x: shape.x + shape.width / 2, y: shape.y + shape.height / 2, width: shape.width, height: shape.height
+  };
 }
 
 /** A file that was downloaded, once it is whole. */
 export async function downloaded(name) {
   const file = join(downloads, name);
   for (let tries = 0; tries < 400; tries++) {
-    if (existsSync(file) && !readdirSync(downloads).some((one) => one.endsWith(".crdownload"))) return readFileSync(file);
+    const isGoingOn = readdirSync(downloads).some((one) => /\.(crdownload|part)$/.test(one));
+    if (existsSync(file) && !isGoingOn) return readFileSync(file);
     await new Promise((resolve) => setTimeout(resolve, 25));
   }
   throw new Error(`${name} was not downloaded: there are ${readdirSync(downloads).join(", ")}`);

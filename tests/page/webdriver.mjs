@@ -7,11 +7,14 @@ import { createInterface } from "node:readline";
 const ELEMENT = "element-6066-11e4-a52e-4f735466cecf";
 /** Keys that are no characters, as WebDriver numbers them. */
 export const KEYS = {
-  Backspace: "\uE003", Tab: "\uE004", Enter: "\uE007", Shift: "\uE008", Control: "\uE009", Alt: "\uE00A", Escape: "\uE00C",
-  Space: "\uE00D", End: "\uE010", Home: "\uE011", Left: "\uE012", Up: "\uE013", Right: "\uE014", Down: "\uE015", Delete: "\uE017",
+  Backspace: "\uE003", Tab: "\uE004", Enter: "\uE007", Shift: "\uE008", Control: "\uE009", Alt: "\uE00A",
+  Escape: "\uE00C",
+  Space: "\uE00D", End: "\uE010", Home: "\uE011", Left: "\uE012", Up: "\uE013", Right: "\uE014",
+  Down: "\uE015", Delete: "\uE017",
 };
 const ARGUMENTS = [
-  "--headless=new", "--no-sandbox", "--disable-gpu", "--disable-dev-shm-usage", "--no-first-run", "--force-device-scale-factor=1",
+  "--headless=new", "--no-sandbox", "--disable-gpu", "--disable-dev-shm-usage", "--no-first-run",
+  "--force-device-scale-factor=1",
   "--disable-background-networking", "--disable-component-update", "--disable-sync", "--disable-default-apps",
 ];
 const STARTING = 30_000;
@@ -118,7 +121,8 @@ export class Browser {
     return (await this.#ask("POST", "/element", { using: "css selector", value: selector }))[ELEMENT];
   }
 
-  /** A click where a person would, who scrolls there first: it fails on what is hidden or lies below something else. */
+  /** A click where a person would, who scrolls there first: it fails on what is hidden or lies below
+   * something else. */
   async click(selector) {
     await this.run((sought) => document.querySelector(sought)?.scrollIntoView({ block: "center" }), selector);
     await this.#ask("POST", `/element/${await this.find(selector)}/click`);
@@ -143,11 +147,14 @@ export class Browser {
 
   /** The mouse from point to point of the window, its button down in between. */
   async drag(from, ...to) {
-    const move = ({ x, y }, duration = 0) => ({ type: "pointerMove", origin: "viewport", x: Math.round(x), y: Math.round(y), duration });
+    const move = (
+      { x, y }, duration = 0
+    ) => ({ type: "pointerMove", origin: "viewport", x: Math.round(x), y: Math.round(y), duration });
     await this.#actions([{
       type: "pointer", id: "mouse", parameters: { pointerType: "mouse" },
       actions: [
-        move(from), { type: "pointerDown", button: 0 }, ...to.map((point) => move(point, 60)), { type: "pointerUp", button: 0 },
+        move(from), { type: "pointerDown", button: 0 }, ...to.map((point) => move(point, 60)),
+        { type: "pointerUp", button: 0 },
       ],
     }]);
   }
@@ -157,7 +164,9 @@ export class Browser {
   async wheel({ x, y }, deltaY) {
     await this.#actions([{
       type: "wheel", id: "wheel",
-      actions: [{ type: "scroll", origin: "viewport", x: Math.round(x), y: Math.round(y), deltaX: 0, deltaY }],
+      actions: [
+        { type: "scroll", origin: "viewport", x: Math.round(x), y: Math.round(y), deltaX: 0, deltaY }
+      ],
     }]);
   }
 

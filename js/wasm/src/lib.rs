@@ -136,12 +136,12 @@ pub unsafe extern "C" fn shuntberry_text_read(
     };
 }
 
-/// Prints the table of a store, which a call accepts, and the rows of steps that are only possible, where they
-/// are not null. The names are lines of a number and a name.
+/// Prints the table of a store, which a call accepts, and the rows of steps that are only possible, where
+/// they are not null. The names are lines of a number and a name.
 ///
 /// # Safety
-/// The store has STORE_WORDS words, the rows POSSIBLE_WORDS where there are some, and the names as many bytes as
-/// their length says, and some.
+/// The store has STORE_WORDS words, the rows POSSIBLE_WORDS where there are some, and the names as many bytes
+/// as their length says, and some.
 #[no_mangle]
 pub unsafe extern "C" fn shuntberry_text_print(
     answer: *mut TextFields,

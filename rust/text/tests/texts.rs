@@ -2,7 +2,9 @@
 
 use shuntberry_text::house::{self, Moment};
 use shuntberry_text::lines::{said, Mistake, Mistakes, Names, MAX_NAME, SHOWN_MISTAKES};
-use shuntberry_text::table::{listing, parse, parse_with_possible, print, Set, Table};
+use shuntberry_text::table::{
+    listing, parse, parse_with_possible, print, print_with_possible, Set, Table,
+};
 use shuntberry_text::{LANGUAGE, MAX_GROUPS, MAX_STATES};
 use std::fs;
 
@@ -597,6 +599,26 @@ fn blocks<'l>(lines: &'l [&'l str]) -> impl Iterator<Item = String> + 'l {
         let text = block.join("\n");
         format!("{}\n", text.trim_matches('\n'))
     })
+}
+
+/// Steps that are only possible are printed behind the others, by names where there are some, and read again.
+#[test]
+fn possible_steps_printed() {
+    let text = "states 3\nstate 2 over\ninitial 0\nforbidden over\nresting none\nstep 0 -> 1\nstep 1 -> 0\npossible 1 -> 1 over\npossible over -> 0\nend\n";
+    let read = parse_with_possible(text.as_bytes()).unwrap();
+    let mut rows = vec![Set::default(); 3];
+    for &(from, to) in &read.possible {
+        rows[from][to / 64] |= 1 << (to % 64);
+    }
+    assert_eq!(print_with_possible(&read.table, &read.names, &rows), text);
+    let none = vec![Set::default(); 3];
+    let plain = print(&read.table, &read.names);
+    assert_eq!(print_with_possible(&read.table, &read.names, &none), plain);
+    assert!(!plain.contains("possible"));
+    assert_eq!(
+        print_with_possible(&Table::default(), &Names::new(), &[]),
+        "states 0\nend\n"
+    );
 }
 
 /// Steps that are only possible: for the command options alone.
