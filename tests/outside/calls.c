@@ -261,7 +261,7 @@ static void old_file(void)
 }
 
 /* The corridor's file is unsafe; a draft is safe but no table to release; a call that is refused writes nothing. */
-// tries: CheckAnswers.checkGrounds, Reported.safe-call, Reported.past
+// tries: CheckAnswers.checkGrounds, Reported.unsafe-call, Reported.draft
 static void checks(void)
 {
     static const char front[] = "states 512 groups 0\nunsafe refinements ", draft[] = "states 0 groups 0\nsafe refinements 0\ninvariant 0: none\n";
@@ -875,7 +875,6 @@ static void refusal_texts(void)
 }
 
 /* Safe is only an accepted call's verdict of safe, whatever a library should give. */
-// tries: Faithful.Cases
 static void only_safe_is_safe(void)
 {
     const uint32_t numbers[] = {0, 1, 2, 3, 10, 31, 255, 65535, UINT32_MAX};

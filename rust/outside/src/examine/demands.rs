@@ -28,7 +28,7 @@ pub(super) fn agreement(table: &Table, judged: &Judged, far: &[u16]) -> Outcome 
     Ok(())
 }
 
-// tries: Promises.Demand2.unsafe-path, Promises.Demand2.path-unsafe, Promises.Demand2.smallest-path
+// tries: Promises.Demand2.unsafe-path, Promises.Demand2.path-unsafe
 // tries: Promises.Demand2.invariant, Paths.isPath
 /// Demand 2: the verdict is unsafe just where a depth-first search, which knows no rounds, finds a
 /// forbidden state; a safe set is an invariant; a path is one.
@@ -91,7 +91,6 @@ pub(super) fn demand_3(
     Ok(())
 }
 
-// tries: Promises.Operations.post-members, Promises.Operations.cover-members, Promises.IsSmallest
 /// The plain implementations against trying all sets and all sequences of states.
 pub(super) fn try_everything(table: &Table, judged: &Judged) -> Outcome {
     ensure(judged.path == search::first_path_of_all(table), || {

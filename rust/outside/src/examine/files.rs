@@ -9,8 +9,7 @@ use crate::generate::{Kind, Random};
 use crate::named;
 use crate::table::{Dialogue, HEAD_SETS, STORE_WORDS};
 
-// tries: Calls.readGrounds, Calls.readAnswer, Reported.safe-call, Reported.unsafe-call
-// tries: Reported.refused-file-call
+// tries: Calls.readGrounds, Calls.readAnswer
 /// A random file, whole, damaged in one way or in several, of the old form, or of random bytes.
 pub fn random_file(libraries: &[&dyn Calls], random: &mut Random, tally: &mut Tally) -> Outcome {
     let kind = Kind::random(random);

@@ -32,7 +32,7 @@ pub fn random_table(libraries: &[&dyn Calls], random: &mut Random, tally: &mut T
         .map_err(|fault| format!("{kind:?}: {fault}"))
 }
 
-// tries: Promises.stops, Paths.smallestPath, Calls.decideAnswer, Calls.shortestAnswer
+// tries: Promises.stops, Paths.smallestPath, Promises.Demand2.smallest-path, Calls.decideAnswer, Calls.shortestAnswer
 /// The calls on a table, with demands 2 and 3, both round trips, and what distances and within share.
 pub fn accepted_table(
     libraries: &[&dyn Calls],
