@@ -11,7 +11,6 @@ const kinds = (view, s) => [
   ...(view.hang.has(s) ? ["hang"] : []),
   ...(view.resting.has(s) ? ["resting"] : []),
 ];
-const groupsOf = (view, s) => view.groups.flatMap((states, j) => (states.includes(s) ? [j] : []));
 
 /** Each column: its words, and what it is sorted by. How far away a screen is counts the steps to the nearest
  * forbidden one. */
@@ -21,7 +20,7 @@ const COLUMNS = [
   ["is", "What it is", (view, s) => kinds(view, s).join(" ") || "~"],
   ["reached", "Reached", (view, s) => (view.reached.has(s) ? 0 : 1)],
   ["distance", "Away", (view, s) => view.distance[s] ?? NEVER],
-  ["groups", "Groups", (view, s) => groupsOf(view, s).join(" ") || "~"],
+  ["groups", "Groups", (view, s) => view.groupsOf[s].join(" ") || "~"],
   ["steps", "Steps to", (view, s) => view.successors(s).length],
 ];
 
@@ -132,7 +131,7 @@ export class List {
       [...kinds(view, s), ...(place === undefined ? [] : [`path ${place}`])].join(", "),
       view.isAnswered ? (isReached ? "● yes" : "○ no") : "not known",
       view.isAnswered ? String(distance ?? "never") : "not known",
-      groupsOf(view, s).join(", "),
+      view.groupsOf[s].join(", "),
       shown.map(name).join(", "),
     ];
     const signature = `${words.join("\n")}\n${to.length}`;

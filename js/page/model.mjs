@@ -74,11 +74,19 @@ export function draftOfText(library, text) {
 
 export const hasOptions = (d) => d.options.some((row) => !isEmpty(row));
 export const possible = (d, s) => union(d.certain[s], d.options[s]);
-export const successors = (d, s) => members(possible(d, s));
+/** The lists of successors, by the rows that they are of: rows never change. */
+const listed = new WeakMap();
+export function successors(d, s) {
+  const [row, more] = [d.certain[s], d.options[s]];
+  const known = listed.get(row);
+  if (known?.more === more) return known.list;
+  const list = Object.freeze(members(union(row, more)));
+  listed.set(row, { more, list });
+  return list;
+}
 export const predecessors = (d, t) => d.certain.flatMap((_, s) => (has(possible(d, s), t) ? [s] : []));
 export const isHang = (d, s) => !has(d.resting, s) && isEmpty(d.certain[s]) && isEmpty(d.options[s]);
 export const isForbidden = (d, s) => has(d.marked, s) || isHang(d, s);
-export const countSteps = (d) => d.certain.reduce((sum, _, s) => sum + successors(d, s).length, 0);
 
 /** A screen as it is called: its name, or its number where it has none. */
 export const called = (d, s) => d.names[s] ?? String(s);

@@ -6,6 +6,9 @@ import { called, isHang, predecessors, successors } from "./model.mjs";
 export function viewOf(d, answer, chosen) {
   let steps = null;
   const every = Array.from({ length: d.n }, (_, s) => s);
+  const groups = d.groups.map(members);
+  const groupsOf = every.map(() => []);
+  groups.forEach((states, j) => states.forEach((s) => groupsOf[s].push(j)));
   return {
     n: d.n,
     isAnswered: answer !== null,
@@ -15,7 +18,8 @@ export function viewOf(d, answer, chosen) {
     hang: new Set(every.filter((s) => isHang(d, s))),
     resting: new Set(members(d.resting)),
     reached: answer?.reached ?? new Set(),
-    groups: d.groups.map(members),
+    groups,
+    groupsOf,
     groupNames: d.groups.map((_, j) => `group ${j}`),
     distance: every.map((s) => (Number.isFinite(answer?.distances[s]) ? answer.distances[s] : null)),
     path: answer?.path ?? null,
