@@ -295,7 +295,8 @@ class App {
     } else if (kind === "file") {
       this.#saveFile(name);
     } else {
-      files.download(`${name}.svg`, "image/svg+xml", this.#picture.svgText());
+      const verdict = `${$("verdict-word").textContent}. ${$("verdict-words").textContent}`;
+      files.download(`${name}.svg`, "image/svg+xml", this.#picture.svgText([$("title").value, verdict]));
     }
   }
 
@@ -372,6 +373,7 @@ class App {
       this.#asked.mend();
     });
     on("fit", "click", () => this.#picture.fit());
+    on("arrange", "click", () => this.#picture.tidy());
     on("zoom-in", "click", () => this.#picture.zoom(LARGER));
     on("zoom-out", "click", () => this.#picture.zoom(1 / LARGER));
     on("search", "input", () => this.#search());

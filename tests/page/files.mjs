@@ -158,6 +158,7 @@ await onPage(async (browser) => {
     !drawn.kinds.some((kind) => ["script", "image", "foreignObject", "use", "a", "style"].includes(kind)),
     `of plain shapes: ${drawn.kinds}`
   );
+  for (const words of ["example", "safe. No forbidden screen"]) holds(svg.includes(words), `above it: ${words}`);
   same(await browser.run(asks), false, "saved");
 
   // ---- unsaved changes: the page asks

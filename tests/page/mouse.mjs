@@ -109,6 +109,8 @@ await onPage(async (browser) => {
   );
   await browser.click("#fit");
   holds(Math.abs((await browser.run(world)).scale - first.scale) < 0.01, "the whole picture again");
+  await browser.click("#arrange");
+  await look(UNSAFE, "arranged anew");
   same((await browser.run(shown)).edit, before.edit, "nothing was edited by looking");
 
   // ---- search
