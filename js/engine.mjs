@@ -1,13 +1,14 @@
 // The module of WebAssembly: its instances, and its calls. What goes in is checked here, since the boundary
 // cuts numbers: 2^32 would become 0. Buffers are bytes, with the low byte of a number first.
 import { Trapped } from "./answers.mjs";
-import { CALLS, SIZES, STORE_WORDS, STRUCTS } from "./raw.mjs";
+import { CALLS, POSSIBLE_WORDS, SIZES, STORE_WORDS, STRUCTS } from "./raw.mjs";
 
 const PAGE = 65536;
 /** Room enough for the buffers of every call that is not refused. */
 const ROOM = 2 * PAGE;
 const MOST = 2 ** 32 - 1;
 const WORD = 8;
+const NULL = 0;
 /** What the calls of texts answer, by hand: the struct TextFields of the module. */
 const TEXT_FIELDS = { mistakes: 0, n: 4, g: 8, lines: 12, length: 16, size: 20 };
 export const TEXT_CALLS = ["shuntberry_text_read", "shuntberry_text_print"];
@@ -127,24 +128,33 @@ export class Engine {
     });
   }
 
-  /** What a text says: its table in a store, and lines of names; or lines of mistakes. */
-  readText(text) {
-    const at = { store: aligned(TEXT_FIELDS.size), text: aligned(TEXT_FIELDS.size) + WORD * STORE_WORDS };
+  /** What a text says: its table in a store, rows of possible steps where it may have some, and lines of
+   * names; or lines of mistakes. */
+  readText(text, takesPossible = false) {
+    const at = { store: aligned(TEXT_FIELDS.size) };
+    at.possible = at.store + WORD * STORE_WORDS;
+    at.text = at.possible + WORD * POSSIBLE_WORDS;
     const { exports, base, ...found } = this.#text(at.text + text.length, (exports, base) => {
       new Uint8Array(exports.memory.buffer).set(text, base + at.text);
-      exports.shuntberry_text_read(base, base + at.text, text.length, base + at.store);
+      const possible = takesPossible ? base + at.possible : NULL;
+      exports.shuntberry_text_read(base, base + at.text, text.length, base + at.store, possible);
     });
-    const store = new Uint8Array(exports.memory.buffer, base + at.store, WORD * STORE_WORDS).slice();
-    return { ...found, store };
+    const bytes = (place, words) => new Uint8Array(exports.memory.buffer, base + place, WORD * words).slice();
+    return { ...found, store: bytes(at.store, STORE_WORDS), possible: bytes(at.possible, POSSIBLE_WORDS) };
   }
 
-  /** The text of a table, with names as lines. */
-  printText(store, n, g, names) {
-    const at = { store: aligned(TEXT_FIELDS.size), names: aligned(TEXT_FIELDS.size) + store.length };
+  /** The text of a table, with names as lines and with rows of possible steps, if there are any. */
+  printText(store, n, g, names, possible = null) {
+    const at = { store: aligned(TEXT_FIELDS.size) };
+    at.possible = at.store + store.length;
+    at.names = at.possible + WORD * POSSIBLE_WORDS;
     return this.#text(at.names + names.length + WORD, (exports, base) => {
-      new Uint8Array(exports.memory.buffer).set(store, base + at.store);
-      new Uint8Array(exports.memory.buffer).set(names, base + at.names);
-      exports.shuntberry_text_print(base, base + at.store, n, g, base + at.names, names.length);
+      const memory = new Uint8Array(exports.memory.buffer);
+      memory.set(store, base + at.store);
+      memory.set(names, base + at.names);
+      if (possible !== null) memory.set(possible, base + at.possible);
+      const rows = possible === null ? NULL : base + at.possible;
+      exports.shuntberry_text_print(base, base + at.store, n, g, base + at.names, names.length, rows);
     }).text;
   }
 }

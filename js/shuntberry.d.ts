@@ -134,8 +134,11 @@ export interface Table {
   whyForbidden(state: State): "not" | "marked" | "hang";
   /** Whether two tables have the same sets. Names make no difference. */
   equals(other: Table): boolean;
-  /** The one text of the table, with its names. */
-  toText(): string;
+  /** The one text of the table, with its names; and with lines `possible` for the further steps of a table
+   * that is the same but for its steps. */
+  toText(possible?: Table): string;
+  /** A copy of its store, as the specification lays it out. */
+  readonly store: Uint8Array;
 }
 
 export interface TableClass {
@@ -144,6 +147,11 @@ export interface TableClass {
   fromBytes(data: Bytes, site?: number, names?: Names): Table;
   /** The table of a text, which is given itself, with its names. Throws `Mistakes`. */
   fromText(text: string): Table;
+  /** The same of a text that may have lines `possible STATE -> STATE..`: the table of its certain steps, and
+   * that of all possible ones. */
+  fromTextWithPossible(text: string): { readonly table: Table; readonly possible: Table };
+  /** The table in a store, which the library accepts, or refuses with 17. */
+  fromStore(n: number, g: number, store: Bytes, names?: Names): Table;
 }
 
 /** Steps drawn and rubbed out in a copy of a table. A refused edit changes nothing. */
@@ -166,8 +174,9 @@ export interface Shuntberry {
   /** A release check of a file's bytes. */
   check(data: Bytes, site?: number): Checked;
   decide(table: Table, allowance?: number): Decision;
-  /** The steps of the table are the certain ones; `possible` has these and the others. */
-  decideModal(table: Table, possible: Steps): ModalDecision;
+  /** The steps of the table are the certain ones; `possible` has these and the others, as steps or in a table
+   * that is the same but for its steps. */
+  decideModal(table: Table, possible: Steps | Table): ModalDecision;
   /** For each state the steps to the nearest forbidden one; Infinity where none can be reached. */
   distances(table: Table): readonly number[];
   generate(seed: number, n: number, fanOut: number): Table;

@@ -80,10 +80,28 @@ function checkedNames(names, n) {
   return kept;
 }
 
+/** A line's number and the words behind it. */
+function numbered(line) {
+  const space = line.indexOf(" ");
+  return [Number(line.slice(0, space)), line.slice(space + 1)];
+}
+
 /** The class of the tables of one module, and what its calls alone may do with them. */
 export function tables(engine) {
   const make = Symbol("a table of a store");
   const inner = {};
+
+  /** The table of a text, and the rows of its possible steps, where it may have some. */
+  function read(text, takesPossible) {
+    if (typeof text !== "string") throw new TypeError("a text is a string");
+    const found = engine.readText(new TextEncoder().encode(text), takesPossible);
+    const pairs = found.text.split("\n").slice(0, -1).map(numbered);
+    if (found.mistakes > 0) {
+      throw new Mistakes(pairs.map(([line, reason]) => ({ line, reason })), found.mistakes);
+    }
+    const table = inner.ofStore(found.n, found.g, found.store, new Map(pairs));
+    return { table, possible: found.possible };
+  }
 
   class Table {
     static {
@@ -96,7 +114,8 @@ export function tables(engine) {
         }
         return [table.#store, table.#n, table.#g];
       };
-      inner.rowsOf = (table, steps, what) => table.#rows(steps, what);
+      inner.rowsOf = (table, steps, what) =>
+        #store in Object(steps) ? table.#rowsOfOther(steps, what) : table.#rows(steps, what);
     }
 
     #n;
@@ -139,17 +158,21 @@ export function tables(engine) {
     }
 
     static fromText(text) {
-      if (typeof text !== "string") throw new TypeError("a text is a string");
-      const found = engine.readText(new TextEncoder().encode(text));
-      const lines = found.text.split("\n").slice(0, -1);
-      const pairs = lines.map((line) => {
-        const space = line.indexOf(" ");
-        return [Number(line.slice(0, space)), line.slice(space + 1)];
-      });
-      if (found.mistakes > 0) {
-        throw new Mistakes(pairs.map(([line, reason]) => ({ line, reason })), found.mistakes);
-      }
-      return inner.ofStore(found.n, found.g, found.store, new Map(pairs));
+      return read(text, false).table;
+    }
+
+    static fromTextWithPossible(text) {
+      const { table, possible } = read(text, true);
+      const store = table.#store.slice();
+      const rows = store.subarray(SET_BYTES * FIRST_ROW);
+      possible.forEach((byte, k) => (rows[k] |= byte));
+      return Object.freeze({ table, possible: inner.ofStore(table.#n, table.#g, store, table.#names) });
+    }
+
+    static fromStore(n, g, store, names) {
+      const bytes = bytesOf(store, "a store");
+      if (bytes.length !== STORE_BYTES) throw new RangeError(`a store has ${STORE_BYTES} bytes`);
+      return inner.ofStore(whole(n, "n"), whole(g, "g"), bytes, names);
     }
 
     /** Takes a store that the library accepts as a table; nobody writes to it any more. */
@@ -190,7 +213,21 @@ export function tables(engine) {
       return bytes;
     }
 
+    /** The rows of a table that is the same but for its steps. */
+    #rowsOfOther(other, what) {
+      const head = SET_BYTES * FIRST_ROW;
+      const isSame = this.#store.subarray(0, head).every((byte, k) => byte === other.#store[k]);
+      if (!isSame || this.#n !== other.#n || this.#g !== other.#g) {
+        throw new RangeError(`the table of ${what} is not the same but for its steps`);
+      }
+      return other.#store.slice(head);
+    }
+
     // ---- what is in it
+
+    get store() {
+      return this.#store.slice();
+    }
 
     get n() {
       return this.#n;
@@ -257,14 +294,19 @@ export function tables(engine) {
       return this.#n === n && this.#g === g && this.#store.every((byte, k) => byte === store[k]);
     }
 
-    /** The one text of the table. A name that a text does not take is an error: the text is read back. */
-    toText() {
+    /** The one text of the table, and of the possible steps of another. A name that a text does not take is an
+     * error: the text is read back. */
+    toText(possible) {
+      const more = arguments.length > 0 ? this.#rowsOfOther(possible, "possible") : null;
+      const rows = this.#store.subarray(SET_BYTES * FIRST_ROW);
+      const only = more === null ? null : more.map((byte, k) => byte & ~rows[k]);
       const names = [...this.#names].map(([number, name]) => `${number} ${name}\n`).join("");
-      const text = engine.printText(this.#store, this.#n, this.#g, new TextEncoder().encode(names));
-      const read = Table.fromText(text);
-      const isNamed = ([number, name]) => read.#names.get(number) === name;
-      const isSame = read.#names.size === this.#names.size && [...this.#names].every(isNamed);
-      if (!isSame || !this.equals(read)) throw new RangeError("the names are none of a text's");
+      const text = engine.printText(this.#store, this.#n, this.#g, new TextEncoder().encode(names), only);
+      const back = read(text, more !== null);
+      const isNamed = ([number, name]) => back.table.#names.get(number) === name;
+      const isSame = back.table.#names.size === this.#names.size && [...this.#names].every(isNamed);
+      const isStepped = only === null || only.every((byte, k) => byte === back.possible[k]);
+      if (!isSame || !isStepped || !this.equals(back.table)) throw new RangeError("the names are none of a text's");
       return text;
     }
 

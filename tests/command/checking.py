@@ -235,7 +235,7 @@ for words in ["--help"], ["help"], *(["help", name] for name in "check check-all
         given = gives(FAILED, None, words[1], "--hepl", err="did you mean|unknown option")
         need(given.out == (b"failed\n" if words[1] in "encode decode picture generate rewrite".split() else b""), given)
 gives(SAFE, f"shuntberry (Shuntberry) {VERSION}\n", "--version")
-for command, usage in ("report", " -o OUT [--site N] [--names TEXT] FILE\n"), ("next-open", " --at DATE-TIME "), ("encode", " [-o OUT]"):  # what must be given has no brackets
+for command, usage in ("report", " -o OUT [--site N] [--names TEXT] [--title WORDS] [--released PLACE] [--since OLD] [--old-names TEXT] FILE\n"), ("next-open", " --at DATE-TIME "), ("encode", " [-o OUT]"):  # what must be given has no brackets
     need(usage in call("help", command).out.decode(), f"another usage of {command}", call("help", command))
 gives(FAILED, f"check (Shuntberry) {VERSION}\n", "--version", under="check")
 given = gives(FAILED, None, "--help", under="check")

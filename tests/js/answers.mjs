@@ -26,6 +26,20 @@ const calls = {
 };
 const plain = (name) => s[name.replace(/_./g, (found) => found[1].toUpperCase())];
 
+/** The same question by two tables, and by the text of both; null where the rows are of no table. */
+function modal(table, possible) {
+  const rows = new Map([...table.steps].map(([s, row]) => [s, [...new Set([...row, ...(possible.get(s) ?? [])])]]));
+  for (const [s, row] of possible) if (!rows.has(s)) rows.set(s, row);
+  const isMore = [...rows].every(([s, row]) => row.length === (possible.get(s) ?? []).length);
+  const isInside = [...rows].every(([s, row]) => s < table.n && row.every((t) => t < table.n));
+  if (!isMore || !isInside) return null;
+  const { initial, marked, resting, groups } = table;
+  const more = new s.Table(table.n, { initial, marked, resting, groups, steps: rows });
+  const read = s.Table.fromTextWithPossible(table.toText(more));
+  same([read.table.equals(table), read.possible.equals(more)], [true, true]);
+  return decision(s.decideModal(read.table, read.possible));
+}
+
 let count = 0;
 for (const line of readFileSync(0, "utf8").split("\n").filter(Boolean)) {
   const one = JSON.parse(line);
@@ -41,6 +55,11 @@ for (const line of readFileSync(0, "utf8").split("\n").filter(Boolean)) {
   }
   same(table.toText(), one.text, line);
   same(s.Table.fromText(one.text).equals(table), true, line);
+  same(s.Table.fromStore(table.n, table.g, table.store).equals(table), true, line);
+  for (const [, [possible], expected] of one.asked.filter(([name]) => name === "decide_modal")) {
+    const answer = answered(() => modal(table, new Map(possible)));
+    if (answer !== null) same(answer, expected, line);
+  }
   same(hex(s.rewrite(bytes(one.old))), one.rewritten, line);
   for (const [data, site, expected, refused] of one.files) {
     same(checked(s.check(bytes(data), site)), expected, line);

@@ -124,6 +124,31 @@ const mistakes = (work) => {
     return caught;
   }
 };
+const optional = "states 2\ninitial 0\nforbidden 1\nresting none\nstep 0 -> 0\nstep 1 -> 0\npossible 0 -> 1\nend\n";
+throws(() => s.Table.fromText(optional), Mistakes);
+const both = s.Table.fromTextWithPossible(optional);
+same([both.table.steps, both.possible.steps], [new Map([[0, [0]], [1, [0]]]), new Map([[0, [0, 1]], [1, [0]]])]);
+const over = s.Table.fromTextWithPossible(`state 1 over\n${optional}`);
+same([over.table.names, over.possible.names], [new Map([[1, "over"]]), new Map([[1, "over"]])]);
+same(s.Table.fromTextWithPossible(over.table.toText(over.possible)).possible.names, over.table.names);
+same([both.table.toText(both.possible), s.decideModal(both.table, both.possible).verdict], [optional, "depends"]);
+throws(() => both.table.toText(undefined), TypeError);
+throws(() => both.table.toText(table), RangeError, "another table");
+throws(() => s.decideModal(both.table, table), RangeError, "another table");
+throws(() => s.decideModal(both.possible, both.table), refusedWith(28));
+throws(() => s.Table.fromTextWithPossible(optional.slice(0, -1)), Mistakes);
+for (const wrong of [undefined, null, [], "", new Uint8Array(0), new Uint8Array(4632 * 8 + 1), new Uint16Array(4632 * 4)]) {
+  throws(() => s.Table.fromStore(2, 0, wrong), Error, "no store");
+}
+const store = table.store;
+store[0] = 255;
+throws(() => s.Table.fromStore(3, 0, store), refusedWith(17));
+throws(() => s.Table.fromStore(3, 0, new Uint8Array(4632 * 8).fill(255)), refusedWith(17));
+throws(() => s.Table.fromStore(513, 0, new Uint8Array(4632 * 8)), refusedWith(14));
+throws(() => s.Table.fromStore(-1, 0, table.store), RangeError);
+throws(() => s.Table.fromStore(3, 65, table.store), refusedWith(15));
+same(table.equals(s.Table.fromStore(3, 0, table.store)), true, "a copy was written to");
+
 const two = mistakes(() => s.Table.fromText("states 3\ninitial 5\nforbidden 4294967296\nend\n"));
 same([two.name, two.count, two.mistakes.map(({ line }) => line)], ["Mistakes", 2, [2, 3]]);
 assert.match(two.message, /^line 2: there is no state 5/);

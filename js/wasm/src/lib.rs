@@ -4,12 +4,15 @@
 use core::slice::{from_raw_parts, from_raw_parts_mut};
 use shuntberry as _;
 use shuntberry_text::lines::Names;
-use shuntberry_text::table::{parse, print, Set, Table};
+use shuntberry_text::table::{
+    parse, parse_with_possible, print_with_possible, Set, Table, Text,
+};
 use shuntberry_text::{MAX_GROUPS, MAX_STATES, SET_WORDS};
 
 const HEAD_SETS: usize = 3;
 const FIRST_ROW: usize = HEAD_SETS + MAX_GROUPS;
 const STORE_WORDS: usize = SET_WORDS * (FIRST_ROW + MAX_STATES);
+const POSSIBLE_WORDS: usize = SET_WORDS * MAX_STATES;
 
 /// What was read or printed.
 #[repr(C)]
@@ -77,21 +80,49 @@ fn taken(store: &[u64], n: usize, g: usize) -> Table {
     }
 }
 
-/// Reads a text; its table goes into the store.
+/// The steps that are only possible, as rows.
+fn put_possible(read: &Text, rows: &mut [u64]) {
+    rows.fill(0);
+    for &(from, to) in &read.possible {
+        rows[SET_WORDS * from + to / 64] |= 1 << (to % 64);
+    }
+}
+
+fn possible_rows(rows: &[u64]) -> Vec<Set> {
+    let row = |words: &[u64]| {
+        let mut set = Set::default();
+        set.copy_from_slice(words);
+        set
+    };
+    rows.chunks_exact(SET_WORDS).map(row).collect()
+}
+
+/// Reads a text; its table goes into the store, and the steps that are only possible into the rows. Without
+/// rows, which are null then, a line of such steps is a mistake.
 ///
 /// # Safety
-/// The text has as many bytes as its length says, and is not empty; the store has STORE_WORDS words.
+/// The text has as many bytes as its length says, and is not empty; the store has STORE_WORDS words, and
+/// where there are rows they have POSSIBLE_WORDS.
 #[no_mangle]
 pub unsafe extern "C" fn shuntberry_text_read(
     answer: *mut TextFields,
     text: *const u8,
     text_len: usize,
     store: *mut u64,
+    possible: *mut u64,
 ) {
     let store = from_raw_parts_mut(store, STORE_WORDS);
-    *answer = match parse(from_raw_parts(text, text_len)) {
+    let text = from_raw_parts(text, text_len);
+    let read = match possible.is_null() {
+        true => parse(text),
+        false => parse_with_possible(text),
+    };
+    *answer = match read {
         Ok(read) => {
             put(&read.table, store);
+            if !possible.is_null() {
+                put_possible(&read, from_raw_parts_mut(possible, POSSIBLE_WORDS));
+            }
             let names = numbered(read.names.iter().map(|(state, name)| (*state, name)));
             answered(0, read.table.rows.len(), read.table.groups.len(), names)
         }
@@ -105,10 +136,12 @@ pub unsafe extern "C" fn shuntberry_text_read(
     };
 }
 
-/// Prints the table of a store, which a call accepts. The names are lines of a number and a name.
+/// Prints the table of a store, which a call accepts, and the rows of steps that are only possible, where they
+/// are not null. The names are lines of a number and a name.
 ///
 /// # Safety
-/// The store has STORE_WORDS words, and the names as many bytes as their length says, and some.
+/// The store has STORE_WORDS words, the rows POSSIBLE_WORDS where there are some, and the names as many bytes as
+/// their length says, and some.
 #[no_mangle]
 pub unsafe extern "C" fn shuntberry_text_print(
     answer: *mut TextFields,
@@ -117,6 +150,7 @@ pub unsafe extern "C" fn shuntberry_text_print(
     g: usize,
     names: *const u8,
     names_len: usize,
+    possible: *const u64,
 ) {
     let lines = core::str::from_utf8(from_raw_parts(names, names_len)).unwrap();
     let named = |line: &str| {
@@ -124,6 +158,11 @@ pub unsafe extern "C" fn shuntberry_text_print(
         Some((number.parse().ok()?, name.into()))
     };
     let names: Names = lines.lines().filter_map(named).collect();
-    let text = print(&taken(from_raw_parts(store, STORE_WORDS), n, g), &names);
+    let table = taken(from_raw_parts(store, STORE_WORDS), n, g);
+    let possible = match possible.is_null() {
+        true => Vec::new(),
+        false => possible_rows(from_raw_parts(possible, POSSIBLE_WORDS)),
+    };
+    let text = print_with_possible(&table, &names, &possible);
     *answer = answered(0, n, g, text);
 }

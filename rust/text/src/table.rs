@@ -79,32 +79,43 @@ pub struct Text {
 
 /// The text of a table, in which a state that has a name is meant by it. Names are printed as they are: those of a text are good ones.
 pub fn print(table: &Table, names: &Names) -> String {
+    print_with_possible(table, names, &[])
+}
+
+/// The same with a line `possible` for each row of further steps that is not empty.
+pub fn print_with_possible(table: &Table, names: &Names, possible: &[Set]) -> String {
+    let word = |state: usize| names.get(&state).cloned().unwrap_or(state.to_string());
     let mut text = format!("states {}\n", table.rows.len());
     if !table.rows.is_empty() {
-        text += &facts(table, names);
+        text += &facts(table, names, &word);
+        text += &steps("step", &table.rows, &word);
+        text += &steps("possible", possible, &word);
     }
     text + END + "\n"
 }
 
-fn facts(table: &Table, names: &Names) -> String {
+/// All but the steps.
+fn facts(table: &Table, names: &Names, word: &dyn Fn(usize) -> String) -> String {
     let mut text = String::new();
     for (state, name) in names {
         text += &format!("state {state} {name}\n");
     }
-    let word = |state: usize| names.get(&state).cloned().unwrap_or(state.to_string());
-    let mut say = |fact: &str, states: &Set| text += &format!("{fact} {}\n", listed(states, &word));
+    let mut say = |fact: &str, states: &Set| text += &format!("{fact} {}\n", listed(states, word));
     say("initial", &table.initial);
     say("forbidden", &table.marked);
     say("resting", &table.resting);
     for group in &table.groups {
         say("group", group);
     }
-    for (s, row) in table.rows.iter().enumerate() {
-        if *row != Set::default() {
-            say(&format!("step {} {ARROW}", word(s)), row);
-        }
-    }
     text
+}
+
+/// A line for each row that is not empty.
+fn steps(fact: &str, rows: &[Set], word: &dyn Fn(usize) -> String) -> String {
+    let rows = rows.iter().enumerate();
+    rows.filter(|(_, row)| **row != Set::default())
+        .map(|(s, row)| format!("{fact} {} {ARROW} {}\n", word(s), listed(row, word)))
+        .collect()
 }
 
 /// The numbers of the states of a set, or `none`.

@@ -1,0 +1,253 @@
+// Questions. What is answered is of the draft that is shown: with each change the answers go, and are asked anew
+// where they are looked at.
+import { MAX_ALLOWANCE } from "../shuntberry.mjs";
+import { decided, vacuous } from "./answer.mjs";
+import { changes } from "./changes.mjs";
+import { $, button, counted, element } from "./dom.mjs";
+import * as files from "./files.mjs";
+import { NotDone, called, hasOptions, screen, setStep, stepKind, storeOf, tablesOf } from "./model.mjs";
+import { remarks } from "./remarks.mjs";
+import { logOf, walked } from "./walk.mjs";
+
+const FIRST_ALLOWANCE = 8;
+/** So many changes are listed, and the others counted. */
+const SHOWN_CHANGES = 300;
+
+/** The steps of a path, each by its ends. */
+const stepsOf = (path) => path.slice(1).map((to, k) => [path[k], to]);
+
+/** The single steps that make a draft safe when they are rubbed out. Each is on the path: a step that is not
+ * leaves the path as it is. */
+export function repairs(library, d, path) {
+  return stepsOf(path).filter(([from, to]) => decided(library, setStep(d, from, to, "none")).isSafe);
+}
+
+/** What the release check prints of the file of a draft. */
+export function released(library, d, withOptions, site) {
+  const table = library.Table.fromStore(d.n, d.groups.length, storeOf(d, withOptions));
+  const checked = library.check(library.write(table, site), site);
+  if (checked.refusal !== null) throw checked.refusal;
+  return checked.text;
+}
+
+const part = (words, id, ...children) => element("section", { className: "question" }, element("h3", {}, words),
+  ...children, element("div", { id, className: "answer" }));
+const fileField = (id, label) => element("input", { id, type: "file", hidden: true, aria: { label } });
+const lines = (items) => element("ul", {}, ...items);
+
+export class Asked {
+  #app;
+  #log = null;
+  #other = null;
+  #repairs = null; // of the draft that is shown, once they were asked for
+
+  constructor(app) {
+    this.#app = app;
+    const slider = element("input", {
+      id: "allowance", type: "range", min: "0", max: String(MAX_ALLOWANCE), value: String(FIRST_ALLOWANCE),
+    });
+    slider.addEventListener("input", () => this.#ask("quick", () => this.#quick()));
+    const label = element("label", { className: "wide" }, "Allowance: ", element("output", { id: "allowance-value" }),
+      " refinements", slider);
+    $("panel-ask").replaceChildren(
+      part("A quick answer", "quick", label),
+      part("The release check's answer", "release-check"),
+      part("Which single step makes it safe", "repairs",
+        button("Try each step of the path", () => app.attempt(() => this.#findRepairs()), { id: "repairs-ask" })),
+      part("What to look at", "remarks"),
+      part("What options make of it", "options"),
+      part("How much a pump's log covers", "log-answer", ...this.#logFields()),
+      part("What has changed since another file", "other-answer",
+        this.#fileButton("other", "Open the other file…", (bytes, name) => this.#compare(bytes, name))),
+    );
+  }
+
+  #fileButton(id, words, take) {
+    const field = fileField(`${id}-file`, words);
+    field.addEventListener("change", () => {
+      const [file] = field.files;
+      field.value = "";
+      if (file !== undefined) this.#app.later(async () => take(await files.bytesOfFile(file), file.name));
+    });
+    const open = button(words, () => field.click(), { id: `${id}-open` });
+    return element("span", {}, open, field);
+  }
+
+  #logFields() {
+    const text = element("textarea", {
+      id: "log-text", rows: 3, spellcheck: false, placeholder: "or its screens, by name or number",
+      aria: { label: "A log as text: screens by name or number" },
+    });
+    return [
+      this.#fileButton("log", "Open a log…", (bytes, name) => this.#takeLog({ bytes, name })),
+      text,
+      button("Walk it", () => this.#app.attempt(() => this.#takeLog({ words: text.value, name: "the log" })), { id: "log-ask" }),
+    ];
+  }
+
+  // ---- what is shown
+
+  /** Everything of another draft goes; what is looked at is asked anew. */
+  show(isDrawn) {
+    this.#repairs = null;
+    if ($("panel-ask").hidden || !isDrawn) {
+      for (const id of ["quick", "release-check", "repairs", "remarks", "options", "log-answer", "other-answer"]) {
+        this.#put(id, isDrawn ? [] : ["no answer: the text has mistakes"]);
+      }
+      return;
+    }
+    this.#ask("quick", () => this.#quick());
+    this.#ask("release-check", () => this.#release());
+    this.#ask("repairs", () => this.#repair());
+    this.#ask("remarks", () => this.#remarks());
+    this.#ask("options", () => this.#options());
+    this.#ask("log-answer", () => this.#walk());
+    this.#ask("other-answer", () => this.#changes());
+  }
+
+  /** An answer in its place; what goes wrong is said there, and nothing of an old one is left. */
+  #ask(id, work) {
+    this.#put(id, ["no answer"]);
+    try {
+      const [verdict, ...children] = work();
+      this.#put(id, children, verdict);
+    } catch (error) {
+      this.#put(id, [`no answer: ${error?.message ?? error}`]);
+    }
+  }
+
+  #put(id, children, verdict = "none") {
+    $(id).dataset.verdict = verdict;
+    $(id).replaceChildren(...children);
+  }
+
+  #screens(states) {
+    return states.map((s) => screen(this.#app.draft, s)).join(" → ");
+  }
+
+  #quick() {
+    const allowance = Number($("allowance").value);
+    $("allowance-value").value = String(allowance);
+    const d = this.#app.draft;
+    if (d.n === 0) return ["draft", "a draft without screens"];
+    const { all } = tablesOf(this.#app.library, d);
+    const found = this.#app.library.decide(all, allowance);
+    const about = hasOptions(d) ? " (with every option)" : "";
+    if (found.verdict === "undecided") {
+      return ["undecided", element("strong", {}, "undecided"), `${about} after ${counted(found.count, "refinement")}. Move the slider to the right for a larger allowance, put screens that belong together into a group, or take the release check's answer below, which always decides.`];
+    }
+    const little = found.isSafe ? vacuous(d) : null;
+    const more = little === null ? "" : `, but ${little}`;
+    const path = found.path === null ? "" : `: ${this.#screens(found.path)}`;
+    return [little === null ? found.verdict : "vacuous", element("strong", {}, found.verdict),
+      `${about} after ${counted(found.count, "refinement")}${more}${path}`];
+  }
+
+  #release() {
+    const d = this.#app.draft;
+    const site = files.site();
+    const both = hasOptions(d) ? [[false, "without any option"], [true, "with every option"]] : [[true, ""]];
+    const parts = both.flatMap(([withOptions, words]) => [
+      ...(words === "" ? [] : [element("p", {}, `The file ${words}:`)]),
+      element("pre", {}, released(this.#app.library, d, withOptions, site)),
+    ]);
+    return ["said", element("p", { className: "light" }, "What ", element("code", {}, "shuntberry check"),
+      ` prints of the file for site ${site}. Releasing is done by `, element("code", {}, "shuntberry release"), "."), ...parts];
+  }
+
+  #repair() {
+    const { answer } = this.#app;
+    $("repairs-ask").hidden = answer === null || answer.path === null || answer.path.length < 2;
+    if (answer === null) throw new Error("there is no verdict");
+    if (answer.path === null) return ["said", "Nothing has to be rubbed out."];
+    if (answer.path.length < 2) return ["said", "No step does: a session can start in a forbidden screen."];
+    if (this.#repairs === null) return ["said"];
+    const { draft } = this.#app;
+    if (this.#repairs.length === 0) return ["said", "No single step does: each was tried."];
+    return ["said", element("p", {}, "Safe, if one of these is rubbed out:"),
+      lines(this.#repairs.map(([from, to]) => this.#repairLine(draft, from, to)))];
+  }
+
+  #repairLine(d, from, to) {
+    const words = `${called(d, from)} → ${called(d, to)}${stepKind(d, from, to) === "option" ? " (option)" : ""}`;
+    const rub = button("Rub out", () => this.#app.attempt(() =>
+      this.#app.change(setStep(this.#app.draft, from, to, "none"), `rub out ${words}`)),
+    { className: "rub-out", aria: { label: `Rub out ${words}` } });
+    return element("li", { data: { from, to } }, words, " ", rub);
+  }
+
+  /** The question that the verdict's place asks. */
+  mend() {
+    this.#findRepairs();
+    $("repairs-ask").focus();
+    $("repairs").scrollIntoView({ block: "center" });
+  }
+
+  #findRepairs() {
+    const { draft, answer, library } = this.#app;
+    if (answer?.path == null) throw new NotDone("there is no path");
+    this.#repairs = repairs(library, draft, answer.path);
+    this.#ask("repairs", () => this.#repair());
+  }
+
+  #remarks() {
+    const { draft, answer } = this.#app;
+    if (answer === null) throw new Error("there is no verdict");
+    const found = remarks(draft, answer);
+    if (found.length === 0) return ["said", "Nothing in particular."];
+    return ["said", lines(found.map(({ word, said, states }) => {
+      const links = states.flatMap((s, k) => [k === 0 ? " " : ", ",
+        button(screen(draft, s), () => this.#app.choose(s), { className: "link" })]);
+      return element("li", { data: { remark: word } }, said + (states.length > 0 ? ":" : "."), ...links);
+    }))];
+  }
+
+  #options() {
+    const { draft, library } = this.#app;
+    if (!hasOptions(draft)) return ["said", "No step of this draft is there only with an option."];
+    const found = decided(library, draft);
+    const little = found.isSafe ? vacuous(draft) : null;
+    const words = {
+      safe: "whatever options a pump has" + (little === null ? "" : `, but ${little}`),
+      unsafe: "whatever options a pump has",
+      depends: "safe without any option, and unsafe with all of them",
+    }[found.verdict];
+    const path = found.path === null ? [] : [element("p", {}, `Path: ${this.#screens(found.path)}`)];
+    const kept = found.invariant === null ? [] : [element("p", {},
+      `${found.verdict === "depends" ? "Without options a session stays" : "A session stays"} in: ${found.invariant.map((s) => screen(draft, s)).join(", ") || "none"}`)];
+    return [little === null ? found.verdict : "vacuous", element("strong", {}, found.verdict), `: ${words}`, ...path, ...kept];
+  }
+
+  // ---- a log
+
+  #takeLog(log) {
+    this.#log = log;
+    this.#ask("log-answer", () => this.#walk());
+  }
+
+  #walk() {
+    if (this.#log === null) return ["said"];
+    const { draft, library, answer } = this.#app;
+    if (answer === null) throw new Error("there is no verdict");
+    const { all } = tablesOf(library, draft);
+    const found = walked(library, draft, all, answer.reached, logOf(draft, this.#log));
+    return ["said", lines(found.map((words) => element("li", {}, words)))];
+  }
+
+  // ---- another file
+
+  #compare(bytes, name) {
+    this.#other = { draft: files.otherDraft(this.#app.library, bytes, files.site()), name };
+    this.#ask("other-answer", () => this.#changes());
+  }
+
+  #changes() {
+    if (this.#other === null) return ["said"];
+    const { draft, library } = this.#app;
+    const found = changes(library, this.#other.draft, draft);
+    const head = element("p", {}, `From ${this.#other.name} to this draft:`);
+    const items = found.slice(0, SHOWN_CHANGES).map(({ kind, words }) => element("li", { data: { change: kind } }, words));
+    if (found.length > items.length) items.push(element("li", {}, `and ${found.length - items.length} more`));
+    return ["said", head, items.length === 0 ? "Nothing has changed." : lines(items)];
+  }
+}

@@ -1,0 +1,98 @@
+// The place of the verdict. It is emptied before each answer is asked for, and filled by that answer alone: what
+// goes wrong on the way leaves "no answer" there, and never an old verdict.
+import { vacuous } from "./answer.mjs";
+import { members } from "./bits.mjs";
+import { $, button, counted, element } from "./dom.mjs";
+import { called, hasOptions, isHang } from "./model.mjs";
+
+const MARKS = { safe: "✓", unsafe: "✕", depends: "◐", draft: "…", vacuous: "!", mistakes: "✎", none: "?" };
+
+/** A path of more screens is printed small. */
+const LONG_PATH = 40;
+
+/** Why a screen is forbidden. */
+export const whyForbidden = (d, s) =>
+  isHang(d, s) ? "a hang: no step leads out, and it is not resting" : "forbidden, since it is marked so";
+
+const unsafeIn = (steps) =>
+  steps === 0
+    ? "A session can start in a forbidden screen."
+    : `A forbidden screen is reached in ${counted(steps, "step")}:`;
+
+/** What a drafter has to say before an answer says something. */
+const todo = (d) =>
+  members(d.initial).length === 0
+    ? "No screen is initial: choose the one in which a session starts, and tick it."
+    : "No screen is forbidden: choose those that must never show, and tick them.";
+
+/** What the verdict's place says of a draft and its answer: its kind, its word, a sentence. */
+export function wordsOf(d, answer) {
+  const options = hasOptions(d);
+  if (d.n === 0) return ["draft", "a draft without screens", "Add a screen, open a text or a file, or look at the example."];
+  if (answer.verdict === "unsafe") {
+    const what = unsafeIn(answer.path.length - 1);
+    return ["unsafe", "unsafe", options ? `On every pump, whatever options it has. ${what}` : what];
+  }
+  if (answer.verdict === "depends") {
+    return ["depends", "depends on the options", `Not safe: with every option a forbidden screen is reached in ${
+      counted(answer.path.length - 1, "step")}, and without any option none is.`];
+  }
+  if (answer.verdict !== "safe" || !answer.isSafe) throw new Error("an answer that is none");
+  if (vacuous(d) !== null) return ["vacuous", "nothing is said yet", `${todo(d)} The command release declines such a table.`];
+  return ["safe", "safe", `No forbidden screen can be reached${options ? ", whatever options a pump has" : ""}.`];
+}
+
+export class VerdictPlace {
+  #onChoose;
+  #edits = 0;
+
+  constructor(onChoose) {
+    this.#onChoose = onChoose;
+  }
+
+  #put(kind, word, words) {
+    const place = $("verdict");
+    place.dataset.verdict = kind;
+    $("verdict-mark").textContent = MARKS[kind];
+    $("verdict-word").textContent = word;
+    $("verdict-words").textContent = words;
+    $("verdict-path").replaceChildren();
+    $("verdict-path").hidden = true;
+    $("verdict-mend").hidden = true;
+    document.title = `${word}: ${$("title").value || "draft"} (Shuntberry)`;
+  }
+
+  /** Nothing is known. */
+  none(why) {
+    this.#put("none", "no answer", why);
+  }
+
+  /** The text that was typed is no table. */
+  mistakes(count) {
+    this.#put("mistakes", "no answer", `The text has ${counted(count, "mistake")}; what is drawn is the last text without.`);
+  }
+
+  answer(d, answer) {
+    const [kind, word, words] = wordsOf(d, answer);
+    this.#put(kind, word, words);
+    if (answer.path !== null) this.#path(d, answer.path);
+  }
+
+  /** A change was shown, answered or not. */
+  shown() {
+    $("verdict").dataset.edit = String(++this.#edits);
+  }
+
+  #path(d, path) {
+    const steps = path.map((s, k) => {
+      const item = element("li", { data: { state: s } }, button(called(d, s), () => this.#onChoose(s), { title: `screen ${s}` }));
+      if (k === path.length - 1) item.append(element("strong", {}, ` ${whyForbidden(d, s)}`));
+      return item;
+    });
+    $("verdict-path").replaceChildren(...steps);
+    $("verdict-path").setAttribute("aria-label", `The path from ${called(d, path[0])}, screen by screen`);
+    $("verdict-path").hidden = false;
+    $("verdict-path").classList.toggle("long", path.length > LONG_PATH);
+    $("verdict-mend").hidden = path.length < 2;
+  }
+}

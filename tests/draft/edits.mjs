@@ -1,0 +1,112 @@
+// Drafts edited by chance: each is what its plain twin says, by the text; what was undone and done again is the
+// same draft; and the answers, with the session kept over the edits, are those of a search by hand.
+import { Answers, vacuous } from "../../js/page/answer.mjs";
+import { members } from "../../js/page/bits.mjs";
+import { repairs } from "../../js/page/ask.mjs";
+import { Plain, chance, edited, end, library, model, same, throws } from "./support.mjs";
+
+const [seed, count] = process.argv.slice(2).map(Number);
+const below = chance(seed);
+const EDITS = 40;
+
+/** The screens that steps lead to from some, and how far each is; by the oldest way to search. */
+function layers(n, from, next) {
+  const away = Array(n).fill(Infinity);
+  let now = [...from];
+  for (let k = 0; now.length > 0; k++) {
+    now = now.filter((s) => away[s] === Infinity);
+    for (const s of now) away[s] = k;
+    now = now.flatMap(next);
+  }
+  return away;
+}
+
+/** Verdict, reachable screens and distances of a draft, with every option or without any. */
+function searched(d, withOptions) {
+  const every = Array.from({ length: d.n }, (_, s) => s);
+  const rows = every.map((s) => [...members(d.certain[s]), ...(withOptions ? members(d.options[s]) : [])]);
+  const forbidden = every.filter((s) => model.isForbidden(d, s));
+  const reached = layers(d.n, members(d.initial), (s) => rows[s]);
+  const back = layers(d.n, forbidden, (t) => every.filter((s) => rows[s].includes(t)));
+  return {
+    isUnsafe: forbidden.some((s) => reached[s] !== Infinity), back,
+    reached: new Set(every.filter((s) => reached[s] !== Infinity)),
+    steps: Math.min(Infinity, ...forbidden.map((s) => reached[s])),
+  };
+}
+
+function hold(d, answer, what) {
+  const [all, certain] = [searched(d, true), searched(d, false)];
+  const word = !all.isUnsafe ? "safe" : certain.isUnsafe ? "unsafe" : "depends";
+  same([answer.verdict, answer.isSafe], [word, word === "safe" && d.n > 0], what);
+  same(answer.reached, all.reached, what);
+  same([...answer.distances], all.back, what);
+  same(answer.path === null, word === "safe", what);
+  if (answer.path !== null) same(answer.path.length - 1, word === "unsafe" ? certain.steps : all.steps, what);
+}
+
+/** Every single step of a draft tried: those that make it safe are just those that are found on the path. */
+function holdRepairs(d, answer) {
+  if (answer.path === null) return;
+  const steps = d.certain.flatMap((_, from) => model.successors(d, from).map((to) => [from, to]));
+  const mends = steps.filter(([from, to]) => {
+    const other = model.setStep(d, from, to, "none");
+    return !searched(other, true).isUnsafe;
+  });
+  const found = repairs(library, d, answer.path);
+  same([...found].sort(), mends.sort());
+}
+
+for (let k = 0; k < count; k++) {
+  const answers = new Answers(library);
+  const history = new model.History();
+  const hasOptions = below(2) === 0;
+  let [d, plain] = [model.NEW_DRAFT, new Plain()];
+  const drafts = [d];
+  for (let i = 0; i < 3 + below(6); i++) [d, plain] = [model.addScreen(d), Object.assign(plain.copy(), { names: [...plain.names, [-1 - i, null]] })];
+  history.add(d, "screens");
+  drafts.push(d);
+  for (let i = 0; i < EDITS; i++) {
+    const what = `SEED=${seed}, draft ${k}, edit ${i}`;
+    [d, plain] = edited(below, d, plain, { hasOptions });
+    history.add(d, "an edit");
+    drafts.push(d);
+    same(model.isSameDraft(model.draftOfText(library, plain.text()), d), true, `${what}: ${plain.text()}`);
+    const answer = answers.of(d);
+    hold(d, answer, what);
+    if (i % 8 === 0) holdRepairs(d, answer);
+    if (i % 10 === 0) same(model.isSameDraft(model.draftOfText(library, model.textOf(library, d)), d), true, what);
+    if (below(4) === 0) { // back and forth: the session goes with it
+      same([history.undo(), history.draft === drafts.at(-2)], [true, true], what);
+      hold(history.draft, answers.of(history.draft), what);
+      same([history.redo(), history.draft === d], [true, true], what);
+      hold(d, answers.of(d), what);
+    }
+  }
+  for (let i = drafts.length - 2; i >= 0; i--) same([history.undo(), history.draft === drafts[i]], [true, true]);
+  same([history.undo(), history.undoes], [false, null]);
+  for (let i = 1; i < drafts.length; i++) same([history.redo(), history.draft === drafts[i]], [true, true]);
+  same([history.redo(), history.redoes], [false, null]);
+}
+
+// ---- a full table, names that are none, and what says little
+
+let full = model.NEW_DRAFT;
+for (let s = 0; s < 512; s++) full = model.addScreen(full);
+throws(() => model.addScreen(full), model.NotDone);
+let grouped = model.addScreen(model.NEW_DRAFT, "home");
+for (let j = 0; j < 64; j++) grouped = model.addGroup(grouped);
+throws(() => model.addGroup(grouped), model.NotDone);
+throws(() => model.addGroup(model.NEW_DRAFT), model.NotDone);
+const named = model.addScreen(grouped, "over-limit");
+for (const name of ["", "12", "none", "end", "home", "a#b", "ó\u0300", "дом", "a\u202eb", "x".repeat(65), "->", "<b>"]) {
+  throws(() => model.checkedName(library, named, 2, name), model.NotDone, name);
+}
+same(model.checkedName(library, named, 2, " hard limit "), "hard-limit");
+same(model.checkedName(library, model.NEW_DRAFT, 0, "a"), "a");
+same(model.checkedName(library, model.NEW_DRAFT, 0, "дом"), "дом");
+same([model.screenOf(named, "over-limit"), model.screenOf(named, "1"), model.screenOf(named, "1 over-limit"), model.screenOf(named, "1 home"), model.screenOf(named, "2"), model.screenOf(named, "01")], [1, 1, 1, null, null, null]);
+same(vacuous(named), "the table has no initial state, so that it is safe whatever else is in it");
+same(vacuous(model.mark(model.setStep(model.addScreen(model.NEW_DRAFT), 0, 0, "certain"), "initial", 0, true)),
+  "nothing in the table is forbidden, so that it is safe whatever else is in it");
+end("edits", 100 * count);

@@ -1,0 +1,185 @@
+// What a drafter does on the page by mouse: see, edit, undo, the text beside it.
+import { readFileSync } from "node:fs";
+import { agrees, end, holds, onPage, placeOf, same, shown } from "./support.mjs";
+
+const OFF = 0, RUNNING = 4, ALARM = 6, LIMIT = 7, SERVICE = 8, TRANSPORT = 9;
+const NEVER = null;
+/** The example, as its text says; then with a step from running to over-hard-limit. */
+const SAFE = { verdict: "safe", path: null, reached: [0, 1, 2, 3, 4, 5, 6, 8], distances: [...Array(7).fill(NEVER), 0, NEVER] };
+const UNSAFE = {
+  verdict: "unsafe", path: [0, 1, 2, 3, 4, 7], reached: [0, 1, 2, 3, 4, 5, 6, 7, 8], distances: [5, 4, 3, 2, 1, 2, 3, 0, NEVER],
+};
+
+const text = (id) => document.getElementById(id).textContent;
+const value = (id) => document.getElementById(id).value;
+const cell = (state, name) => document.querySelector(`#list tr[data-state="${state}"] .${name}`).textContent;
+const world = () => {
+  const [x, y, scale] = document.querySelector("#picture > g").getAttribute("transform").match(/-?[0-9][-0-9.e]*/g).map(Number);
+  return { x, y, scale };
+};
+const fieldOf = (selector) => {
+  const { x, y, width, height } = document.querySelector(selector).getBoundingClientRect();
+  return { x, y, width, height };
+};
+
+await onPage(async (browser) => {
+  const look = (expected, what) => browser.run(shown).then((found) => agrees(found, expected, what));
+  const isShown = (selector) => browser.run((sought) => document.querySelector(sought) !== null, selector);
+
+  // ---- begin
+  same((await browser.run(shown)).verdict, "draft", "a page without a table");
+  await browser.click("#example");
+  await look(SAFE, "the example");
+  holds((await browser.text("#verdict")).includes("shuntberry release"), "the verdict says where a release is made");
+
+  // ---- see: each screen, and what it is by shape and word
+  const words = await browser.run(() => [...document.querySelectorAll("#picture g[data-state]")].map((box) => box.textContent));
+  const names = ["off", "home", "set-rate", "confirm", "running", "paused", "alarm", "over-hard-limit", "service"];
+  names.forEach((name, s) => holds(words.some((said) => said.startsWith(`${s} ${name.slice(0, 9)}`)), `${name} is drawn`));
+  holds(words[LIMIT].includes("forbidden") && words[OFF].includes("resting"), "forbidden and resting in words");
+  holds(words[SERVICE].includes("dead end"), "a dead end in words");
+  const legend = await browser.text("#legend");
+  for (const word of ["start", "reached", "not reachable", "forbidden", "may end"]) holds(legend.includes(word), `the legend: ${word}`);
+
+  // ---- draw a step from screen to screen
+  const [from, to] = [await browser.run(placeOf, RUNNING), await browser.run(placeOf, LIMIT)];
+  await browser.drag(from, { x: (from.x + to.x) / 2, y: (from.y + to.y) / 2 + 9 }, to);
+  await look(UNSAFE, "a step drawn by mouse");
+  holds((await browser.text("#verdict-path")).includes("over-hard-limit"), "the path by name");
+  const badges = await browser.run(() => [...document.querySelectorAll("#picture g[data-path]")].map((badge) => {
+    const { width, height, x, y } = badge.querySelector("rect").getBoundingClientRect();
+    return { width, height, isIn: x >= 0 && y >= 0 && x + width <= innerWidth };
+  }));
+  holds(badges.length === 6 && badges.every(({ height, isIn }) => height >= 14 && isIn), "the path's numbers are large enough");
+
+  // ---- undo and redo
+  await browser.click("#undo");
+  await look(SAFE, "undone");
+  await browser.click("#redo");
+  await look(UNSAFE, "done again");
+
+  // ---- zoom and drag the picture: the table stays
+  const before = await browser.run(shown);
+  const first = await browser.run(world);
+  const at = await browser.run(placeOf, RUNNING);
+  await browser.wheel(at, -240);
+  await browser.until((before) => !document.querySelector("#picture > g").getAttribute("transform").endsWith(`scale(${before})`),
+    "the wheel is turned", first.scale);
+  const near = await browser.run(world);
+  holds(near.scale > 1.2 * first.scale, "the wheel makes it larger");
+  const then = await browser.run(placeOf, RUNNING);
+  holds(Math.hypot(then.x - at.x, then.y - at.y) < 2, "what is under the pointer stays there");
+  await browser.click("#zoom-in");
+  holds((await browser.run(world)).scale > near.scale, "the button makes it larger");
+  await browser.click("#zoom-out");
+  holds(Math.abs((await browser.run(world)).scale - near.scale) < 0.01, "and smaller");
+  const field = await browser.run(fieldOf, "#picture");
+  const free = { x: field.x + 8, y: field.y + field.height - 8 };
+  const unmoved = await browser.run(world);
+  await browser.drag(free, { x: free.x + 60, y: free.y - 40 });
+  const moved = await browser.run(world);
+  holds(Math.abs(moved.x - unmoved.x - 60) < 2 && Math.abs(moved.y - unmoved.y + 40) < 2, "the picture follows the hand");
+  await browser.click("#fit");
+  holds(Math.abs((await browser.run(world)).scale - first.scale) < 0.01, "the whole picture again");
+  same((await browser.run(shown)).edit, before.edit, "nothing was edited by looking");
+
+  // ---- search
+  await browser.type("#search", "alarm");
+  const found = () => [...document.querySelectorAll("#picture g[data-state]")]
+    .filter((box) => box.querySelector("rect[fill='#ffd75e']") !== null).map((box) => Number(box.dataset.state));
+  same(await browser.run(found), [ALARM], "what is searched stands out");
+  await browser.click("#search");
+  await browser.keys(["Control", "a"], "Delete");
+  await browser.until(() => document.querySelector("#picture rect[fill='#ffd75e']") === null, "the search is over");
+
+  // ---- choose in the picture, and in the list
+  await browser.click("#tab-list");
+  await browser.clickAt(await browser.run(placeOf, ALARM));
+  same(await browser.run(value, "screen-name"), "alarm", "chosen in the picture");
+  same(await browser.run(() => document.querySelector("#list [aria-selected=true]").dataset.state), String(ALARM), "and in the list");
+  await browser.click(`#list tr[data-state="${SERVICE}"]`);
+  same(await browser.run(value, "screen-name"), "service", "chosen in the list");
+
+  // ---- add, name, mark, group, option, remove
+  await browser.type("#screen-new", "transport");
+  await browser.click("#screen-add");
+  holds((await browser.run(cell, TRANSPORT, "is")).includes("hang"), "a new screen is a hang");
+  await browser.click("#screen-resting");
+  same(await browser.run(cell, TRANSPORT, "is"), "resting", "it rests");
+  await browser.click("#screen-forbidden");
+  same(await browser.run(cell, TRANSPORT, "is"), "forbidden, resting", "it is forbidden");
+  await browser.click(`#list tr[data-state="${SERVICE}"]`);
+  await browser.click("#step-option");
+  await browser.type("#step-to", "transport");
+  await browser.click("#step-add");
+  holds((await browser.run(cell, SERVICE, "steps")).includes("transport (option)"), "a step only with an option, in the list");
+  const dash = () => document.querySelector("#picture path[data-step='8 9']").getAttribute("stroke-dasharray");
+  holds(/^2 /.test(await browser.run(dash)), "and dotted in the picture");
+  same((await browser.run(shown)).verdict, "unsafe", "it was unsafe on every pump before");
+  await browser.click("#step-option");
+  await browser.click("#group-new");
+  holds((await browser.text("#legend")).includes("group 0: 1 screen"), "a group has its colour in the legend");
+  same(await browser.run(cell, SERVICE, "groups"), "0", "and stands in the list");
+  await browser.clear("#screen-name");
+  await browser.type("#screen-name", "maintenance");
+  await browser.click("#screen-head");
+  same(await browser.run(cell, SERVICE, "name"), "maintenance", "another name");
+  await browser.click(`#screen-steps li[data-to="${TRANSPORT}"] .rub-out`);
+  holds(!(await isShown("#picture path[data-step='8 9']")), "a step rubbed out");
+  await browser.click(`#list tr[data-state="${TRANSPORT}"]`);
+  await browser.click("#screen-remove");
+  await look(UNSAFE, "a screen removed");
+  await browser.click(`#list tr[data-state="${RUNNING}"]`);
+  await browser.click(`#screen-steps li[data-to="${LIMIT}"] .rub-out`);
+  await look(SAFE, "the step rubbed out");
+  await browser.click(`#list tr[data-state="${LIMIT}"]`);
+  await browser.click("#screen-initial");
+  await look({
+    verdict: "unsafe", path: [LIMIT], reached: UNSAFE.reached, distances: SAFE.distances,
+  }, "a session can start in a forbidden screen");
+  await browser.click("#undo");
+  await look(SAFE, "and cannot");
+
+  // ---- the list, sorted
+  await browser.click("#list th[data-sort=distance] button");
+  same(await browser.run(() => document.querySelector("#list tbody tr").dataset.state), String(LIMIT), "the nearest first");
+  await browser.click("#list th[data-sort=name] button");
+  same(await browser.run(() => document.querySelector("#list tbody tr").dataset.state), String(ALARM), "by name");
+
+  // ---- the text beside it, with each mistake at its line
+  await browser.click("#tab-text");
+  const lines = (await browser.run(value, "text")).split("\n");
+  holds(lines.includes("state 8 maintenance"), "the text has what was edited");
+  const bad = lines.findIndex((line) => line.startsWith("initial"));
+  await browser.run((at) => {
+    const field = document.getElementById("text");
+    const place = field.value.split("\n").slice(0, at + 1).join("\n").length;
+    field.focus();
+    field.setSelectionRange(place, place);
+  }, bad);
+  await browser.write(" nowhere");
+  same((await browser.run(shown)).verdict, "mistakes", "a text with a mistake has no answer");
+  same(await browser.run(() => [...document.querySelectorAll("#text-mistakes li")].map((item) => item.dataset.line)), [String(bad + 1)],
+    "the mistake at its line");
+  holds((await browser.text("#text-mistakes")).includes("nowhere"), "with why");
+  same(await browser.run(shown).then(({ path, word }) => [path, word]), [null, "no answer"], "no old verdict is left");
+  await browser.click("#text-back");
+  same((await browser.run(shown)).verdict, "safe", "the text put back");
+  await browser.run(() => {
+    const field = document.getElementById("text");
+    const place = field.value.lastIndexOf("end");
+    field.focus();
+    field.setSelectionRange(place, place);
+  });
+  await browser.write("step running -> over-hard-limit\n");
+  await look(UNSAFE, "a step written in the text");
+  same(await browser.run(text, "text-mistakes"), "", "without a mistake");
+
+  // ---- begin anew, and back
+  await browser.click("#new");
+  same((await browser.run(shown)).verdict, "draft", "begun anew");
+  await browser.click("#undo");
+  await look(UNSAFE, "and undone");
+  holds(readFileSync("examples/pump.txt", "utf8").includes("state 8 service"), "the example has the name that was changed");
+});
+end("by mouse", 90);
