@@ -16,15 +16,15 @@ const checked = (answer) => ({
   text: answer.text, status: answer.status, is_safe: answer.isSafe, refusal: answer.refusal?.number ?? null,
 });
 const finite = (distances) => distances.map((steps) => (steps === Infinity ? null : steps));
+// The calls whose arguments or answers JSON has in another way.
 const calls = {
   decide: (table, allowance) => decision(s.decide(table, allowance)),
-  shortest_path: (table) => s.shortestPath(table),
   distances: (table) => finite(s.distances(table)),
-  within: (table, k) => s.within(table, k),
   write: (table, site) => hex(s.write(table, site)),
   replay: (table, log) => ({ ...s.replay(table, bytes(log)) }),
   decide_modal: (table, possible) => decision(s.decideModal(table, new Map(possible))),
 };
+const plain = (name) => s[name.replace(/_./g, (found) => found[1].toUpperCase())];
 
 /** The same question by two tables, and by the text of both; null where the rows are of no table. */
 function modal(table, possible) {
@@ -51,7 +51,7 @@ for (const line of readFileSync(0, "utf8").split("\n").filter(Boolean)) {
     sets.initial, sets.marked, sets.resting, sets.groups,
   ]);
   for (const [name, given, expected] of one.asked) {
-    same(answered(() => calls[name](table, ...given)), expected, `${name}(${given}): ${line}`);
+    same(answered(() => (calls[name] ?? plain(name))(table, ...given)), expected, `${name}(${given}): ${line}`);
   }
   same(table.toText(), one.text, line);
   same(s.Table.fromText(one.text).equals(table), true, line);
