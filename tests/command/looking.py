@@ -179,15 +179,20 @@ for table, path in EVERY:
         log.write_bytes(b"".join(map(spec.two, entries)))
         text, names = named(table)
         said, found = replayed(table, entries, names)
-        status = NO_RELEASE if found["breaks"] else SAFE
+        status = UNSAFE if found["forbidden"] else NO_RELEASE if found["breaks"] or not entries else SAFE
         statuses.add(status)
-        gives(status, replayed(table, entries, {})[0], "replay", path, log)
-        gives(status, said, "replay", "--text", text, log)
-        need(json.loads(gives(status, None, "replay", "--json", "--names", text, path, log).out) == found, found)
+        err = None if entries else f"^replay: {log}: the log has no entries\n$"
+        gives(status, replayed(table, entries, {})[0], "replay", path, log, err=err)
+        gives(status, said, "replay", "--text", text, log, err=err)
+        need(json.loads(gives(status, None, "replay", "--json", "--names", text, path, log, err=err).out) == found, found)
         words = " ".join(names.get(s, str(s)) if random.random() < 0.8 else str(s) for s in entries)
         log.write_text(words.replace(" ", "\n", 1) + " # as the nurse said\nend\n")
-        gives(status, said, "replay", "--text", "--text-log", text, log)
-need(statuses == {SAFE, NO_RELEASE}, "no walk breaks off, or each does", statuses)
+        gives(status, said, "replay", "--text", "--text-log", text, log, err=err)
+need(statuses == {SAFE, UNSAFE, NO_RELEASE}, "no walk breaks off or shows a forbidden screen, or each does", statuses)
+# the pump was there: that the walk also breaks off, before or behind it, makes it no better
+for entries, status in ("0 1 2 3", UNSAFE), ("0 3", UNSAFE), ("3", UNSAFE), ("600 3", UNSAFE), ("3 600", UNSAFE), ("0 1 2", SAFE), ("0 2", NO_RELEASE), ("", NO_RELEASE):
+    log.write_text(f"{entries}\nend\n")
+    gives(status, None, "replay", "--text-log", TABLES / "b.table", log, err=None if entries else "the log has no entries")
 log.write_bytes(b"\0\0\1")
 gives(REFUSED, "", "replay", E, log, err=f"{log}: refused 25")
 log.write_text("0 1\n")

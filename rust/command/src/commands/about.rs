@@ -14,10 +14,10 @@ pub const USAGE: &str = "usage: shuntberry COMMAND .., or shuntberry help [COMMA
 /// What each status means, for every command, in their order.
 pub const STATUSES: [&str; 5] = [
     "safe, and all of it printed; or the thing asked for was written whole",
-    "unsafe",
+    "unsafe, or a log that shows a forbidden screen",
     "refused, or mistakes in a text",
     "anything else: called wrongly, could not read, could not print",
-    "answered, but nothing that may be released: no states, undecided, depends, not within K, different, a log that breaks off",
+    "answered, but nothing that may be released: no states, undecided, depends, not within K, different, a log that breaks off or has no entries",
 ];
 
 fn statuses() -> String {

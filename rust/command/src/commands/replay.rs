@@ -23,7 +23,7 @@ pub const REPLAY: Command = Command {
     words: "FILE LOG",
     counts: (2, 2),
     about: "a pump's log walked through a table",
-    more: "LOG has a state number of two bytes, low byte first, for each screen that was shown. The status is 4 where it breaks off.",
+    more: "LOG has a state number of two bytes, low byte first, for each screen that was shown. The status is 1 where it shows a forbidden screen, else 4 where it breaks off or has no entries.",
     options: &[&SITE, &TEXT, &NAMES, &TEXT_LOG, &JSON],
     needs: &[],
     output: Output::Answer,
@@ -59,10 +59,13 @@ fn run(call: &Call) -> Done {
         false => walk.lines(),
     };
     print(lines.as_bytes())?;
-    Ok(match walk.broken() {
-        Some(_) => status::NO_RELEASE,
-        None => status::DONE,
-    })
+    if walk.entries.is_empty() {
+        say(&format!(
+            "replay: {}: the log has no entries\n",
+            log_input.shown()
+        ));
+    }
+    Ok(walk.status())
 }
 
 /// Whether bytes are such as stand in a text. In a log every second one is the high byte of a state's number, 0 or 1.
@@ -179,6 +182,15 @@ impl<'t> Walk<'t> {
     fn forbidden(&self) -> Option<usize> {
         let forbidden = self.table.forbidden();
         self.entries.iter().position(|&s| forbidden.contains(s))
+    }
+
+    /// The worst that it shows. A log of no entries is mostly what a copy that failed left, and says nothing of a pump.
+    fn status(&self) -> u8 {
+        match self {
+            _ if self.forbidden().is_some() => status::UNSAFE,
+            _ if self.broken().is_some() || self.entries.is_empty() => status::NO_RELEASE,
+            _ => status::DONE,
+        }
     }
 
     /// The screens that can be reached and that no followed entry shows.
