@@ -233,7 +233,7 @@ def check_page(page, table, path, site=0, names=None, text=None, date="2025-12-3
     need("Not proved: the program around the proved call" in text_of(section(root, "Program")), "what is not proved")
     need(("not whether the file was released" in text_of(every(root, "footer")[0])) == (not released), "whether it says something of a release")
     signed = [row[0] for row in rows(section(root, "Signatures"))][1:]
-    need(signed == (["Checked by", "Released by"] if word == "safe" else ["Seen by"]), "who signs it", signed)
+    need(signed == (["Checked by", "Released by"] if word == "safe" and not vacuous else ["Seen by"]), "who signs it", signed)
     need((section(root, "What has changed") is None) == (since is None), "what has changed")
     return section(root, "Picture")
 
@@ -347,26 +347,47 @@ for words, told in TITLES.items():
 no_record(report(A, "--title"), FAILED, "--title needs a value")
 no_record(report(A, "--title", "a", "--title", "b"), FAILED, "twice")
 
-for table, path in (table_a, A), (table_b, B), (model.table_of((TABLES / "empty.txt").read_text()), EMPTY):
+TORN = b"other bytes"
+
+
+def is_released(table, path, said):
+    """What the record says of the place, and that no status of 0 and no silence stands beside a no."""
+    given = report(path, "--released", place)
+    is_no = not said.startswith("to ")
+    status = NO_RELEASE if is_no and status_for(table) == SAFE else status_for(table)
+    need(given.status == status and given.out.decode() == worked_out(table)[0], given, status)
+    told = f"report: {path}: not released{said.removeprefix('no')}\n"
+    need((told in given.err.decode()) == is_no and (is_no or not given.err), given, told)
+    check_page(out.read_bytes(), table, path, released=said)
+
+
+VACUOUS = [(table, path) for table, path in EVERY if table.n and (not table.initial or not table.forbidden())]
+need({bool(table.initial) for table, _ in VACUOUS} == {True, False}, "no table is vacuous, or not for both reasons")
+for table, path in *VACUOUS[:9], (table_a, A), (table_b, B), (model.table_of((TABLES / "empty.txt").read_text()), EMPTY):
     word = expected_verdict(table)[0]
     place.unlink(missing_ok=True)
-    need(report(path, "--released", place).status == status_for(table), word)
-    check_page(out.read_bytes(), table, path, released=f"no: there is no {place}")
-    place.write_bytes(E.read_bytes())
-    report(path, "--released", place)
-    check_page(out.read_bytes(), table, path, released=f"no: {place} has other bytes, of the SHA-256 {hashlib.sha256(E.read_bytes()).hexdigest()}")
+    is_released(table, path, f"no: there is no {place}")
+    place.write_bytes(TORN)
+    is_released(table, path, f"no: {place} has other bytes, of the SHA-256 {hashlib.sha256(TORN).hexdigest()}")
     place.write_bytes(path.read_bytes())
-    report(path, "--released", place)
-    there = f"to {place}, which has the bytes that were checked"
-    check_page(out.read_bytes(), table, path, released=there if word == "safe" else f"no, but {place} has these bytes: take it away, it must not be loaded")
-    report(path, "--released", path)
-    check_page(out.read_bytes(), table, path, released=there.replace(str(place), str(path)) if word == "safe" else f"no, but {path} has these bytes: take it away, it must not be loaded")
+    vacuous = word == "safe" and (not table.initial or not table.forbidden())
+    is_released(table, path, f"no, but {place} has these bytes, and release declines them without --even-if-vacuous" if vacuous else {
+        "safe": f"to {place}, which has the bytes that were checked"}.get(word, f"no, but {place} has these bytes: take it away, it must not be loaded"))
+    # a file has its own bytes, by whatever name: that says nothing of a release
+    own = path.read_bytes()
+    (place.parent / "own.table").unlink(missing_ok=True)
+    for name, link in (path, None), ("own.table", os.symlink), ("own.table", os.link), (f"{WORK}/./own.table", os.link):
+        if link:
+            place.write_bytes(own)
+            (WORK / "own.table").unlink(missing_ok=True)
+            link(place, WORK / "own.table")
+        no_record(report(place if link else path, "--released", name, cwd=WORK), FAILED, "^report: PLACE is FILE itself")
 os.symlink("nowhere", WORK / "dangling")
 (WORK / "long.table").write_bytes(bytes(37377))
-for name, why in (WORK / "dangling", "could not be read"), (TABLES, "could not be read"), ("", "could not be read"), (WORK / "long.table", "longer than any"), ("/dev/zero", "longer than any"), (f"{A}/x", "could not be read"):
+for name, why in (WORK / "dangling", "could not be read"), (TABLES, "could not be read: it is no file"), ("", "could not be read"), (WORK / "long.table", "longer than any"), ("/dev/zero", "could not be read: it is no file"), (f"{A}/x", "could not be read"):
     no_record(report(A, "--released", name), FAILED, why)
 need(not report(A, "--released", WORK / "dangling").out, "a verdict before what failed")
-need(report(A, "--released", "<b>x\ny").status == SAFE, "a name")
+need(report(A, "--released", "<b>x\ny").status == NO_RELEASE, "a name")
 check_page(out.read_bytes(), table_a, A, released='no: there is no "<b>x\\ny"')
 
 was = {"safe": "In the old table no forbidden state could be reached", "unsafe": "In the old table a forbidden state could be reached", "draft": "The old table had no states"}
@@ -400,6 +421,13 @@ for words, why in [
     given = report(A, *words)
     no_record(given, FAILED, why)
     need(not given.out, "a verdict before what failed", given)
+os.mkfifo(WORK / "pipe")  # nobody writes to it: who reads it waits for ever
+os.symlink("pipe", WORK / "to-pipe")
+for option in "--released", "--since":
+    for name in WORK / "pipe", WORK / "to-pipe", "/dev/null", "/dev/stdin", TABLES, "/", ".":
+        given = report(A, option, name, stdin=subprocess.PIPE)
+        no_record(given, FAILED, "^report: .* could not be read: it is no file\n$")
+        need(not given.out, "a verdict before what failed", given)
 no_record(report(TABLES / "bad-check.table", "--since", A), REFUSED, "there is no record: it is refused")
 no_record(report(TABLES / "bad-check.table", "--since", TABLES / "bad-check.table"), FAILED, "refused 13")
 group("titles, releases and changes")

@@ -253,6 +253,11 @@ impl Answer {
         }
     }
 
+    /// Whether `release` takes it without being told to take more.
+    pub fn may_be_released(&self) -> bool {
+        self.verdict == Verdict::Safe && self.vacuous.is_none()
+    }
+
     /// Why it says little that the table is safe.
     pub fn why_vacuous(&self) -> Option<String> {
         self.vacuous

@@ -127,6 +127,23 @@ fn is_same(file: &Metadata, other: &Metadata) -> bool {
     file.is_file() && (file.dev(), file.ino()) == (other.dev(), other.ino())
 }
 
+/// Whether both names are those of one file on a disk. What cannot be looked at is said where it is read.
+pub fn is_one_file(path: &Path, other: &Path) -> bool {
+    let of_both = (fs::metadata(path), fs::metadata(other));
+    matches!(of_both, (Ok(file), Ok(other)) if is_same(&file, &other))
+}
+
+/// A file, or nothing: a pipe could wait for ever, and what a device gives is nobody's table.
+pub fn need_file(path: &Path) -> Result<(), Failure> {
+    match fs::metadata(path) {
+        Ok(data) if !data.is_file() => {
+            let why = io::Error::other(NO_FILE);
+            Err(Input::named(path).not_read(why))
+        }
+        _ => Ok(()), // what cannot be looked at is said where it is read
+    }
+}
+
 /// What a name stands for, behind all links; nothing where there is nothing. Any other error stays one: the
 /// kernel may refuse to follow a link.
 fn found(path: &Path) -> io::Result<Option<Metadata>> {

@@ -394,20 +394,43 @@ fn bullets(items: impl Iterator<Item = String>) -> String {
 const MOST_CHANGES: usize = 400;
 
 impl Record<'_> {
-    /// Whether the bytes are where a pump takes them from. Only those of a table that may be released are told as released.
+    /// Whether the bytes are where a pump takes them from.
     fn released_to(&self, released: &Released) -> String {
         let place = format!("<bdi>{}</bdi>", escaped(&released.place));
+        let code = |sum: &str| format!("<code>{sum}</code>");
+        match self.why_not(released, &place, code) {
+            Some(why) => format!("no{why}"),
+            None => format!("to {place}, which has the bytes that were checked"),
+        }
+    }
+
+    /// Why the record says that the table was not released, as what follows "not released"; nothing where it says that it was, or nothing of it.
+    pub fn not_released(&self) -> Option<String> {
+        let released = self.released.as_ref()?;
+        self.why_not(released, &released.place, str::to_string)
+    }
+
+    /// The same, with a place and a sum as they are shown. Only the bytes of a table that may be released are told as released.
+    fn why_not(
+        &self,
+        released: &Released,
+        place: &str,
+        shown: impl Fn(&str) -> String,
+    ) -> Option<String> {
         match &released.sum {
-            None => format!("no: there is no {place}"),
-            Some(sum) if *sum != self.sum => {
-                format!("no: {place} has other bytes, of the SHA-256 <code>{sum}</code>")
-            }
-            Some(_) if self.answer.verdict == Verdict::Safe => {
-                format!("to {place}, which has the bytes that were checked")
-            }
-            Some(_) => {
-                format!("no, but {place} has these bytes: take it away, it must not be loaded")
-            }
+            None => Some(format!(": there is no {place}")),
+            Some(sum) if *sum != self.sum => Some(format!(
+                ": {place} has other bytes, of the SHA-256 {}",
+                shown(sum)
+            )),
+            Some(_) if self.answer.may_be_released() => None,
+            Some(_) if self.answer.vacuous.is_some() => Some(format!(
+                ", but {place} has these bytes, and release declines them without {}",
+                VACUOUS.name
+            )),
+            Some(_) => Some(format!(
+                ", but {place} has these bytes: take it away, it must not be loaded"
+            )),
         }
     }
 
@@ -443,9 +466,9 @@ impl Record<'_> {
 
     /// Lines to sign on paper: that it was released only where it may be.
     fn signatures(&self) -> String {
-        let who: &[&str] = match self.answer.verdict {
-            Verdict::Safe => &["Checked by", "Released by"],
-            _ => &["Seen by"],
+        let who: &[&str] = match self.answer.may_be_released() {
+            true => &["Checked by", "Released by"],
+            false => &["Seen by"],
         };
         let row = |who: &&str| {
             format!("<tr><th scope=\"row\">{who}</th><td></td><td></td><td></td></tr>\n")

@@ -17,7 +17,7 @@ pub const STATUSES: [&str; 5] = [
     "unsafe, or a log that shows a forbidden screen",
     "refused, or mistakes in a text",
     "anything else: called wrongly, could not read, could not print",
-    "answered, but nothing that may be released: no states, undecided, depends, not within K, different, a log that breaks off or has no entries",
+    "answered, but nothing that may be released: no states, undecided, depends, not within K, different, a log that breaks off or has no entries, not in PLACE",
 ];
 
 fn statuses() -> String {

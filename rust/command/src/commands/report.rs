@@ -6,8 +6,8 @@ use crate::commands::about::{VERSION, version_line};
 use crate::commands::diff::{Draft, OLD_NAMES, changes, compared, not_compared};
 use crate::commands::picture::say_drawing;
 use crate::drawing::{Limits, NotDrawn, drawn};
-use crate::failure::{Done, Failure};
-use crate::files::{Input, OUT, need_place, print, replace, say};
+use crate::failure::{Done, Failure, status};
+use crate::files::{Input, OUT, is_one_file, need_file, need_place, print, replace, say};
 use crate::inspection::Inspection;
 use crate::lines::{cut, number};
 use crate::picture::{Options, Picture};
@@ -33,7 +33,8 @@ const RELEASED: Opt = Opt {
     name: "--released",
     value: Some("PLACE"),
     about: "says in the record whether the file PLACE has the bytes that were checked\n\
-        PLACE is what release wrote. A record without this option does not say whether the file was released.",
+        PLACE is what release wrote, and not FILE itself. Where the record of a safe table says no, the status is 4, and standard error says why. \
+        A record without this option does not say whether the file was released.",
 };
 const SINCE: Opt = Opt {
     name: "--since",
@@ -68,10 +69,16 @@ fn run(call: &Call) -> Done {
         ));
     };
     let date = date()?;
+    for path in [&RELEASED, &SINCE]
+        .into_iter()
+        .filter_map(|option| call.path(option))
+    {
+        need_file(path)?;
+    }
     let source = Source::of(call, Some(from))?;
     need_place(to)?;
     let answer = Answer::of(&source)?;
-    let (title, released) = (title(call)?, released(call)?);
+    let (title, released) = (title(call)?, released(call, from)?);
     let since = since(call, &source, &answer).map_err(not_compared)?;
     print(answer.text.as_bytes())?;
     if let Verdict::Refused(refused) = answer.verdict {
@@ -100,7 +107,14 @@ fn run(call: &Call) -> Done {
         since,
     };
     replace(to, record.page().as_bytes())?;
-    Ok(answer.verdict.status())
+    let Some(why) = record.not_released() else {
+        return Ok(answer.verdict.status());
+    };
+    say(&format!("report: {}: not released{why}\n", record.file));
+    Ok(match answer.verdict {
+        Verdict::Safe => status::NO_RELEASE,
+        verdict => verdict.status(),
+    })
 }
 
 /// The picture, or why there is none: a record is one without it too.
@@ -143,11 +157,17 @@ fn title(call: &Call) -> Result<Option<String>, Failure> {
     }
 }
 
-/// What is in the place of `--released`. That it cannot be read is no answer.
-fn released(call: &Call) -> Result<Option<Released>, Failure> {
+/// What is in the place of `--released`. That it cannot be read is no answer, and that a file has its own bytes is none either.
+fn released(call: &Call, from: &Path) -> Result<Option<Released>, Failure> {
     let Some(place) = call.path(&RELEASED) else {
         return Ok(None);
     };
+    if is_one_file(from, place) {
+        return Err(Failure::Wrong(
+            "PLACE is FILE itself: expected what release wrote, and as FILE what it was given"
+                .to_string(),
+        ));
+    }
     let is_gone = |error: &io::Error| error.kind() == io::ErrorKind::NotFound;
     let sum = match place.symlink_metadata() {
         Err(error) if is_gone(&error) && !place.as_os_str().is_empty() => None,
