@@ -74,8 +74,9 @@ for path, expected in tables():
     with open(path, "rb") as opened:
         gives(status, expected, "check", stdin=opened, err=err)
     gives(status, expected, under="check", input=file, err=err)
-    # a script asks for the status alone; a draft is said, since it is mostly what a command that failed left
-    gives(status, "", "check", "--quiet", path, err=err if status == NO_RELEASE else None)
+    # a script asks for the status alone; a draft is said, since it is mostly what a command that failed left, and a vacuous table, since its status is 0
+    quiet = err if status == NO_RELEASE or vacuous(path) else None
+    gives(status, "", "check", "--quiet", path, err=quiet)
 found = {explanation(path, expected).split(", ", 1)[1].split(":")[0] for path, expected in tables() if status_of(expected) == UNSAFE}
 need(found == {"a hang", "forbidden since it is marked"}, "no path ends in a hang, or none in a marked state", found)
 group("check on the files of tests/files")
@@ -134,7 +135,7 @@ for path, expected in tables():
     need(given.out.count(b"\n") == 1 and json.loads(given.out) == object_of(expected, vacuous(path), end_of(path, expected)) | found, "other JSON", given)
     given = gives(status, expected, "check", "--explain", path, err=err and err.removesuffix(r"\Z"))
     need(given.err.decode().splitlines()[1:] == [f"check: {line}" for line in lines], lines, given)
-    gives(status, "", "check", "--explain", "--quiet", path, err=err if status == NO_RELEASE else None)
+    gives(status, "", "check", "--explain", "--quiet", path, err=err if status == NO_RELEASE or vacuous(path) else None)
     text = path.with_suffix(".txt")
     if status != REFUSED:
         gives(status, expected, "check", "--text", text, err=err)
@@ -277,10 +278,12 @@ def checks(*names, how=(), err=None):
     files = [TABLES / f"{name}.table" for name in names]
     reasons = [explanation(*found) if status_of(found[1]) in (SAFE, REFUSED) else None for found in zip(files, texts)]
     said = "".join(f"check-all: {path}: {why}\n" for path, why in zip(paths, reasons) if why)
+    kept = "".join(f"check-all: {path}: {remark(vacuous(path))}\n" for path in files if vacuous(path))
     for more in (), ("--json",):
         given = gives(worst(statuses), None if more else lines, "check-all", *more, *how, *paths, err=err or said and "")
         need(given.err.decode() == said, "other remarks", given)
-        quiet = gives(worst(statuses), given.out, "check-all", "--quiet", *more, *how, *paths, err=err)
+        quiet = gives(worst(statuses), given.out, "check-all", "--quiet", *more, *how, *paths, err=err or kept and "")
+        need(quiet.err.decode() == kept, "other remarks with --quiet", quiet)
     objects = [json.loads(line) for line in given.out.splitlines()]
     need(objects[:-1] == [{"file": os.fspath(path)} | object_of(text, vacuous(path), end_of(path, text)) for path, text in zip(files, texts)], given)
     need(objects[-1] == counted(summary(statuses)), given)

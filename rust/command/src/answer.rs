@@ -253,6 +253,11 @@ impl Answer {
         }
     }
 
+    /// Whether that is said with `--quiet` too. A draft is mostly what a command that failed left, and of a vacuous table the status says safe.
+    pub fn is_always_said(&self) -> bool {
+        self.verdict == Verdict::Draft || self.vacuous.is_some()
+    }
+
     /// Whether `release` takes it without being told to take more.
     pub fn may_be_released(&self) -> bool {
         self.verdict == Verdict::Safe && self.vacuous.is_none()

@@ -38,7 +38,7 @@ pub const QUIET: Opt = Opt {
     name: "--quiet",
     value: None,
     about: "for scripts: explains nothing on standard error, but says what failed; check prints nothing either\n\
-        The status says it all. That a table has no states, and what was not checked, is said in any case.",
+        That a table has no states, or is safe whatever else is in it, and what was not checked, is said in any case: the status does not tell that.",
 };
 /// `--json`
 pub const JSON: Opt = Opt {

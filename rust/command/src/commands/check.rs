@@ -66,8 +66,7 @@ fn run(call: &Call) -> Done {
     } else if !call.has(&QUIET) {
         print(answer.with_names(&source.names).as_bytes())?;
     }
-    // A draft is said in any case: mostly it is what a command that failed left.
-    if !call.has(&QUIET) || answer.verdict == Verdict::Draft {
+    if !call.has(&QUIET) || answer.is_always_said() {
         let repairs = repairs.filter(|_| call.has(&EXPLAIN));
         let repairs = repairs.map_or(Vec::new(), |repairs| repairs.lines(&source.names));
         for line in answer.explanation(&source).into_iter().chain(repairs) {

@@ -68,7 +68,10 @@ fn run(call: &Call) -> Done {
     for (done, file) in files.iter().enumerate() {
         progress.show(done, &counts, &mut lines)?;
         let (answer, remark) = match file.answer(site) {
-            Ok((answer, remark)) => (Ok(answer), remark.filter(|_| !call.has(&QUIET))),
+            Ok((answer, remark)) => {
+                let is_said = !call.has(&QUIET) || answer.is_always_said();
+                (Ok(answer), remark.filter(|_| is_said))
+            }
             Err(why) => (Err(why.clone()), Some(why)),
         };
         if let Some(remark) = remark {
