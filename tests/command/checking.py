@@ -254,10 +254,10 @@ def line_of(name, expected):
     return f"{name}: {word}\n"
 
 
-def summary(statuses):
+def summary(statuses, not_checked=0):
     counts = [statuses.count(status) for status in (SAFE, UNSAFE, REFUSED, NO_RELEASE, FAILED)]
     s, d = ("" if number == 1 else "s" for number in (len(statuses), counts[3]))
-    return f"{len(statuses)} file{s}: {counts[0]} safe, {counts[1]} unsafe, {counts[2]} refused, {counts[3]} draft{d}, {counts[4]} failed\n"
+    return f"{len(statuses)} file{s}: {counts[0]} safe, {counts[1]} unsafe, {counts[2]} refused, {counts[3]} draft{d}, {counts[4]} failed" + f", {not_checked} not checked" * bool(not_checked) + "\n"
 
 
 def worst(statuses):
@@ -309,7 +309,7 @@ quiet = WORK / "quiet"
 quiet.mkdir()
 for name, place in ("bad-check", "bad.table"), ("a", "other.bin"):
     (quiet / place).write_bytes((TABLES / f"{name}.table").read_bytes())
-lines = f"{quiet}/bad.table: refused 13\n{TABLES}/missing: failed\n{summary([REFUSED, FAILED])}"
+lines = f"{quiet}/bad.table: refused 13\n{TABLES}/missing: failed\n{summary([REFUSED, FAILED], 1)}"
 given = gives(FAILED, lines, "check-all", "--quiet", quiet, TABLES / "missing", err=f"(?m)^check-all: {TABLES}/missing could not be read: No such file")
 need(f"check-all: not checked: {quiet}/other.bin\n" in given.err.decode() and b"refused" not in given.err, given)
 
@@ -321,7 +321,7 @@ for name, place in ("a", "b.table"), ("b", "a.table"), ("e", "deep/z.table"), ("
 os.symlink("..", folder / "deep/loop")
 os.mkfifo(folder / "deep/er/pipe.table")
 lines = [f"{folder}/a.table: unsafe", f"{folder}/b.table: safe", f"{folder}/deep/er/pipe.table: failed", f"{folder}/deep/er/y.table: safe", f"{folder}/deep/z.table: safe"]
-given = gives(FAILED, "\n".join(lines) + "\n5 files: 3 safe, 1 unsafe, 0 refused, 0 drafts, 1 failed\n", "check-all", folder, err="pipe.table: it is no file")
+given = gives(FAILED, "\n".join(lines) + "\n5 files: 3 safe, 1 unsafe, 0 refused, 0 drafts, 1 failed, 1 not checked\n", "check-all", folder, err="pipe.table: it is no file")
 need(b"1 file whose name does not end in .table was not checked" in given.err, given)
 need(b"1 link to a folder was not followed" in given.err, given)
 need(f"check-all: not checked: {folder}/other.bin\n" in given.err.decode(), given)
@@ -342,21 +342,21 @@ spelled.mkdir()
 for name, place in ("a", "a.table"), ("b", ".table"), ("a", ".TABLE"), ("b", "PUMP.TABLE"), ("b", "pump.Table"), ("b", "pump.table "), ("b", "pump.table.txt"), ("b", "two\nlines"):
     (spelled / place).write_bytes((TABLES / f"{name}.table").read_bytes())
 lines = [f"{spelled}/.TABLE: safe", f"{spelled}/.table: unsafe", f"{spelled}/PUMP.TABLE: unsafe", f"{spelled}/a.table: safe", f"{spelled}/pump.Table: unsafe",
-         "5 files: 2 safe, 3 unsafe, 0 refused, 0 drafts, 0 failed"]
+         "5 files: 2 safe, 3 unsafe, 0 refused, 0 drafts, 0 failed, 3 not checked"]
 said = [f"not checked: {spelled}/pump.table ", f"not checked: {spelled}/pump.table.txt", f'not checked: "{spelled}/two\\nlines"',
         f"{spelled}: 3 files whose name does not end in .table were not checked"]
 given = gives(UNSAFE, "\n".join(lines) + "\n", "check-all", spelled, err="")
 need(given.err.decode() == "".join(f"check-all: {line}\n" for line in said), given)
 for i in range(9):
     (spelled / f"{i}.txt").touch()
-given = gives(UNSAFE, "\n".join(lines) + "\n", "check-all", spelled, err="12 files whose name does not end in .table were not checked; 2 of them are not named here\n")
+given = gives(UNSAFE, "\n".join(lines).replace(", 3 not", ", 12 not") + "\n", "check-all", spelled, err="12 files whose name does not end in .table were not checked; 2 of them are not named here\n")
 need(given.err.count(b"not checked: ") == 10, given)
 last = json.loads(call("check-all", "--json", spelled, folder).out.splitlines()[-1])
 need(last == counted("9 files: 5 safe, 4 unsafe, 0 refused, 0 drafts, 0 failed", 12, 0), last)
 for place in spelled.iterdir():
     if place.name.lower().endswith(".table"):
         place.unlink()
-gives(FAILED, f"{spelled}: failed\n{summary([FAILED])}", "check-all", spelled, err=f"not checked: {spelled}/0.txt\n(.*\n)*.*no file in it whose name ends in .table")
+gives(FAILED, f"{spelled}: failed\n{summary([FAILED], 12)}", "check-all", spelled, err=f"not checked: {spelled}/0.txt\n(.*\n)*.*no file in it whose name ends in .table")
 
 # lists
 listed = WORK / "list"
@@ -380,7 +380,7 @@ wrong("No such file", "check-all", "--from", WORK / "missing", a)
 # --count: of words, folders and lists together, as the last line counts them; where it is another, no verdict
 # is printed
 listed.write_text(f"{a}\n{b}\n")
-for count, words in (1, [a]), (3, [a, b, a]), (4, [folder]), (2, ["--from", listed]), (8, [folder, a, b, "--from", listed]), (1, [nothing]), (1, [TABLES / "missing"]):
+for count, words in (1, [a]), (3, [a, b, E]), (4, [folder]), (2, ["--from", listed]), (7, [folder, E, "--from", listed]), (1, [nothing]), (1, [TABLES / "missing"]):
     plain = call("check-all", *words)
     given = call("check-all", *words, "--count", str(count))
     need((given.status, given.out, given.err) == (plain.status, plain.out, plain.err) and given.out.splitlines()[-1].startswith(f"{count} file".encode()), given)
@@ -388,6 +388,26 @@ for count, words in (1, [a]), (3, [a, b, a]), (4, [folder]), (2, ["--from", list
         if other != count:
             wrong(f"check-all: files to check: {count}, where --count says {min(other, 2**64 - 1)}: none was checked\n$", "check-all", f"--count={other}", *words)
             wrong("none was checked", "check-all", "--json", f"--count={other}", *words)
+
+# a file that is there twice, by whatever name: it could stand in the count for one that is missing
+twice = WORK / "twice"
+twice.mkdir()
+for name in "one.table", "two.table":
+    (twice / name).write_bytes(a.read_bytes())
+os.symlink(twice / "one.table", WORK / "link.table")
+os.link(twice / "two.table", WORK / "hard.table")
+(WORK / "one-more").write_text(f"{twice}/one.table\n")
+one, two = twice / "one.table", twice / "two.table"
+gives(SAFE, None, "check-all", "--count", "2", twice)  # the same bytes are no one file
+for words, pair in [
+    ([one, one], (one, one)), ([one, twice], (one, one)), ([twice, f"{twice}/./two.table"], (two, f"{twice}/./two.table")), ([twice, twice], (one, one)),
+    ([one, "--from", WORK / "one-more"], (one, one)), ([twice, WORK / "link.table"], (one, WORK / "link.table")), ([WORK / "hard.table", two], (WORK / "hard.table", two)),
+]:
+    number = call("check-all", *words).out.splitlines()[-1].split()[0].decode()
+    for more in (), ("--json",), ("--quiet",):
+        wrong(f"check-all: {pair[0]} and {pair[1]} are one file, which --count counts once: none was checked\n$", "check-all", *more, "--count", number, *words)
+for path in WORK / "link.table", WORK / "hard.table":
+    path.unlink()
 
 # a list that was cut at any byte is refused: by itself, or by --count where whole names are left
 cuts = WORK / "cuts"
@@ -398,7 +418,7 @@ for name in NAMES:
 found = {"cut": 0, "whole": 0}
 for _ in range(50):
     how, end, called = random.choice(ENDS)
-    names = random.choices(NAMES, k=random.randrange(1, 6))
+    names = random.sample(NAMES, k=random.randrange(1, 6))
     whole = "".join(name + end for name in names).encode()
     listed.write_bytes(whole)
     status = UNSAFE if "b" in names else SAFE

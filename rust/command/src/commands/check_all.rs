@@ -8,10 +8,12 @@ use crate::lines::Names;
 use crate::shown::{counted, shown};
 use crate::source::{JSON, QUIET, SITE, Source, site};
 use crate::words::{Call, Command, Opt, Output};
+use std::collections::HashMap;
 use std::ffi::OsStr;
 use std::fs;
 use std::io::{self, IsTerminal};
 use std::os::unix::ffi::OsStrExt;
+use std::os::unix::fs::MetadataExt;
 use std::path::{Path, PathBuf};
 use std::time::{Duration, Instant};
 
@@ -33,7 +35,7 @@ const COUNT: Opt = Opt {
     value: Some("N"),
     about: "checks nothing, and fails, unless there are just N files in all\n\
         The words, the folders and LIST count together, as in the last line. Standard error says both numbers. \
-        Only this finds a list that was cut just behind a name, and a folder from which a file is missing.",
+        A file that is there twice, by whatever names, is an error too: it could stand for one that is missing. Only this finds a list that was cut just behind a name, and a folder from which a file is missing.",
 };
 
 /// The command.
@@ -60,6 +62,13 @@ fn run(call: &Call) -> Done {
         return Err(Failure::Failed(format!(
             "files to check: {}, where --count says {count}: none was checked",
             files.len()
+        )));
+    }
+    if let Some((path, other)) = count.and_then(|_| named_twice(&files)) {
+        return Err(Failure::Failed(format!(
+            "{} and {} are one file, which --count counts once: none was checked",
+            shown(path),
+            shown(other)
         )));
     }
     let mut counts = Counts::default();
@@ -124,6 +133,17 @@ fn files(call: &Call) -> Result<(Vec<Entry>, Passed), Failure> {
         None => {}
     }
     Ok((files, passed))
+}
+
+/// The first file that is there twice, by both of its names: it would stand in the count for one that is missing.
+fn named_twice(files: &[Entry]) -> Option<(&Path, &Path)> {
+    let mut seen = HashMap::new();
+    files.iter().find_map(|file| {
+        let path = file.path();
+        let data = fs::metadata(path).ok().filter(fs::Metadata::is_file)?;
+        let before = seen.insert((data.dev(), data.ino()), path)?;
+        Some((before, path))
+    })
 }
 
 /// What each name of a list ends with, and how that is called.
@@ -364,7 +384,13 @@ impl Counts {
                 .plain("not_checked", passed.others)
                 .plain("not_followed", passed.links)
                 .line(),
-            false => format!("{}: {}\n", counted(all, "file"), self.label()),
+            false => {
+                let not_checked = match passed.others {
+                    0 => String::new(),
+                    others => format!(", {others} not checked"),
+                };
+                format!("{}: {}{not_checked}\n", counted(all, "file"), self.label())
+            }
         }
     }
 
