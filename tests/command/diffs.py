@@ -105,8 +105,21 @@ def verdict(table, possible=frozenset()):
 
 def expected(old, names, new, others, possible=frozenset(), possible_new=frozenset()):
     lines, last = differing(old, names, new, others, possible, possible_new)
-    head = lambda word, table, more: f"{word}: {verdict(table, more)}, states {table.n} groups {len(table.groups)}"
-    return "\n".join([head("old", old, possible), head("new", new, possible_new), *lines, last]) + "\n", SAME if last == "the same" else DIFFERENT
+    head = lambda word, table, more: f"{word}: {verdict(table, more)}{vacuous(table, more)}, states {table.n} groups {len(table.groups)}"
+    is_same = last == "the same" and old.n
+    return "\n".join([head("old", old, possible), head("new", new, possible_new), *lines, last]) + "\n", SAME if is_same else DIFFERENT
+
+
+def vacuous(table, possible=frozenset()):
+    """Why it says little that a table is safe, as it stands behind that word."""
+    if verdict(table, possible) != "safe" or table.initial and replace(table, steps=table.steps | possible).forbidden():
+        return ""
+    return " (nothing is forbidden)" if table.initial else " (no state is initial)"
+
+
+def said(out):
+    """What is said on standard error: nothing but that there was nothing to compare."""
+    return "^diff: both tables have no states, so that nothing was compared" if out.startswith("old: draft, states 0 groups 0\nnew: draft") else None
 
 
 def put(name, table, names=None, possible=()):
@@ -148,22 +161,22 @@ files = [(path, model.table_of(path.with_suffix(".txt").read_text())) for path, 
 files = [(path, table) for path, table in files if len(table.steps) < 4000]
 for path, table in files:
     out, status = expected(table, None, table, None)
-    gives(SAME, out, "diff", path, path)
-    need(status == SAME, out)
+    gives(status, out, "diff", path, path, err=said(out))
+    need((status == SAME) == (table.n > 0), out)
 for (a, old), (b, new) in zip(files, files[1:]):
     out, status = expected(old, None, new, None)
-    gives(status, out, "diff", a, b)
+    gives(status, out, "diff", a, b, err=said(out))
 group("diff of files of tests/files")
 
 # ---- tables by chance: by number, by names, with possible steps
 
-same = 0
+same, is_vacuous = 0, set()
 for i in range(150):
     old = drafts.table()
     new = changed(old) if random.random() < 0.8 else drafts.table()
     a, b = put("a", old), put("b", new)
     out, status = expected(old, None, new, None)
-    gives(status, out, "diff", a, b)
+    gives(status, out, "diff", a, b, err=said(out))
     same += status == SAME
     names = {s: f"screen-{s}" for s in range(old.n) if random.random() < 0.8}
     number = list(range(new.n))
@@ -173,24 +186,28 @@ for i in range(150):
     others = {number[s]: name if random.random() < 0.9 else f"other-{s}" for s, name in names.items() if s < new.n}
     text_a, text_b, b = put("a", old, names), put("b", new, others), put("b", new)
     out, status = expected(old, names, new, others)
-    gives(status, out, "diff", "--text", text_a, text_b)
-    gives(status, out, "diff", "--old-names", text_a, "--names", text_b, a, b)
-    found = json.loads(gives(status, None, "diff", "--json", "--text", text_a, text_b).out)
+    gives(status, out, "diff", "--text", text_a, text_b, err=said(out))
+    gives(status, out, "diff", "--old-names", text_a, "--names", text_b, a, b, err=said(out))
+    found = json.loads(gives(status, None, "diff", "--json", "--text", text_a, text_b, err=said(out)).out)
     lines = out.splitlines()
-    need(found["same"] == (status == SAME) and found["old"]["verdict"] == lines[0].split()[1].rstrip(",") and found["new"]["groups"] == len(new.groups), found)
+    for side, table in (found["old"], old), (found["new"], new):
+        need(side.get("vacuous") == (bool(vacuous(table)) if side["verdict"] == "safe" else None) and ("why" in side) == bool(vacuous(table)), side)
+        is_vacuous.add(side.get("why", "").split(",")[0])
+    need(found["same"] == (lines[-1] == "the same") and found["old"]["verdict"] == lines[0].split()[1].rstrip(",") and found["new"]["groups"] == len(new.groups), found)
     for key, sign in ("removed", "-"), ("added", "+"):
         for kind, word in zip(["states", "initial", "forbidden", "resting", "hangs", "groups", "steps", "possible"], ORDER):
             need(len(found[key][kind]) == sum(line.startswith(f"{sign} {word} ") for line in lines), key, kind, found, out)
     need(len(found["renumbered"]) == sum(line.startswith("~") and line.split()[-1].isdigit() and "named" not in line for line in lines), found, out)
-    gives(SAME, None, "diff", "--text", text_b, text_b)
+    gives(SAME if new.n else DIFFERENT, None, "diff", "--text", text_b, text_b, err=None if new.n else "nothing was compared")
     out, status = expected(old, names, new, None)  # the names of one alone
-    gives(status, out, "diff", "--old-names", text_a, a, b)
+    gives(status, out, "diff", "--old-names", text_a, a, b, err=said(out))
     if old.n:
         those = lambda table: {(random.randrange(table.n), random.randrange(table.n)) for _ in range(3)} - table.steps if table.n else set()
         possible, more = those(old), those(new)
         out, status = expected(old, names, new, others, possible, more)
-        gives(status, out, "diff", "--text", put("a", old, names, possible), put("b", new, others, more))
+        gives(status, out, "diff", "--text", put("a", old, names, possible), put("b", new, others, more), err=said(out))
 need(same > 5, same)
+need(is_vacuous == {"", "nothing in the table is forbidden", "the table has no initial state"}, "no table is vacuous, or not for both reasons", is_vacuous)
 group(f"diff of tables by chance, seed {SEED}")
 
 # ---- the page's example
@@ -226,10 +243,10 @@ for words in (A, A), (A, E), ("--json", A, A):
         gives(FAILED, None, "diff", *words, stdout=full, err="could not be written")
     run = subprocess.run(["/bin/bash", "-c", '"$0" diff "$@" >&-', PROGRAM, *words], stderr=subprocess.PIPE, stdin=subprocess.DEVNULL, timeout=60)
     need(run.returncode == FAILED and b"closed" in run.stderr, words, run)
-# a draft beside a draft: the same, and no word of safe
+# a draft beside a draft: no word of safe, and no status that says that something was compared
 nothing = WORK / "nothing.table"
 nothing.write_bytes(b"")
-gives(SAME, "old: draft, states 0 groups 0\nnew: draft, states 0 groups 0\nthe same\n", "diff", nothing, nothing)
+gives(DIFFERENT, "old: draft, states 0 groups 0\nnew: draft, states 0 groups 0\nthe same\n", "diff", nothing, nothing, err="both tables have no states, so that nothing was compared")
 need(gives(DIFFERENT, None, "diff", A, nothing).out.splitlines()[1] == b"new: draft, states 0 groups 0", "no draft")
 # unsafe tables that are the same end with 0, and say what they are
 need(gives(SAME, None, "diff", TABLES / "b.table", TABLES / "b.table").out.startswith(b"old: unsafe"), "no verdict")

@@ -122,7 +122,10 @@ def check(table, lines, label_of, part, about):
     colours = [fill for fill in fills.values() if fill]
     assert all(len(fill) == 1 for fill in colours) and len(set().union(*colours)) == len(colours), fills
     frame = "\n".join(rest)
-    verdict = "an untouched draft" if not table.n else "\\nsafe: " if table.safe else "\\nunsafe: "
+    verdict = "\\ndraft: the table has no states" if not table.n else "\\nsafe: " if table.safe else "\\nunsafe: "
+    assert table.n or not re.search(r"\bsafe\b", frame), frame
+    vacuous = {"no state is initial": table.n and not table.initial, "nothing is forbidden": table.n and table.initial and not table.marked | table.hangs}
+    assert all((f", since {why}\\n" in frame) == bool(holds) for why, holds in vacuous.items()), frame
     assert verdict in frame and f"\\n{table.n} state" in frame and f"{len(table.groups)} group" in frame, frame
     assert re.findall(r'\\n([^\\"]* states are drawn[^"]*)"', frame) == ([about] if about else []), (about, frame)
     for kind, words in LEGEND.items():

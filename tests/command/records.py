@@ -242,6 +242,8 @@ def words_of(table, names, title):
     """The lines of words that a picture of the table has, as often as they must stand there: as pictures.py has the labels."""
     word, sentence = expected_verdict(table)
     count = lambda number, what: f"{number} {what}{'s' * (number != 1)}"
+    if word == "safe" and not (table.initial and table.forbidden()):
+        sentence += ", since nothing is forbidden" if table.initial else ", since no state is initial"
     lines = [title, sentence, f"{count(table.n, 'state')}, {count(len(table.groups), 'group')}"]
     hangs = table.dead_ends() - table.resting
     part, about = part_of(table)
@@ -280,7 +282,10 @@ for i in range(40):
 status_for = lambda table: {"safe": SAFE, "unsafe": UNSAFE, "draft": NO_RELEASE}[expected_verdict(table)[0]]
 for table, path in EVERY:
     given = report(path)
-    need(given.status == status_for(table) and given.out.decode() == worked_out(table)[0] and not given.err, given)
+    need(given.status == status_for(table) and given.out.decode() == worked_out(table)[0], given)
+    # what check says of a draft and of a vacuous table, and nothing else
+    said = gives(None, None, "check", "--quiet", path, err="").err.decode().removeprefix("check: ")
+    need(given.err.decode() == (said and f"report: {path}: {said}") and bool(said) == (not table.n or not table.initial or not table.forbidden()), given, said)
     picture = check_page(out.read_bytes(), table, path)
     why = "the program dot of Graphviz is not installed" if table.n else "the table has no states"
     need(text_of(picture).split("Picture")[1].strip() == f"There is no picture: {why}.", text_of(picture))
@@ -391,15 +396,16 @@ need(report(A, "--released", "<b>x\ny").status == NO_RELEASE, "a name")
 check_page(out.read_bytes(), table_a, A, released='no: there is no "<b>x\\ny"')
 
 was = {"safe": "In the old table no forbidden state could be reached", "unsafe": "In the old table a forbidden state could be reached", "draft": "The old table had no states"}
-pairs = [(random.choice(EVERY), random.choice(EVERY)) for _ in range(25)] + [(EVERY[0], EVERY[0]), ((table_a, A), (table_b, B)), ((table_b, B), (table_a, A))]
+pairs = [(random.choice(EVERY), random.choice(EVERY)) for _ in range(25)] + [(one, (table_a, A)) for one in VACUOUS[:9]] + [(EVERY[0], EVERY[0]), ((table_a, A), (table_b, B)), ((table_b, B), (table_a, A))]
 for (before, old), (table, path) in pairs:
     given = report(path, "--since", old)
     need(given.status == status_for(table) and given.out.decode() == worked_out(table)[0], given)
     check_page(out.read_bytes(), table, path, since=(str(old),))
-    lines = gives(None, None, "diff", old, path).out.decode().splitlines()
+    lines = call("diff", old, path).out.decode().splitlines()
     found = section(Page(out.read_text()).root, "What has changed")
     said, sum_ = expected_verdict(before)[0], hashlib.sha256(old.read_bytes()).hexdigest()
-    need(text_of(every(found, "p")[0]) == f"Since {old}, of the SHA-256 {sum_}: {lines[-1]}. {was[said]}.", text_of(found))
+    why = "" if said != "safe" or before.initial and before.forbidden() else ", since nothing was forbidden" if before.initial else ", since no state was initial"
+    need(text_of(every(found, "p")[0]) == f"Since {old}, of the SHA-256 {sum_}: {lines[-1]}. {was[said]}{why}.", text_of(found))
     shown_lines = [line for pre in every(found, "pre") for line in text_of(pre).split("\n")]
     need(shown_lines == lines[2:-1][:400], shown_lines, lines)
     more = len(lines) - 3 - 400

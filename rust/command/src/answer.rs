@@ -72,7 +72,7 @@ pub struct Answer {
     /// Why the last state of the path is forbidden.
     pub end: Option<Forbidden>,
     /// Why it says little that the table is safe, if it does.
-    pub vacuous: Option<&'static str>,
+    pub vacuous: Option<Vacuous>,
     /// The lines; of a release check those of the proved call.
     pub text: String,
 }
@@ -266,7 +266,7 @@ impl Answer {
     /// Why it says little that the table is safe.
     pub fn why_vacuous(&self) -> Option<String> {
         self.vacuous
-            .map(|why| format!("{why}; release declines such a table"))
+            .map(|why| format!("{}; release declines such a table", why.message()))
     }
 
     /// Why the path ends where it does: a screen may be forbidden though nobody marked it.
@@ -293,12 +293,7 @@ impl Answer {
         if let Some(count) = self.count {
             object = object.plain("refinements", count);
         }
-        if self.verdict == Verdict::Safe {
-            object = object.plain("vacuous", self.vacuous.is_some());
-        }
-        if let Some(why) = self.vacuous {
-            object = object.text("why", why);
-        }
+        object = vacuous_facts(object, self.verdict, self.vacuous);
         if let Some(states) = self.invariant {
             object = object.numbers("invariant", states.states());
         }
@@ -322,12 +317,54 @@ pub const VACUOUS: Opt = Opt {
 };
 
 /// Why it says little of a table that it is safe.
-fn vacuous(table: &Table) -> Option<&'static str> {
+#[derive(Clone, Copy, Debug)]
+pub enum Vacuous {
+    /// No session can start.
+    NoInitial,
+    /// Nothing is marked, and nothing hangs.
+    NothingForbidden,
+}
+
+impl Vacuous {
+    /// In few words, beside a verdict.
+    pub fn label(self) -> &'static str {
+        match self {
+            Vacuous::NoInitial => "no state is initial",
+            Vacuous::NothingForbidden => "nothing is forbidden",
+        }
+    }
+
+    /// In a sentence.
+    pub fn message(self) -> &'static str {
+        match self {
+            Vacuous::NoInitial => {
+                "the table has no initial state, so that it is safe whatever else is in it"
+            }
+            Vacuous::NothingForbidden => {
+                "nothing in the table is forbidden, so that it is safe whatever else is in it"
+            }
+        }
+    }
+}
+
+fn vacuous(table: &Table) -> Option<Vacuous> {
     if table.initial().is_empty() {
-        Some("the table has no initial state, so that it is safe whatever else is in it")
+        Some(Vacuous::NoInitial)
     } else if table.forbidden().is_empty() {
-        Some("nothing in the table is forbidden, so that it is safe whatever else is in it")
+        Some(Vacuous::NothingForbidden)
     } else {
         None
+    }
+}
+
+/// As JSON, behind a verdict: of a safe table whether that says little, and why.
+pub fn vacuous_facts(object: Object, verdict: Verdict, vacuous: Option<Vacuous>) -> Object {
+    let object = match verdict {
+        Verdict::Safe => object.plain("vacuous", vacuous.is_some()),
+        _ => object,
+    };
+    match vacuous {
+        Some(why) => object.text("why", why.message()),
+        None => object,
     }
 }

@@ -241,9 +241,9 @@ impl<'t> Picture<'t> {
     /// The lines above the graph.
     fn heading(&self) -> Vec<String> {
         let n = self.table.n();
-        let verdict = match n {
-            0 => "an untouched draft, safe".to_string(),
-            _ => self.answer.headline(),
+        let verdict = match self.answer.vacuous {
+            Some(why) => format!("{}, since {}", self.answer.headline(), why.label()),
+            None => self.answer.headline(),
         };
         let sizes = [counted(n, "state"), counted(self.table.g(), "group")].join(", ");
         let heading = [self.title.to_string(), verdict, sizes];

@@ -1,6 +1,6 @@
 //! The record of a check: one page that stands alone, for a file and for the eye. It has no script, loads nothing, and tells nothing by colour alone.
 
-use crate::answer::{Answer, VACUOUS, Verdict};
+use crate::answer::{Answer, VACUOUS, Vacuous, Verdict};
 use crate::drawing::{ACROSS, LEGIBLE, UPRIGHT, scale};
 use crate::html::escaped;
 use crate::inspection::Inspection;
@@ -61,6 +61,8 @@ pub struct Since {
     pub sum: String,
     /// What was found of it.
     pub verdict: Verdict,
+    /// Why it said little that it was safe.
+    pub vacuous: Option<Vacuous>,
     /// How much differs, in a line.
     pub summary: String,
     /// What differs, a line each.
@@ -141,7 +143,7 @@ impl Record<'_> {
             None => String::new(),
         };
         let vacuous = self.answer.vacuous.map_or(String::new(), |why| {
-            let option = VACUOUS.name;
+            let (why, option) = (why.message(), VACUOUS.name);
             format!("<p><strong>But</strong> {why}. The command release does not release it without <code>{option}</code>.</p>\n")
         });
         let title = self.title.as_ref().map_or(String::new(), |title| {
@@ -444,6 +446,11 @@ impl Record<'_> {
             Verdict::Draft => "The old table had no states",
             _ => "In the old table a forbidden state could be reached",
         };
+        let since_when = match since.vacuous {
+            Some(Vacuous::NoInitial) => ", since no state was initial",
+            Some(Vacuous::NothingForbidden) => ", since nothing was forbidden",
+            None => "",
+        };
         let (file, sum) = (escaped(&since.file), &since.sum);
         let shown = since.lines.iter().take(MOST_CHANGES);
         let lines: Vec<String> = shown.map(|line| escaped(line)).collect();
@@ -459,7 +466,7 @@ impl Record<'_> {
         section(
             "What has changed",
             format!(
-                "<p>Since <bdi>{file}</bdi>, of the SHA-256 <code>{sum}</code>: {summary}. {was}.</p>\n{lines}{more}"
+                "<p>Since <bdi>{file}</bdi>, of the SHA-256 <code>{sum}</code>: {summary}. {was}{since_when}.</p>\n{lines}{more}"
             ),
         )
     }

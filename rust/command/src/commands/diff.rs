@@ -1,9 +1,9 @@
 //! `diff`: what differs between two tables, and both verdicts.
 
-use crate::answer::{Answer, Verdict};
+use crate::answer::{Answer, Vacuous, Verdict, vacuous_facts};
 use crate::difference::{Difference, Side, difference};
 use crate::failure::{Done, Failure, status};
-use crate::files::{Input, print};
+use crate::files::{Input, print, say};
 use crate::json::Object;
 use crate::lines::Names;
 use crate::source::{JSON, NAMES, SITE, Source, TEXT, alone, parsed};
@@ -25,7 +25,7 @@ pub const DIFF: Command = Command {
     words: "OLD NEW",
     counts: (2, 2),
     about: "what differs between two tables, with both verdicts",
-    more: "The status is 0 if they are the same, safe or not, 4 if they differ, and 3 if they could not be compared.",
+    more: "The status is 0 if they are the same, safe or not, 4 if they differ or both have no states, and 3 if they could not be compared.",
     options: &[&SITE, &TEXT, &OLD_NAMES, &NAMES, &JSON],
     needs: &[],
     output: Output::Answer,
@@ -40,7 +40,15 @@ fn run(call: &Call) -> Done {
         false => lines(&old, &new, &found),
     };
     print(said.as_bytes())?;
-    Ok(match found.is_empty() {
+    let are_drafts = [&old, &new]
+        .iter()
+        .all(|draft| draft.verdict == Verdict::Draft);
+    if are_drafts {
+        say(
+            "diff: both tables have no states, so that nothing was compared: an empty input is a draft\n",
+        );
+    }
+    Ok(match found.is_empty() && !are_drafts {
         true => status::DONE,
         false => status::NO_RELEASE,
     })
@@ -74,6 +82,8 @@ pub struct Draft {
     possible: BTreeSet<(usize, usize)>,
     /// What was found of it.
     pub verdict: Verdict,
+    /// Why it says little that it is safe.
+    pub vacuous: Option<Vacuous>,
 }
 
 fn read(call: &Call) -> Result<(Draft, Draft), Failure> {
@@ -107,6 +117,7 @@ impl Draft {
             names: source.names_from.as_ref().map(|_| source.names.clone()),
             possible: BTreeSet::new(),
             verdict: answer.verdict,
+            vacuous: answer.vacuous,
         })
     }
 
@@ -126,6 +137,7 @@ impl Draft {
             names: Some(text.names),
             possible: text.possible,
             verdict: answer.verdict,
+            vacuous: answer.vacuous,
         })
     }
 
@@ -164,7 +176,10 @@ pub fn changes(old: &Draft, new: &Draft, found: &Difference) -> Vec<String> {
 fn lines(old: &Draft, new: &Draft, found: &Difference) -> String {
     let head = |word: &str, draft: &Draft| {
         let (n, g) = (draft.table.n(), draft.table.g());
-        format!("{word}: {}, states {n} groups {g}", draft.verdict.label())
+        let verdict = draft.verdict.label();
+        let why = draft.vacuous.map(|why| format!(" ({})", why.label()));
+        let why = why.unwrap_or_default();
+        format!("{word}: {verdict}{why}, states {n} groups {g}")
     };
     let mut lines = vec![head("old", old), head("new", new)];
     lines.extend(changes(old, new, found));
@@ -174,10 +189,11 @@ fn lines(old: &Draft, new: &Draft, found: &Difference) -> String {
 
 fn object(old: &Draft, new: &Draft, found: &Difference) -> Object {
     let side = |draft: &Draft| {
-        Object::default()
+        let object = Object::default()
             .text("verdict", draft.verdict.label())
             .plain("states", draft.table.n())
-            .plain("groups", draft.table.g())
+            .plain("groups", draft.table.g());
+        vacuous_facts(object, draft.verdict, draft.vacuous)
     };
     let object = Object::default()
         .plain("same", found.is_empty())

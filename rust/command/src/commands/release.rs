@@ -56,7 +56,9 @@ fn run(call: &Call) -> Done {
 fn why_not(answer: &Answer, source: &Source, even_if_vacuous: bool) -> Option<String> {
     let why = answer.explanation(source).unwrap_or_default();
     match (answer.verdict, answer.vacuous) {
-        (Verdict::Safe, Some(why)) if !even_if_vacuous => Some(format!("{why} ({})", VACUOUS.name)),
+        (Verdict::Safe, Some(why)) if !even_if_vacuous => {
+            Some(format!("{} ({})", why.message(), VACUOUS.name))
+        }
         (Verdict::Safe, _) => None,
         (Verdict::Draft, _) => Some("the table has no states".to_string()),
         (Verdict::Refused(_), _) => Some(format!("it is {why}")),

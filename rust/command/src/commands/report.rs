@@ -89,6 +89,12 @@ fn run(call: &Call) -> Done {
         ));
         return Ok(answer.verdict.status());
     }
+    if let Some(why) = answer
+        .explanation(&source)
+        .filter(|_| answer.is_always_said())
+    {
+        say(&format!("report: {}: {why}\n", source.shown));
+    }
     let table = source.table()?;
     let record = Record {
         file: source.shown.clone(),
@@ -209,6 +215,7 @@ fn since(call: &Call, source: &Source, answer: &Answer) -> Result<Option<Since>,
         file: old.shown,
         sum: sha256(&old.file),
         verdict: before.verdict,
+        vacuous: before.vacuous,
         summary: found.summary(),
         lines: changes(&before, &now, &found),
     }))
