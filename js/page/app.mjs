@@ -17,6 +17,7 @@ import { viewOf } from "./view.mjs";
 
 /** Typing that pauses for less than this is one edit, and is undone as one. */
 const ONE_EDIT = 1500;
+const TYPING = "typing";
 const LARGER = 1.25;
 const OLD_FORM = "This file is of the old form (versions 1 to 3): shuntberry rewrite, or the button here, " +
   "makes the same table of it, in which its dead ends, and no other screens, are resting.";
@@ -116,13 +117,26 @@ class App {
 
   /** What was typed is another text of the draft, or of another one. */
   changeByText(next, text) {
-    const now = performance.now();
-    const merges = now - this.#typedAt < ONE_EDIT;
     const isSame = isSameDraft(next, this.draft);
-    this.#history.add(isSame ? this.draft : next, "typing", text, merges);
-    this.#typedAt = now;
+    this.#history.add(isSame ? this.draft : next, TYPING, text, this.#goesOn());
     if (this.chosen !== null && this.chosen >= next.n) this.chosen = null;
     this.render();
+  }
+
+  /** What was typed has mistakes, or is not read yet. */
+  changeByMistake(text) {
+    if (this.#history.wrong !== text) this.#history.addWrong(text, TYPING, this.#goesOn());
+    this.render();
+  }
+
+  /** Whether what is typed now goes on with the last edit: without a pause, or with a text that is not mended
+   * yet. So undo leads from text to text without mistakes. */
+  #goesOn() {
+    const now = performance.now();
+    const isMending = this.#history.wrong !== null && this.#history.undoes === TYPING;
+    const goesOn = isMending || now - this.#typedAt < ONE_EDIT;
+    this.#typedAt = now;
+    return goesOn;
   }
 
   /** Begins with another draft; nothing of the old one is left but in undo. */
@@ -139,11 +153,23 @@ class App {
   }
 
   undo(isBack) {
-    if (!(isBack ? this.#history.undo() : this.#history.redo())) return;
+    if (isBack ? this.#history.undo() : this.#history.redo()) this.#moved();
+  }
+
+  /** The last text without mistakes again. */
+  #putBack() {
+    while (this.#history.wrong !== null) this.#history.undo();
+    this.#moved();
+    $("text").focus();
+  }
+
+  /** What is shown is another one of what was done. */
+  #moved() {
     this.#typedAt = -Infinity;
     this.#text.changed();
     if (this.chosen !== null && this.chosen >= this.draft.n) this.chosen = null;
     this.render();
+    if (this.#history.wrong !== null) this.#text.open(this.#history.wrong);
   }
 
   choose(s, shows = true) {
@@ -281,8 +307,10 @@ class App {
     }
     this.begin(next ?? NEW_DRAFT, "open", next === null ? null : text, isSaved ? next : null);
     if (next !== null) return;
+    this.#history.addWrong(text, "open", true);
     this.#tab("text");
     this.#text.open(text);
+    $("text").focus();
   }
 
   #save(kind) {
@@ -360,6 +388,7 @@ class App {
     on("open-file", "change", () => this.#take([...$("open-file").files]));
     on("undo", "click", () => this.undo(true));
     on("redo", "click", () => this.undo(false));
+    on("text-back", "click", () => this.#putBack());
     on("save-text", "click", () => this.#save("text"));
     on("save-file", "click", () => this.#save("file"));
     on("save-svg", "click", () => this.#save("svg"));

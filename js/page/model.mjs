@@ -192,14 +192,15 @@ export const setGroup = (d, j, s, isIn) =>
 
 // ---- undo and redo
 
-/** What was done, one draft after the other, each with the text that it came from, if it did. */
+/** What was done, one draft after the other, each with the text that it came from, if it did. A text with
+ * mistakes is one more thing that was done: it stands beside the draft before it, as `wrong`. */
 export class History {
   #past = [];
   #now;
   #future = [];
 
   constructor(first = NEW_DRAFT, text = null) {
-    this.#now = { draft: first, text, what: "" };
+    this.#now = { draft: first, text, wrong: null, what: "" };
   }
 
   get draft() {
@@ -208,6 +209,11 @@ export class History {
 
   get text() {
     return this.#now.text;
+  }
+
+  /** The text with mistakes that stands in the field, if one does. */
+  get wrong() {
+    return this.#now.wrong;
   }
 
   get undoes() {
@@ -220,8 +226,17 @@ export class History {
 
   /** One more; `merges` says that it goes on with the last edit, as typing does. */
   add(next, what, text = null, merges = false) {
+    this.#add({ draft: next, text, wrong: null, what }, merges);
+  }
+
+  /** A text with mistakes: the draft stays. */
+  addWrong(wrong, what, merges = false) {
+    this.#add({ draft: this.draft, text: this.text, wrong, what }, merges);
+  }
+
+  #add(entry, merges) {
     if (!merges || this.#past.length === 0) this.#past.push(this.#now);
-    this.#now = { draft: next, text, what };
+    this.#now = entry;
     this.#future = [];
   }
 

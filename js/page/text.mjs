@@ -16,7 +16,6 @@ export class TextEditor {
     this.#app = app;
     $("text").addEventListener("input", () => this.#typed());
     $("text").addEventListener("scroll", () => { $("text-lines").scrollTop = $("text").scrollTop; });
-    $("text-back").addEventListener("click", () => this.putBack());
   }
 
   /** How many mistakes there are, or that it is not read yet; null where all is well. */
@@ -35,7 +34,7 @@ export class TextEditor {
       return;
     }
     this.#mistakes = { count: null, first: [] };
-    this.#app.render();
+    this.#app.changeByMistake(this.value);
     this.#isWaiting = setTimeout(() => this.#read(), PAUSE);
   }
 
@@ -49,26 +48,18 @@ export class TextEditor {
         this.#app.changeByText(next, text);
       } catch (error) {
         this.#mistakes = { count: error.count ?? null, first: error.mistakes ?? [] };
-        this.#app.render();
+        this.#app.changeByMistake(text);
         if (!Array.isArray(error.mistakes)) throw error;
       }
     });
     this.#lines();
   }
 
-  /** A text with mistakes that was opened: it stands in the field, and the draft before it in the picture. */
+  /** A text with mistakes that was opened, or done again: it stands in the field, and the draft before it in
+   * the picture. */
   open(text) {
     $("text").value = text;
     this.#read();
-    $("text").focus();
-  }
-
-  /** The text of the draft again. */
-  putBack() {
-    this.#mistakes = null;
-    this.#isWritten = false;
-    this.#app.render();
-    $("text").focus();
   }
 
   /** The draft that is shown is another one. */

@@ -101,6 +101,18 @@ await onPage(async (browser) => {
   const cut = await browser.run(shown);
   same([cut.verdict, cut.path], ["mistakes", null], "a text that was cut has mistakes, and no verdict");
 
+  await browser.click("#undo");
+  same((await browser.run(shown)).verdict, "draft", "undo takes the opened text away, with its mistakes");
+  await browser.click("#redo");
+  same((await browser.run(shown)).verdict, "mistakes", "and redo brings it back");
+  await browser.run(() => { // typed at, it is still one with mistakes
+    const field = document.getElementById("text");
+    field.value = `x${field.value}`;
+    field.dispatchEvent(new Event("input", { bubbles: true }));
+  });
+  await browser.click("#text-back");
+  same((await browser.run(shown)).verdict, "draft", "the last text without mistakes was none");
+
   // ---- drop and paste
   const give = (kind, text) => {
     const data = new DataTransfer();

@@ -229,6 +229,40 @@ await onPage(async (browser) => {
   await look(UNSAFE, "a step written in the text");
   same(await browser.run(text, "text-mistakes"), "", "without a mistake");
 
+  // ---- undo undoes one thing: a mistake in the text, and not the edit before it
+  const typedAnew = (words) => browser.run((typed) => {
+    const field = document.getElementById("text");
+    field.value = typed;
+    field.dispatchEvent(new Event("input", { bubbles: true }));
+    return document.getElementById("verdict").dataset.verdict;
+  }, words);
+  await new Promise((resolve) => setTimeout(resolve, 1600)); // what is typed after a pause is an edit of its own
+  const good = await browser.run(value, "text");
+  for (const [wrong, what] of [
+    [`x${good}`, "a letter too many"], ["", "no text"], [`${"# long\n".repeat(20_000)}x`, "a long text"],
+  ]) {
+    await typedAnew(`y${wrong}`);
+    const verdict = await typedAnew(wrong);
+    holds(["mistakes", "none"].includes(verdict), `${what}: no answer, and not ${verdict}`);
+    await browser.click("#undo");
+    await look(UNSAFE, `${what}, undone: the step is there still`);
+    same(await browser.run(value, "text"), good, `${what}, undone: the text as it was`);
+    await browser.click("#redo");
+    same(await browser.run(value, "text"), wrong, `${what}: done again, the mistake is there again`);
+    holds((await browser.run(shown)).verdict === "mistakes", `${what}: and no answer`);
+    await browser.click("#undo");
+    await look(UNSAFE, `${what}, undone again`);
+  }
+  await typedAnew(`x${good}`);
+  await new Promise((resolve) => setTimeout(resolve, 1600));
+  await typedAnew(`# mended\n${good}`);
+  await look(UNSAFE, "a mistake that was mended");
+  await browser.click("#undo");
+  same(await browser.run(value, "text"), good, "undo leads from text to text without mistakes");
+  await browser.click("#undo");
+  await look(SAFE, "and then undoes the step");
+  await browser.click("#redo");
+
   // ---- begin anew, and back
   await browser.click("#new");
   same((await browser.run(shown)).verdict, "draft", "begun anew");
