@@ -1,11 +1,11 @@
 // Questions. What is answered is of the draft that is shown: with each change the answers go, and are asked
 // anew where they are looked at.
 import { MAX_ALLOWANCE } from "../shuntberry.mjs";
-import { decided, vacuous } from "./answer.mjs";
+import { decided, spoken, vacuous } from "./answer.mjs";
 import { changes } from "./changes.mjs";
 import { $, button, counted, element } from "./dom.mjs";
 import * as files from "./files.mjs";
-import { NotDone, called, hasOptions, screen, setStep, stepKind, storeOf, tablesOf } from "./model.mjs";
+import { NotDone, called, hasOptions, screen, setStep, stepKind, storeOf, tablesOf, withoutOptions } from "./model.mjs";
 import { remarks } from "./remarks.mjs";
 import { logOf, walked } from "./walk.mjs";
 
@@ -141,11 +141,9 @@ export class Asked {
       const after = `${about} after ${counted(found.count, "refinement")}. ${UNDECIDED}`;
       return ["undecided", element("strong", {}, "undecided"), after];
     }
-    const little = found.isSafe ? vacuous(d) : null;
-    const more = little === null ? "" : `, but ${little}`;
+    const [kind, word] = spoken(d, found.verdict);
     const path = found.path === null ? "" : `: ${this.#screens(found.path)}`;
-    return [little === null ? found.verdict : "vacuous", element("strong", {}, found.verdict),
-      `${about} after ${counted(found.count, "refinement")}${more}${path}`];
+    return [kind, element("strong", {}, word), `${about} after ${counted(found.count, "refinement")}${path}`];
   }
 
   #release() {
@@ -154,7 +152,7 @@ export class Asked {
     const both = hasOptions(d) ? [[false, "without any option"], [true, "with every option"]] : [[true, ""]];
     const parts = both.flatMap(([withOptions, words]) => [
       ...(words === "" ? [] : [element("p", {}, `The file ${words}:`)]),
-      element("pre", {}, released(this.#app.library, d, withOptions, site)),
+      this.#checked(withOptions ? d : withoutOptions(d), site),
     ]);
     const about = element("p", { className: "light" }, "What ", element("code", {}, "shuntberry check"),
       ` prints of the file for site ${site}. Releasing is done by `,
@@ -162,14 +160,23 @@ export class Asked {
     return ["said", about, ...parts];
   }
 
+  /** What is printed of a draft's file; where that says nothing, that it does. */
+  #checked(d, site) {
+    const { library } = this.#app;
+    const [kind, word] = spoken(d, decided(library, d).verdict);
+    if (kind !== "vacuous") return element("pre", {}, released(library, d, true, site));
+    return element("p", { className: "no-verdict" }, element("strong", {}, word), `. ${vacuous(d)}`);
+  }
+
   #repair() {
-    const { answer } = this.#app;
+    const { answer, draft } = this.#app;
     $("repairs-ask").hidden = answer === null || answer.path === null || answer.path.length < 2;
     if (answer === null) throw new Error("there is no verdict");
+    const [kind, word] = spoken(draft, answer.verdict);
+    if (kind !== "safe" && answer.path === null) return [kind, element("strong", {}, word)];
     if (answer.path === null) return ["said", "Nothing has to be rubbed out."];
     if (answer.path.length < 2) return ["said", "No step does: a session can start in a forbidden screen."];
     if (this.#repairs === null) return ["said"];
-    const { draft } = this.#app;
     if (this.#repairs.length === 0) return ["said", "No single step does: each was tried."];
     return ["said", element("p", {}, "Safe, if one of these is rubbed out:"),
       lines(this.#repairs.map(([from, to]) => this.#repairLine(draft, from, to)))];
@@ -214,18 +221,14 @@ export class Asked {
     const { draft, library } = this.#app;
     if (!hasOptions(draft)) return ["said", "No step of this draft is there only with an option."];
     const found = decided(library, draft);
-    const little = found.isSafe ? vacuous(draft) : null;
-    const words = {
-      safe: "whatever options a pump has" + (little === null ? "" : `, but ${little}`),
-      unsafe: "whatever options a pump has",
-      depends: "safe without any option, and unsafe with all of them",
-    }[found.verdict];
+    const [kind, word] = spoken(draft, found.verdict);
+    const words = kind === "depends" ? "safe without any option, and unsafe with all of them"
+      : "whatever options a pump has";
     const path = found.path === null ? [] : [element("p", {}, `Path: ${this.#screens(found.path)}`)];
     const without = found.verdict === "depends" ? "Without options a session" : "A session";
     const stays = (found.invariant ?? []).map((s) => screen(draft, s)).join(", ") || "none";
     const kept = found.invariant === null ? [] : [element("p", {}, `${without} stays in: ${stays}`)];
-    const verdict = little === null ? found.verdict : "vacuous";
-    return [verdict, element("strong", {}, found.verdict), `: ${words}`, ...path, ...kept];
+    return [kind, element("strong", {}, word), `: ${words}`, ...path, ...kept];
   }
 
   // ---- a log

@@ -1,6 +1,6 @@
 // What has changed from one draft to another. Screens are the same by their names where both drafts name
 // them, else by their numbers.
-import { decided } from "./answer.mjs";
+import { decided, spoken } from "./answer.mjs";
 import { has, members } from "./bits.mjs";
 import { called, screen, stepKind, successors } from "./model.mjs";
 
@@ -19,7 +19,7 @@ function matched(old, now) {
   });
 }
 
-const verdictOf = (library, d) => (d.n === 0 ? "a draft without screens" : decided(library, d).verdict);
+const verdictOf = (library, d) => spoken(d, decided(library, d).verdict)[1];
 
 /** Each change: its kind, for programs, and words. */
 export function changes(library, old, now) {
@@ -41,7 +41,7 @@ export function changes(library, old, now) {
   steps(old, now, before, after, say);
   groups(old, now, after, say);
   const [was, is] = [verdictOf(library, old), verdictOf(library, now)];
-  say("verdict", was === is ? `the verdict was and is ${is}` : `the verdict was ${was}, and is ${is}`);
+  say("verdict", was === is ? `the verdict, before and now: ${is}` : `the verdict before: ${was}; now: ${is}`);
   return found.length === 1 && was === is ? [] : found;
 }
 

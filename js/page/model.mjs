@@ -72,6 +72,8 @@ export function draftOfText(library, text) {
 
 // ---- what is in it
 
+/** The draft of a pump that has no option. */
+export const withoutOptions = (d) => draft({ ...d, options: d.options.map(() => EMPTY) });
 export const hasOptions = (d) => d.options.some((row) => !isEmpty(row));
 export const possible = (d, s) => union(d.certain[s], d.options[s]);
 /** The lists of successors, by the rows that they are of: rows never change. */

@@ -1,5 +1,6 @@
 // The chosen screen, edited by hand; and new screens.
-import { EMPTY, has, members, put } from "./bits.mjs";
+import { isNothingForbidden } from "./answer.mjs";
+import { EMPTY, has, isEmpty, members, put } from "./bits.mjs";
 import { $, button, counted, element } from "./dom.mjs";
 import {
   NotDone, addGroup, addScreen, called, checkedName, mark, predecessors, removeGroup, removeScreen, rename,
@@ -150,12 +151,12 @@ export class ScreenEditor {
     const forbidden = has(d.marked, s) || successors(d, s).length === 0 && !has(d.resting, s);
     const words = forbidden ? [whyForbidden(d, s)] : [];
     if (answer !== null) {
-      words.push(answer.reached.has(s) ? "a session can come here" : "no session comes here");
+      const isApart = isEmpty(d.initial) ? "no screen is initial yet" : "no session comes here";
+      words.push(answer.reached.has(s) ? "a session can come here" : isApart);
       const away = answer.distances[s];
-      if (!forbidden) {
-        words.push(away === Infinity ? "no forbidden screen can be reached from here"
-          : `a forbidden screen is ${counted(away, "step")} away`);
-      }
+      const never = isNothingForbidden(d) ? "no screen is forbidden yet"
+        : "no forbidden screen can be reached from here";
+      if (!forbidden) words.push(away === Infinity ? never : `a forbidden screen is ${counted(away, "step")} away`);
     }
     return words.join("; ");
   }

@@ -146,7 +146,7 @@ function start(into, y = BOX.height / 2 - 1) {
 
 /** What is said of a screen when the pointer rests on it. */
 export function titleOf(facts) {
-  const never = facts.isAnswered ? ["never leads to a forbidden screen"] : [];
+  const never = facts.isAnswered && facts.hasForbidden ? ["never leads to a forbidden screen"] : [];
   const away = facts.distance === null ? never : [`steps to the nearest forbidden screen: ${facts.distance}`];
   const title = element("title");
   title.textContent = [

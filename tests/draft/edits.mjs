@@ -1,8 +1,9 @@
 // Drafts edited by chance: each is what its plain twin says, by the text; what was undone and done again is
 // the same draft; and the answers, with the session kept over the edits, are those of a search by hand.
-import { Answers, vacuous } from "../../js/page/answer.mjs";
+import { Answers, spoken, vacuous } from "../../js/page/answer.mjs";
 import { members } from "../../js/page/bits.mjs";
 import { repairs } from "../../js/page/ask.mjs";
+import { changes } from "../../js/page/changes.mjs";
 import { Plain, chance, edited, end, library, model, same, throws } from "./support.mjs";
 
 const [seed, count] = process.argv.slice(2).map(Number);
@@ -111,7 +112,16 @@ same(model.checkedName(library, model.NEW_DRAFT, 0, "a"), "a");
 same(model.checkedName(library, model.NEW_DRAFT, 0, "дом"), "дом");
 const words = ["over-limit", "over limit", "1", "1 over-limit", "1 home", "2", "01", "-1", ""];
 same(words.map((one) => model.screenOf(named, one)), [1, 1, 1, 1, null, null, null, null, null]);
-same(vacuous(named), "the table has no initial state, so that it is safe whatever else is in it");
-same(vacuous(model.mark(model.setStep(model.addScreen(model.NEW_DRAFT), 0, 0, "certain"), "initial", 0, true)),
-  "nothing in the table is forbidden, so that it is safe whatever else is in it");
+same(spoken(named, "safe"), ["vacuous", "no verdict: nothing is initial"]);
+const loop = model.mark(model.setStep(model.addScreen(model.NEW_DRAFT), 0, 0, "certain"), "initial", 0, true);
+same(spoken(loop, "safe"), ["vacuous", "no verdict: nothing is forbidden"]);
+same([vacuous(named), vacuous(loop)].map((words) => /^No screen is (\w+)/.exec(words)[1]), ["initial", "forbidden"]);
+same(vacuous(model.mark(loop, "marked", 0, true)), null);
+same(["unsafe", "depends"].map((verdict) => spoken(loop, verdict)),
+  [["unsafe", "unsafe"], ["depends", "depends on the options"]]);
+same(spoken(model.NEW_DRAFT, "safe"), ["draft", "a draft without screens"]);
+for (const verdict of ["undecided", undefined, "toString"]) throws(() => spoken(loop, verdict), Error);
+const compared = (old, now) => changes(library, old, now).find(({ kind }) => kind === "verdict").words;
+same(compared(loop, model.mark(loop, "initial", 0, false)),
+  "the verdict before: no verdict: nothing is forbidden; now: no verdict: nothing is initial");
 end("edits", 100 * count);

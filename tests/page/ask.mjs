@@ -76,6 +76,30 @@ await onPage(async (browser) => {
     same((await printed()).length, 2, "a release check for each: with no option and with all");
   }
 
+  // ---- nothing initial, or nothing forbidden: nowhere does it say that the draft is safe
+  await browser.type("#other-file", resolve("examples/pump.txt"));
+  await browser.until(() => document.querySelector("#other-answer li") !== null, "the other file is compared");
+  for (const [text, word] of [
+    ["states 2\ninitial 0\nforbidden none\nstep 0 -> 1\nstep 1 -> 0\nend\n", "forbidden"],
+    ["states 2\ninitial none\nforbidden 1\nresting 0 1\nend\n", "initial"],
+    ["states 2\ninitial 0\nforbidden none\nstep 0 -> 0 1\nstep 1 -> 0\npossible 1 -> 1\nend\n", "forbidden"],
+  ]) {
+    await fill(text);
+    const expected = `no verdict: nothing is ${word}`;
+    await browser.run(() => document.querySelector('#list tr[data-state="0"]').click());
+    for (const id of ["quick", "release-check", "repairs", "other-answer"]) {
+      const said = await browser.text(`#${id}`);
+      holds(said.includes(expected), `${id}: ${said}`);
+      holds(!/\bsafe (ref|after)|is safe|now: safe|Nothing has to/.test(said), `${id} does not say safe: ${said}`);
+    }
+    same((await browser.run(shown)).word, expected, "the verdict's place");
+    same(await printed(), [], "nothing that check would print");
+    const facts = await browser.text("#screen-words");
+    holds(facts.includes(`no screen is ${word} yet`), `the chosen screen: ${facts}`);
+    if (text.includes("possible")) holds((await browser.text("#options")).startsWith(expected), "options");
+    if (word === "forbidden") holds(!facts.includes("no forbidden screen can"), `the chosen screen: ${facts}`);
+  }
+
   // ---- a pump's log: 3 of 4 reachable screens in 3 entries
   await fill("states 5\ninitial 0\nforbidden 4\nresting 3\nstep 0 -> 1\nstep 1 -> 2\nstep 2 -> 3\nend\n");
   const log = join(WORK, "log");

@@ -2,7 +2,7 @@
 // what is downloaded; a draft that is kept; that a page with unsaved changes asks.
 import { readFileSync, readdirSync, rmSync, writeFileSync } from "node:fs";
 import { join, resolve } from "node:path";
-import { WORDS, WORK, anew, downloaded, downloads, end, holds, onPage, same, shown } from "./support.mjs";
+import { WORK, anew, downloaded, downloads, end, holds, onPage, same, shown, wordFor } from "./support.mjs";
 
 const files = resolve("tests/files");
 const note = () => (
@@ -50,7 +50,7 @@ await onPage(async (browser) => {
       const [verdict] = second.split(" ");
       said[verdict]++;
       holds(
-        [verdict, "vacuous", "draft"].includes(found.verdict) && WORDS[found.verdict] === found.word,
+        [verdict, "vacuous", "draft"].includes(found.verdict) && wordFor(found) === found.word,
         `${name}: ${found.verdict}`
       );
       if (verdict === "unsafe") same(found.verdict, "unsafe", name);
