@@ -376,7 +376,14 @@ class App {
 
   // ---- wires
 
+  /** What gets the focus does not stand below what sticks at the top. */
+  #keepClear() {
+    const clear = () => { document.documentElement.style.scrollPaddingTop = `${$("status").offsetHeight}px`; };
+    new ResizeObserver(clear).observe($("status"));
+  }
+
   #wire() {
+    this.#keepClear();
     const on = (id, event, work) =>
       $(id).addEventListener(event, (happened) => this.attempt(() => work(happened)));
     on("new", "click", () => this.begin(NEW_DRAFT, "new"));

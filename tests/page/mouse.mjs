@@ -184,6 +184,33 @@ await onPage(async (browser) => {
   await browser.click("#undo");
   await look(SAFE, "and cannot");
 
+  // ---- what is refused is said where it is seen, wherever one has scrolled
+  const isSeen = (id) => {
+    const { x, y, width, height } = document.getElementById(id).getBoundingClientRect();
+    const there = document.elementFromPoint(x + width / 2, y + height / 2);
+    return y >= 0 && y + height <= innerHeight && there?.closest(`#${id}`) !== null;
+  };
+  for (const [field, words, does, said] of [
+    ["#step-to", "nowhere", "#step-add", "nowhere"], ["#screen-new", "off", "#screen-add", "has the name off"],
+    ["#screen-name", "off", "#screen-head", "has the name off"],
+  ]) {
+    await browser.click(field);
+    await browser.keys(["Control", "a"]);
+    await browser.write(words);
+    await browser.click(does);
+    for (const to of [0, 1e6]) {
+      await browser.run((y) => scrollTo(0, y), to);
+      holds(await browser.run(isSeen, "note"), `${field}: the note is seen, scrolled to ${to}`);
+      holds(await browser.run(isSeen, "verdict-word"), `${field}: beside the verdict, scrolled to ${to}`);
+    }
+    holds((await browser.text("#note-words")).includes(said), `${field}: why`);
+    await browser.click("#note-close");
+  }
+  same(await browser.run(value, "screen-name"), "over-hard-limit", "the screen has its name still");
+  await browser.clear("#step-to");
+  await browser.clear("#screen-new");
+  await look(SAFE, "nothing of it was done");
+
   // ---- the list, sorted
   await browser.click("#list th[data-sort=distance] button");
   same(
