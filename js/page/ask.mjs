@@ -5,7 +5,9 @@ import { decided, spoken, vacuous } from "./answer.mjs";
 import { changes } from "./changes.mjs";
 import { $, button, counted, element } from "./dom.mjs";
 import * as files from "./files.mjs";
-import { NotDone, called, hasOptions, screen, setStep, stepKind, storeOf, tablesOf, withoutOptions } from "./model.mjs";
+import {
+  NotDone, called, hasOptions, isForbidden, screen, setStep, stepKind, storeOf, tablesOf, withoutOptions,
+} from "./model.mjs";
 import { remarks } from "./remarks.mjs";
 import { logOf, walked } from "./walk.mjs";
 
@@ -13,13 +15,36 @@ const FIRST_ALLOWANCE = 8;
 /** So many changes are listed, and the others counted. */
 const SHOWN_CHANGES = 300;
 
+/** So many screens that a repair costs are named. */
+const SHOWN_LOST = 12;
+const SEVERAL_WAYS = "There are several ways in: no single step does it. Each step of the path was tried. Rub " +
+  "one of them out, and look at the next path.";
+const WAYS_ROUND = "The other steps of the path do not do it: there are several ways round them.";
+
 /** The steps of a path, each by its ends. */
 const stepsOf = (path) => path.slice(1).map((to, k) => [path[k], to]);
 
-/** The single steps that make a draft safe when they are rubbed out. Each is on the path: a step that is not
- * leaves the path as it is. */
+const reachedIn = (library, d) => new library.Session(tablesOf(library, d).all).reachable;
+
+/** The single steps that make a draft safe when they are rubbed out, each with the screens that it costs: those
+ * that are not forbidden and that no session reaches then. The cheapest is first. Each is on the path: a step
+ * that is not leaves the path as it is. */
 export function repairs(library, d, path) {
-  return stepsOf(path).filter(([from, to]) => decided(library, setStep(d, from, to, "none")).isSafe);
+  const before = [...reachedIn(library, d)].filter((s) => !isForbidden(d, s));
+  const mends = stepsOf(path).map(([from, to]) => ({ from, to, other: setStep(d, from, to, "none") }))
+    .filter(({ other }) => decided(library, other).isSafe);
+  return mends.map(({ from, to, other }) => {
+    const left = new Set(reachedIn(library, other));
+    return { from, to, lost: before.filter((s) => !left.has(s)) };
+  }).sort((a, b) => a.lost.length - b.lost.length);
+}
+
+/** What it costs to rub out a step, in words. */
+function costOf(d, lost) {
+  if (lost.length === 0) return "costs nothing: every other screen is still reached";
+  const more = lost.length > SHOWN_LOST ? `, and ${lost.length - SHOWN_LOST} more` : "";
+  const names = lost.slice(0, SHOWN_LOST).map((s) => called(d, s)).join(", ");
+  return `costs ${counted(lost.length, "other screen")}, which no session reaches then: ${names}${more}`;
 }
 
 /** What the release check prints of the file of a draft. */
@@ -177,18 +202,21 @@ export class Asked {
     if (answer.path === null) return ["said", "Nothing has to be rubbed out."];
     if (answer.path.length < 2) return ["said", "No step does: a session can start in a forbidden screen."];
     if (this.#repairs === null) return ["said"];
-    if (this.#repairs.length === 0) return ["said", "No single step does: each was tried."];
-    return ["said", element("p", {}, "Safe, if one of these is rubbed out:"),
-      lines(this.#repairs.map(([from, to]) => this.#repairLine(draft, from, to)))];
+    if (this.#repairs.length === 0) return ["said", SEVERAL_WAYS];
+    const isRound = this.#repairs.length < answer.path.length - 1;
+    return ["said", element("p", {}, "Safe, if one of these is rubbed out, the cheapest first:"),
+      lines(this.#repairs.map((one) => this.#repairLine(draft, one))),
+      ...(isRound ? [element("p", {}, WAYS_ROUND)] : [])];
   }
 
-  #repairLine(d, from, to) {
+  #repairLine(d, { from, to, lost }) {
     const option = stepKind(d, from, to) === "option" ? " (option)" : "";
     const words = `${called(d, from)} → ${called(d, to)}${option}`;
     const rub = button("Rub out", () => this.#app.attempt(() =>
       this.#app.change(setStep(this.#app.draft, from, to, "none"), `rub out ${words}`)),
     { className: "rub-out", aria: { label: `Rub out ${words}` } });
-    return element("li", { data: { from, to } }, words, " ", rub);
+    const data = { from, to, lost: lost.length };
+    return element("li", { data }, words, " ", rub, element("br"), costOf(d, lost));
   }
 
   /** The question that the verdict's place asks. */

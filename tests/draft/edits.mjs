@@ -46,16 +46,21 @@ function hold(d, answer, what) {
   if (answer.path !== null) same(answer.path.length - 1, word === "unsafe" ? certain.steps : all.steps, what);
 }
 
-/** Every single step of a draft tried: those that make it safe are just those that are found on the path. */
+/** Every single step of a draft tried: those that make it safe are just those that are found on the path, each
+ * with the screens that are not forbidden and are reached no more; those that cost least first. */
 function holdRepairs(d, answer) {
   if (answer.path === null) return;
   const steps = d.certain.flatMap((_, from) => model.successors(d, from).map((to) => [from, to]));
-  const mends = steps.filter(([from, to]) => {
-    const other = model.setStep(d, from, to, "none");
-    return !searched(other, true).isUnsafe;
+  const before = [...searched(d, true).reached].filter((s) => !model.isForbidden(d, s));
+  const mends = steps.flatMap(([from, to]) => {
+    const other = searched(model.setStep(d, from, to, "none"), true);
+    return other.isUnsafe ? [] : [{ from, to, lost: before.filter((s) => !other.reached.has(s)) }];
   });
   const found = repairs(library, d, answer.path);
-  same([...found].sort(), mends.sort());
+  const inOrder = (list) => [...list].sort((a, b) => a.from - b.from || a.to - b.to);
+  same(inOrder(found), inOrder(mends));
+  const costs = found.map(({ lost }) => lost.length);
+  same(costs, [...costs].sort((a, b) => a - b));
 }
 
 for (let k = 0; k < count; k++) {
@@ -92,6 +97,12 @@ for (let k = 0; k < count; k++) {
   for (let i = 1; i < drafts.length; i++) same([history.redo(), history.draft === drafts[i]], [true, true]);
   same([history.redo(), history.redoes], [false, null]);
 }
+
+const chain = model.draftOfText(library,
+  "states 5\ninitial 0\nforbidden 4\nresting 0 1 2 3\nstep 0 -> 1\nstep 1 -> 2\nstep 2 -> 3 4\nend\n");
+holdRepairs(chain, new Answers(library).of(chain));
+same(repairs(library, chain, [0, 1, 2, 4]).map(({ from, lost }) => [from, lost]),
+  [[2, []], [1, [2, 3]], [0, [1, 2, 3]]]);
 
 // ---- a full table, names that are none, and what says little
 

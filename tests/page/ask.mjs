@@ -55,6 +55,32 @@ await onPage(async (browser) => {
   same(await verdict("quick"), "safe", "the quick answer is of the new draft");
   same((await printed())[0].split("\n")[1].split(" ")[0], "safe", "and the release check's");
 
+  // ---- what each costs, the cheapest first; and several ways in
+  await fill(
+    "states 5\ninitial 0\nforbidden 4\nresting 0 1 2 3\nstep 0 -> 1\nstep 1 -> 2\nstep 2 -> 3 4\nend\n"
+  );
+  await browser.click("#repairs-ask");
+  same(await items("#repairs li[data-from]", "from", "to", "lost"),
+    [["2", "4", "0"], ["1", "2", "2"], ["0", "1", "3"]], "what each costs, the cheapest first");
+  const costs = await browser.text("#repairs");
+  for (const words of ["costs nothing", "2 other screens", "reaches then: 2, 3", "reaches then: 1, 2, 3"]) {
+    holds(costs.includes(words), `${words}: ${costs}`);
+  }
+  holds(!costs.includes("several ways"), "one way in");
+  await fill("states 4\ninitial 0\nforbidden 3\nresting 0\nstep 0 -> 1 2\nstep 1 -> 3\nstep 2 -> 3\nend\n");
+  await browser.click("#repairs-ask");
+  same(await items("#repairs li[data-from]", "from"), [], "no single step");
+  holds((await browser.text("#repairs")).includes("several ways in"), "there are several ways in");
+  await fill(
+    "states 5\ninitial 0\nforbidden 4\nresting 0 3\nstep 0 -> 1 2\nstep 1 -> 3\nstep 2 -> 3\nstep 3 -> 4\nend\n"
+  );
+  await browser.click("#repairs-ask");
+  same(await items("#repairs li[data-from]", "from", "to", "lost"), [["3", "4", "0"]], "the step behind both ways");
+  holds((await browser.text("#repairs")).includes("several ways round"), "and that there are several");
+  await fill(SMALL);
+  await browser.click("#repairs-ask");
+  await browser.click("#repairs li[data-from] .rub-out");
+
   // ---- what to look at
   const remarks = (await items("#remarks li[data-remark]", "remark")).flat();
   holds(remarks.includes("hang"), `the hang is looked at: ${remarks}`);
