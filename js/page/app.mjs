@@ -7,7 +7,7 @@ import { $, button, counted } from "./dom.mjs";
 import * as files from "./files.mjs";
 import { List } from "./list.mjs";
 import {
-  History, NEW_DRAFT, NotDone, draftOfText, hasOptions, isSameDraft, screen, storeOf, textOf,
+  History, NEW_DRAFT, NotDone, called, draftOfText, hasOptions, isSameDraft, optionSteps, screen, storeOf, textOf,
 } from "./model.mjs";
 import { Picture } from "./picture.mjs";
 import { ScreenEditor } from "./screen.mjs";
@@ -21,6 +21,11 @@ const TYPING = "typing";
 const LARGER = 1.25;
 const OLD_FORM = "This file is of the old form (versions 1 to 3): shuntberry rewrite, or the button here, " +
   "makes the same table of it, in which its dead ends, and no other screens, are resting.";
+const WHICH_STEPS = "this draft has steps that are there only with an option: choose beside Save file whether the " +
+  "file is to be without any option or with every option";
+const GO_ON = "A file has no names, and no options: save the text too, which is what you go on with.";
+/** So many steps of options are named where a file is saved. */
+const SHOWN_OPTIONS = 12;
 const TABS = ["list", "text", "ask"];
 
 class App {
@@ -145,6 +150,7 @@ class App {
     this.#history.add(next, what, text);
     this.#saved = saved;
     this.chosen = null;
+    $("save-which").value = "";
     this.#typedAt = -Infinity;
     this.#text.changed();
     this.render();
@@ -333,15 +339,28 @@ class App {
     const d = this.draft;
     const site = files.site();
     const which = hasOptions(d) ? $("save-which").value : "all";
+    if (which === "") throw new NotDone(WHICH_STEPS);
     const table = this.library.Table.fromStore(d.n, d.groups.length, storeOf(d, which === "all"));
     const bytes = this.library.write(table, site);
     const isSame = this.library.read(bytes, site).equals(table);
     if (!isSame) throw new Error("what was written is not read as the same table");
     const ending = hasOptions(d) ? (which === "all" ? "-with-options" : "-without-options") : "";
-    files.download(`${name}${ending}.table`, "application/octet-stream", bytes);
+    const forSite = site === 0 ? "" : `-site-${site}`;
+    files.download(`${name}${ending}${forSite}.table`, "application/octet-stream", bytes);
     const isWhole = !hasOptions(d) && d.names.every((one) => one === null);
     if (isWhole) this.#saved = d;
-    else this.#say("The file has no names, and no options: save the text too, which is what you go on with.");
+    else this.#say(`${this.#optionsIn(d, which)}${GO_ON}`);
+  }
+
+  /** What has become of the steps that are there only with an option, in a file that was saved. */
+  #optionsIn(d, which) {
+    const steps = optionSteps(d).map(([from, to]) => `${called(d, from)} → ${called(d, to)}`);
+    if (steps.length === 0) return "";
+    const more = steps.length > SHOWN_OPTIONS ? `, and ${steps.length - SHOWN_OPTIONS} more` : "";
+    const named = `${steps.slice(0, SHOWN_OPTIONS).join(", ")}${more}`;
+    const count = counted(steps.length, "step");
+    return which === "all" ? `The file has each option's step as any other, and none was left out: ${named}. `
+      : `The file was saved without ${count} that only an option brings, left out: ${named}. `;
   }
 
   get isUnsaved() {

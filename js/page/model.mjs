@@ -75,6 +75,8 @@ export function draftOfText(library, text) {
 /** The draft of a pump that has no option. */
 export const withoutOptions = (d) => draft({ ...d, options: d.options.map(() => EMPTY) });
 export const hasOptions = (d) => d.options.some((row) => !isEmpty(row));
+/** The steps that only an option brings, each by its ends. */
+export const optionSteps = (d) => d.options.flatMap((row, from) => members(row).map((to) => [from, to]));
 export const possible = (d, s) => union(d.certain[s], d.options[s]);
 /** The lists of successors, by the rows that they are of: rows never change. */
 const listed = new WeakMap();

@@ -173,6 +173,48 @@ await onPage(async (browser) => {
   for (const words of ["example", "safe. No forbidden screen"]) holds(svg.includes(words), `above it: ${words}`);
   same(await browser.run(asks), false, "saved");
 
+  // ---- a file for a site has it in its name; one of a draft with options is asked for by name
+  const choose = (id, to) => browser.run((field, value) => {
+    document.getElementById(field).value = value;
+    document.getElementById(field).dispatchEvent(new Event("change", { bubbles: true }));
+  }, id, to);
+  await choose("site", "17");
+  await browser.click("#save-file");
+  same(
+    (await downloaded("example-site-17.table")).toString("hex"), readFileSync(process.env.SITE_17).toString("hex"),
+    "the file for site 17"
+  );
+  await choose("site", "0");
+  const [SERVICE, LIMIT] = [8, 7];
+  const option = `possible running -> ${SERVICE} ${LIMIT}\nend`;
+  const withOption = readFileSync("examples/pump.txt", "utf8").replace(/^end/m, option);
+  await browser.run(give, "paste", withOption);
+  await browser.until(() => document.getElementById("verdict").dataset.verdict === "depends", "with options");
+  await browser.click("#save-file");
+  holds((await browser.run(note)).includes("choose"), `it is asked which steps: ${await browser.run(note)}`);
+  same(readdirSync(downloads).filter((name) => /option/.test(name)), [], "and nothing is saved");
+  const stepsTo = async (name, state) => {
+    await open(browser, join(downloads, name));
+    return browser.run((s) => document.querySelector(`#list tr[data-state="4"] .steps`).textContent.split(", ")
+      .includes(String(s)), state);
+  };
+  for (const [which, name, isIn, words] of [
+    ["certain", "example-without-options.table", false, "left out: running → over-hard-limit, running → service"],
+    ["all", "example-with-options.table", true, "none was left out: running → over-hard-limit, running → service"],
+  ]) {
+    await browser.run(give, "paste", withOption);
+    await browser.until(() => document.getElementById("verdict").dataset.verdict === "depends", "with options");
+    same(await browser.run(() => document.getElementById("save-which").value), "", "the choice is made anew");
+    await choose("title", "example");
+    await choose("save-which", which);
+    await browser.click("#save-file");
+    await downloaded(name);
+    holds((await browser.run(note)).includes(words), `${which}: ${await browser.run(note)}`);
+    same([await stepsTo(name, LIMIT), await stepsTo(name, SERVICE)], [isIn, isIn], `the steps of the file, ${which}`);
+  }
+  await browser.click("#new");
+  await browser.click("#example");
+
   // ---- unsaved changes: the page asks
   await browser.type("#screen-new", "one-more");
   await browser.click("#screen-add");
