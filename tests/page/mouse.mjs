@@ -158,7 +158,19 @@ await onPage(async (browser) => {
   ).getAttribute("stroke-dasharray");
   holds(/^2 /.test(await browser.run(dash)), "and dotted in the picture");
   same((await browser.run(shown)).verdict, "unsafe", "it was unsafe on every pump before");
+  const begun = () => [
+    document.getElementById("step-to").value, document.getElementById("step-option").checked,
+    document.getElementById("step-make").hidden,
+  ];
+  const NOTHING = ["", false, true];
+  same(await browser.run(begun), NOTHING, "the next step is no option's unless that is said");
   await browser.click("#step-option");
+  await browser.type("#step-to", "nowhere");
+  await browser.click("#step-add");
+  same(await browser.run(begun), ["nowhere", true, false], "a step that was refused stands there still");
+  await browser.click(`#list tr[data-state="${ALARM}"]`);
+  same(await browser.run(begun), NOTHING, "what was begun at one screen is not drawn from another");
+  await browser.click(`#list tr[data-state="${SERVICE}"]`);
   await browser.click("#group-new");
   holds(
     (await browser.text("#legend")).includes("group 0: 1 screen"), "a group has its colour in the legend"
