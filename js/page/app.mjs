@@ -21,12 +21,17 @@ const TYPING = "typing";
 const LARGER = 1.25;
 const OLD_FORM = "This file is of the old form (versions 1 to 3): shuntberry rewrite, or the button here, " +
   "makes the same table of it, in which its dead ends, and no other screens, are resting.";
+const STILL = "What is shown is still the draft from before.";
 const WHICH_STEPS = "this draft has steps that are there only with an option: choose beside Save file whether the " +
   "file is to be without any option or with every option";
 const GO_ON = "A file has no names, and no options: save the text too, which is what you go on with.";
 /** So many steps of options are named where a file is saved. */
 const SHOWN_OPTIONS = 12;
 const TABS = ["list", "text", "ask"];
+
+/** A file that was refused, by name, beside a draft that is not of it. */
+const notOpened = (name, error) =>
+  (error instanceof NotDone ? new NotDone(`${name} was not opened: ${error.message}. ${STILL}`) : error);
 
 class App {
   library;
@@ -145,9 +150,10 @@ class App {
   }
 
   /** Begins with another draft; nothing of the old one is left but in undo. */
-  begin(next, what, text = null, saved = next) {
+  begin(next, what, { text = null, saved = next, title = $("title").value } = {}) {
     const isLost = this.isUnsaved && this.draft.n > 0;
-    this.#history.add(next, what, text);
+    this.#history.add(next, what, text, false, { before: $("title").value, after: title });
+    $("title").value = title;
     this.#saved = saved;
     this.chosen = null;
     $("save-which").value = "";
@@ -159,12 +165,21 @@ class App {
   }
 
   undo(isBack) {
-    if (isBack ? this.#history.undo() : this.#history.redo()) this.#moved();
+    if (this.#move(isBack)) this.#moved();
+  }
+
+  /** One thing back or forth in what was done, with the name of the draft where that went with it. */
+  #move(isBack) {
+    const undone = this.#history.titles;
+    if (!(isBack ? this.#history.undo() : this.#history.redo())) return false;
+    const title = isBack ? undone?.before : this.#history.titles?.after;
+    if (title !== undefined) $("title").value = title;
+    return true;
   }
 
   /** The last text without mistakes again. */
   #putBack() {
-    while (this.#history.wrong !== null) this.#history.undo();
+    while (this.#history.wrong !== null) this.#move(true);
     this.#moved();
     $("text").focus();
   }
@@ -285,33 +300,37 @@ class App {
   // ---- open and save
 
   async #openFile(file) {
-    const bytes = await files.bytesOfFile(file);
-    this.#open(bytes, file.name);
+    try {
+      const title = file.name.replace(/\.[^.]*$/, "").slice(0, $("title").maxLength);
+      this.#open(await files.bytesOfFile(file), file.name, title);
+    } catch (error) {
+      throw notOpened(file.name, error);
+    }
   }
 
-  #open(bytes, name) {
+  #open(bytes, name, title) {
     const found = files.opened(this.library, bytes, files.site());
-    if (name !== undefined) $("title").value = name.replace(/\.[^.]*$/, "").slice(0, $("title").maxLength);
     if (found.text !== undefined) {
-      this.#openText(found.text);
+      this.#openText(found.text, { title });
     } else if (found.rewritten !== undefined) {
-      const rewrite = () => this.attempt(() => this.begin(found.rewritten, "open", null, null));
-      this.#say(OLD_FORM, button("Rewrite and open", rewrite));
+      const rewrite = () => this.attempt(() => this.begin(found.rewritten, "open", { saved: null, title }));
+      this.#say(`${name}: ${OLD_FORM} ${STILL}`, button("Rewrite and open", rewrite));
     } else {
-      this.begin(found.draft, "open");
+      this.begin(found.draft, "open", { title });
       if (found.isEmpty) this.#say("This file has no bytes, which is a draft without screens.");
     }
   }
 
   /** A text without mistakes is the draft; one with some stands in its field, beside an empty draft. */
-  #openText(text, isSaved = true) {
+  #openText(text, { isSaved = true, title } = {}) {
     let next = null;
     try {
       next = draftOfText(this.library, text);
     } catch (error) {
       if (!Array.isArray(error.mistakes)) throw error;
     }
-    this.begin(next ?? NEW_DRAFT, "open", next === null ? null : text, isSaved ? next : null);
+    const saved = isSaved ? next : null;
+    this.begin(next ?? NEW_DRAFT, "open", { text: next === null ? null : text, saved, title });
     if (next !== null) return;
     this.#history.addWrong(text, "open", true);
     this.#tab("text");
@@ -384,8 +403,7 @@ class App {
     $("offer").hidden = false;
     $("offer-take").addEventListener("click", () => this.attempt(() => {
       $("offer").hidden = true;
-      $("title").value = found.title;
-      this.#openText(found.text, false);
+      this.#openText(found.text, { isSaved: false, title: found.title });
     }));
     $("offer-drop").addEventListener("click", () => {
       $("offer").hidden = true;
@@ -407,10 +425,7 @@ class App {
       $(id).addEventListener(event, (happened) => this.attempt(() => work(happened)));
     on("new", "click", () => this.begin(NEW_DRAFT, "new"));
     on("open", "click", () => $("open-file").click());
-    on("example", "click", () => {
-      $("title").value = "example";
-      this.#openText($("example-text").textContent);
-    });
+    on("example", "click", () => this.#openText($("example-text").textContent, { title: "example" }));
     on("open-file", "change", () => this.#take([...$("open-file").files]));
     on("undo", "click", () => this.undo(true));
     on("redo", "click", () => this.undo(false));
@@ -463,7 +478,14 @@ class App {
     const text = event.clipboardData?.getData("text/plain") ?? "";
     if (target !== null || text === "") return;
     event.preventDefault();
-    this.attempt(() => this.#open(new TextEncoder().encode(text)));
+    const name = "what was pasted";
+    this.attempt(() => {
+      try {
+        this.#open(new TextEncoder().encode(text), name);
+      } catch (error) {
+        throw notOpened(name, error);
+      }
+    });
   }
 
   #tab(name) {

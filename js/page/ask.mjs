@@ -87,7 +87,7 @@ export class Asked {
       part("What options make of it", "options"),
       part("How much a pump's log covers", "log-answer", ...this.#logFields()),
       part("What has changed since another file", "other-answer",
-        this.#fileButton("other", "Open the other file…", (bytes, name) => this.#compare(bytes, name))),
+        this.#fileButton("other", "Open the other file…", (file) => this.#compare(file))),
     );
   }
 
@@ -96,7 +96,7 @@ export class Asked {
     field.addEventListener("change", () => {
       const [file] = field.files;
       field.value = "";
-      if (file !== undefined) this.#app.later(async () => take(await files.bytesOfFile(file), file.name));
+      if (file !== undefined) this.#app.later(() => take(file));
     });
     const open = button(words, () => field.click(), { id: `${id}-open` });
     return element("span", {}, open, field);
@@ -109,7 +109,8 @@ export class Asked {
     });
     const walk = () => this.#app.attempt(() => this.#takeLog({ words: text.value }));
     return [
-      this.#fileButton("log", "Open a log…", (bytes) => this.#takeLog({ bytes })), text,
+      this.#fileButton("log", "Open a log…", async (file) =>
+        this.#takeLog({ bytes: await files.bytesOfFile(file) })), text,
       button("Walk it", walk, { id: "log-ask" }),
     ];
   }
@@ -277,16 +278,30 @@ export class Asked {
 
   // ---- another file
 
-  #compare(bytes, name) {
-    this.#other = { draft: files.otherDraft(this.#app.library, bytes, files.site()), name };
-    this.#ask("other-answer", () => this.#changes());
+  /** Of a file that is refused nothing is compared; nor is anything left of the file before it. */
+  async #compare(file) {
+    const { name } = file;
+    this.#other = { name, why: "it is not read yet" };
+    try {
+      const bytes = await files.bytesOfFile(file);
+      this.#other = { name, draft: files.otherDraft(this.#app.library, bytes, files.site()) };
+    } catch (error) {
+      this.#other.why = error?.message ?? String(error);
+      throw error instanceof NotDone ? new NotDone(`${name} was not compared: ${error.message}`) : error;
+    } finally {
+      this.#ask("other-answer", () => this.#changes());
+    }
   }
 
   #changes() {
     if (this.#other === null) return ["said"];
-    const { draft, library } = this.#app;
+    const { draft, library, answer } = this.#app;
+    const { name, why } = this.#other;
+    if (why !== undefined) return ["none", `${name} was not compared: ${why}`];
+    if (answer === null) throw new Error("there is no verdict");
     const found = changes(library, this.#other.draft, draft);
-    const head = element("p", {}, `From ${this.#other.name} to this draft:`);
+    const nameless = this.#other.draft.names.every((one) => one === null) ? ", which has no names," : "";
+    const head = element("p", {}, `From ${name}${nameless} to this draft:`);
     const item = ({ kind, words }) => element("li", { data: { change: kind } }, words);
     const items = found.slice(0, SHOWN_CHANGES).map(item);
     if (found.length > items.length) items.push(element("li", {}, `and ${found.length - items.length} more`));

@@ -27,12 +27,15 @@ export function changes(library, old, now) {
   const after = new Map(before.flatMap((s, t) => (s === null ? [] : [[s, t]])));
   const found = [];
   const say = (kind, words) => found.push({ kind, words });
+  const [was, is] = [verdictOf(library, old), verdictOf(library, now)];
+  say("verdict", was === is ? `the verdict, before and now: ${is}` : `the verdict before: ${was}; now: ${is}`);
+  const areNamed = [old, now].every((d) => d.names.some((name) => name !== null)); // a table's file has no names
   const gone = old.names.map((_, s) => s).filter((s) => !after.has(s));
   for (const s of gone) say("screen-gone", `screen ${screen(old, s)} is gone`);
   before.forEach((s, t) => { if (s === null) say("screen-new", `screen ${screen(now, t)} is new`); });
   for (const [s, t] of after) {
     if (s !== t) say("renumbered", `${called(now, t)} had the number ${s}, and has ${t}: logs go by number`);
-    if (old.names[s] !== now.names[t]) say("renamed", `screen ${screen(old, s)} is called ${screen(now, t)}`);
+    if (areNamed && old.names[s] !== now.names[t]) say("renamed", `screen ${screen(old, s)} is called ${screen(now, t)}`);
     for (const [key, words] of MARKS) {
       const [was, is] = [has(old[key], s), has(now[key], t)];
       if (was !== is) say(key, `${screen(now, t)} is ${is ? "" : "no longer "}${words}`);
@@ -40,8 +43,6 @@ export function changes(library, old, now) {
   }
   steps(old, now, before, after, say);
   groups(old, now, after, say);
-  const [was, is] = [verdictOf(library, old), verdictOf(library, now)];
-  say("verdict", was === is ? `the verdict, before and now: ${is}` : `the verdict before: ${was}; now: ${is}`);
   return found.length === 1 && was === is ? [] : found;
 }
 

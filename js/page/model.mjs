@@ -204,7 +204,7 @@ export class History {
   #future = [];
 
   constructor(first = NEW_DRAFT, text = null) {
-    this.#now = { draft: first, text, wrong: null, what: "" };
+    this.#now = { draft: first, text, wrong: null, what: "", titles: null };
   }
 
   get draft() {
@@ -220,6 +220,11 @@ export class History {
     return this.#now.wrong;
   }
 
+  /** The names of the draft before and after what was done last, where that gave it another. */
+  get titles() {
+    return this.#now.titles;
+  }
+
   get undoes() {
     return this.#past.length > 0 ? this.#now.what : null;
   }
@@ -229,13 +234,13 @@ export class History {
   }
 
   /** One more; `merges` says that it goes on with the last edit, as typing does. */
-  add(next, what, text = null, merges = false) {
-    this.#add({ draft: next, text, wrong: null, what }, merges);
+  add(next, what, text = null, merges = false, titles = null) {
+    this.#add({ draft: next, text, wrong: null, what, titles }, merges);
   }
 
   /** A text with mistakes: the draft stays. */
   addWrong(wrong, what, merges = false) {
-    this.#add({ draft: this.draft, text: this.text, wrong, what }, merges);
+    this.#add({ draft: this.draft, text: this.text, wrong, what, titles: merges ? this.titles : null }, merges);
   }
 
   #add(entry, merges) {

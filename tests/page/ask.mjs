@@ -158,6 +158,32 @@ await onPage(async (browser) => {
   const changes = await browser.text("#other-answer");
   holds((await items("#other-answer li[data-change]", "change")).length >= 2, `two changes: ${changes}`);
   for (const words of ["alarm → off", "over-hard-limit"]) holds(changes.includes(words), `${words}: it changed`);
+  same((await items("#other-answer li[data-change]", "change"))[0], ["verdict"], "the verdicts first");
+  await browser.type("#other-file", resolve("examples/pump.table"));
+  await browser.until(
+    () => document.getElementById("other-answer").textContent.includes("pump.table"), "a table's file is compared"
+  );
+  const named = (await items("#other-answer li[data-change]", "change")).flat();
+  same(named.filter((kind) => kind !== "renamed"), named, "what has no names is not renamed");
+  same(named.length > 0 && named[0], "verdict", "but compared");
+
+  // ---- another file that is refused, or has mistakes: nothing of the one before is left, and the verdict is
+  const old = (await browser.run(shown)).verdict;
+  for (const [name, data, words] of [
+    ["wrong.txt", "states 2\ninitail 0\nforbidden 1\nend\n", "line 2"], ["letter.txt", "Dear drafter,\n", "not of a table"],
+    ["bad.table", Buffer.from([137, 80, 78, 71, 13, 10, 26, 10, 0]), "refused"],
+  ]) {
+    await browser.type("#other-file", resolve("examples/pump.table"));
+    await browser.until(() => document.querySelector("#other-answer li") !== null, "a file is compared");
+    writeFileSync(join(WORK, name), data);
+    await browser.type("#other-file", join(WORK, name));
+    await browser.until(() => !document.getElementById("note").hidden, `${name} is refused`);
+    const said = await browser.text("#other-answer");
+    holds(said.startsWith(`${name} was not compared`) && said.includes(words), `${name}: ${said}`);
+    same(await items("#other-answer li", "change"), [], `${name}: nothing of the file before is left`);
+    same((await browser.run(shown)).verdict, old, `${name}: the verdict is as it was`);
+    holds((await browser.run(shown)).note.startsWith(name), `${name}: the note names it`);
+  }
   await fill("states 1\n");
   same(await verdict("quick"), "none", "with mistakes in the text there is no answer");
   same(await printed(), [], "of any kind");

@@ -65,6 +65,8 @@ await onPage(async (browser) => {
   await browser.click("#new");
   await open(browser, join(files, "old-d.table"));
   holds((await browser.run(note)).includes("rewrite"), "it says how it is rewritten");
+  holds((await browser.run(note)).startsWith("old-d.table: "), "and which file it is");
+  holds((await browser.run(title)) !== "old-d", "the draft has its own name until then");
   await browser.click("#note-actions button");
   holds((await browser.run(shown)).states.length > 0, "and the button does it");
 
@@ -78,7 +80,11 @@ await onPage(async (browser) => {
   writeFileSync(site, readFileSync(process.env.SITE_17));
   await browser.click("#new");
   await open(browser, site);
-  holds((await browser.run(note)).startsWith("refused 13:"), "another site's file is refused");
+  holds((await browser.run(note)).includes("refused 13:"), "another site's file is refused");
+  for (const words of ["site.table was not opened", "still the draft from before"]) {
+    holds((await browser.run(note)).includes(words), `${words}: ${await browser.run(note)}`);
+  }
+  same(await browser.run(title), "pump", "the draft has its name still");
   await browser.run(() => { document.getElementById("site").value = "17"; });
   await open(browser, site);
   same((await browser.run(shown)).verdict, "safe", "with its site it is opened");
@@ -112,6 +118,18 @@ await onPage(async (browser) => {
   });
   await browser.click("#text-back");
   same((await browser.run(shown)).verdict, "draft", "the last text without mistakes was none");
+
+  // ---- undo of what was opened gives the draft before its name again
+  await browser.click("#example");
+  same(await browser.run(title), "example", "the example has its name");
+  await open(browser, resolve("examples/pump.txt"));
+  await open(browser, join(WORK, "cut.txt"));
+  const titles = [await browser.run(title)];
+  for (const id of ["undo", "undo", "redo", "redo", "undo"]) {
+    await browser.click(`#${id}`);
+    titles.push(await browser.run(title));
+  }
+  same(titles, ["cut", "pump", "example", "pump", "cut", "pump"], "the names go with the drafts");
 
   // ---- drop and paste
   const give = (kind, text) => {
