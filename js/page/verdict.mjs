@@ -1,6 +1,7 @@
 // The place of the verdict. It is emptied before each answer is asked for, and filled by that answer alone:
 // what goes wrong on the way leaves "no answer" there, and never an old verdict.
 import { spoken, vacuous } from "./answer.mjs";
+import { has } from "./bits.mjs";
 import { $, button, counted, element } from "./dom.mjs";
 import { called, hasOptions, isHang } from "./model.mjs";
 
@@ -15,6 +16,10 @@ const LONG_PATH = 40;
 /** Why a screen is forbidden. */
 export const whyForbidden = (d, s) =>
   isHang(d, s) ? "a hang: no step leads out, and it is not resting" : "forbidden, since it is marked so";
+
+/** What stands beside "unsafe" where the path ends in a hang that nobody marked: while one drafts, most do. */
+export const unfinished = (d, { path }) =>
+  (path !== null && isHang(d, path.at(-1)) && !has(d.marked, path.at(-1)) ? "not finished: a hang is reached" : "");
 
 const unsafeIn = (steps) =>
   steps === 0
@@ -55,6 +60,7 @@ export class VerdictPlace {
     place.dataset.verdict = kind;
     $("verdict-mark").textContent = MARKS[kind];
     $("verdict-word").textContent = word;
+    $("verdict-beside").textContent = "";
     $("verdict-words").textContent = words;
     $("verdict-path").replaceChildren();
     $("verdict-path").hidden = true;
@@ -76,6 +82,7 @@ export class VerdictPlace {
   answer(d, answer) {
     const [kind, word, words] = wordsOf(d, answer);
     this.#put(kind, word, words);
+    $("verdict-beside").textContent = unfinished(d, answer);
     if (answer.path !== null) this.#path(d, answer.path);
   }
 

@@ -302,6 +302,26 @@ await onPage(async (browser) => {
   await look(SAFE, "and then undoes the step");
   await browser.click("#redo");
 
+  // ---- a hang that nobody marked: unsafe, and not finished
+  await typedAnew("states 2\ninitial 0\nforbidden none\nstep 0 -> 1\nend\n");
+  same([(await browser.run(shown)).word, await browser.run(text, "verdict-beside")],
+    ["unsafe", "not finished: a hang is reached"], "a path to a hang");
+  const hangs = await browser.text("#legend");
+  holds(hangs.includes("orange, broken line: a hang") && !hangs.includes("pale"), `a hang in the legend: ${hangs}`);
+  await typedAnew("states 3\ninitial 0\nforbidden 1\nresting 0 1\nend\n");
+  same([(await browser.run(shown)).word, await browser.run(text, "verdict-beside")], ["safe", ""], "nothing beside safe");
+  const pale = await browser.text("#legend");
+  for (const words of ["pale, eight corners: forbidden", "pale, broken line: a hang"]) {
+    holds(pale.includes(words) && !pale.includes("orange") && !pale.includes("white"), `${words}: ${pale}`);
+  }
+  const fills = () => {
+    const of = (place) => [...document.querySelectorAll(`${place} path[fill^="#"]`)].map((one) => one.getAttribute("fill"));
+    return [[...new Set(of("#picture g[data-state]"))].sort(), [...new Set(of("#legend"))].sort()];
+  };
+  const [drawnFills, legendFills] = await browser.run(fills);
+  same(drawnFills.filter((one) => !legendFills.includes(one)), [], "each colour that is drawn is in the legend");
+  await browser.click("#undo");
+
   // ---- begin anew, and back
   await browser.click("#new");
   same((await browser.run(shown)).verdict, "draft", "begun anew");
