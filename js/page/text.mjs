@@ -15,7 +15,7 @@ export class TextEditor {
   constructor(app) {
     this.#app = app;
     $("text").addEventListener("input", () => this.#typed());
-    $("text").addEventListener("scroll", () => { $("text-lines").scrollTop = $("text").scrollTop; });
+    $("text").addEventListener("scroll", () => this.#follow());
   }
 
   /** How many mistakes there are, or that it is not read yet; null where all is well. */
@@ -86,7 +86,7 @@ export class TextEditor {
     const number = (line) => element("div", { className: wrong.has(line) ? "wrong" : "" },
       wrong.has(line) ? `✕ ${line}` : String(line));
     $("text-lines").replaceChildren(...Array.from({ length: count }, (_, k) => number(k + 1)));
-    $("text-lines").scrollTop = $("text").scrollTop;
+    this.#follow();
     const link = (line) => button(`line ${line}`, () => this.#goTo(line), { className: "link" });
     const items = first.map(({ line, reason }) =>
       element("li", { data: { line } }, link(line), `: ${reason}`));
@@ -98,6 +98,13 @@ export class TextEditor {
     $("text-words").textContent = this.#mistakes === null
       ? "Each line says one fact. Edit it here, or by hand: both are the same table."
       : "Until the mistakes are mended there is no answer, and nothing can be edited by hand.";
+  }
+
+  /** The numbers go with their lines, also above the bar that wide lines have. */
+  #follow() {
+    const [text, lines] = [$("text"), $("text-lines")];
+    lines.style.marginBottom = `${text.offsetHeight - text.clientHeight}px`;
+    lines.scrollTop = text.scrollTop;
   }
 
   #goTo(line) {

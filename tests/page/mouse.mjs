@@ -268,6 +268,22 @@ await onPage(async (browser) => {
   await look(UNSAFE, "a step written in the text");
   same(await browser.run(text, "text-mistakes"), "", "without a mistake");
 
+  // ---- the numbers stand beside their lines, at the last one too, above a bar for wide lines
+  const apart = (text) => {
+    const [field, lines] = [document.getElementById("text"), document.getElementById("text-lines")];
+    field.value = text;
+    field.dispatchEvent(new Event("input", { bubbles: true }));
+    field.scrollTop = 1e6;
+    field.dispatchEvent(new Event("scroll"));
+    return { bar: field.offsetHeight - field.clientHeight, apart: field.scrollTop - lines.scrollTop };
+  };
+  const many = `# ${"wide ".repeat(99)}\n${"# line\n".repeat(200)}`;
+  const unwide = await browser.run(value, "text");
+  const beside = await browser.run(apart, many + unwide);
+  holds(beside.bar > 0, `there is a bar for wide lines: ${beside.bar}`);
+  holds(Math.abs(beside.apart) < 1, `the numbers are ${beside.apart} pixels off`);
+  await browser.run(apart, unwide);
+
   // ---- undo undoes one thing: a mistake in the text, and not the edit before it
   const typedAnew = (words) => browser.run((typed) => {
     const field = document.getElementById("text");
