@@ -21,10 +21,12 @@ export function decided(library, d) {
 
 export const isNothingForbidden = (d) => !d.certain.some((_, s) => isForbidden(d, s));
 
-/** Why it says nothing that a draft is safe, and what a drafter has to say first; null where it says something. */
+const NO_INITIAL = "No screen is initial: choose the one in which a session starts, and tick it.";
+const NO_FORBIDDEN = "No screen is forbidden: choose those that must never show, and tick them.";
+
+/** Why it says nothing that a draft is safe, with what is to be done; null where it says something. */
 export function vacuous(d) {
-  const todo = isEmpty(d.initial) ? "No screen is initial: choose the one in which a session starts, and tick it."
-    : isNothingForbidden(d) ? "No screen is forbidden: choose those that must never show, and tick them." : null;
+  const todo = isEmpty(d.initial) ? NO_INITIAL : isNothingForbidden(d) ? NO_FORBIDDEN : null;
   return todo === null ? null : `${todo} The command release declines such a table.`;
 }
 

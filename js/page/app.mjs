@@ -7,7 +7,8 @@ import { $, button, counted } from "./dom.mjs";
 import * as files from "./files.mjs";
 import { List } from "./list.mjs";
 import {
-  History, NEW_DRAFT, NotDone, called, draftOfText, hasOptions, isSameDraft, optionSteps, screen, storeOf, textOf,
+  History, NEW_DRAFT, NotDone, called, draftOfText, hasOptions, isSameDraft, optionSteps, screen, storeOf,
+  textOf,
 } from "./model.mjs";
 import { Picture } from "./picture.mjs";
 import { ScreenEditor } from "./screen.mjs";
@@ -22,8 +23,8 @@ const LARGER = 1.25;
 const OLD_FORM = "This file is of the old form (versions 1 to 3): shuntberry rewrite, or the button here, " +
   "makes the same table of it, in which its dead ends, and no other screens, are resting.";
 const STILL = "What is shown is still the draft from before.";
-const WHICH_STEPS = "this draft has steps that are there only with an option: choose beside Save file whether the " +
-  "file is to be without any option or with every option";
+const WHICH_STEPS = "this draft has steps that are there only with an option: choose beside Save file whether " +
+  "the file is to be without any option or with every option";
 const GO_ON = "A file has no names, and no options: save the text too, which is what you go on with.";
 /** So many steps of options are named where a file is saved. */
 const SHOWN_OPTIONS = 12;
@@ -415,7 +416,8 @@ class App {
 
   /** What gets the focus does not stand below what sticks at the top. */
   #keepClear() {
-    const clear = () => { document.documentElement.style.scrollPaddingTop = `${$("status").offsetHeight}px`; };
+    const page = document.documentElement;
+    const clear = () => { page.style.scrollPaddingTop = `${$("status").offsetHeight}px`; };
     new ResizeObserver(clear).observe($("status"));
   }
 

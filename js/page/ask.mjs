@@ -17,8 +17,8 @@ const SHOWN_CHANGES = 300;
 
 /** So many screens that a repair costs are named. */
 const SHOWN_LOST = 12;
-const SEVERAL_WAYS = "There are several ways in: no single step does it. Each step of the path was tried. Rub " +
-  "one of them out, and look at the next path.";
+const SEVERAL_WAYS = "There are several ways in: no single step does it. Each step of the path was tried. " +
+  "Rub one of them out, and look at the next path.";
 const WAYS_ROUND = "The other steps of the path do not do it: there are several ways round them.";
 
 /** The steps of a path, each by its ends. */
@@ -26,9 +26,9 @@ const stepsOf = (path) => path.slice(1).map((to, k) => [path[k], to]);
 
 const reachedIn = (library, d) => new library.Session(tablesOf(library, d).all).reachable;
 
-/** The single steps that make a draft safe when they are rubbed out, each with the screens that it costs: those
- * that are not forbidden and that no session reaches then. The cheapest is first. Each is on the path: a step
- * that is not leaves the path as it is. */
+/** The single steps that make a draft safe when they are rubbed out, each with the screens that it costs:
+ * those that are not forbidden and that no session reaches then. The cheapest is first. Each is on the path: a
+ * step that is not leaves the path as it is. */
 export function repairs(library, d, path) {
   const before = [...reachedIn(library, d)].filter((s) => !isForbidden(d, s));
   const mends = stepsOf(path).map(([from, to]) => ({ from, to, other: setStep(d, from, to, "none") }))

@@ -28,14 +28,18 @@ export function changes(library, old, now) {
   const found = [];
   const say = (kind, words) => found.push({ kind, words });
   const [was, is] = [verdictOf(library, old), verdictOf(library, now)];
-  say("verdict", was === is ? `the verdict, before and now: ${is}` : `the verdict before: ${was}; now: ${is}`);
-  const areNamed = [old, now].every((d) => d.names.some((name) => name !== null)); // a table's file has no names
+  const both = was === is ? `the verdict, before and now: ${is}` : `the verdict before: ${was}; now: ${is}`;
+  say("verdict", both);
+  // a table's file has no names
+  const areNamed = [old, now].every((d) => d.names.some((name) => name !== null));
   const gone = old.names.map((_, s) => s).filter((s) => !after.has(s));
   for (const s of gone) say("screen-gone", `screen ${screen(old, s)} is gone`);
   before.forEach((s, t) => { if (s === null) say("screen-new", `screen ${screen(now, t)} is new`); });
   for (const [s, t] of after) {
     if (s !== t) say("renumbered", `${called(now, t)} had the number ${s}, and has ${t}: logs go by number`);
-    if (areNamed && old.names[s] !== now.names[t]) say("renamed", `screen ${screen(old, s)} is called ${screen(now, t)}`);
+    if (areNamed && old.names[s] !== now.names[t]) {
+      say("renamed", `screen ${screen(old, s)} is called ${screen(now, t)}`);
+    }
     for (const [key, words] of MARKS) {
       const [was, is] = [has(old[key], s), has(now[key], t)];
       if (was !== is) say(key, `${screen(now, t)} is ${is ? "" : "no longer "}${words}`);

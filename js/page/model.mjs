@@ -240,7 +240,8 @@ export class History {
 
   /** A text with mistakes: the draft stays. */
   addWrong(wrong, what, merges = false) {
-    this.#add({ draft: this.draft, text: this.text, wrong, what, titles: merges ? this.titles : null }, merges);
+    const titles = merges ? this.titles : null;
+    this.#add({ draft: this.draft, text: this.text, wrong, what, titles }, merges);
   }
 
   #add(entry, merges) {

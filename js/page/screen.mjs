@@ -168,7 +168,8 @@ export class ScreenEditor {
       const away = answer.distances[s];
       const never = isNothingForbidden(d) ? "no screen is forbidden yet"
         : "no forbidden screen can be reached from here";
-      if (!forbidden) words.push(away === Infinity ? never : `a forbidden screen is ${counted(away, "step")} away`);
+      const steps = `a forbidden screen is ${counted(away, "step")} away`;
+      if (!forbidden) words.push(away === Infinity ? never : steps);
     }
     return words.join("; ");
   }

@@ -17,9 +17,11 @@ const LONG_PATH = 40;
 export const whyForbidden = (d, s) =>
   isHang(d, s) ? "a hang: no step leads out, and it is not resting" : "forbidden, since it is marked so";
 
-/** What stands beside "unsafe" where the path ends in a hang that nobody marked: while one drafts, most do. */
-export const unfinished = (d, { path }) =>
-  (path !== null && isHang(d, path.at(-1)) && !has(d.marked, path.at(-1)) ? "not finished: a hang is reached" : "");
+/** What stands beside "unsafe" where the path ends in a hang that nobody marked, as most do while one drafts. */
+export function unfinished(d, { path }) {
+  const isUnmarked = path !== null && isHang(d, path.at(-1)) && !has(d.marked, path.at(-1));
+  return isUnmarked ? "not finished: a hang is reached" : "";
+}
 
 const unsafeIn = (steps) =>
   steps === 0
@@ -41,7 +43,8 @@ const SENTENCES = {
   },
   depends(d, { path }) {
     const steps = counted(path.length - 1, "step");
-    return `Not safe: with every option a forbidden screen is reached in ${steps}, and without any option none is.`;
+    const reached = `with every option a forbidden screen is reached in ${steps}`;
+    return `Not safe: ${reached}, and without any option none is.`;
   },
   vacuous,
   safe: (d) => `No forbidden screen can be reached${hasOptions(d) ? ", whatever options a pump has" : ""}.`,

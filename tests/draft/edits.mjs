@@ -46,8 +46,8 @@ function hold(d, answer, what) {
   if (answer.path !== null) same(answer.path.length - 1, word === "unsafe" ? certain.steps : all.steps, what);
 }
 
-/** Every single step of a draft tried: those that make it safe are just those that are found on the path, each
- * with the screens that are not forbidden and are reached no more; those that cost least first. */
+/** Every single step of a draft tried: those that make it safe are just those that are found on the path,
+ * each with the screens that are not forbidden and are reached no more; those that cost least first. */
 function holdRepairs(d, answer) {
   if (answer.path === null) return;
   const steps = d.certain.flatMap((_, from) => model.successors(d, from).map((to) => [from, to]));
@@ -126,7 +126,7 @@ same(words.map((one) => model.screenOf(named, one)), [1, 1, 1, 1, null, null, nu
 same(spoken(named, "safe"), ["vacuous", "no verdict: nothing is initial"]);
 const loop = model.mark(model.setStep(model.addScreen(model.NEW_DRAFT), 0, 0, "certain"), "initial", 0, true);
 same(spoken(loop, "safe"), ["vacuous", "no verdict: nothing is forbidden"]);
-same([vacuous(named), vacuous(loop)].map((words) => /^No screen is (\w+)/.exec(words)[1]), ["initial", "forbidden"]);
+same([named, loop].map((d) => /^No screen is (\w+)/.exec(vacuous(d))[1]), ["initial", "forbidden"]);
 same(vacuous(model.mark(loop, "marked", 0, true)), null);
 same(["unsafe", "depends"].map((verdict) => spoken(loop, verdict)),
   [["unsafe", "unsafe"], ["depends", "depends on the options"]]);

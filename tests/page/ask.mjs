@@ -72,10 +72,12 @@ await onPage(async (browser) => {
   same(await items("#repairs li[data-from]", "from"), [], "no single step");
   holds((await browser.text("#repairs")).includes("several ways in"), "there are several ways in");
   await fill(
-    "states 5\ninitial 0\nforbidden 4\nresting 0 3\nstep 0 -> 1 2\nstep 1 -> 3\nstep 2 -> 3\nstep 3 -> 4\nend\n"
+    "states 5\ninitial 0\nforbidden 4\nresting 3\nstep 0 -> 1 2\nstep 1 -> 3\nstep 2 -> 3\nstep 3 -> 4\nend\n"
   );
   await browser.click("#repairs-ask");
-  same(await items("#repairs li[data-from]", "from", "to", "lost"), [["3", "4", "0"]], "the step behind both ways");
+  same(
+    await items("#repairs li[data-from]", "from", "to", "lost"), [["3", "4", "0"]], "the step behind both ways"
+  );
   holds((await browser.text("#repairs")).includes("several ways round"), "and that there are several");
   await fill(SMALL);
   await browser.click("#repairs-ask");
@@ -104,7 +106,7 @@ await onPage(async (browser) => {
 
   // ---- nothing initial, or nothing forbidden: nowhere does it say that the draft is safe
   await browser.type("#other-file", resolve("examples/pump.txt"));
-  await browser.until(() => document.querySelector("#other-answer li") !== null, "the other file is compared");
+  await browser.until(() => document.querySelector("#other-answer li") !== null, "another file is compared");
   for (const [text, word] of [
     ["states 2\ninitial 0\nforbidden none\nstep 0 -> 1\nstep 1 -> 0\nend\n", "forbidden"],
     ["states 2\ninitial none\nforbidden 1\nresting 0 1\nend\n", "initial"],
@@ -116,14 +118,14 @@ await onPage(async (browser) => {
     for (const id of ["quick", "release-check", "repairs", "other-answer"]) {
       const said = await browser.text(`#${id}`);
       holds(said.includes(expected), `${id}: ${said}`);
-      holds(!/\bsafe (ref|after)|is safe|now: safe|Nothing has to/.test(said), `${id} does not say safe: ${said}`);
+      holds(!/\bsafe (ref|after)|is safe|now: safe|Nothing has to/.test(said), `${id}: not safe: ${said}`);
     }
     same((await browser.run(shown)).word, expected, "the verdict's place");
     same(await printed(), [], "nothing that check would print");
     const facts = await browser.text("#screen-words");
     holds(facts.includes(`no screen is ${word} yet`), `the chosen screen: ${facts}`);
     if (text.includes("possible")) holds((await browser.text("#options")).startsWith(expected), "options");
-    if (word === "forbidden") holds(!facts.includes("no forbidden screen can"), `the chosen screen: ${facts}`);
+    if (word === "forbidden") holds(!facts.includes("no forbidden screen can"), `the chosen one: ${facts}`);
   }
 
   // ---- a pump's log: 3 of 4 reachable screens in 3 entries
@@ -161,7 +163,7 @@ await onPage(async (browser) => {
   same((await items("#other-answer li[data-change]", "change"))[0], ["verdict"], "the verdicts first");
   await browser.type("#other-file", resolve("examples/pump.table"));
   await browser.until(
-    () => document.getElementById("other-answer").textContent.includes("pump.table"), "a table's file is compared"
+    () => document.getElementById("other-answer").textContent.includes("pump.table"), "a file is compared"
   );
   const named = (await items("#other-answer li[data-change]", "change")).flat();
   same(named.filter((kind) => kind !== "renamed"), named, "what has no names is not renamed");
@@ -170,7 +172,8 @@ await onPage(async (browser) => {
   // ---- another file that is refused, or has mistakes: nothing of the one before is left, and the verdict is
   const old = (await browser.run(shown)).verdict;
   for (const [name, data, words] of [
-    ["wrong.txt", "states 2\ninitail 0\nforbidden 1\nend\n", "line 2"], ["letter.txt", "Dear drafter,\n", "not of a table"],
+    ["wrong.txt", "states 2\ninitail 0\nforbidden 1\nend\n", "line 2"],
+    ["letter.txt", "Dear drafter,\n", "not of a table"],
     ["bad.table", Buffer.from([137, 80, 78, 71, 13, 10, 26, 10, 0]), "refused"],
   ]) {
     await browser.type("#other-file", resolve("examples/pump.table"));

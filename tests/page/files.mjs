@@ -199,8 +199,8 @@ await onPage(async (browser) => {
   await choose("site", "17");
   await browser.click("#save-file");
   same(
-    (await downloaded("example-site-17.table")).toString("hex"), readFileSync(process.env.SITE_17).toString("hex"),
-    "the file for site 17"
+    (await downloaded("example-site-17.table")).toString("hex"),
+    readFileSync(process.env.SITE_17).toString("hex"), "the file for site 17"
   );
   await choose("site", "0");
   const [SERVICE, LIMIT] = [8, 7];
@@ -213,12 +213,12 @@ await onPage(async (browser) => {
   same(readdirSync(downloads).filter((name) => /option/.test(name)), [], "and nothing is saved");
   const stepsTo = async (name, state) => {
     await open(browser, join(downloads, name));
-    return browser.run((s) => document.querySelector(`#list tr[data-state="4"] .steps`).textContent.split(", ")
-      .includes(String(s)), state);
+    const steps = await browser.run(() => document.querySelector("#list tr[data-state='4'] .steps").textContent);
+    return steps.split(", ").includes(String(state));
   };
   for (const [which, name, isIn, words] of [
-    ["certain", "example-without-options.table", false, "left out: running → over-hard-limit, running → service"],
-    ["all", "example-with-options.table", true, "none was left out: running → over-hard-limit, running → service"],
+    ["certain", "example-without-options.table", false, "option brings, left out: "],
+    ["all", "example-with-options.table", true, "none was left out: "],
   ]) {
     await browser.run(give, "paste", withOption);
     await browser.until(() => document.getElementById("verdict").dataset.verdict === "depends", "with options");
@@ -227,8 +227,10 @@ await onPage(async (browser) => {
     await choose("save-which", which);
     await browser.click("#save-file");
     await downloaded(name);
-    holds((await browser.run(note)).includes(words), `${which}: ${await browser.run(note)}`);
-    same([await stepsTo(name, LIMIT), await stepsTo(name, SERVICE)], [isIn, isIn], `the steps of the file, ${which}`);
+    const said = await browser.run(note);
+    holds(said.includes(`${words}running → over-hard-limit, running → service.`), `${which}: ${said}`);
+    const steps = [await stepsTo(name, LIMIT), await stepsTo(name, SERVICE)];
+    same(steps, [isIn, isIn], `the steps of the file, ${which}`);
   }
   await browser.click("#new");
   await browser.click("#example");

@@ -50,7 +50,7 @@ await onPage(async (browser) => {
     await browser.size(width, height);
     await browser.run(() => scrollTo(0, 1e6));
     const { verdict, bottom, high, over } = await browser.run(measured);
-    holds(verdict >= 0 && bottom < 0.5 * high, `at ${width}: the verdict has ${verdict} to ${bottom} of ${high}`);
+    holds(verdict >= 0 && bottom < 0.5 * high, `at ${width}: it has ${verdict} to ${bottom} of ${high}`);
     holds(over <= 0, `at ${width}: ${over} pixels stick out`);
     const covered = await browser.run(() => ["tab-list", "tab-text", "screen-new", "search"].filter((id) => {
       document.activeElement.blur();

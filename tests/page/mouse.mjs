@@ -203,7 +203,8 @@ await onPage(async (browser) => {
     return y >= 0 && y + height <= innerHeight && there?.closest(`#${id}`) !== null;
   };
   for (const [field, words, does, said] of [
-    ["#step-to", "nowhere", "#step-add", "nowhere"], ["#screen-new", "off", "#screen-add", "has the name off"],
+    ["#step-to", "nowhere", "#step-add", "nowhere"],
+    ["#screen-new", "off", "#screen-add", "has the name off"],
     ["#screen-name", "off", "#screen-head", "has the name off"],
   ]) {
     await browser.click(field);
@@ -291,7 +292,8 @@ await onPage(async (browser) => {
     field.dispatchEvent(new Event("input", { bubbles: true }));
     return document.getElementById("verdict").dataset.verdict;
   }, words);
-  await new Promise((resolve) => setTimeout(resolve, 1600)); // what is typed after a pause is an edit of its own
+  // what is typed after a pause is an edit of its own
+  await new Promise((resolve) => setTimeout(resolve, 1600));
   const good = await browser.run(value, "text");
   for (const [wrong, what] of [
     [`x${good}`, "a letter too many"], ["", "no text"], [`${"# long\n".repeat(20_000)}x`, "a long text"],
@@ -323,19 +325,23 @@ await onPage(async (browser) => {
   same([(await browser.run(shown)).word, await browser.run(text, "verdict-beside")],
     ["unsafe", "not finished: a hang is reached"], "a path to a hang");
   const hangs = await browser.text("#legend");
-  holds(hangs.includes("orange, broken line: a hang") && !hangs.includes("pale"), `a hang in the legend: ${hangs}`);
+  holds(hangs.includes("orange, broken line: a hang") && !hangs.includes("pale"), `in the legend: ${hangs}`);
   await typedAnew("states 3\ninitial 0\nforbidden 1\nresting 0 1\nend\n");
-  same([(await browser.run(shown)).word, await browser.run(text, "verdict-beside")], ["safe", ""], "nothing beside safe");
+  same(
+    [(await browser.run(shown)).word, await browser.run(text, "verdict-beside")], ["safe", ""],
+    "nothing beside safe"
+  );
   const pale = await browser.text("#legend");
   for (const words of ["pale, eight corners: forbidden", "pale, broken line: a hang"]) {
     holds(pale.includes(words) && !pale.includes("orange") && !pale.includes("white"), `${words}: ${pale}`);
   }
   const fills = () => {
-    const of = (place) => [...document.querySelectorAll(`${place} path[fill^="#"]`)].map((one) => one.getAttribute("fill"));
-    return [[...new Set(of("#picture g[data-state]"))].sort(), [...new Set(of("#legend"))].sort()];
+    const all = (place) => [...document.querySelectorAll(`${place} path[fill^="#"]`)];
+    const of = (place) => [...new Set(all(place).map((one) => one.getAttribute("fill")))];
+    return [of("#picture g[data-state]"), of("#legend")];
   };
   const [drawnFills, legendFills] = await browser.run(fills);
-  same(drawnFills.filter((one) => !legendFills.includes(one)), [], "each colour that is drawn is in the legend");
+  same(drawnFills.filter((one) => !legendFills.includes(one)), [], "each colour is in the legend");
   await browser.click("#undo");
 
   // ---- begin anew, and back
