@@ -21,7 +21,7 @@ export function remarks(d, answer) {
       forbidden.filter((s) => answer.reached.has(s))],
     ["hang", "hangs, which have no way out and do not rest", every.filter((s) => isHang(d, s))],
     // That a forbidden one is not is what is wanted.
-    ["not-reached", "screens that nothing reaches",
+    ["not-reached", "screens that no session reaches",
       every.filter((s) => !answer.reached.has(s) && !forbidden.includes(s))],
   ];
   return [
