@@ -1,6 +1,6 @@
 // What the library answers of a draft. The reachable screens are kept by an edit session, of the table with
 // every possible step; what its calls say of one table is held together, and a contradiction is no answer.
-import { has, isSame, members } from "./bits.mjs";
+import { has, isEmpty, isSame, members } from "./bits.mjs";
 import { hasOptions, isForbidden, possible, tablesOf } from "./model.mjs";
 
 /** So many steps may differ before a new session is opened in place of edits of the old one. */
@@ -19,15 +19,26 @@ export function decided(library, d) {
   return hasOptions(d) ? library.decideModal(certain, all) : library.decide(all);
 }
 
-/** Why it says little that a draft is safe, if it does; in the command's words. */
+export const isNothingForbidden = (d) => !d.certain.some((_, s) => isForbidden(d, s));
+
+const NO_INITIAL = "No screen is initial: choose the one in which a session starts, and tick it.";
+const NO_FORBIDDEN = "No screen is forbidden: choose those that must never show, and tick them.";
+
+/** Why it says nothing that a draft is safe, with what is to be done; null where it says something. */
 export function vacuous(d) {
-  if (members(d.initial).length === 0) {
-    return "the table has no initial state, so that it is safe whatever else is in it";
-  }
-  if (!d.certain.some((_, s) => isForbidden(d, s))) {
-    return "nothing in the table is forbidden, so that it is safe whatever else is in it";
-  }
-  return null;
+  const todo = isEmpty(d.initial) ? NO_INITIAL : isNothingForbidden(d) ? NO_FORBIDDEN : null;
+  return todo === null ? null : `${todo} The command release declines such a table.`;
+}
+
+const SPOKEN = { safe: "safe", unsafe: "unsafe", depends: "depends on the options" };
+
+/** The kind of a verdict on a draft, and the word for it, wherever one is shown. "Safe" of a draft of which
+ * nothing is initial, or nothing forbidden, is none. */
+export function spoken(d, verdict) {
+  if (d.n === 0) return ["draft", "a draft without screens"];
+  if (!Object.hasOwn(SPOKEN, verdict)) throw new Error("an answer that is none");
+  if (verdict !== "safe" || vacuous(d) === null) return [verdict, SPOKEN[verdict]];
+  return ["vacuous", `no verdict: nothing is ${isEmpty(d.initial) ? "initial" : "forbidden"}`];
 }
 
 /** Whether states are a path: each step a step, from an initial to a forbidden one. */

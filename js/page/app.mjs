@@ -7,7 +7,8 @@ import { $, button, counted } from "./dom.mjs";
 import * as files from "./files.mjs";
 import { List } from "./list.mjs";
 import {
-  History, NEW_DRAFT, NotDone, draftOfText, hasOptions, isSameDraft, screen, storeOf, textOf,
+  History, NEW_DRAFT, NotDone, called, draftOfText, hasOptions, isSameDraft, optionSteps, screen, storeOf,
+  textOf,
 } from "./model.mjs";
 import { Picture } from "./picture.mjs";
 import { ScreenEditor } from "./screen.mjs";
@@ -17,10 +18,21 @@ import { viewOf } from "./view.mjs";
 
 /** Typing that pauses for less than this is one edit, and is undone as one. */
 const ONE_EDIT = 1500;
+const TYPING = "typing";
 const LARGER = 1.25;
 const OLD_FORM = "This file is of the old form (versions 1 to 3): shuntberry rewrite, or the button here, " +
   "makes the same table of it, in which its dead ends, and no other screens, are resting.";
+const STILL = "What is shown is still the draft from before.";
+const WHICH_STEPS = "this draft has steps that are there only with an option: choose beside Save file whether " +
+  "the file is to be without any option or with every option";
+const GO_ON = "A file has no names, and no options: save the text too, which is what you go on with.";
+/** So many steps of options are named where a file is saved. */
+const SHOWN_OPTIONS = 12;
 const TABS = ["list", "text", "ask"];
+
+/** A file that was refused, by name, beside a draft that is not of it. */
+const notOpened = (name, error) =>
+  (error instanceof NotDone ? new NotDone(`${name} was not opened: ${error.message}. ${STILL}`) : error);
 
 class App {
   library;
@@ -116,21 +128,36 @@ class App {
 
   /** What was typed is another text of the draft, or of another one. */
   changeByText(next, text) {
-    const now = performance.now();
-    const merges = now - this.#typedAt < ONE_EDIT;
     const isSame = isSameDraft(next, this.draft);
-    this.#history.add(isSame ? this.draft : next, "typing", text, merges);
-    this.#typedAt = now;
+    this.#history.add(isSame ? this.draft : next, TYPING, text, this.#goesOn());
     if (this.chosen !== null && this.chosen >= next.n) this.chosen = null;
     this.render();
   }
 
+  /** What was typed has mistakes, or is not read yet. */
+  changeByMistake(text) {
+    if (this.#history.wrong !== text) this.#history.addWrong(text, TYPING, this.#goesOn());
+    this.render();
+  }
+
+  /** Whether what is typed now goes on with the last edit: without a pause, or with a text that is not mended
+   * yet. So undo leads from text to text without mistakes. */
+  #goesOn() {
+    const now = performance.now();
+    const isMending = this.#history.wrong !== null && this.#history.undoes === TYPING;
+    const goesOn = isMending || now - this.#typedAt < ONE_EDIT;
+    this.#typedAt = now;
+    return goesOn;
+  }
+
   /** Begins with another draft; nothing of the old one is left but in undo. */
-  begin(next, what, text = null, saved = next) {
+  begin(next, what, { text = null, saved = next, title = $("title").value } = {}) {
     const isLost = this.isUnsaved && this.draft.n > 0;
-    this.#history.add(next, what, text);
+    this.#history.add(next, what, text, false, { before: $("title").value, after: title });
+    $("title").value = title;
     this.#saved = saved;
     this.chosen = null;
+    $("save-which").value = "";
     this.#typedAt = -Infinity;
     this.#text.changed();
     this.render();
@@ -139,11 +166,32 @@ class App {
   }
 
   undo(isBack) {
-    if (!(isBack ? this.#history.undo() : this.#history.redo())) return;
+    if (this.#move(isBack)) this.#moved();
+  }
+
+  /** One thing back or forth in what was done, with the name of the draft where that went with it. */
+  #move(isBack) {
+    const undone = this.#history.titles;
+    if (!(isBack ? this.#history.undo() : this.#history.redo())) return false;
+    const title = isBack ? undone?.before : this.#history.titles?.after;
+    if (title !== undefined) $("title").value = title;
+    return true;
+  }
+
+  /** The last text without mistakes again. */
+  #putBack() {
+    while (this.#history.wrong !== null) this.#move(true);
+    this.#moved();
+    $("text").focus();
+  }
+
+  /** What is shown is another one of what was done. */
+  #moved() {
     this.#typedAt = -Infinity;
     this.#text.changed();
     if (this.chosen !== null && this.chosen >= this.draft.n) this.chosen = null;
     this.render();
+    if (this.#history.wrong !== null) this.#text.open(this.#history.wrong);
   }
 
   choose(s, shows = true) {
@@ -253,36 +301,42 @@ class App {
   // ---- open and save
 
   async #openFile(file) {
-    const bytes = await files.bytesOfFile(file);
-    this.#open(bytes, file.name);
+    try {
+      const title = file.name.replace(/\.[^.]*$/, "").slice(0, $("title").maxLength);
+      this.#open(await files.bytesOfFile(file), file.name, title);
+    } catch (error) {
+      throw notOpened(file.name, error);
+    }
   }
 
-  #open(bytes, name) {
+  #open(bytes, name, title) {
     const found = files.opened(this.library, bytes, files.site());
-    if (name !== undefined) $("title").value = name.replace(/\.[^.]*$/, "").slice(0, $("title").maxLength);
     if (found.text !== undefined) {
-      this.#openText(found.text);
+      this.#openText(found.text, { title });
     } else if (found.rewritten !== undefined) {
-      const rewrite = () => this.attempt(() => this.begin(found.rewritten, "open", null, null));
-      this.#say(OLD_FORM, button("Rewrite and open", rewrite));
+      const rewrite = () => this.attempt(() => this.begin(found.rewritten, "open", { saved: null, title }));
+      this.#say(`${name}: ${OLD_FORM} ${STILL}`, button("Rewrite and open", rewrite));
     } else {
-      this.begin(found.draft, "open");
+      this.begin(found.draft, "open", { title });
       if (found.isEmpty) this.#say("This file has no bytes, which is a draft without screens.");
     }
   }
 
   /** A text without mistakes is the draft; one with some stands in its field, beside an empty draft. */
-  #openText(text, isSaved = true) {
+  #openText(text, { isSaved = true, title } = {}) {
     let next = null;
     try {
       next = draftOfText(this.library, text);
     } catch (error) {
       if (!Array.isArray(error.mistakes)) throw error;
     }
-    this.begin(next ?? NEW_DRAFT, "open", next === null ? null : text, isSaved ? next : null);
+    const saved = isSaved ? next : null;
+    this.begin(next ?? NEW_DRAFT, "open", { text: next === null ? null : text, saved, title });
     if (next !== null) return;
+    this.#history.addWrong(text, "open", true);
     this.#tab("text");
     this.#text.open(text);
+    $("text").focus();
   }
 
   #save(kind) {
@@ -305,15 +359,28 @@ class App {
     const d = this.draft;
     const site = files.site();
     const which = hasOptions(d) ? $("save-which").value : "all";
+    if (which === "") throw new NotDone(WHICH_STEPS);
     const table = this.library.Table.fromStore(d.n, d.groups.length, storeOf(d, which === "all"));
     const bytes = this.library.write(table, site);
     const isSame = this.library.read(bytes, site).equals(table);
     if (!isSame) throw new Error("what was written is not read as the same table");
     const ending = hasOptions(d) ? (which === "all" ? "-with-options" : "-without-options") : "";
-    files.download(`${name}${ending}.table`, "application/octet-stream", bytes);
+    const forSite = site === 0 ? "" : `-site-${site}`;
+    files.download(`${name}${ending}${forSite}.table`, "application/octet-stream", bytes);
     const isWhole = !hasOptions(d) && d.names.every((one) => one === null);
     if (isWhole) this.#saved = d;
-    else this.#say("The file has no names, and no options: save the text too, which is what you go on with.");
+    else this.#say(`${this.#optionsIn(d, which)}${GO_ON}`);
+  }
+
+  /** What has become of the steps that are there only with an option, in a file that was saved. */
+  #optionsIn(d, which) {
+    const steps = optionSteps(d).map(([from, to]) => `${called(d, from)} → ${called(d, to)}`);
+    if (steps.length === 0) return "";
+    const more = steps.length > SHOWN_OPTIONS ? `, and ${steps.length - SHOWN_OPTIONS} more` : "";
+    const named = `${steps.slice(0, SHOWN_OPTIONS).join(", ")}${more}`;
+    const count = counted(steps.length, "step");
+    return which === "all" ? `The file has each option's step as any other, and none was left out: ${named}. `
+      : `The file was saved without ${count} that only an option brings, left out: ${named}. `;
   }
 
   get isUnsaved() {
@@ -337,8 +404,7 @@ class App {
     $("offer").hidden = false;
     $("offer-take").addEventListener("click", () => this.attempt(() => {
       $("offer").hidden = true;
-      $("title").value = found.title;
-      this.#openText(found.text, false);
+      this.#openText(found.text, { isSaved: false, title: found.title });
     }));
     $("offer-drop").addEventListener("click", () => {
       $("offer").hidden = true;
@@ -348,18 +414,24 @@ class App {
 
   // ---- wires
 
+  /** What gets the focus does not stand below what sticks at the top. */
+  #keepClear() {
+    const page = document.documentElement;
+    const clear = () => { page.style.scrollPaddingTop = `${$("status").offsetHeight}px`; };
+    new ResizeObserver(clear).observe($("status"));
+  }
+
   #wire() {
+    this.#keepClear();
     const on = (id, event, work) =>
       $(id).addEventListener(event, (happened) => this.attempt(() => work(happened)));
     on("new", "click", () => this.begin(NEW_DRAFT, "new"));
     on("open", "click", () => $("open-file").click());
-    on("example", "click", () => {
-      $("title").value = "example";
-      this.#openText($("example-text").textContent);
-    });
+    on("example", "click", () => this.#openText($("example-text").textContent, { title: "example" }));
     on("open-file", "change", () => this.#take([...$("open-file").files]));
     on("undo", "click", () => this.undo(true));
     on("redo", "click", () => this.undo(false));
+    on("text-back", "click", () => this.#putBack());
     on("save-text", "click", () => this.#save("text"));
     on("save-file", "click", () => this.#save("file"));
     on("save-svg", "click", () => this.#save("svg"));
@@ -408,7 +480,14 @@ class App {
     const text = event.clipboardData?.getData("text/plain") ?? "";
     if (target !== null || text === "") return;
     event.preventDefault();
-    this.attempt(() => this.#open(new TextEncoder().encode(text)));
+    const name = "what was pasted";
+    this.attempt(() => {
+      try {
+        this.#open(new TextEncoder().encode(text), name);
+      } catch (error) {
+        throw notOpened(name, error);
+      }
+    });
   }
 
   #tab(name) {

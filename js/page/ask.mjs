@@ -1,11 +1,13 @@
 // Questions. What is answered is of the draft that is shown: with each change the answers go, and are asked
 // anew where they are looked at.
 import { MAX_ALLOWANCE } from "../shuntberry.mjs";
-import { decided, vacuous } from "./answer.mjs";
+import { decided, spoken, vacuous } from "./answer.mjs";
 import { changes } from "./changes.mjs";
 import { $, button, counted, element } from "./dom.mjs";
 import * as files from "./files.mjs";
-import { NotDone, called, hasOptions, screen, setStep, stepKind, storeOf, tablesOf } from "./model.mjs";
+import {
+  NotDone, called, hasOptions, isForbidden, screen, setStep, stepKind, storeOf, tablesOf, withoutOptions,
+} from "./model.mjs";
 import { remarks } from "./remarks.mjs";
 import { logOf, walked } from "./walk.mjs";
 
@@ -13,13 +15,36 @@ const FIRST_ALLOWANCE = 8;
 /** So many changes are listed, and the others counted. */
 const SHOWN_CHANGES = 300;
 
+/** So many screens that a repair costs are named. */
+const SHOWN_LOST = 12;
+const SEVERAL_WAYS = "There are several ways in: no single step does it. Each step of the path was tried. " +
+  "Rub one of them out, and look at the next path.";
+const WAYS_ROUND = "The other steps of the path do not do it: there are several ways round them.";
+
 /** The steps of a path, each by its ends. */
 const stepsOf = (path) => path.slice(1).map((to, k) => [path[k], to]);
 
-/** The single steps that make a draft safe when they are rubbed out. Each is on the path: a step that is not
- * leaves the path as it is. */
+const reachedIn = (library, d) => new library.Session(tablesOf(library, d).all).reachable;
+
+/** The single steps that make a draft safe when they are rubbed out, each with the screens that it costs:
+ * those that are not forbidden and that no session reaches then. The cheapest is first. Each is on the path: a
+ * step that is not leaves the path as it is. */
 export function repairs(library, d, path) {
-  return stepsOf(path).filter(([from, to]) => decided(library, setStep(d, from, to, "none")).isSafe);
+  const before = [...reachedIn(library, d)].filter((s) => !isForbidden(d, s));
+  const mends = stepsOf(path).map(([from, to]) => ({ from, to, other: setStep(d, from, to, "none") }))
+    .filter(({ other }) => decided(library, other).isSafe);
+  return mends.map(({ from, to, other }) => {
+    const left = new Set(reachedIn(library, other));
+    return { from, to, lost: before.filter((s) => !left.has(s)) };
+  }).sort((a, b) => a.lost.length - b.lost.length);
+}
+
+/** What it costs to rub out a step, in words. */
+function costOf(d, lost) {
+  if (lost.length === 0) return "costs nothing: every other screen is still reached";
+  const more = lost.length > SHOWN_LOST ? `, and ${lost.length - SHOWN_LOST} more` : "";
+  const names = lost.slice(0, SHOWN_LOST).map((s) => called(d, s)).join(", ");
+  return `costs ${counted(lost.length, "other screen")}, which no session reaches then: ${names}${more}`;
 }
 
 /** What the release check prints of the file of a draft. */
@@ -62,7 +87,7 @@ export class Asked {
       part("What options make of it", "options"),
       part("How much a pump's log covers", "log-answer", ...this.#logFields()),
       part("What has changed since another file", "other-answer",
-        this.#fileButton("other", "Open the other file…", (bytes, name) => this.#compare(bytes, name))),
+        this.#fileButton("other", "Open the other file…", (file) => this.#compare(file))),
     );
   }
 
@@ -71,7 +96,7 @@ export class Asked {
     field.addEventListener("change", () => {
       const [file] = field.files;
       field.value = "";
-      if (file !== undefined) this.#app.later(async () => take(await files.bytesOfFile(file), file.name));
+      if (file !== undefined) this.#app.later(() => take(file));
     });
     const open = button(words, () => field.click(), { id: `${id}-open` });
     return element("span", {}, open, field);
@@ -84,7 +109,8 @@ export class Asked {
     });
     const walk = () => this.#app.attempt(() => this.#takeLog({ words: text.value }));
     return [
-      this.#fileButton("log", "Open a log…", (bytes) => this.#takeLog({ bytes })), text,
+      this.#fileButton("log", "Open a log…", async (file) =>
+        this.#takeLog({ bytes: await files.bytesOfFile(file) })), text,
       button("Walk it", walk, { id: "log-ask" }),
     ];
   }
@@ -141,11 +167,9 @@ export class Asked {
       const after = `${about} after ${counted(found.count, "refinement")}. ${UNDECIDED}`;
       return ["undecided", element("strong", {}, "undecided"), after];
     }
-    const little = found.isSafe ? vacuous(d) : null;
-    const more = little === null ? "" : `, but ${little}`;
+    const [kind, word] = spoken(d, found.verdict);
     const path = found.path === null ? "" : `: ${this.#screens(found.path)}`;
-    return [little === null ? found.verdict : "vacuous", element("strong", {}, found.verdict),
-      `${about} after ${counted(found.count, "refinement")}${more}${path}`];
+    return [kind, element("strong", {}, word), `${about} after ${counted(found.count, "refinement")}${path}`];
   }
 
   #release() {
@@ -154,7 +178,7 @@ export class Asked {
     const both = hasOptions(d) ? [[false, "without any option"], [true, "with every option"]] : [[true, ""]];
     const parts = both.flatMap(([withOptions, words]) => [
       ...(words === "" ? [] : [element("p", {}, `The file ${words}:`)]),
-      element("pre", {}, released(this.#app.library, d, withOptions, site)),
+      this.#checked(withOptions ? d : withoutOptions(d), site),
     ]);
     const about = element("p", { className: "light" }, "What ", element("code", {}, "shuntberry check"),
       ` prints of the file for site ${site}. Releasing is done by `,
@@ -162,26 +186,38 @@ export class Asked {
     return ["said", about, ...parts];
   }
 
+  /** What is printed of a draft's file; where that says nothing, that it does. */
+  #checked(d, site) {
+    const { library } = this.#app;
+    const [kind, word] = spoken(d, decided(library, d).verdict);
+    if (kind !== "vacuous") return element("pre", {}, released(library, d, true, site));
+    return element("p", { className: "no-verdict" }, element("strong", {}, word), `. ${vacuous(d)}`);
+  }
+
   #repair() {
-    const { answer } = this.#app;
+    const { answer, draft } = this.#app;
     $("repairs-ask").hidden = answer === null || answer.path === null || answer.path.length < 2;
     if (answer === null) throw new Error("there is no verdict");
+    const [kind, word] = spoken(draft, answer.verdict);
+    if (kind !== "safe" && answer.path === null) return [kind, element("strong", {}, word)];
     if (answer.path === null) return ["said", "Nothing has to be rubbed out."];
     if (answer.path.length < 2) return ["said", "No step does: a session can start in a forbidden screen."];
     if (this.#repairs === null) return ["said"];
-    const { draft } = this.#app;
-    if (this.#repairs.length === 0) return ["said", "No single step does: each was tried."];
-    return ["said", element("p", {}, "Safe, if one of these is rubbed out:"),
-      lines(this.#repairs.map(([from, to]) => this.#repairLine(draft, from, to)))];
+    if (this.#repairs.length === 0) return ["said", SEVERAL_WAYS];
+    const isRound = this.#repairs.length < answer.path.length - 1;
+    return ["said", element("p", {}, "Safe, if one of these is rubbed out, the cheapest first:"),
+      lines(this.#repairs.map((one) => this.#repairLine(draft, one))),
+      ...(isRound ? [element("p", {}, WAYS_ROUND)] : [])];
   }
 
-  #repairLine(d, from, to) {
+  #repairLine(d, { from, to, lost }) {
     const option = stepKind(d, from, to) === "option" ? " (option)" : "";
     const words = `${called(d, from)} → ${called(d, to)}${option}`;
     const rub = button("Rub out", () => this.#app.attempt(() =>
       this.#app.change(setStep(this.#app.draft, from, to, "none"), `rub out ${words}`)),
     { className: "rub-out", aria: { label: `Rub out ${words}` } });
-    return element("li", { data: { from, to } }, words, " ", rub);
+    const data = { from, to, lost: lost.length };
+    return element("li", { data }, words, " ", rub, element("br"), costOf(d, lost));
   }
 
   /** The question that the verdict's place asks. */
@@ -214,18 +250,14 @@ export class Asked {
     const { draft, library } = this.#app;
     if (!hasOptions(draft)) return ["said", "No step of this draft is there only with an option."];
     const found = decided(library, draft);
-    const little = found.isSafe ? vacuous(draft) : null;
-    const words = {
-      safe: "whatever options a pump has" + (little === null ? "" : `, but ${little}`),
-      unsafe: "whatever options a pump has",
-      depends: "safe without any option, and unsafe with all of them",
-    }[found.verdict];
+    const [kind, word] = spoken(draft, found.verdict);
+    const words = kind === "depends" ? "safe without any option, and unsafe with all of them"
+      : "whatever options a pump has";
     const path = found.path === null ? [] : [element("p", {}, `Path: ${this.#screens(found.path)}`)];
     const without = found.verdict === "depends" ? "Without options a session" : "A session";
     const stays = (found.invariant ?? []).map((s) => screen(draft, s)).join(", ") || "none";
     const kept = found.invariant === null ? [] : [element("p", {}, `${without} stays in: ${stays}`)];
-    const verdict = little === null ? found.verdict : "vacuous";
-    return [verdict, element("strong", {}, found.verdict), `: ${words}`, ...path, ...kept];
+    return [kind, element("strong", {}, word), `: ${words}`, ...path, ...kept];
   }
 
   // ---- a log
@@ -246,16 +278,30 @@ export class Asked {
 
   // ---- another file
 
-  #compare(bytes, name) {
-    this.#other = { draft: files.otherDraft(this.#app.library, bytes, files.site()), name };
-    this.#ask("other-answer", () => this.#changes());
+  /** Of a file that is refused nothing is compared; nor is anything left of the file before it. */
+  async #compare(file) {
+    const { name } = file;
+    this.#other = { name, why: "it is not read yet" };
+    try {
+      const bytes = await files.bytesOfFile(file);
+      this.#other = { name, draft: files.otherDraft(this.#app.library, bytes, files.site()) };
+    } catch (error) {
+      this.#other.why = error?.message ?? String(error);
+      throw error instanceof NotDone ? new NotDone(`${name} was not compared: ${error.message}`) : error;
+    } finally {
+      this.#ask("other-answer", () => this.#changes());
+    }
   }
 
   #changes() {
     if (this.#other === null) return ["said"];
-    const { draft, library } = this.#app;
+    const { draft, library, answer } = this.#app;
+    const { name, why } = this.#other;
+    if (why !== undefined) return ["none", `${name} was not compared: ${why}`];
+    if (answer === null) throw new Error("there is no verdict");
     const found = changes(library, this.#other.draft, draft);
-    const head = element("p", {}, `From ${this.#other.name} to this draft:`);
+    const nameless = this.#other.draft.names.every((one) => one === null) ? ", which has no names," : "";
+    const head = element("p", {}, `From ${name}${nameless} to this draft:`);
     const item = ({ kind, words }) => element("li", { data: { change: kind } }, words);
     const items = found.slice(0, SHOWN_CHANGES).map(item);
     if (found.length > items.length) items.push(element("li", {}, `and ${found.length - items.length} more`));

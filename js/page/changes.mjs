@@ -1,6 +1,6 @@
 // What has changed from one draft to another. Screens are the same by their names where both drafts name
 // them, else by their numbers.
-import { decided } from "./answer.mjs";
+import { decided, spoken } from "./answer.mjs";
 import { has, members } from "./bits.mjs";
 import { called, screen, stepKind, successors } from "./model.mjs";
 
@@ -19,7 +19,7 @@ function matched(old, now) {
   });
 }
 
-const verdictOf = (library, d) => (d.n === 0 ? "a draft without screens" : decided(library, d).verdict);
+const verdictOf = (library, d) => spoken(d, decided(library, d).verdict)[1];
 
 /** Each change: its kind, for programs, and words. */
 export function changes(library, old, now) {
@@ -27,12 +27,19 @@ export function changes(library, old, now) {
   const after = new Map(before.flatMap((s, t) => (s === null ? [] : [[s, t]])));
   const found = [];
   const say = (kind, words) => found.push({ kind, words });
+  const [was, is] = [verdictOf(library, old), verdictOf(library, now)];
+  const both = was === is ? `the verdict, before and now: ${is}` : `the verdict before: ${was}; now: ${is}`;
+  say("verdict", both);
+  // a table's file has no names
+  const areNamed = [old, now].every((d) => d.names.some((name) => name !== null));
   const gone = old.names.map((_, s) => s).filter((s) => !after.has(s));
   for (const s of gone) say("screen-gone", `screen ${screen(old, s)} is gone`);
   before.forEach((s, t) => { if (s === null) say("screen-new", `screen ${screen(now, t)} is new`); });
   for (const [s, t] of after) {
     if (s !== t) say("renumbered", `${called(now, t)} had the number ${s}, and has ${t}: logs go by number`);
-    if (old.names[s] !== now.names[t]) say("renamed", `screen ${screen(old, s)} is called ${screen(now, t)}`);
+    if (areNamed && old.names[s] !== now.names[t]) {
+      say("renamed", `screen ${screen(old, s)} is called ${screen(now, t)}`);
+    }
     for (const [key, words] of MARKS) {
       const [was, is] = [has(old[key], s), has(now[key], t)];
       if (was !== is) say(key, `${screen(now, t)} is ${is ? "" : "no longer "}${words}`);
@@ -40,8 +47,6 @@ export function changes(library, old, now) {
   }
   steps(old, now, before, after, say);
   groups(old, now, after, say);
-  const [was, is] = [verdictOf(library, old), verdictOf(library, now)];
-  say("verdict", was === is ? `the verdict was and is ${is}` : `the verdict was ${was}, and is ${is}`);
   return found.length === 1 && was === is ? [] : found;
 }
 

@@ -1,6 +1,6 @@
 // What is opened and saved, all by the browser's own fields and downloads; nothing is fetched.
 import { MAX_SITE } from "../shuntberry.mjs";
-import { $ } from "./dom.mjs";
+import { $, counted } from "./dom.mjs";
 import { NotDone, draftOf, draftOfText } from "./model.mjs";
 
 const KEY = "shuntberry-draft";
@@ -79,10 +79,17 @@ export async function bytesOfFile(file) {
   }
 }
 
-/** The table of another file, for what has changed: its draft, and what it is called. */
+/** The draft of another file, for what has changed. */
 export function otherDraft(library, bytes, site) {
   const found = opened(library, bytes, site);
-  return found.draft ?? found.rewritten ?? draftOfText(library, found.text);
+  if (found.text === undefined) return found.draft ?? found.rewritten;
+  try {
+    return draftOfText(library, found.text);
+  } catch (error) {
+    if (!Array.isArray(error.mistakes)) throw error;
+    const mistakes = error.mistakes.map(({ line, reason }) => `line ${line}: ${reason}`).join("; ");
+    throw new NotDone(`its text has ${counted(error.count, "mistake")}: ${mistakes}`);
+  }
 }
 
 /** The number of the site in its field. */

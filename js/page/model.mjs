@@ -72,7 +72,11 @@ export function draftOfText(library, text) {
 
 // ---- what is in it
 
+/** The draft of a pump that has no option. */
+export const withoutOptions = (d) => draft({ ...d, options: d.options.map(() => EMPTY) });
 export const hasOptions = (d) => d.options.some((row) => !isEmpty(row));
+/** The steps that only an option brings, each by its ends. */
+export const optionSteps = (d) => d.options.flatMap((row, from) => members(row).map((to) => [from, to]));
 export const possible = (d, s) => union(d.certain[s], d.options[s]);
 /** The lists of successors, by the rows that they are of: rows never change. */
 const listed = new WeakMap();
@@ -192,14 +196,15 @@ export const setGroup = (d, j, s, isIn) =>
 
 // ---- undo and redo
 
-/** What was done, one draft after the other, each with the text that it came from, if it did. */
+/** What was done, one draft after the other, each with the text that it came from, if it did. A text with
+ * mistakes is one more thing that was done: it stands beside the draft before it, as `wrong`. */
 export class History {
   #past = [];
   #now;
   #future = [];
 
   constructor(first = NEW_DRAFT, text = null) {
-    this.#now = { draft: first, text, what: "" };
+    this.#now = { draft: first, text, wrong: null, what: "", titles: null };
   }
 
   get draft() {
@@ -208,6 +213,16 @@ export class History {
 
   get text() {
     return this.#now.text;
+  }
+
+  /** The text with mistakes that stands in the field, if one does. */
+  get wrong() {
+    return this.#now.wrong;
+  }
+
+  /** The names of the draft before and after what was done last, where that gave it another. */
+  get titles() {
+    return this.#now.titles;
   }
 
   get undoes() {
@@ -219,9 +234,19 @@ export class History {
   }
 
   /** One more; `merges` says that it goes on with the last edit, as typing does. */
-  add(next, what, text = null, merges = false) {
+  add(next, what, text = null, merges = false, titles = null) {
+    this.#add({ draft: next, text, wrong: null, what, titles }, merges);
+  }
+
+  /** A text with mistakes: the draft stays. */
+  addWrong(wrong, what, merges = false) {
+    const titles = merges ? this.titles : null;
+    this.#add({ draft: this.draft, text: this.text, wrong, what, titles }, merges);
+  }
+
+  #add(entry, merges) {
     if (!merges || this.#past.length === 0) this.#past.push(this.#now);
-    this.#now = { draft: next, text, what };
+    this.#now = entry;
     this.#future = [];
   }
 

@@ -205,6 +205,7 @@ export class Picture {
         chosen: this.#chosen === s,
         found: this.#found === null ? null : this.#found.has(s), groups: groups.get(s) ?? [],
         distance: this.#view.distance[s], isAnswered: this.#view.isAnswered,
+        hasForbidden: this.#view.forbidden.size + this.#view.hang.size > 0,
       };
       const look = JSON.stringify(facts);
       const { x, y } = places.get(s);

@@ -1,5 +1,6 @@
 // The chosen screen, edited by hand; and new screens.
-import { EMPTY, has, members, put } from "./bits.mjs";
+import { isNothingForbidden } from "./answer.mjs";
+import { EMPTY, has, isEmpty, members, put } from "./bits.mjs";
 import { $, button, counted, element } from "./dom.mjs";
 import {
   NotDone, addGroup, addScreen, called, checkedName, mark, predecessors, removeGroup, removeScreen, rename,
@@ -16,6 +17,7 @@ export class ScreenEditor {
   #app;
   #listed = null;
   #open = null; // the screen whose steps are all shown
+  #shown = null; // the screen in the fields, by number and name
 
   constructor(app) {
     this.#app = app;
@@ -46,6 +48,14 @@ export class ScreenEditor {
     const next = removeScreen(d, s);
     this.#app.choose(next.n === 0 ? null : Math.min(s, next.n - 1), false);
     this.#app.change(next, words);
+    this.#empty();
+  }
+
+  /** What was begun of a step goes: it was of another screen, or is drawn. */
+  #empty() {
+    $("step-to").value = "";
+    $("step-option").checked = false;
+    $("step-make").hidden = true;
   }
 
   #add(d) {
@@ -85,15 +95,14 @@ export class ScreenEditor {
       const next = to.reduce((drawn, t) => setStep(drawn, s, t, kind), d);
       this.#app.change(next, `draw ${called(d, s)} → ${words.join(", ")}`);
     }
-    $("step-to").value = "";
+    this.#empty();
     $("step-to").focus();
   }
 
   #make(d, s) {
     const name = checkedName(this.#app.library, d, d.n, $("step-to").value);
     const next = setStep(addScreen(d, name), s, d.n, this.#kind());
-    $("step-to").value = "";
-    $("step-make").hidden = true;
+    this.#empty();
     this.#app.change(next, `add ${name}, and a step from ${called(d, s)}`);
     $("step-to").focus();
   }
@@ -105,6 +114,7 @@ export class ScreenEditor {
     if (stepKind(d, from, to) === kind) throw new NotDone(`that step is there: ${words}`);
     const does = { certain: "draw", option: "only with an option:", none: "rub out" }[kind];
     this.#app.change(setStep(d, from, to, kind), `${does} ${words}`);
+    $("step-option").checked = false;
   }
 
   // ---- what is shown
@@ -114,6 +124,9 @@ export class ScreenEditor {
     $("screen-edit").hidden = s === null;
     $("screen").hidden = d.n === 0;
     $("screen-none").hidden = s !== null;
+    const shown = s === null ? null : screen(d, s);
+    if (shown !== this.#shown) this.#empty();
+    this.#shown = shown;
     if (s === null) return;
     $("screen-head").textContent = `Screen ${s}`;
     $("screen-name").value = d.names[s] ?? "";
@@ -150,12 +163,13 @@ export class ScreenEditor {
     const forbidden = has(d.marked, s) || successors(d, s).length === 0 && !has(d.resting, s);
     const words = forbidden ? [whyForbidden(d, s)] : [];
     if (answer !== null) {
-      words.push(answer.reached.has(s) ? "a session can come here" : "no session comes here");
+      const isApart = isEmpty(d.initial) ? "no screen is initial yet" : "no session comes here";
+      words.push(answer.reached.has(s) ? "a session can come here" : isApart);
       const away = answer.distances[s];
-      if (!forbidden) {
-        words.push(away === Infinity ? "no forbidden screen can be reached from here"
-          : `a forbidden screen is ${counted(away, "step")} away`);
-      }
+      const never = isNothingForbidden(d) ? "no screen is forbidden yet"
+        : "no forbidden screen can be reached from here";
+      const steps = `a forbidden screen is ${counted(away, "step")} away`;
+      if (!forbidden) words.push(away === Infinity ? never : steps);
     }
     return words.join("; ");
   }

@@ -146,7 +146,7 @@ function start(into, y = BOX.height / 2 - 1) {
 
 /** What is said of a screen when the pointer rests on it. */
 export function titleOf(facts) {
-  const never = facts.isAnswered ? ["never leads to a forbidden screen"] : [];
+  const never = facts.isAnswered && facts.hasForbidden ? ["never leads to a forbidden screen"] : [];
   const away = facts.distance === null ? never : [`steps to the nearest forbidden screen: ${facts.distance}`];
   const title = element("title");
   title.textContent = [
@@ -249,15 +249,27 @@ function sampleGroup(j) {
   return made;
 }
 
+const isForbidden = (view, s) => view.forbidden.has(s) || view.hang.has(s);
+/** What is forbidden has its colour by whether it can be reached; so it is in the legend. */
+const ofColour = (key, set, words, facts) => [
+  [key, `orange, ${words}, can be reached`, (view, s) => view[set].has(s) && view.reached.has(s),
+    () => sampleBox(facts)],
+  [`${key} apart`, `pale, ${words}, not reachable`,
+    (view, s) => view[set].has(s) && view.isAnswered && !view.reached.has(s),
+    () => sampleBox({ ...facts, reached: false })],
+  [`${key} unknown`, `pale, ${words}`, (view, s) => view[set].has(s) && !view.isAnswered,
+    () => sampleBox({ ...facts, reached: false })],
+];
+
 const KINDS = [
   ["start", "start: a session can begin here", (view, s) => view.initial.has(s), sampleStart],
-  ["lit", "shaded: can be reached", (view, s) => view.reached.has(s), () => sampleBox({})],
-  ["apart", "white: not reachable", (view, s) => view.isAnswered && !view.reached.has(s),
+  ["lit", "shaded: can be reached", (view, s) => view.reached.has(s) && !isForbidden(view, s),
+    () => sampleBox({})],
+  ["apart", "white: not reachable",
+    (view, s) => view.isAnswered && !view.reached.has(s) && !isForbidden(view, s),
     () => sampleBox({ reached: false })],
-  ["forbidden", "eight corners: forbidden, marked so", (view, s) => view.forbidden.has(s),
-    () => sampleBox({ forbidden: true })],
-  ["hang", "eight corners, broken line: a hang, no way out", (view, s) => view.hang.has(s),
-    () => sampleBox({ hang: true })],
+  ...ofColour("forbidden", "forbidden", "eight corners: forbidden, marked so", { forbidden: true }),
+  ...ofColour("hang", "hang", "broken line: a hang, no way out", { hang: true }),
   ["resting", "double line: a session may end here", (view, s) => view.resting.has(s),
     () => sampleBox({ resting: true })],
   ["dead end", "broken double line: no way out, and rests",

@@ -15,8 +15,7 @@ export class TextEditor {
   constructor(app) {
     this.#app = app;
     $("text").addEventListener("input", () => this.#typed());
-    $("text").addEventListener("scroll", () => { $("text-lines").scrollTop = $("text").scrollTop; });
-    $("text-back").addEventListener("click", () => this.putBack());
+    $("text").addEventListener("scroll", () => this.#follow());
   }
 
   /** How many mistakes there are, or that it is not read yet; null where all is well. */
@@ -35,7 +34,7 @@ export class TextEditor {
       return;
     }
     this.#mistakes = { count: null, first: [] };
-    this.#app.render();
+    this.#app.changeByMistake(this.value);
     this.#isWaiting = setTimeout(() => this.#read(), PAUSE);
   }
 
@@ -49,26 +48,18 @@ export class TextEditor {
         this.#app.changeByText(next, text);
       } catch (error) {
         this.#mistakes = { count: error.count ?? null, first: error.mistakes ?? [] };
-        this.#app.render();
+        this.#app.changeByMistake(text);
         if (!Array.isArray(error.mistakes)) throw error;
       }
     });
     this.#lines();
   }
 
-  /** A text with mistakes that was opened: it stands in the field, and the draft before it in the picture. */
+  /** A text with mistakes that was opened, or done again: it stands in the field, and the draft before it in
+   * the picture. */
   open(text) {
     $("text").value = text;
     this.#read();
-    $("text").focus();
-  }
-
-  /** The text of the draft again. */
-  putBack() {
-    this.#mistakes = null;
-    this.#isWritten = false;
-    this.#app.render();
-    $("text").focus();
   }
 
   /** The draft that is shown is another one. */
@@ -95,7 +86,7 @@ export class TextEditor {
     const number = (line) => element("div", { className: wrong.has(line) ? "wrong" : "" },
       wrong.has(line) ? `✕ ${line}` : String(line));
     $("text-lines").replaceChildren(...Array.from({ length: count }, (_, k) => number(k + 1)));
-    $("text-lines").scrollTop = $("text").scrollTop;
+    this.#follow();
     const link = (line) => button(`line ${line}`, () => this.#goTo(line), { className: "link" });
     const items = first.map(({ line, reason }) =>
       element("li", { data: { line } }, link(line), `: ${reason}`));
@@ -107,6 +98,13 @@ export class TextEditor {
     $("text-words").textContent = this.#mistakes === null
       ? "Each line says one fact. Edit it here, or by hand: both are the same table."
       : "Until the mistakes are mended there is no answer, and nothing can be edited by hand.";
+  }
+
+  /** The numbers go with their lines, also above the bar that wide lines have. */
+  #follow() {
+    const [text, lines] = [$("text"), $("text-lines")];
+    lines.style.marginBottom = `${text.offsetHeight - text.clientHeight}px`;
+    lines.scrollTop = text.scrollTop;
   }
 
   #goTo(line) {

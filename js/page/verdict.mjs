@@ -1,7 +1,7 @@
 // The place of the verdict. It is emptied before each answer is asked for, and filled by that answer alone:
 // what goes wrong on the way leaves "no answer" there, and never an old verdict.
-import { vacuous } from "./answer.mjs";
-import { members } from "./bits.mjs";
+import { spoken, vacuous } from "./answer.mjs";
+import { has } from "./bits.mjs";
 import { $, button, counted, element } from "./dom.mjs";
 import { called, hasOptions, isHang } from "./model.mjs";
 
@@ -17,37 +17,38 @@ const LONG_PATH = 40;
 export const whyForbidden = (d, s) =>
   isHang(d, s) ? "a hang: no step leads out, and it is not resting" : "forbidden, since it is marked so";
 
+/** What stands beside "unsafe" where the path ends in a hang that nobody marked, as most do while one drafts. */
+export function unfinished(d, { path }) {
+  const isUnmarked = path !== null && isHang(d, path.at(-1)) && !has(d.marked, path.at(-1));
+  return isUnmarked ? "not finished: a hang is reached" : "";
+}
+
 const unsafeIn = (steps) =>
   steps === 0
     ? "A session can start in a forbidden screen."
     : `A forbidden screen is reached in ${counted(steps, "step")}:`;
 
-/** What a drafter has to say before an answer says something. */
-const todo = (d) =>
-  members(d.initial).length === 0
-    ? "No screen is initial: choose the one in which a session starts, and tick it."
-    : "No screen is forbidden: choose those that must never show, and tick them.";
-
 /** What the verdict's place says of a draft and its answer: its kind, its word, a sentence. */
 export function wordsOf(d, answer) {
-  const options = hasOptions(d);
-  if (d.n === 0) return ["draft", "a draft without screens", EMPTY_DRAFT];
-  if (answer.verdict === "unsafe") {
-    const what = unsafeIn(answer.path.length - 1);
-    return ["unsafe", "unsafe", options ? `On every pump, whatever options it has. ${what}` : what];
-  }
-  if (answer.verdict === "depends") {
-    const steps = counted(answer.path.length - 1, "step");
-    const reached = `with every option a forbidden screen is reached in ${steps}`;
-    return ["depends", "depends on the options", `Not safe: ${reached}, and without any option none is.`];
-  }
-  if (answer.verdict !== "safe" || !answer.isSafe) throw new Error("an answer that is none");
-  if (vacuous(d) !== null) {
-    return ["vacuous", "nothing is said yet", `${todo(d)} The command release declines such a table.`];
-  }
-  const whatever = options ? ", whatever options a pump has" : "";
-  return ["safe", "safe", `No forbidden screen can be reached${whatever}.`];
+  const [kind, word] = spoken(d, answer.verdict);
+  if (["safe", "vacuous"].includes(kind) && !answer.isSafe) throw new Error("an answer that is none");
+  return [kind, word, SENTENCES[kind](d, answer)];
 }
+
+const SENTENCES = {
+  draft: () => EMPTY_DRAFT,
+  unsafe(d, { path }) {
+    const what = unsafeIn(path.length - 1);
+    return hasOptions(d) ? `On every pump, whatever options it has. ${what}` : what;
+  },
+  depends(d, { path }) {
+    const steps = counted(path.length - 1, "step");
+    const reached = `with every option a forbidden screen is reached in ${steps}`;
+    return `Not safe: ${reached}, and without any option none is.`;
+  },
+  vacuous,
+  safe: (d) => `No forbidden screen can be reached${hasOptions(d) ? ", whatever options a pump has" : ""}.`,
+};
 
 export class VerdictPlace {
   #onChoose;
@@ -62,6 +63,7 @@ export class VerdictPlace {
     place.dataset.verdict = kind;
     $("verdict-mark").textContent = MARKS[kind];
     $("verdict-word").textContent = word;
+    $("verdict-beside").textContent = "";
     $("verdict-words").textContent = words;
     $("verdict-path").replaceChildren();
     $("verdict-path").hidden = true;
@@ -83,6 +85,7 @@ export class VerdictPlace {
   answer(d, answer) {
     const [kind, word, words] = wordsOf(d, answer);
     this.#put(kind, word, words);
+    $("verdict-beside").textContent = unfinished(d, answer);
     if (answer.path !== null) this.#path(d, answer.path);
   }
 

@@ -1,8 +1,9 @@
 // Drafts edited by chance: each is what its plain twin says, by the text; what was undone and done again is
 // the same draft; and the answers, with the session kept over the edits, are those of a search by hand.
-import { Answers, vacuous } from "../../js/page/answer.mjs";
+import { Answers, spoken, vacuous } from "../../js/page/answer.mjs";
 import { members } from "../../js/page/bits.mjs";
 import { repairs } from "../../js/page/ask.mjs";
+import { changes } from "../../js/page/changes.mjs";
 import { Plain, chance, edited, end, library, model, same, throws } from "./support.mjs";
 
 const [seed, count] = process.argv.slice(2).map(Number);
@@ -45,16 +46,21 @@ function hold(d, answer, what) {
   if (answer.path !== null) same(answer.path.length - 1, word === "unsafe" ? certain.steps : all.steps, what);
 }
 
-/** Every single step of a draft tried: those that make it safe are just those that are found on the path. */
+/** Every single step of a draft tried: those that make it safe are just those that are found on the path,
+ * each with the screens that are not forbidden and are reached no more; those that cost least first. */
 function holdRepairs(d, answer) {
   if (answer.path === null) return;
   const steps = d.certain.flatMap((_, from) => model.successors(d, from).map((to) => [from, to]));
-  const mends = steps.filter(([from, to]) => {
-    const other = model.setStep(d, from, to, "none");
-    return !searched(other, true).isUnsafe;
+  const before = [...searched(d, true).reached].filter((s) => !model.isForbidden(d, s));
+  const mends = steps.flatMap(([from, to]) => {
+    const other = searched(model.setStep(d, from, to, "none"), true);
+    return other.isUnsafe ? [] : [{ from, to, lost: before.filter((s) => !other.reached.has(s)) }];
   });
   const found = repairs(library, d, answer.path);
-  same([...found].sort(), mends.sort());
+  const inOrder = (list) => [...list].sort((a, b) => a.from - b.from || a.to - b.to);
+  same(inOrder(found), inOrder(mends));
+  const costs = found.map(({ lost }) => lost.length);
+  same(costs, [...costs].sort((a, b) => a - b));
 }
 
 for (let k = 0; k < count; k++) {
@@ -92,6 +98,12 @@ for (let k = 0; k < count; k++) {
   same([history.redo(), history.redoes], [false, null]);
 }
 
+const chain = model.draftOfText(library,
+  "states 5\ninitial 0\nforbidden 4\nresting 0 1 2 3\nstep 0 -> 1\nstep 1 -> 2\nstep 2 -> 3 4\nend\n");
+holdRepairs(chain, new Answers(library).of(chain));
+same(repairs(library, chain, [0, 1, 2, 4]).map(({ from, lost }) => [from, lost]),
+  [[2, []], [1, [2, 3]], [0, [1, 2, 3]]]);
+
 // ---- a full table, names that are none, and what says little
 
 let full = model.NEW_DRAFT;
@@ -111,7 +123,16 @@ same(model.checkedName(library, model.NEW_DRAFT, 0, "a"), "a");
 same(model.checkedName(library, model.NEW_DRAFT, 0, "дом"), "дом");
 const words = ["over-limit", "over limit", "1", "1 over-limit", "1 home", "2", "01", "-1", ""];
 same(words.map((one) => model.screenOf(named, one)), [1, 1, 1, 1, null, null, null, null, null]);
-same(vacuous(named), "the table has no initial state, so that it is safe whatever else is in it");
-same(vacuous(model.mark(model.setStep(model.addScreen(model.NEW_DRAFT), 0, 0, "certain"), "initial", 0, true)),
-  "nothing in the table is forbidden, so that it is safe whatever else is in it");
+same(spoken(named, "safe"), ["vacuous", "no verdict: nothing is initial"]);
+const loop = model.mark(model.setStep(model.addScreen(model.NEW_DRAFT), 0, 0, "certain"), "initial", 0, true);
+same(spoken(loop, "safe"), ["vacuous", "no verdict: nothing is forbidden"]);
+same([named, loop].map((d) => /^No screen is (\w+)/.exec(vacuous(d))[1]), ["initial", "forbidden"]);
+same(vacuous(model.mark(loop, "marked", 0, true)), null);
+same(["unsafe", "depends"].map((verdict) => spoken(loop, verdict)),
+  [["unsafe", "unsafe"], ["depends", "depends on the options"]]);
+same(spoken(model.NEW_DRAFT, "safe"), ["draft", "a draft without screens"]);
+for (const verdict of ["undecided", undefined, "toString"]) throws(() => spoken(loop, verdict), Error);
+const compared = (old, now) => changes(library, old, now).find(({ kind }) => kind === "verdict").words;
+same(compared(loop, model.mark(loop, "initial", 0, false)),
+  "the verdict before: no verdict: nothing is forbidden; now: no verdict: nothing is initial");
 end("edits", 100 * count);

@@ -1,6 +1,6 @@
 // A library that lies, stops or contradicts itself: there is no answer, and the next one is right again.
 import { Answers, Contradiction } from "../../js/page/answer.mjs";
-import { wordsOf } from "../../js/page/verdict.mjs";
+import { unfinished, wordsOf } from "../../js/page/verdict.mjs";
 import { assert, end, library, model, same, throws } from "./support.mjs";
 
 const text = (steps) => `states 4\ninitial 0\nforbidden 3\nstep 0 -> 1\nstep 1 -> 0 2\nstep 3 -> 0\n${steps}end\n`;
@@ -69,5 +69,12 @@ for (const answer of [{ verdict: "safe", isSafe: false }, { verdict: "sure", isS
 const word = (d) => wordsOf(d, new Answers(library).of(d))[0];
 same([safe, unsafe, depends, model.NEW_DRAFT].map(word), ["safe", "unsafe", "depends", "draft"]);
 same(word(model.mark(safe, "initial", 0, false)), "vacuous");
+// beside "unsafe": a hang that nobody marked; the word stays
+const hang = model.draftOfText(library, "states 2\ninitial 0\nforbidden none\nstep 0 -> 1\nend\n");
+const beside = (d) => unfinished(d, new Answers(library).of(d));
+same([word(hang), beside(hang)], ["unsafe", "not finished: a hang is reached"]);
+const marked = model.mark(hang, "marked", 1, true);
+same([word(marked), beside(marked)], ["unsafe", ""]);
+same([safe, unsafe, depends, model.NEW_DRAFT].map(beside), ["", "", "", ""]);
 assert.ok(lies.length > 10);
 end("lies", 25);

@@ -55,6 +55,34 @@ await onPage(async (browser) => {
   same(await verdict("quick"), "safe", "the quick answer is of the new draft");
   same((await printed())[0].split("\n")[1].split(" ")[0], "safe", "and the release check's");
 
+  // ---- what each costs, the cheapest first; and several ways in
+  await fill(
+    "states 5\ninitial 0\nforbidden 4\nresting 0 1 2 3\nstep 0 -> 1\nstep 1 -> 2\nstep 2 -> 3 4\nend\n"
+  );
+  await browser.click("#repairs-ask");
+  same(await items("#repairs li[data-from]", "from", "to", "lost"),
+    [["2", "4", "0"], ["1", "2", "2"], ["0", "1", "3"]], "what each costs, the cheapest first");
+  const costs = await browser.text("#repairs");
+  for (const words of ["costs nothing", "2 other screens", "reaches then: 2, 3", "reaches then: 1, 2, 3"]) {
+    holds(costs.includes(words), `${words}: ${costs}`);
+  }
+  holds(!costs.includes("several ways"), "one way in");
+  await fill("states 4\ninitial 0\nforbidden 3\nresting 0\nstep 0 -> 1 2\nstep 1 -> 3\nstep 2 -> 3\nend\n");
+  await browser.click("#repairs-ask");
+  same(await items("#repairs li[data-from]", "from"), [], "no single step");
+  holds((await browser.text("#repairs")).includes("several ways in"), "there are several ways in");
+  await fill(
+    "states 5\ninitial 0\nforbidden 4\nresting 3\nstep 0 -> 1 2\nstep 1 -> 3\nstep 2 -> 3\nstep 3 -> 4\nend\n"
+  );
+  await browser.click("#repairs-ask");
+  same(
+    await items("#repairs li[data-from]", "from", "to", "lost"), [["3", "4", "0"]], "the step behind both ways"
+  );
+  holds((await browser.text("#repairs")).includes("several ways round"), "and that there are several");
+  await fill(SMALL);
+  await browser.click("#repairs-ask");
+  await browser.click("#repairs li[data-from] .rub-out");
+
   // ---- what to look at
   const remarks = (await items("#remarks li[data-remark]", "remark")).flat();
   holds(remarks.includes("hang"), `the hang is looked at: ${remarks}`);
@@ -74,6 +102,30 @@ await onPage(async (browser) => {
     same(await verdict("options"), expected, `options: ${expected}`);
     same((await browser.run(shown)).verdict, expected, `the verdict: ${expected}`);
     same((await printed()).length, 2, "a release check for each: with no option and with all");
+  }
+
+  // ---- nothing initial, or nothing forbidden: nowhere does it say that the draft is safe
+  await browser.type("#other-file", resolve("examples/pump.txt"));
+  await browser.until(() => document.querySelector("#other-answer li") !== null, "another file is compared");
+  for (const [text, word] of [
+    ["states 2\ninitial 0\nforbidden none\nstep 0 -> 1\nstep 1 -> 0\nend\n", "forbidden"],
+    ["states 2\ninitial none\nforbidden 1\nresting 0 1\nend\n", "initial"],
+    ["states 2\ninitial 0\nforbidden none\nstep 0 -> 0 1\nstep 1 -> 0\npossible 1 -> 1\nend\n", "forbidden"],
+  ]) {
+    await fill(text);
+    const expected = `no verdict: nothing is ${word}`;
+    await browser.run(() => document.querySelector('#list tr[data-state="0"]').click());
+    for (const id of ["quick", "release-check", "repairs", "other-answer"]) {
+      const said = await browser.text(`#${id}`);
+      holds(said.includes(expected), `${id}: ${said}`);
+      holds(!/\bsafe (ref|after)|is safe|now: safe|Nothing has to/.test(said), `${id}: not safe: ${said}`);
+    }
+    same((await browser.run(shown)).word, expected, "the verdict's place");
+    same(await printed(), [], "nothing that check would print");
+    const facts = await browser.text("#screen-words");
+    holds(facts.includes(`no screen is ${word} yet`), `the chosen screen: ${facts}`);
+    if (text.includes("possible")) holds((await browser.text("#options")).startsWith(expected), "options");
+    if (word === "forbidden") holds(!facts.includes("no forbidden screen can"), `the chosen one: ${facts}`);
   }
 
   // ---- a pump's log: 3 of 4 reachable screens in 3 entries
@@ -108,6 +160,33 @@ await onPage(async (browser) => {
   const changes = await browser.text("#other-answer");
   holds((await items("#other-answer li[data-change]", "change")).length >= 2, `two changes: ${changes}`);
   for (const words of ["alarm → off", "over-hard-limit"]) holds(changes.includes(words), `${words}: it changed`);
+  same((await items("#other-answer li[data-change]", "change"))[0], ["verdict"], "the verdicts first");
+  await browser.type("#other-file", resolve("examples/pump.table"));
+  await browser.until(
+    () => document.getElementById("other-answer").textContent.includes("pump.table"), "a file is compared"
+  );
+  const named = (await items("#other-answer li[data-change]", "change")).flat();
+  same(named.filter((kind) => kind !== "renamed"), named, "what has no names is not renamed");
+  same(named.length > 0 && named[0], "verdict", "but compared");
+
+  // ---- another file that is refused, or has mistakes: nothing of the one before is left, and the verdict is
+  const old = (await browser.run(shown)).verdict;
+  for (const [name, data, words] of [
+    ["wrong.txt", "states 2\ninitail 0\nforbidden 1\nend\n", "line 2"],
+    ["letter.txt", "Dear drafter,\n", "not of a table"],
+    ["bad.table", Buffer.from([137, 80, 78, 71, 13, 10, 26, 10, 0]), "refused"],
+  ]) {
+    await browser.type("#other-file", resolve("examples/pump.table"));
+    await browser.until(() => document.querySelector("#other-answer li") !== null, "a file is compared");
+    writeFileSync(join(WORK, name), data);
+    await browser.type("#other-file", join(WORK, name));
+    await browser.until(() => !document.getElementById("note").hidden, `${name} is refused`);
+    const said = await browser.text("#other-answer");
+    holds(said.startsWith(`${name} was not compared`) && said.includes(words), `${name}: ${said}`);
+    same(await items("#other-answer li", "change"), [], `${name}: nothing of the file before is left`);
+    same((await browser.run(shown)).verdict, old, `${name}: the verdict is as it was`);
+    holds((await browser.run(shown)).note.startsWith(name), `${name}: the note names it`);
+  }
   await fill("states 1\n");
   same(await verdict("quick"), "none", "with mistakes in the text there is no answer");
   same(await printed(), [], "of any kind");

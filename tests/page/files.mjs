@@ -2,7 +2,7 @@
 // what is downloaded; a draft that is kept; that a page with unsaved changes asks.
 import { readFileSync, readdirSync, rmSync, writeFileSync } from "node:fs";
 import { join, resolve } from "node:path";
-import { WORDS, WORK, anew, downloaded, downloads, end, holds, onPage, same, shown } from "./support.mjs";
+import { WORK, anew, downloaded, downloads, end, holds, onPage, same, shown, wordFor } from "./support.mjs";
 
 const files = resolve("tests/files");
 const note = () => (
@@ -50,7 +50,7 @@ await onPage(async (browser) => {
       const [verdict] = second.split(" ");
       said[verdict]++;
       holds(
-        [verdict, "vacuous", "draft"].includes(found.verdict) && WORDS[found.verdict] === found.word,
+        [verdict, "vacuous", "draft"].includes(found.verdict) && wordFor(found) === found.word,
         `${name}: ${found.verdict}`
       );
       if (verdict === "unsafe") same(found.verdict, "unsafe", name);
@@ -65,6 +65,8 @@ await onPage(async (browser) => {
   await browser.click("#new");
   await open(browser, join(files, "old-d.table"));
   holds((await browser.run(note)).includes("rewrite"), "it says how it is rewritten");
+  holds((await browser.run(note)).startsWith("old-d.table: "), "and which file it is");
+  holds((await browser.run(title)) !== "old-d", "the draft has its own name until then");
   await browser.click("#note-actions button");
   holds((await browser.run(shown)).states.length > 0, "and the button does it");
 
@@ -78,7 +80,11 @@ await onPage(async (browser) => {
   writeFileSync(site, readFileSync(process.env.SITE_17));
   await browser.click("#new");
   await open(browser, site);
-  holds((await browser.run(note)).startsWith("refused 13:"), "another site's file is refused");
+  holds((await browser.run(note)).includes("refused 13:"), "another site's file is refused");
+  for (const words of ["site.table was not opened", "still the draft from before"]) {
+    holds((await browser.run(note)).includes(words), `${words}: ${await browser.run(note)}`);
+  }
+  same(await browser.run(title), "pump", "the draft has its name still");
   await browser.run(() => { document.getElementById("site").value = "17"; });
   await open(browser, site);
   same((await browser.run(shown)).verdict, "safe", "with its site it is opened");
@@ -100,6 +106,30 @@ await onPage(async (browser) => {
   await open(browser, join(WORK, "cut.txt"));
   const cut = await browser.run(shown);
   same([cut.verdict, cut.path], ["mistakes", null], "a text that was cut has mistakes, and no verdict");
+
+  await browser.click("#undo");
+  same((await browser.run(shown)).verdict, "draft", "undo takes the opened text away, with its mistakes");
+  await browser.click("#redo");
+  same((await browser.run(shown)).verdict, "mistakes", "and redo brings it back");
+  await browser.run(() => { // typed at, it is still one with mistakes
+    const field = document.getElementById("text");
+    field.value = `x${field.value}`;
+    field.dispatchEvent(new Event("input", { bubbles: true }));
+  });
+  await browser.click("#text-back");
+  same((await browser.run(shown)).verdict, "draft", "the last text without mistakes was none");
+
+  // ---- undo of what was opened gives the draft before its name again
+  await browser.click("#example");
+  same(await browser.run(title), "example", "the example has its name");
+  await open(browser, resolve("examples/pump.txt"));
+  await open(browser, join(WORK, "cut.txt"));
+  const titles = [await browser.run(title)];
+  for (const id of ["undo", "undo", "redo", "redo", "undo"]) {
+    await browser.click(`#${id}`);
+    titles.push(await browser.run(title));
+  }
+  same(titles, ["cut", "pump", "example", "pump", "cut", "pump"], "the names go with the drafts");
 
   // ---- drop and paste
   const give = (kind, text) => {
@@ -160,6 +190,50 @@ await onPage(async (browser) => {
   );
   for (const words of ["example", "safe. No forbidden screen"]) holds(svg.includes(words), `above it: ${words}`);
   same(await browser.run(asks), false, "saved");
+
+  // ---- a file for a site has it in its name; one of a draft with options is asked for by name
+  const choose = (id, to) => browser.run((field, value) => {
+    document.getElementById(field).value = value;
+    document.getElementById(field).dispatchEvent(new Event("change", { bubbles: true }));
+  }, id, to);
+  await choose("site", "17");
+  await browser.click("#save-file");
+  same(
+    (await downloaded("example-site-17.table")).toString("hex"),
+    readFileSync(process.env.SITE_17).toString("hex"), "the file for site 17"
+  );
+  await choose("site", "0");
+  const [SERVICE, LIMIT] = [8, 7];
+  const option = `possible running -> ${SERVICE} ${LIMIT}\nend`;
+  const withOption = readFileSync("examples/pump.txt", "utf8").replace(/^end/m, option);
+  await browser.run(give, "paste", withOption);
+  await browser.until(() => document.getElementById("verdict").dataset.verdict === "depends", "with options");
+  await browser.click("#save-file");
+  holds((await browser.run(note)).includes("choose"), `it is asked which steps: ${await browser.run(note)}`);
+  same(readdirSync(downloads).filter((name) => /option/.test(name)), [], "and nothing is saved");
+  const stepsTo = async (name, state) => {
+    await open(browser, join(downloads, name));
+    const steps = await browser.run(() => document.querySelector("#list tr[data-state='4'] .steps").textContent);
+    return steps.split(", ").includes(String(state));
+  };
+  for (const [which, name, isIn, words] of [
+    ["certain", "example-without-options.table", false, "option brings, left out: "],
+    ["all", "example-with-options.table", true, "none was left out: "],
+  ]) {
+    await browser.run(give, "paste", withOption);
+    await browser.until(() => document.getElementById("verdict").dataset.verdict === "depends", "with options");
+    same(await browser.run(() => document.getElementById("save-which").value), "", "the choice is made anew");
+    await choose("title", "example");
+    await choose("save-which", which);
+    await browser.click("#save-file");
+    await downloaded(name);
+    const said = await browser.run(note);
+    holds(said.includes(`${words}running → over-hard-limit, running → service.`), `${which}: ${said}`);
+    const steps = [await stepsTo(name, LIMIT), await stepsTo(name, SERVICE)];
+    same(steps, [isIn, isIn], `the steps of the file, ${which}`);
+  }
+  await browser.click("#new");
+  await browser.click("#example");
 
   // ---- unsaved changes: the page asks
   await browser.type("#screen-new", "one-more");

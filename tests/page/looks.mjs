@@ -18,17 +18,19 @@ function measured() {
   };
 }
 
+function fill(words) {
+  const field = document.getElementById("text");
+  field.value = words;
+  field.dispatchEvent(new Event("input", { bubbles: true }));
+  document.getElementById("tab-list").click();
+}
+
 mkdirSync(OUT, { recursive: true });
 await onPage(async (browser) => {
   const text = readFileSync(
     "examples/pump.txt", "utf8"
   ).replace(/^end/m, "step running -> over-hard-limit\ngroup off home\ngroup set-rate confirm running\nend");
-  await browser.run((words) => {
-    const field = document.getElementById("text");
-    field.value = words;
-    field.dispatchEvent(new Event("input", { bubbles: true }));
-    document.getElementById("tab-list").click();
-  }, text);
+  await browser.run(fill, text);
   for (const [width, height] of WIDTHS) {
     await browser.size(width, height);
     await browser.run(() => { scrollTo(0, 0); document.getElementById("fit").click(); });
@@ -41,6 +43,26 @@ await onPage(async (browser) => {
     );
     await browser.screenshot(join(OUT, `unsafe-${width}.png`));
   }
+  // a long verdict: it stays in sight, leaves room, and covers nothing that gets the focus
+  const chain = Array.from({ length: 99 }, (_, s) => `step ${s} -> ${s + 1}\n`).join("");
+  await browser.run(fill, `states 100\ninitial 0\nforbidden 99\n${chain}end\n`);
+  for (const [width, height] of [[1400, 900], [1024, 700]]) {
+    await browser.size(width, height);
+    await browser.run(() => scrollTo(0, 1e6));
+    const { verdict, bottom, high, over } = await browser.run(measured);
+    holds(verdict >= 0 && bottom < 0.5 * high, `at ${width}: it has ${verdict} to ${bottom} of ${high}`);
+    holds(over <= 0, `at ${width}: ${over} pixels stick out`);
+    const covered = await browser.run(() => ["tab-list", "tab-text", "screen-new", "search"].filter((id) => {
+      document.activeElement.blur();
+      scrollTo(0, 1e6);
+      document.getElementById(id).focus();
+      const { x, y, width, height } = document.getElementById(id).getBoundingClientRect();
+      return document.elementFromPoint(x + width / 2, y + height / 2)?.closest("#status") !== null;
+    }));
+    same(covered, [], `at ${width}: what the verdict covers`);
+    await browser.screenshot(join(OUT, `long-${width}.png`));
+  }
+  await browser.run(fill, text);
   await browser.size(1280, 860);
   const printed = await browser.print();
   writeFileSync(join(OUT, "printed.pdf"), printed);

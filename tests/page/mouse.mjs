@@ -158,7 +158,19 @@ await onPage(async (browser) => {
   ).getAttribute("stroke-dasharray");
   holds(/^2 /.test(await browser.run(dash)), "and dotted in the picture");
   same((await browser.run(shown)).verdict, "unsafe", "it was unsafe on every pump before");
+  const begun = () => [
+    document.getElementById("step-to").value, document.getElementById("step-option").checked,
+    document.getElementById("step-make").hidden,
+  ];
+  const NOTHING = ["", false, true];
+  same(await browser.run(begun), NOTHING, "the next step is no option's unless that is said");
   await browser.click("#step-option");
+  await browser.type("#step-to", "nowhere");
+  await browser.click("#step-add");
+  same(await browser.run(begun), ["nowhere", true, false], "a step that was refused stands there still");
+  await browser.click(`#list tr[data-state="${ALARM}"]`);
+  same(await browser.run(begun), NOTHING, "what was begun at one screen is not drawn from another");
+  await browser.click(`#list tr[data-state="${SERVICE}"]`);
   await browser.click("#group-new");
   holds(
     (await browser.text("#legend")).includes("group 0: 1 screen"), "a group has its colour in the legend"
@@ -183,6 +195,34 @@ await onPage(async (browser) => {
   }, "a session can start in a forbidden screen");
   await browser.click("#undo");
   await look(SAFE, "and cannot");
+
+  // ---- what is refused is said where it is seen, wherever one has scrolled
+  const isSeen = (id) => {
+    const { x, y, width, height } = document.getElementById(id).getBoundingClientRect();
+    const there = document.elementFromPoint(x + width / 2, y + height / 2);
+    return y >= 0 && y + height <= innerHeight && there?.closest(`#${id}`) !== null;
+  };
+  for (const [field, words, does, said] of [
+    ["#step-to", "nowhere", "#step-add", "nowhere"],
+    ["#screen-new", "off", "#screen-add", "has the name off"],
+    ["#screen-name", "off", "#screen-head", "has the name off"],
+  ]) {
+    await browser.click(field);
+    await browser.keys(["Control", "a"]);
+    await browser.write(words);
+    await browser.click(does);
+    for (const to of [0, 1e6]) {
+      await browser.run((y) => scrollTo(0, y), to);
+      holds(await browser.run(isSeen, "note"), `${field}: the note is seen, scrolled to ${to}`);
+      holds(await browser.run(isSeen, "verdict-word"), `${field}: beside the verdict, scrolled to ${to}`);
+    }
+    holds((await browser.text("#note-words")).includes(said), `${field}: why`);
+    await browser.click("#note-close");
+  }
+  same(await browser.run(value, "screen-name"), "over-hard-limit", "the screen has its name still");
+  await browser.clear("#step-to");
+  await browser.clear("#screen-new");
+  await look(SAFE, "nothing of it was done");
 
   // ---- the list, sorted
   await browser.click("#list th[data-sort=distance] button");
@@ -228,6 +268,81 @@ await onPage(async (browser) => {
   await browser.write("step running -> over-hard-limit\n");
   await look(UNSAFE, "a step written in the text");
   same(await browser.run(text, "text-mistakes"), "", "without a mistake");
+
+  // ---- the numbers stand beside their lines, at the last one too, above a bar for wide lines
+  const apart = (text) => {
+    const [field, lines] = [document.getElementById("text"), document.getElementById("text-lines")];
+    field.value = text;
+    field.dispatchEvent(new Event("input", { bubbles: true }));
+    field.scrollTop = 1e6;
+    field.dispatchEvent(new Event("scroll"));
+    return { bar: field.offsetHeight - field.clientHeight, apart: field.scrollTop - lines.scrollTop };
+  };
+  const many = `# ${"wide ".repeat(99)}\n${"# line\n".repeat(200)}`;
+  const unwide = await browser.run(value, "text");
+  const beside = await browser.run(apart, many + unwide);
+  holds(beside.bar > 0, `there is a bar for wide lines: ${beside.bar}`);
+  holds(Math.abs(beside.apart) < 1, `the numbers are ${beside.apart} pixels off`);
+  await browser.run(apart, unwide);
+
+  // ---- undo undoes one thing: a mistake in the text, and not the edit before it
+  const typedAnew = (words) => browser.run((typed) => {
+    const field = document.getElementById("text");
+    field.value = typed;
+    field.dispatchEvent(new Event("input", { bubbles: true }));
+    return document.getElementById("verdict").dataset.verdict;
+  }, words);
+  // what is typed after a pause is an edit of its own
+  await new Promise((resolve) => setTimeout(resolve, 1600));
+  const good = await browser.run(value, "text");
+  for (const [wrong, what] of [
+    [`x${good}`, "a letter too many"], ["", "no text"], [`${"# long\n".repeat(20_000)}x`, "a long text"],
+  ]) {
+    await typedAnew(`y${wrong}`);
+    const verdict = await typedAnew(wrong);
+    holds(["mistakes", "none"].includes(verdict), `${what}: no answer, and not ${verdict}`);
+    await browser.click("#undo");
+    await look(UNSAFE, `${what}, undone: the step is there still`);
+    same(await browser.run(value, "text"), good, `${what}, undone: the text as it was`);
+    await browser.click("#redo");
+    same(await browser.run(value, "text"), wrong, `${what}: done again, the mistake is there again`);
+    holds((await browser.run(shown)).verdict === "mistakes", `${what}: and no answer`);
+    await browser.click("#undo");
+    await look(UNSAFE, `${what}, undone again`);
+  }
+  await typedAnew(`x${good}`);
+  await new Promise((resolve) => setTimeout(resolve, 1600));
+  await typedAnew(`# mended\n${good}`);
+  await look(UNSAFE, "a mistake that was mended");
+  await browser.click("#undo");
+  same(await browser.run(value, "text"), good, "undo leads from text to text without mistakes");
+  await browser.click("#undo");
+  await look(SAFE, "and then undoes the step");
+  await browser.click("#redo");
+
+  // ---- a hang that nobody marked: unsafe, and not finished
+  await typedAnew("states 2\ninitial 0\nforbidden none\nstep 0 -> 1\nend\n");
+  same([(await browser.run(shown)).word, await browser.run(text, "verdict-beside")],
+    ["unsafe", "not finished: a hang is reached"], "a path to a hang");
+  const hangs = await browser.text("#legend");
+  holds(hangs.includes("orange, broken line: a hang") && !hangs.includes("pale"), `in the legend: ${hangs}`);
+  await typedAnew("states 3\ninitial 0\nforbidden 1\nresting 0 1\nend\n");
+  same(
+    [(await browser.run(shown)).word, await browser.run(text, "verdict-beside")], ["safe", ""],
+    "nothing beside safe"
+  );
+  const pale = await browser.text("#legend");
+  for (const words of ["pale, eight corners: forbidden", "pale, broken line: a hang"]) {
+    holds(pale.includes(words) && !pale.includes("orange") && !pale.includes("white"), `${words}: ${pale}`);
+  }
+  const fills = () => {
+    const all = (place) => [...document.querySelectorAll(`${place} path[fill^="#"]`)];
+    const of = (place) => [...new Set(all(place).map((one) => one.getAttribute("fill")))];
+    return [of("#picture g[data-state]"), of("#legend")];
+  };
+  const [drawnFills, legendFills] = await browser.run(fills);
+  same(drawnFills.filter((one) => !legendFills.includes(one)), [], "each colour is in the legend");
+  await browser.click("#undo");
 
   // ---- begin anew, and back
   await browser.click("#new");

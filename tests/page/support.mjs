@@ -109,14 +109,18 @@ export function shown() {
 }
 
 /** The words of the verdict that go with each kind. */
-export const WORDS = {
+const WORDS = {
   safe: "safe", unsafe: "unsafe", depends: "depends on the options", draft: "a draft without screens",
-  vacuous: "nothing is said yet",
 };
+/** "Safe" says nothing where nothing is initial, so that nothing is reached, or nothing is forbidden. */
+export const wordFor = ({ verdict, reached }) => (
+  verdict === "vacuous" ? `no verdict: nothing is ${reached.length === 0 ? "initial" : "forbidden"}`
+    : WORDS[verdict]
+);
 
 /** What the page shows is what is expected: in the verdict, in the list, in its words, and in the picture. */
 export function agrees(found, expected, what) {
-  same([found.verdict, found.word], [expected.verdict, WORDS[expected.verdict]], `${what}: the verdict`);
+  same([found.verdict, found.word], [expected.verdict, wordFor(expected)], `${what}: the verdict`);
   same(found.path, expected.path, `${what}: the path`);
   same(found.hidden, expected.path === null, `${what}: the path can be seen`);
   same(found.reached, expected.reached, `${what}: the reachable screens`);

@@ -10,6 +10,8 @@ unfolding all ascii isDigit isNumber valueOf wordOf
 worked-words =
     record {
       decimal = refl;
+      nought = refl;
+      zeros-in-front = refl;
       all-digits = refl;
       over-16-bits = refl;
       greatest-seed = refl;

@@ -1,4 +1,4 @@
--- Words and the numbers that they say: decimal, and up to the limit.
+-- Words and the numbers that they say: decimal, with zeros in front or without, and up to the limit.
 -- `WorkedWordsKept.worked-words` proves it.
 use mathlib.Core.Path.{_≡_}
 use Rattle.core_report.specs.Text.{ascii}
@@ -7,6 +7,8 @@ use Rattle.program_generate.specs.Words.{wordOf}
 
 pub record WorkedWords : Type 0 where
   pub decimal : wordOf (ascii "12") ≡ Number 12
+  pub nought : wordOf (ascii "0") ≡ Number 0
+  pub zeros-in-front : wordOf (ascii "007") ≡ Number 7
   pub all-digits : wordOf (ascii "1234567890") ≡ Number 1234567890
   pub over-16-bits : wordOf (ascii "65537") ≡ Number 65537
   pub greatest-seed : wordOf (ascii "4294967295") ≡ Number 4294967295

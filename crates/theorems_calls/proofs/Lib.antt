@@ -1,3 +1,4 @@
+pub mod PlacesKept
 pub mod GroundsKept
 pub mod AcceptingKept
 pub mod StatesKept

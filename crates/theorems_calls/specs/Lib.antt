@@ -1,3 +1,4 @@
+pub mod Places
 pub mod Grounds
 pub mod Accepting
 pub mod States
