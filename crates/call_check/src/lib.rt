@@ -2,6 +2,8 @@
 //
 //   Checked, check    the text at the front of the output, its length and the verdict, or why the call is refused
 //   check_table       the same for the table that a store holds, where there is room for the text
+#![tactic(auto)]
+
 ghost use Rattle.std.specs.Prelude.{◌≤◌, length};
 ghost use Rattle.core_report.specs.Put.{text_room};
 ghost use Rattle.call_check.specs.CheckText.{check_table};
@@ -21,7 +23,7 @@ pub const CHECK_TEXT: usize = ROOM;
 
 // Each verdict with the length of the text: safe and unsafe with the number of states, a refused file with the number on which read refuses it.
 // `Refused` has the number of the ground on which the call itself is refused, and no text.
-#[derive(Drop)]
+#[derive(Clone, Copy)]
 pub enum Checked {
     Safe { length: usize, n: usize },
     Unsafe { length: usize, n: usize },

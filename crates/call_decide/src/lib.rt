@@ -2,6 +2,8 @@
 //
 //   decide_refusal     why a check is refused
 //   Decision, decide   the call
+#![tactic(auto)]
+
 ghost use Rattle.std.specs.Prelude.{◌≡◌};
 ghost use Rattle.basics.specs.Refusals.{refuse};
 ghost use Rattle.model.specs.Calls.{decide_grounds};
@@ -33,7 +35,7 @@ fn decide_refusal(store: &[u64], n: usize, g: usize, allowance: usize, room: usi
 
 // The verdicts, each with its count of refinements: safe with the number of states of the invariant, unsafe with the steps of the path.
 // `Refused` has the number of the ground on which the call is refused.
-#[derive(Drop)]
+#[derive(Clone, Copy)]
 pub enum Verdict {
     Safe { count: usize, size: usize },
     Unsafe { count: usize, steps: usize },
@@ -42,7 +44,7 @@ pub enum Verdict {
 }
 
 // The verdict, with the invariant beside it where that is safe and the empty set where it is not.
-#[derive(Drop)]
+#[derive(Clone, Copy)]
 pub struct Decision {
     pub verdict: Verdict,
     pub invariant: StateSet,

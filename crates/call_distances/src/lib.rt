@@ -9,6 +9,8 @@
 //
 // What works on a table is lent its rows, and its sets by value; all_distances and sweep_transposed ask that the table is well formed. The call is lent
 // a store, works out its forbidden states once, and asks for nothing.
+#![tactic(auto)]
+
 ghost use Rattle.std.specs.Prelude.{◌≡◌, ◌≤◌, ◌<◌, length, get_or, []};
 ghost use Rattle.basics.specs.Bounds.{tabulate};
 ghost use Rattle.model.specs.Sets.{WORDS, max_states, empty};
@@ -154,7 +156,7 @@ fn put_distances(distances: &[u16; MAX_STATES], n: usize, out: &mut [u16])
 }
 
 // What the call distances answers: that they are written, or why it is refused.
-#[derive(Drop)]
+#[derive(Clone, Copy)]
 pub enum DistancesAnswer {
     Written,
     Refused(u8),

@@ -8,6 +8,8 @@
 //   Status, Session              what a call answers
 //   edit                         a step added or removed
 //   open, add_step, remove_step  the calls
+#![tactic(auto)]
+
 ghost use Rattle.std.specs.Prelude.{◌≡◌, ◌≤◌, ◌<◌, length};
 ghost use Rattle.model.specs.Sets.{max_states};
 ghost use Rattle.basics.specs.Refusals.{refuse};
@@ -71,14 +73,14 @@ fn edit_refusal(store: &[u64], n: usize, g: usize, from: usize, to: usize) -> u8
     0
 }
 
-#[derive(Drop)]
+#[derive(Clone, Copy)]
 pub enum Status {
     Accepted,
     Refused(u8),
 }
 
 // What a call answers. Where it is refused the set is the one that was handed in, and of an opening the empty one.
-#[derive(Drop)]
+#[derive(Clone, Copy)]
 pub struct Session {
     pub reachable: StateSet,
     pub status: Status,
@@ -102,7 +104,7 @@ pub fn open(store: &[u64], n: usize, g: usize) -> Session
 }
 
 // What is done to a step.
-#[derive(Drop)]
+#[derive(Clone, Copy)]
 enum Change {
     Add,
     Remove,

@@ -2,6 +2,8 @@
 //
 //   met_with, first_cover_of            the cover of a state after one set is added; for the list of the first round
 //   first_order                         the order in which the first round expands the states of R
+#![tactic(auto)]
+
 ghost use Rattle.std.specs.Prelude.{◌≡◌, cond, ◌∷◌, ◌≤◌, length};
 ghost use Rattle.model.specs.Sets.{member, meet};
 ghost use Rattle.model.specs.Tables.{cover_of};
@@ -16,14 +18,14 @@ use core_state_set::{MAX_STATES, StateSet, WORDS};
 use core_table::{GROUPS_AT, INITIAL_AT, ROWS_AT, refusal, set_at};
 
 // How many states were expanded, or the number of the ground on which the call is refused.
-#[derive(Drop)]
+#[derive(Clone, Copy)]
 pub enum Expansion {
     Listed(usize),
     Refused(u8),
 }
 
 // The answer, with the states beside it where it is not refused.
-#[derive(Drop)]
+#[derive(Clone, Copy)]
 pub struct FirstOrder {
     pub expansion: Expansion,
     pub states: Order,

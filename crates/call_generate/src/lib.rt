@@ -8,6 +8,8 @@
 //   put_remainders, remainder    the numbers that a state takes, each modulo n; the remainder by a multiplication
 //
 // n is the number of states and f the fan-out. The call, `generate`, asks for nothing.
+#![tactic(auto)]
+
 ghost use Rattle.std.specs.Prelude.{◌≡◌, ℕ, ◌+◌, ◌*◌, ◌/◌, ◌%◌, ◌^◌, ◌<◌, ◌≤◌, length, take};
 ghost use Rattle.model.specs.Sets.{WORDS, max_states};
 ghost use Rattle.basics.specs.Refusals.{refuse};
@@ -33,7 +35,7 @@ const INCREMENT: u32 = 2654435769;
 // The numbers of the largest load, LONG_LAG to start with and one for each of its successors, and what the last turn puts behind them.
 const NUMBERS: usize = LONG_LAG + MAX_STATES * MAX_FAN_OUT + SHORT_LAG;
 
-#[derive(Drop)]
+#[derive(Clone, Copy)]
 pub enum Generated {
     Filled,
     Refused(u8),

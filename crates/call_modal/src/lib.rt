@@ -6,6 +6,8 @@
 //   decide_modal                   the call
 //
 // The certain rows are those of the store; the possible ones are read where they are lent.
+#![tactic(auto)]
+
 ghost use Rattle.std.specs.Prelude.{◌≡◌, ◌≤◌, length, []};
 ghost use Rattle.model.specs.Sets.{max_states};
 ghost use Rattle.basics.specs.Refusals.{refuse};
@@ -29,7 +31,7 @@ pub const POSSIBLE_WORDS: usize = WORDS * MAX_STATES;
 // ---- a check, and a path
 
 // Whether a release check says safe, with its invariant, or the empty set.
-#[derive(Drop)]
+#[derive(Clone, Copy)]
 pub struct Checked {
     pub safe: bool,
     pub invariant: StateSet,
@@ -130,7 +132,7 @@ fn refusal_of(store: &[u64], n: usize, g: usize, possible: &[u64], room: usize) 
 
 // Safe with the number of states of the invariant, unsafe with the steps of the path, depends with both. `Refused` has the number of the
 // ground on which the call is refused.
-#[derive(Drop)]
+#[derive(Clone, Copy)]
 pub enum ModalVerdict {
     Safe { size: usize },
     Unsafe { steps: usize },
@@ -139,7 +141,7 @@ pub enum ModalVerdict {
 }
 
 // The verdict, with the invariant beside it, or the empty set where that is unsafe or the call is refused.
-#[derive(Drop)]
+#[derive(Clone, Copy)]
 pub struct ModalDecision {
     pub verdict: ModalVerdict,
     pub invariant: StateSet,

@@ -10,6 +10,8 @@
 //
 // What works on a table is lent its rows, and its sets by value; find_path asks that the table is well formed. The calls are lent a store, work out its
 // forbidden states once, and ask for nothing.
+#![tactic(auto)]
+
 ghost use Rattle.std.specs.Prelude.{◌≡◌, ◌≤◌, ◌<◌, length, set as replaced, []};
 ghost use Rattle.std.proofs.lemmas.List.Edits.{sets as replacedFrom};
 ghost use Rattle.model.specs.Sets.{max_states};
@@ -36,7 +38,7 @@ pub fn stepping_into(rows: &[u64], x: StateSet, y: StateSet) -> StateSet
 // ---- the shortest path
 
 // The steps of a shortest path, if there is one.
-#[derive(Drop)]
+#[derive(Clone, Copy)]
 pub enum PathFound {
     Steps(usize),
     Nothing,
@@ -151,7 +153,7 @@ pub fn steps_of(found: PathFound) -> usize
 }
 
 // What the call shortest path answers: d, none, or why it is refused.
-#[derive(Drop)]
+#[derive(Clone, Copy)]
 pub enum Shortest {
     Path { steps: usize },
     NoPath,
@@ -183,7 +185,7 @@ pub fn shortest_path(store: &[u64], n: usize, g: usize, path: &mut [u16]) -> Sho
 // ---- within
 
 // What the call within answers: yes, no, or why it is refused.
-#[derive(Drop)]
+#[derive(Clone, Copy)]
 pub enum WithinAnswer {
     Yes,
     No,

@@ -8,6 +8,8 @@
 //   minutes_to_open              the minutes until a window is open on a day that is not closed: jumps from midnight to midnight over closed
 //                                days, and over the least wait on any other, so that even the longest search takes some hundred turns
 //   next_open                    the call
+#![tactic(auto)]
+
 ghost use Rattle.std.specs.Prelude.{◌≡◌, ◌+◌, ◌^◌, ◌≤◌, ◌<◌, false, eqb};
 ghost use Rattle.basics.specs.Bounds.{first};
 ghost use Rattle.basics.specs.Refusals.{refuse};
@@ -30,7 +32,7 @@ const SPAN: usize = 655200;
 // A window's length stands above its start.
 const LENGTH_UNIT: u64 = 4294967296;
 
-#[derive(Drop)]
+#[derive(Clone, Copy)]
 pub enum NextOpen {
     Minute(u32),
     Never,

@@ -5,6 +5,8 @@
 //   Covered, coverage      whole percent and remainder of the states that can be reached
 //   replay_refusal         the first of the grounds 10, 14, 15, 17, 25 and 26 that holds, or 0
 //   Replayed, replay       the call
+#![tactic(auto)]
+
 ghost use Rattle.std.specs.Prelude.{◌≡◌, ◌+◌, ◌*◌, ◌≤◌, ◌<◌, length};
 ghost use Rattle.model.specs.Sets.{WORDS, max_states, member};
 ghost use Rattle.basics.specs.Refusals.{refuse};
@@ -49,7 +51,7 @@ fn holds_at(store: &[u64], at: usize, s: usize) -> bool
 }
 
 // What was followed of a log: how many entries, and the states that they hold.
-#[derive(Drop)]
+#[derive(Clone, Copy)]
 pub struct Walked {
     pub followed: usize,
     pub seen: StateSet,
@@ -83,7 +85,7 @@ fn follow(store: &[u64], log: &[u8]) -> Walked
     }
 }
 
-#[derive(Drop)]
+#[derive(Clone, Copy)]
 pub struct Covered {
     pub percent: usize,
     pub remainder: usize,
@@ -125,7 +127,7 @@ fn replay_refusal(store: &[u64], n: usize, g: usize, bytes: usize) -> u8
 }
 
 // What the call answers: the entries followed, the different states among them, and the coverage; or why it is refused.
-#[derive(Drop)]
+#[derive(Clone, Copy)]
 pub enum Replayed {
     Walk {
         followed: usize,

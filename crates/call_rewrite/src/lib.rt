@@ -3,6 +3,8 @@
 //
 //   rewrite          the new file at the front of the output and its length, or why the call is refused
 //   rest_dead_ends   the states without a successor put to rest, and no other
+#![tactic(auto)]
+
 ghost use Rattle.std.specs.Prelude.{◌≡◌, ◌≤◌, length};
 ghost use Rattle.model.specs.Stores.{store_words};
 ghost use Rattle.call_rewrite.specs.RewriteAnswers.{rested_store, CalledRewrite};

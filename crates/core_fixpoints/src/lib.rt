@@ -6,6 +6,8 @@
 //   steps_by_word, held_word_within, meet_hold_within
 //                                       the states that stay in a smaller set
 //   backward                            S, by the states that stay in it
+#![tactic(auto)]
+
 ghost use Rattle.std.specs.Prelude.{◌≡◌, ◌+◌, ◌≤◌, ◌<◌, length, get_or, set as replaced};
 ghost use Rattle.std.proofs.lemmas.List.Edits.{sets as replacedFrom};
 ghost use Rattle.model.specs.Sets.{WORDS, max_states, union, meet, difference, members, size};
@@ -40,7 +42,7 @@ fn cover_of(cover: &Rows, x: StateSet) -> StateSet
 pub type Order = [u16; MAX_STATES];
 
 // What was expanded so far: how many states, and the successors that they have.
-#[derive(Drop)]
+#[derive(Clone, Copy)]
 struct Expanded {
     count: usize,
     found: StateSet,
@@ -105,7 +107,7 @@ fn joining(cover: &Rows, z: StateSet, found: StateSet, r: StateSet) -> StateSet
 }
 
 // R, initial union post(R), and the states of R in the order in which they were expanded.
-#[derive(Drop)]
+#[derive(Clone, Copy)]
 pub struct Reached {
     pub r: StateSet,
     pub entered: StateSet,
@@ -145,7 +147,7 @@ pub fn forward(rows: &[u64], cover: &Rows, initial: StateSet, z: StateSet) -> Re
 // ---- S
 
 // S, and S meet hold(S).
-#[derive(Drop)]
+#[derive(Clone, Copy)]
 pub struct Remaining {
     pub s: StateSet,
     pub next: StateSet,

@@ -2,6 +2,8 @@
 //
 //   newly_reached      the next layer: the successors of a layer that are not reached yet
 //   reached            all states that a set reaches, itself included
+#![tactic(auto)]
+
 ghost use Rattle.std.specs.Prelude.{◌≡◌, ◌≤◌, length};
 ghost use Rattle.model.specs.Sets.{difference};
 ghost use Rattle.model.specs.Promises.{IsLeast};

@@ -1,5 +1,6 @@
 // Generated from include/shuntberry.h: do not edit. The numbers of the refusals, by the header's names. The definitions have the numbers
 // themselves, as the specification says them: where one differs, each proof falls that it stands in.
+#![tactic(auto)]
 
 pub const STORE_SHORT: u8 = 10;
 

@@ -6,6 +6,8 @@
 //
 // Each piece asks for the room that its longest text takes, and says that its text takes no more. All numbers are of 16 bits, as a path's
 // entries are, so each takes five bytes at most, and a state with the space before it six.
+#![tactic(auto)]
+
 ghost use Rattle.std.specs.Prelude.{◌+◌, ◌*◌, ◌≤◌, ◌<◌, cond, [], ◌∷◌, ◌++◌, eqb, length};
 ghost use Rattle.model.specs.Sets.{max_states, member, members};
 ghost use Rattle.model.specs.Stores.{max_groups};

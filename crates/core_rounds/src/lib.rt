@@ -4,6 +4,8 @@
 //   next_added                          the set that is added to the list next
 //   conclude                            what a round comes to
 //   run                                 the rounds, and the cover: a row of words for each state, narrowed as a set is added to the list
+#![tactic(auto)]
+
 ghost use Rattle.std.specs.Prelude.{◌≡◌, ◌≤◌, length};
 ghost use Rattle.model.specs.Tables.{not_forbidden};
 ghost use Rattle.model.specs.Rounds.{run as run·model};
@@ -22,7 +24,7 @@ use core_table::set_at;
 pub const MAX_ALLOWANCE: usize = MAX_STATES;
 
 // How the rounds end, with the count of refinements.
-#[derive(Drop)]
+#[derive(Clone, Copy)]
 pub enum Ending {
     Safe(usize),
     Unsafe(usize),
@@ -30,7 +32,7 @@ pub enum Ending {
 }
 
 // The ending, with R beside it where that is safe and the empty set where it is not.
-#[derive(Drop)]
+#[derive(Clone, Copy)]
 pub struct Ended {
     pub ending: Ending,
     pub invariant: StateSet,
@@ -55,7 +57,7 @@ fn next_added(groups: &[u64], j: usize, z: StateSet) -> StateSet
 }
 
 // What a round comes to: safe (step 2), unsafe (step 4), or neither.
-#[derive(Drop)]
+#[derive(Clone, Copy)]
 pub enum Conclusion {
     Safe,
     Unsafe,
@@ -63,7 +65,7 @@ pub enum Conclusion {
 }
 
 // The conclusion, with R beside it where that is safe, the next Z where it is open, and the empty set where it is unsafe.
-#[derive(Drop)]
+#[derive(Clone, Copy)]
 pub struct Concluded {
     pub conclusion: Conclusion,
     pub set: StateSet,

@@ -9,6 +9,8 @@
 //
 // What works on a table is lent its parts: the rows (`&store[ROWS_AT..]`, or possible steps as they are lent), the
 // groups (`&store[GROUPS_AT..]`), and sets by value. Functions ask for rows, or for a store, that are long enough.
+#![tactic(auto)]
+
 ghost use Rattle.std.specs.Prelude.{◌≡◌, ◌≤◌, ◌<◌, length, get_or, []};
 ghost use Rattle.model.specs.Sets.{WORDS, max_states, union, subset, image};
 ghost use Rattle.model.specs.Tables.{hangs as hangs·model};

@@ -8,6 +8,8 @@
 //   count, smallest                                 the number of states; the least of them
 //
 // Each contract is an equality with the model's definition of the same thing.
+#![tactic(auto)]
+
 ghost use Rattle.std.specs.Prelude.{◌≡◌, min, ◌-◌, ◌^◌};
 ghost use Rattle.model.specs.Sets.{member, empty, single, union, meet, difference, subset, same, meets, first_states, size, smallest};
 
@@ -19,7 +21,7 @@ pub const WORD_BITS: usize = 64;
 // As many as a set can hold.
 pub const MAX_STATES: usize = WORD_BITS * WORDS;
 
-#[derive(Drop)]
+#[derive(Clone, Copy)]
 pub struct StateSet {
     pub words: [u64; WORDS],
 }

@@ -7,6 +7,8 @@
 //   refusal                      the first of the grounds 10, 14, 15 and 17 that holds, or 0
 //
 // Functions below the calls ask for a store that is long enough; `refusal` asks for nothing.
+#![tactic(auto)]
+
 ghost use Rattle.std.specs.Prelude.{◌≡◌, ◌+◌, ◌*◌, ◌≤◌, not, ◌&&◌, eqb, length};
 ghost use Rattle.basics.specs.Bounds.{any};
 ghost use Rattle.model.specs.Sets.{WORDS, max_states};

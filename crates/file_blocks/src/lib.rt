@@ -14,6 +14,8 @@
 //   lanes_sum, wide_lane                     the weighted sum that two rows stand for; a lane as a 32-bit number
 //   set_width, set_count                     the bytes of a set, and how many sets there are
 //   content_length, blocks_for               the bytes of the contents (L), and the blocks that hold so many
+#![tactic(auto)]
+
 ghost use Rattle.std.specs.Prelude.{◌+◌, ◌*◌, ◌≤◌, ◌<◌, ◌≡◌, length, take, drop};
 ghost use Rattle.model.specs.Sets.{max_states};
 ghost use Rattle.model.specs.Stores.{head_sets, max_groups};
@@ -56,7 +58,7 @@ const MODULUS: u32 = 65521;
 pub const MAX_SITE: usize = MODULUS as usize - 1;
 
 // The old form has no resting states.
-#[derive(Drop)]
+#[derive(Clone, Copy)]
 pub enum Form {
     Old,
     New,

@@ -4,6 +4,8 @@
 //   non_zero_byte                        ground 18
 //   fill, fill_sets, fill_set            the table put into the store: its three parts; the sets of a part; one set
 //   word_in                              a word of a set in the contents
+#![tactic(auto)]
+
 ghost use Rattle.std.specs.Prelude.{◌≡◌, ◌+◌, ◌*◌, ◌≤◌, ◌<◌, length, get_or};
 ghost use Rattle.basics.specs.Bounds.{any, concat};
 ghost use Rattle.model.specs.Sets.{WORDS, max_states, meet};

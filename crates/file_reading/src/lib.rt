@@ -4,6 +4,8 @@
 //   read_old, read_as                the same of a file of the old form, and of either
 //   read_file, read_contents         the same of an input that has bytes, and of contents: each looks at its own grounds
 //   join_blocks, block_fault         the contents of the blocks joined, each once it is checked; the grounds of one block, on its own 512 bytes
+#![tactic(auto)]
+
 ghost use Rattle.std.specs.Prelude.{◌≡◌, ◌*◌, ◌/◌, ◌≤◌, ◌<◌, length};
 ghost use Rattle.basics.specs.Refusals.{refuse};
 ghost use Rattle.model.specs.Stores.{store_words};
@@ -24,7 +26,7 @@ use file_blocks::{
 };
 use file_contents_reading::{any_content_beyond, fill, non_zero_byte};
 
-#[derive(Drop)]
+#[derive(Clone, Copy)]
 pub enum TableRead {
     // n and g of the table.
     Table { n: usize, g: usize },

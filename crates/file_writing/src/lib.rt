@@ -5,6 +5,8 @@
 //   write_blocks, write_block      the first so many blocks; one block: its number, its content, its check
 //
 // What is written is said with the model's `overwrite`: at the front of what was lent, the rest of it untouched.
+#![tactic(auto)]
+
 ghost use Rattle.std.specs.Prelude.{◌+◌, ◌*◌, ◌≤◌, ◌<◌, ◌≡◌, length};
 ghost use Rattle.model.specs.Sets.{max_states};
 ghost use Rattle.basics.specs.Bounds.{concat};
@@ -23,7 +25,7 @@ use file_blocks::{
 };
 use file_contents_writing::{join_contents, write_le16};
 
-#[derive(Drop)]
+#[derive(Clone, Copy)]
 pub enum Written {
     // The length of the file.
     File(usize),

@@ -3,6 +3,8 @@
 //   main          reads, calls and writes
 //   put_answer    what is printed for an input, by how reading it ended
 //   put_text      what is printed for a file, put into a lent buffer; the answer is its length
+#![tactic(auto)]
+
 ghost use Rattle.std.specs.Prelude.{◌≤◌, length};
 ghost use Rattle.core_report.specs.Put.{text_room, Front};
 ghost use Rattle.call_check.specs.CheckText.{check_text};

@@ -9,6 +9,8 @@
 //   say_refused      what is said where the load is refused
 //
 // A program has no status of its own: where anything goes wrong it says so on standard error.
+#![tactic(auto)]
+
 ghost use Rattle.std.specs.Prelude.{◌≡◌, ◌≤◌, min, length};
 ghost use Rattle.model.specs.Files.{max_file};
 ghost use Rattle.file_writing.specs.WriteAnswers.{written_of};
@@ -65,7 +67,7 @@ fn usage() {
 
 // ---- words
 
-#[derive(Drop)]
+#[derive(Clone, Copy)]
 pub enum Word {
     Number(usize),
     Other,

@@ -5,6 +5,8 @@
 //   Reading, read_more         one read, and the state of reading after it
 //   after_read                 that state, from the number that C's read returned
 //   input_room                 where the file is read into
+#![tactic(auto)]
+
 ghost use Rattle.std.specs.Prelude.{◌≡◌, ◌+◌, ◌<◌, length};
 ghost use Rattle.model.specs.Files.{max_file};
 ghost use Rattle.program_input.specs.Reads.{after_read, OneRead, Within, text_of};
@@ -17,7 +19,7 @@ const INPUT: usize = MAX_FILE + 1;
 
 // How reading ended: the input ended after so many bytes, before the room was full; the room is full; or a read failed.
 // Only an input that ended has a number, so that a full room is taken whole, and nothing is taken of an input that failed.
-#[derive(Drop)]
+#[derive(Clone, Copy)]
 pub enum Input {
     Ended(usize),
     Full,
@@ -25,7 +27,7 @@ pub enum Input {
 }
 
 // The first so many bytes of the room; or no text, which no program takes for one.
-#[derive(Drop)]
+#[derive(Clone, Copy)]
 pub enum Text {
     Bytes(usize),
     Nothing,
@@ -59,7 +61,7 @@ pub fn read_input(room: &mut [u8]) -> Input
 }
 
 // The state of reading: so many bytes are there, and there is room for more; or how reading ended.
-#[derive(Drop)]
+#[derive(Clone, Copy)]
 enum Reading {
     More(usize),
     Stopped(Input),

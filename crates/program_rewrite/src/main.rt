@@ -7,6 +7,8 @@
 //   put_text      what is written for a file, put into a lent buffer; the answer is its length
 //
 // A program has no status of its own: where reading or writing fails it says so on standard error.
+#![tactic(auto)]
+
 ghost use Rattle.std.specs.Prelude.{◌≡◌, ◌≤◌, length};
 ghost use Rattle.model.specs.Files.{max_file};
 ghost use Rattle.core_report.specs.Put.{Front};

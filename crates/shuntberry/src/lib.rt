@@ -1,4 +1,6 @@
 // The calls for C (include/shuntberry.h). Each only calls the call of the same name and lays its answer out as C reads it (`shuntberry_fields`).
+#![tactic(auto)]
+
 ghost use Rattle.std.specs.Prelude.{◌≡◌, length};
 ghost use Rattle.model.specs.Sets.{empty};
 ghost use Rattle.model.specs.Calls.{decide_answer, decide_buffer, shortest_answer, shortest_buffer, read_answer, read_buffer, write_answer, write_buffer};

@@ -3,6 +3,8 @@
 //
 //   lay_out_CALL                          the fields of an answer or a refusal; of distances and generate the refusal alone, or 0
 //   refused_decision, refused_modal       those of a refusal
+#![tactic(auto)]
+
 ghost use Rattle.std.specs.Prelude.{◌≡◌, ◌≤◌};
 ghost use Rattle.basics.specs.Refusals.{refused};
 ghost use Rattle.model.specs.Sets.{max_states};
@@ -50,7 +52,7 @@ const NO_MINUTE: u32 = 4_294_967_295;
 // ---- decide
 
 #[repr(C)]
-#[derive(Drop)]
+#[derive(Clone, Copy)]
 pub struct DecisionFields {
     pub invariant: [u64; WORDS],
     pub refusal: u32,
@@ -119,7 +121,7 @@ pub fn lay_out_decision(answer: Decision) -> DecisionFields
 
 // `file_refusal` is the number with which read refuses the file.
 #[repr(C)]
-#[derive(Drop)]
+#[derive(Clone, Copy)]
 pub struct CheckedFields {
     pub length: usize,
     pub n: usize,
@@ -171,7 +173,7 @@ pub fn lay_out_check(answer: Checked) -> CheckedFields
 // ---- shortest path
 
 #[repr(C)]
-#[derive(Drop)]
+#[derive(Clone, Copy)]
 pub struct ShortestFields {
     pub refusal: u32,
     pub found: u32,
@@ -216,7 +218,7 @@ pub fn lay_out_distances(answer: DistancesAnswer) -> u32
 // ---- within
 
 #[repr(C)]
-#[derive(Drop)]
+#[derive(Clone, Copy)]
 pub struct WithinFields {
     pub refusal: u32,
     pub within: u32,
@@ -244,7 +246,7 @@ pub fn lay_out_within(answer: WithinAnswer) -> WithinFields
 // ---- read
 
 #[repr(C)]
-#[derive(Drop)]
+#[derive(Clone, Copy)]
 pub struct TableFields {
     pub refusal: u32,
     pub n: u32,
@@ -272,7 +274,7 @@ pub fn lay_out_table(answer: TableRead) -> TableFields
 // ---- write
 
 #[repr(C)]
-#[derive(Drop)]
+#[derive(Clone, Copy)]
 pub struct FileFields {
     pub refusal: u32,
     pub length: u32,
@@ -308,7 +310,7 @@ pub fn lay_out_generated(answer: Generated) -> u32
 // ---- replay
 
 #[repr(C)]
-#[derive(Drop)]
+#[derive(Clone, Copy)]
 pub struct ReplayFields {
     pub refusal: u32,
     pub followed: u32,
@@ -348,13 +350,13 @@ pub fn lay_out_replay(answer: Replayed) -> ReplayFields
 
 // The set that is handed in, by value.
 #[repr(C)]
-#[derive(Drop)]
+#[derive(Clone, Copy)]
 pub struct SetFields {
     pub words: [u64; WORDS],
 }
 
 #[repr(C)]
-#[derive(Drop)]
+#[derive(Clone, Copy)]
 pub struct SessionFields {
     pub reachable: [u64; WORDS],
     pub refusal: u32,
@@ -383,7 +385,7 @@ pub fn lay_out_session(answer: Session) -> SessionFields
 // ---- decide, with possible steps
 
 #[repr(C)]
-#[derive(Drop)]
+#[derive(Clone, Copy)]
 pub struct ModalFields {
     pub invariant: [u64; WORDS],
     pub refusal: u32,
@@ -441,7 +443,7 @@ pub fn lay_out_modal(answer: ModalDecision) -> ModalFields
 // ---- next open minute
 
 #[repr(C)]
-#[derive(Drop)]
+#[derive(Clone, Copy)]
 pub struct MinuteFields {
     pub refusal: u32,
     pub never: u32,

@@ -1,6 +1,8 @@
 // Decide beside a graph search that has nothing in common with it: forward from the initial states, one state at a time, by a queue.
 // Printed is how many generated tables of each verdict there were, and in how many the two agree in verdict and in the length of the path;
 // at last a digest of decide's answers, whole. tests/expected/programs.py makes the same tables anew and works out what this must print.
+#![tactic(auto)]
+
 use call_decide::{Decision, Verdict, decide};
 use core_rounds::MAX_ALLOWANCE;
 use core_state_set::{MAX_STATES, StateSet, WORD_BITS, WORDS};

@@ -1,6 +1,8 @@
 // Tables A to H of the specification, some of them with states resting or no longer marked, and a ninth (which tells a list that is replaced from
 // one that is added to) through the call decide, with allowances 0, 1, 2, 3 and the greatest; then refusals, their order and their edges.
 // tests/expected/programs.py works out what this must print, from its text.
+#![tactic(auto)]
+
 use call_decide::{Decision, Verdict, decide};
 use core_rounds::MAX_ALLOWANCE;
 use core_state_set::MAX_STATES;

@@ -5,6 +5,8 @@
 // Places in the file of E, of one block: number 0 1, n 2 3, the second number 4 5, initial set 6, marked set 7, resting set 8, rows 9 10 11,
 // filler 12 to 509, check 510 511. In that of a full block the resting set has 22 to 29 and the last row ends at 509, so that nothing is filler.
 // That of H has a second block: last row 514 to 521, filler 522 to 1021. With a group, which has 30 to 37, last row 522 to 529, filler 530 to 1021.
+#![tactic(auto)]
+
 ghost use Rattle.std.specs.Prelude.{◌*◌, ◌^◌, ◌<◌};
 
 use core_state_set::MAX_STATES;

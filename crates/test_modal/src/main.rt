@@ -1,6 +1,8 @@
 // Tables with certain and possible steps through the call decide_modal: some of the specification's with a step more that is only possible, hangs by
 // either kind of steps, a corridor; then refusals, their order and their edges. The possible steps are the rows of a second store.
 // tests/expected/programs.py works out what this must print: it looks at every choice.
+#![tactic(auto)]
+
 use call_modal::{ModalDecision, ModalVerdict, POSSIBLE_WORDS, decide_modal};
 use core_state_set::{MAX_STATES, WORDS};
 use core_table::{MAX_GROUPS, ROWS_AT, STORE_WORDS};

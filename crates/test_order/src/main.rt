@@ -1,6 +1,8 @@
 // The order in which the first round expands the states that it reaches: tables with circles, with groups, with nothing initial, without
 // states, with a hang, a corridor whose states the groups tell apart, and refusals. tests/expected/programs.py works out what this must print, from the
 // specification's text.
+#![tactic(auto)]
+
 ghost use Rattle.std.specs.Prelude.{◌/◌, ◌<◌};
 ghost use Rattle.model.specs.Sets.{max_states};
 ghost use Rattle.model.specs.Stores.{max_groups};

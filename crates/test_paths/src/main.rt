@@ -1,6 +1,8 @@
 // Runs the call shortest path on tables built here and prints what it answers, the states at the front of the path buffer, and whether the
 // rest of the buffer is as before; then the calls distances and within, with every place of the distance buffer. The stored output was
 // written by tests/expected/paths.py, a breadth-first search from the initial states made from the specification's text alone.
+#![tactic(auto)]
+
 use call_distances::{DistancesAnswer, distances};
 use call_paths::{Shortest, WithinAnswer, shortest_path, within};
 use core_state_set::MAX_STATES;

@@ -17,6 +17,8 @@
 //                                             a number that stands for what was taken into it, so that one number tells all of it
 //
 // Each function asks for nothing, so that the programs need hardly any proofs of their own. What does not fit is left out, and said.
+#![tactic(auto)]
+
 mod generated;
 
 ghost use Rattle.std.specs.Prelude.{◌<◌};

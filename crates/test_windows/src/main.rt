@@ -1,5 +1,7 @@
 // Asks for the next open minute and prints the answers. The stored output was written by tests/expected/windows.py, which looks at one minute
 // after the other on a calendar.
+#![tactic(auto)]
+
 use call_release_windows::{MAX_TIME, NextOpen, next_open};
 use libc::STDOUT_FILENO;
 

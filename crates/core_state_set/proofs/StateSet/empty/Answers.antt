@@ -2,9 +2,8 @@
 use mathlib.Core.Path.{refl}
 use Rattle.basics.specs.Bounds.{tabulate}
 use Rattle.model.specs.Sets.{number, set_of, empty}
-use Rattle.core_state_set.proofs.StateSet.empty.Statement.{statement}
-use Rattle.core_state_set.proofs.StateSet.empty.Tie as tie
+use Rattle.core_state_set.proofs.StateSet.empty.Goals as goal
 
-pub empty-spec : {M : Type 1} → statement M
+pub returns : goal.returns
 unfolding empty set_of tabulate number
-empty-spec = tie.close (tie.spec (λ c. refl))
+returns c = refl

@@ -1,0 +1,303 @@
+#!/usr/bin/env python3
+"""Turns the proofs by the walk (proofs/F/Proof.antt) of a crate into Invariants.antt and Answers.antt.
+
+usage: tools/answers.py CRATE NAMES.json [FUNCTION..]
+
+NAMES.json is what `rt check --generated FOLDER --old-names` wrote in the crate. An answer keeps its term; the paths in it are
+those of today. An answer that is `search rules` alone is left out, since the check tries that itself, but where the old proof
+had an `unfolding` line. What it could not turn is printed as 'look:'. Proof.antt is moved to /tmp/old-proofs/CRATE/F.antt.
+"""
+
+import json
+import os
+import re
+import shutil
+import sys
+
+WORD = r"[^\s(){}\[\],;:]+"
+
+
+def spaced(n):
+    return n.replace("-", "_")
+
+
+def groups(text, at):
+    """The arguments of a call from `at` on: each an identifier or a bracketed group, until the bracket that closes."""
+    out, i = [], at
+    while True:
+        while i < len(text) and text[i].isspace():
+            i += 1
+        if i >= len(text) or text[i] == ")":
+            return out, i
+        if text[i] == "(":
+            depth, j = 0, i
+            while True:
+                if text[j] in "([{":
+                    depth += 1
+                elif text[j] in ")]}":
+                    depth -= 1
+                    if depth == 0:
+                        break
+                j += 1
+            out.append(text[i : j + 1])
+            i = j + 1
+        else:
+            j = i
+            while j < len(text) and not text[j].isspace() and text[j] not in "()":
+                j += 1
+            out.append(text[i:j])
+            i = j
+
+
+class Function:
+    def __init__(self, name, info):
+        self.name, self.info = name, info
+        self.places = {}
+        for old, parent, step, callee, more in info["places"]:
+            self.places[spaced(old)] = (parent and spaced(parent), step, callee, more)
+        self.looks = []
+
+    def path(self, place, parts):
+        """A path from the record at a place, in today's words: the fields that follow `c`."""
+        p = place
+        while parts and parts[0] == "before":
+            if p not in self.places or self.places[p][0] is None:
+                self.looks.append("no place before " + str(p))
+                return None, parts
+            p = self.places[p][0]
+            parts = parts[1:]
+        if not parts:
+            return p, []
+        step = self.places[p][1]
+        first = parts[0]
+        if spaced(first) == spaced(step[0]) or spaced(first) == spaced(step[1]):
+            return p, [step[1]] + parts[1:]
+        # a step of a place above, named without `.before`
+        q = self.places[p][0]
+        while q is not None:
+            s = self.places[q][1]
+            if s[0] and spaced(first) == spaced(s[0]):
+                return q, [s[1]] + parts[1:]
+            q = self.places[q][0]
+        return p, parts
+
+    def turn(self, body, place, var="c"):
+        """The paths of a term in today's words."""
+        known = {var: place}
+        # lets that only name a place
+        while True:
+            m = re.search(r"let (\w+) = ((?:\w+)(?:\.before)*) in\s*", body)
+            hit = None
+            for m in re.finditer(r"let ([\w']+) = ([\w']+)((?:\.before)*) in\s*", body):
+                if m[2] in known:
+                    hit = m
+                    break
+            if hit is None:
+                break
+            p, _ = self.path(known[hit[2]], ["before"] * hit[3].count(".before"))
+            known[hit[1]] = p
+            body = body[: hit.start()] + body[hit.end() :]
+
+        def swap(m):
+            parts = m[0].split(".")
+            head = parts[0]
+            if head not in known or known[head] is None:
+                return m[0]
+            _, rest = self.path(known[head], parts[1:])
+            return ".".join(["c"] + rest)
+
+        names = "|".join(re.escape(it) for it in known)
+        return re.sub(r"(?<![\w.'-])(?:" + names + r")(?:\.[\w'-]+)*(?![\w'-])", swap, body)
+
+
+def parse_lambda(group):
+    m = re.match(r"\(\s*λ ([^.]*?)\.\s*", group, re.S)
+    if not m:
+        return None, group
+    return m[1].split(), group[m.end() : -1].strip()
+
+
+def invariant(loop, changed, params, body):
+    names = loop[1]
+    first = list(zip(params[: len(names)], names))
+    second = list(zip(params[len(names) :], [n for n, c in zip(names, changed) if c]))
+    to = {}
+    for (p, n), c in zip(first, changed):
+        to[p] = f"l.initial.{n}" if c else f"l.{n}"
+    for p, n in second:
+        to[p] = f"l.{n}"
+    pat = "|".join(re.escape(it) for it in sorted(to, key=len, reverse=True))
+    return re.sub(r"(?<![\w.'₀-])(" + pat + r")(?![\w'₀-])", lambda m: to[m[1]], body)
+
+
+def split_file(text):
+    """The head comment, the use lines, and the declarations."""
+    lines = text.split("\n")
+    i = 0
+    while i < len(lines) and (lines[i].startswith("--") or lines[i].startswith("use ") or lines[i].strip() == "" ):
+        if lines[i].startswith("--") and i > 0 and any(it.startswith("use ") for it in lines[:i]):
+            break
+        i += 1
+    head = [it for it in lines[:i] if it.startswith("--")]
+    uses = [it for it in lines[:i] if it.startswith("use ")]
+    decls, now = [], []
+    for line in lines[i:]:
+        if line.strip() == "" and now and not now[-1].startswith("--"):
+            decls.append("\n".join(now))
+            now = []
+        elif line.strip() != "":
+            now.append(line)
+    if now:
+        decls.append("\n".join(now))
+    return head, uses, decls
+
+
+def indent(body):
+    lines = body.split("\n")
+    if len(lines) == 1:
+        return body
+    return "\n    " + "\n".join(["" + lines[0]] + lines[1:])
+
+
+def convert(crate, folder, fn, info):
+    path = os.path.join(folder, "Proof.antt")
+    text = open(path, encoding="utf-8").read()
+    f = Function(fn, info)
+    head, uses, decls = split_file(text)
+    uses = [u for u in uses if ".Statement." not in u and not u.endswith(" as tie")]
+    spec = [d for d in decls if "tie.spec" in d]
+    if len(spec) != 1:
+        return f"look: {path}: no tie.spec"
+    spec = spec[0]
+    others = [d for d in decls if d is not spec]
+    unfolding = re.search(r"^unfolding (.*)$", spec, re.M)
+    unfolding = unfolding[1] if unfolding else None
+    args, _ = groups(spec, spec.index("tie.spec") + len("tie.spec"))
+    loops = info["loops"]
+    n = len(info["needs"])
+    lead = args[: len(args) - n]
+    answers = args[len(args) - n :]
+    said = []
+    if len(lead) != 2 * len(loops):
+        said.append(f"{len(args)} arguments for {len(loops)} loops and {n} goals")
+        if len(args) < n:
+            return f"look: {path}: {said[0]}"
+    inv_out, ans_out = [], []
+    # invariants and measures, which are declarations of their own or written in place
+    declared = {}
+    rest = []
+    for d in others:
+        m = re.search(r"^abbrev (\S+) : tie\.(invariant|decreases)-\S+\n\1 (.*?)=(.*)\Z", d, re.S | re.M)
+        if m:
+            declared[m[1]] = (m[3].split(), m[4].strip(), d[: m.start()].strip())
+        else:
+            rest.append(d)
+    for k, (loop, changed) in enumerate(zip(loops, info["changed"])):
+        for j, kind in enumerate(("invariant", "decreases")):
+            if 2 * k + j >= len(lead):
+                continue
+            word = lead[2 * k + j]
+            if word in declared:
+                params, body, note = declared[word]
+            else:
+                params, body = parse_lambda(word)
+                note = ""
+                if params is None:
+                    said.append(f"cannot read {word}")
+                    continue
+            new = loop[0][1]
+            count = len(loop[1]) + sum(changed)
+            if len(params) != count:
+                said.append(f"{kind} of {new} has {len(params)} parameters, not {count}")
+            turned = invariant(loop, changed, params, body)
+            is_for = new.startswith("loop-") and re.fullmatch(r"WORDS - w|.* - .*|.*", body) is not None
+            if kind == "decreases" and ("-", new) and FORS.get((fn, new), False):
+                continue
+            entry = (note + "\n" if note else "") + f"abbrev pub {kind}-{new} : goal.{kind}-{new}\n{kind}-{new} l ={' ' if chr(10) not in turned else chr(10) + '    '}{turned}\n"
+            inv_out.append(entry)
+    # local declarations: those that invariants use go beside them
+    names_of = lambda d: re.findall(r"^(?:abbrev |pub |unfoldable )*(\S+) :", d, re.M)[:1]
+    in_inv = []
+    changed_any = True
+    used = "\n".join(inv_out)
+    while changed_any:
+        changed_any = False
+        for d in rest:
+            if d in in_inv:
+                continue
+            nm = names_of(d)
+            if nm and re.search(r"(?<![\w.'-])" + re.escape(nm[0]) + r"(?![\w'-])", used):
+                in_inv.append(d)
+                used += "\n" + d
+                changed_any = True
+    local_names = []
+    pub = []
+    for d in rest:
+        if d in in_inv:
+            nm = names_of(d)[0]
+            local_names.append(nm)
+            d = re.sub(r"^(abbrev )?(?=" + re.escape(nm) + " :)", lambda m: (m[1] or "") + "pub ", d, count=1, flags=re.M)
+            pub.append(d)
+    rest = [d for d in rest if d not in in_inv]
+    for d in rest:
+        if "tie." in d:
+            said.append("a declaration cites tie: " + (names_of(d) or ["?"])[0])
+    for (old, new), group, asked in zip(info["needs"], answers, info["asked_at"]):
+        params, body = parse_lambda(group)
+        if params is None:
+            said.append(f"{new}: cannot read {group}")
+            continue
+        var = params[0]
+        trivial = re.sub(r"\s+", " ", body) == "search rules"
+        if trivial and (not unfolding or re.match(r"overflow|offset|bounds|slice_bounds|loop-.*-smaller|nonzero", new)):
+            continue
+        turned = f.turn(body, spaced(asked[0]), var)
+        ans_out.append(
+            f"pub {new} : goal.{new}\n"
+            + (f"unfolding {unfolding}\n" if unfolding else "")
+            + f"{new} c ="
+            + (" " + turned if "\n" not in turned else "\n    " + turned)
+            + "\n"
+        )
+    said += f.looks
+    full = f"Rattle.{crate}.proofs.{fn}"
+    if inv_out:
+        with open(os.path.join(folder, "Invariants.antt"), "w", encoding="utf-8") as out:
+            out.write("\n".join(head + uses + [f"use {full}.Given as goal", ""]) + "\n" + "\n".join([p + "\n" for p in pub] + inv_out))
+    if ans_out:
+        more = [f"use {full}.Invariants.{{{', '.join(local_names)}}}"] if local_names else []
+        with open(os.path.join(folder, "Answers.antt"), "w", encoding="utf-8") as out:
+            out.write("\n".join((head if not inv_out else head) + uses + more + [f"use {full}.Goals as goal", ""]) + "\n" + "\n".join([d + "\n" for d in rest] + ans_out))
+    kept = os.path.join("/tmp/old-proofs", crate, fn + ".antt")
+    os.makedirs(os.path.dirname(kept), exist_ok=True)
+    shutil.move(path, kept)
+    return "".join(f"look: {path}: {it}\n" for it in said)
+
+
+FORS = {}
+
+
+def main(words):
+    crate, names = words[0], json.load(open(words[1], encoding="utf-8"))
+    only = words[2:]
+    top = os.path.join("crates", crate, "proofs")
+    for folder, dirs, files in os.walk(top):
+        if "Proof.antt" not in files:
+            continue
+        fn = os.path.relpath(folder, top).replace("/", ".")
+        if only and fn not in only:
+            continue
+        key = f"Rattle-{crate}-proofs.{fn}.Lts"
+        if key not in names:
+            print(f"look: {fn}: no names")
+            continue
+        # the variable of a `for` counts by itself: no measure is asked for
+        for (old, new), _ in names[key]["loops"]:
+            FORS[(fn, new)] = any(it[1] == "overflow_step-" + new[len("loop-") :] for it in names[key]["needs"])
+        said = convert(crate, folder, fn, names[key])
+        if said:
+            print(said.rstrip())
+
+
+if __name__ == "__main__":
+    main(sys.argv[1:])
