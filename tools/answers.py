@@ -50,43 +50,23 @@ def groups(text, at):
 
 
 class Function:
+    """The steps of a function, by the names that they had in a proof by the walk."""
+
     def __init__(self, name, info):
         self.name, self.info = name, info
-        self.places = {}
+        self.steps = {}
         for old, parent, step, callee, more in info["places"]:
-            self.places[spaced(old)] = (parent and spaced(parent), step, callee, more)
-        self.looks = []
+            if step[0]:
+                self.steps.setdefault(spaced(step[0]), step[1])
+        self.args = {}
+        for old, new in info["args"]:
+            if old.startswith(".args .") and new.startswith(".args ."):
+                self.args[old[len(".args .") :]] = new[len(".args .") :]
 
-    def path(self, place, parts):
-        """A path from the record at a place, in today's words: the fields that follow `c`."""
-        p = place
-        while parts and parts[0] == "before":
-            if p not in self.places or self.places[p][0] is None:
-                self.looks.append("no place before " + str(p))
-                return None, parts
-            p = self.places[p][0]
-            parts = parts[1:]
-        if not parts:
-            return p, []
-        step = self.places[p][1]
-        first = parts[0]
-        if spaced(first) == spaced(step[0]) or spaced(first) == spaced(step[1]):
-            return p, [step[1]] + parts[1:]
-        # a step of a place above, named without `.before`
-        q = self.places[p][0]
-        while q is not None:
-            s = self.places[q][1]
-            if s[0] and spaced(first) == spaced(s[0]):
-                return q, [s[1]] + parts[1:]
-            q = self.places[q][0]
-        return p, parts
-
-    def turn(self, body, place, var="c"):
-        """The paths of a term in today's words."""
-        known = {var: place}
-        # lets that only name a place
+    def turn(self, body, var="c"):
+        """The paths of a term in today's words: a step is a field of `c`, wherever it stands."""
+        known = {var}
         while True:
-            m = re.search(r"let (\w+) = ((?:\w+)(?:\.before)*) in\s*", body)
             hit = None
             for m in re.finditer(r"let ([\w']+) = ([\w']+)((?:\.before)*) in\s*", body):
                 if m[2] in known:
@@ -94,20 +74,62 @@ class Function:
                     break
             if hit is None:
                 break
-            p, _ = self.path(known[hit[2]], ["before"] * hit[3].count(".before"))
-            known[hit[1]] = p
+            known.add(hit[1])
             body = body[: hit.start()] + body[hit.end() :]
 
         def swap(m):
             parts = m[0].split(".")
-            head = parts[0]
-            if head not in known or known[head] is None:
+            if parts[0] not in known:
                 return m[0]
-            _, rest = self.path(known[head], parts[1:])
+            rest = [it for it in parts[1:] if it != "before"]
+            if rest and spaced(rest[0]) in self.steps:
+                rest[0] = self.steps[spaced(rest[0])]
+            elif len(rest) > 1 and rest[0] in ("args", "ranges", "fits") and rest[1] in self.args:
+                rest[1] = self.args[rest[1]]
+            if len(rest) > 1 and rest[1] == "inv":
+                rest[1] = "invariant"
+            if rest and rest[0] == "fits":
+                rest[0] = "ranges"
             return ".".join(["c"] + rest)
 
-        names = "|".join(re.escape(it) for it in known)
+        names = "|".join(re.escape(it) for it in sorted(known, key=len, reverse=True))
         return re.sub(r"(?<![\w.'-])(?:" + names + r")(?:\.[\w'-]+)*(?![\w'-])", swap, body)
+
+
+def aligned(answers, needs):
+    """The answer of each goal: an older check asked for some more, which `search rules` answered."""
+    more = len(answers) - len(needs)
+    if more < 0:
+        return None
+
+    def fits(answer, need):
+        takes = len(answer[0]) > 1
+        return takes == bool(re.search(r"requires(-|$)", need[1]))
+
+    best = {}
+
+    def go(i, j):
+        if j == len(needs):
+            return (0, []) if all(it[2] for it in answers[i:]) else None
+        if i == len(answers):
+            return None
+        if (i, j) in best:
+            return best[i, j]
+        found = None
+        rest = go(i + 1, j + 1)
+        if rest is not None:
+            cost = 0 if fits(answers[i], needs[j]) else 5
+            found = (rest[0] + cost, [i] + rest[1])
+        if answers[i][2]:
+            rest = go(i + 1, j)
+            if rest is not None and (found is None or rest[0] < found[0]):
+                found = rest
+        best[i, j] = found
+        return found
+
+    sys.setrecursionlimit(10000)
+    got = go(0, 0)
+    return got and [answers[i] for i in got[1]]
 
 
 def parse_lambda(group):
@@ -174,21 +196,20 @@ def convert(crate, folder, fn, info):
     unfolding = unfolding[1] if unfolding else None
     args, _ = groups(spec, spec.index("tie.spec") + len("tie.spec"))
     loops = info["loops"]
-    n = len(info["needs"])
-    lead = args[: len(args) - n]
-    answers = args[len(args) - n :]
+    lead = args[: 2 * len(loops)]
+    answers = args[2 * len(loops) :]
     said = []
-    if len(lead) != 2 * len(loops):
-        said.append(f"{len(args)} arguments for {len(loops)} loops and {n} goals")
-        if len(args) < n:
-            return f"look: {path}: {said[0]}"
     inv_out, ans_out = [], []
     # invariants and measures, which are declarations of their own or written in place
     declared = {}
+    needed = {}
     rest = []
     for d in others:
         m = re.search(r"^abbrev (\S+) : tie\.(invariant|decreases)-\S+\n\1 (.*?)=(.*)\Z", d, re.S | re.M)
-        if m:
+        n = re.search(r"^(?:pub )?(\S+) : tie\.Need-[^\n]*(?:\n {4,}[^\n]*)*\n(?:unfolding ([^\n]*)\n)?\1 ([^=\n]*?) =(.*)\Z", d, re.S | re.M)
+        if n:
+            needed[n[1]] = (n[3].split(), n[4].strip(), n[2])
+        elif m:
             declared[m[1]] = (m[3].split(), m[4].strip(), d[: m.start()].strip())
         else:
             rest.append(d)
@@ -242,24 +263,30 @@ def convert(crate, folder, fn, info):
     for d in rest:
         if "tie." in d:
             said.append("a declaration cites tie: " + (names_of(d) or ["?"])[0])
-    for (old, new), group, asked in zip(info["needs"], answers, info["asked_at"]):
+    read = []
+    for group in answers:
         params, body = parse_lambda(group)
-        if params is None:
-            said.append(f"{new}: cannot read {group}")
+        own = None
+        if params is None and group in needed:
+            params, body, own = needed[group]
+        elif params is None:
+            params, body = ["c"], group + " c"
+        read.append((params, body, re.sub(r"\s+", " ", body) == "search rules", own))
+    found = aligned(read, info["needs"])
+    if found is None:
+        return f"look: {path}: {len(answers)} answers, {len(info['needs'])} goals"
+    for (old, new), (params, body, trivial, own) in zip(info["needs"], found):
+        opened = " ".join(it for it in (unfolding, own) if it)
+        if trivial and (not opened or re.match(r"overflow|offset|bounds|slice_bounds|loop-.*-smaller|nonzero|shape", new)):
             continue
-        var = params[0]
-        trivial = re.sub(r"\s+", " ", body) == "search rules"
-        if trivial and (not unfolding or re.match(r"overflow|offset|bounds|slice_bounds|loop-.*-smaller|nonzero", new)):
-            continue
-        turned = f.turn(body, spaced(asked[0]), var)
+        turned = f.turn(body, params[0])
         ans_out.append(
             f"pub {new} : goal.{new}\n"
-            + (f"unfolding {unfolding}\n" if unfolding else "")
+            + (f"unfolding {opened}\n" if opened else "")
             + f"{new} c ="
             + (" " + turned if "\n" not in turned else "\n    " + turned)
             + "\n"
         )
-    said += f.looks
     full = f"Rattle.{crate}.proofs.{fn}"
     if inv_out:
         with open(os.path.join(folder, "Invariants.antt"), "w", encoding="utf-8") as out:

@@ -108,7 +108,7 @@ fn put_path_line(path: &[u16], at: usize, out: &mut [u8]) -> usize
 
 fn put_states_or_none(x: StateSet, count: usize, at: usize, out: &mut [u8]) -> usize
     requires { at + spaced_bytes * max_states ≤ length out.old }
-    ensures { Put (spacedBytes * maxStates) (cond (eqb count 0) (ascii " none") (spaced (members x.words))) at out.old result out.new }
+    ensures { Put (spaced_bytes * max_states) (cond (eqb count 0) (ascii " none") (spaced (members x.words))) at out.old result out.new }
 {
     if count == 0 {
         return put(b" none", at, out);

@@ -1,0 +1,7 @@
+-- `core_report::put_head` meets its contract: its lines one after the other.
+use borrow.Author.Rules.{rules}
+use Rattle.core_report.proofs.TextsPut.{put_then}
+use Rattle.core_report.proofs.put_head.Goals as goal
+
+pub returns : goal.returns
+returns c = put_then c.put_states_line-a.ensures c.put_verdict_line.ensures

@@ -1,0 +1,9 @@
+-- `core_report::put_spaced` meets its contract.
+use mathlib.Core.List.{append-nil}
+use borrow.Author.Rules.{rules}
+use Rattle.core_report.specs.Text.{ascii, spaced}
+use Rattle.core_report.proofs.put_spaced.Goals as goal
+
+pub returns : goal.returns
+unfolding ascii spaced
+returns c = rw append-nil c.put_number.ensures
