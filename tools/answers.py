@@ -84,6 +84,8 @@ class Function:
             rest = [it for it in parts[1:] if it != "before"]
             if rest and spaced(rest[0]) in self.steps:
                 rest[0] = self.steps[spaced(rest[0])]
+            elif rest and rest[0].endswith("_lem") and spaced(rest[0])[: -len("_lem")] in self.steps:
+                rest[0] = self.steps[spaced(rest[0])[: -len("_lem")]]  # respell.py took a callee for a lemma
             elif len(rest) > 1 and rest[0] in ("args", "ranges", "fits") and rest[1] in self.args:
                 rest[1] = self.args[rest[1]]
             if len(rest) > 1 and rest[1] == "inv":
@@ -183,6 +185,12 @@ def indent(body):
 
 def convert(crate, folder, fn, info):
     path = os.path.join(folder, "Proof.antt")
+    aside = os.path.join("/tmp/old-proofs", crate, fn + ".antt")
+    if not os.path.exists(path):
+        shutil.copy(aside, path)
+    for name in ("Invariants.antt", "Answers.antt"):
+        if os.path.exists(os.path.join(folder, name)):
+            os.remove(os.path.join(folder, name))
     text = open(path, encoding="utf-8").read()
     f = Function(fn, info)
     head, uses, decls = split_file(text)
@@ -260,9 +268,65 @@ def convert(crate, folder, fn, info):
             d = re.sub(r"^(abbrev )?(?=" + re.escape(nm) + " :)", lambda m: (m[1] or "") + "pub ", d, count=1, flags=re.M)
             pub.append(d)
     rest = [d for d in rest if d not in in_inv]
+    # declarations about a place: names of a place above become `c`, the others a `let` of each answer that cites them
+    places, lets = set(), {}
+    kept = []
     for d in rest:
-        if "tie." in d:
-            said.append("a declaration cites tie: " + (names_of(d) or ["?"])[0])
+        m = re.search(r"^(?:abbrev )?(?:pub )?(\S+) : (?:\(([\w']+) : (tie\.[^()]*?)\)|(tie\.[^→()]*?))\s*→\s*(.*?)\n(?:unfolding ([^\n]*)\n)?\1 ([\w' κλ]*?) =(.*)\Z", d, re.S | re.M)
+        if not m:
+            kept.append(d)
+            continue
+        name, var, typ, opened_in, params, body = m[1], m[2], m[5].strip(), m[6], m[7].split(), m[8].strip()
+        if re.fullmatch(r"[\w']+(\.before)*", body) and typ.startswith("tie."):
+            places.add(name)
+            continue
+        note = "\n".join(it for it in d[: m.start()].split("\n") if it.startswith("--"))
+        lets[name] = (var or params[0], typ, params, body, opened_in, note)
+    rest = kept
+
+    def flatten(body):
+        """`(start (turn c))` and the like are `c`."""
+        if not places:
+            return body
+        names = "|".join(re.escape(it) for it in places)
+        while True:
+            new = re.sub(r"\((?:" + names + r") ([\w'.]+?)\)", lambda m: re.sub(r"\..*", "", m[1]) if re.fullmatch(r"[\w']+(\.before)*", m[1]) else m[0], body)
+            new = re.sub(r"(?<![\w.'-])(?:" + names + r") ([\w']+(?:\.before)*)(?![\w'.-])", lambda m: m[1].split(".")[0], new)
+            if new == body:
+                return body
+            body = new
+
+    def with_lets(body, var):
+        """The body, with a `let` for each declaration that it cites."""
+        body = f.turn(flatten(body), var)
+        used, todo = [], True
+        bodies = body
+        opened = []
+        while todo:
+            todo = False
+            for name, (v, typ, params, term, opened_in, note) in lets.items():
+                if name in [it[0] for it in used]:
+                    continue
+                if re.search(r"(?<![\w.'-])" + re.escape(name) + r"(?![\w'-])", bodies):
+                    term = f.turn(flatten(term), v)
+                    typ = f.turn(flatten(typ), v)
+                    args = params[1:]
+                    if args:
+                        term = "λ " + " ".join(args) + ". " + term
+                    used.insert(0, (name, typ, term))
+                    bodies = typ + " " + term + " " + bodies
+                    if opened_in:
+                        opened.append(opened_in)
+                    todo = True
+        order = [n for n in lets if n in [it[0] for it in used]]
+        for name in order:
+            _, typ, term = [it for it in used if it[0] == name][0]
+            body = f"let {name} : {typ} = {term} in\n    {body}"
+        for name in order:
+            body = re.sub(r"\(" + re.escape(name) + r" c\)", name, body)
+            body = re.sub(r"(?<![\w.'-])" + re.escape(name) + r" c(?![\w'.-])", name, body)
+        return body, opened
+
     read = []
     for group in answers:
         params, body = parse_lambda(group)
@@ -279,7 +343,8 @@ def convert(crate, folder, fn, info):
         opened = " ".join(it for it in (unfolding, own) if it)
         if trivial and (not opened or re.match(r"overflow|offset|bounds|slice_bounds|loop-.*-smaller|nonzero|shape", new)):
             continue
-        turned = f.turn(body, params[0])
+        turned, more_opened = with_lets(body, params[0])
+        opened = " ".join(dict.fromkeys((opened + " " + " ".join(more_opened)).split()))
         ans_out.append(
             f"pub {new} : goal.{new}\n"
             + (f"unfolding {opened}\n" if opened else "")
@@ -295,9 +360,11 @@ def convert(crate, folder, fn, info):
         more = [f"use {full}.Invariants.{{{', '.join(local_names)}}}"] if local_names else []
         with open(os.path.join(folder, "Answers.antt"), "w", encoding="utf-8") as out:
             out.write("\n".join((head if not inv_out else head) + uses + more + [f"use {full}.Goals as goal", ""]) + "\n" + "\n".join([d + "\n" for d in rest] + ans_out))
-    kept = os.path.join("/tmp/old-proofs", crate, fn + ".antt")
-    os.makedirs(os.path.dirname(kept), exist_ok=True)
-    shutil.move(path, kept)
+    for d in rest:
+        if "tie." in d:
+            said.append("a declaration cites tie: " + (names_of(d) or ["?"])[0])
+    os.makedirs(os.path.dirname(aside), exist_ok=True)
+    shutil.move(path, aside)
     return "".join(f"look: {path}: {it}\n" for it in said)
 
 
@@ -309,9 +376,9 @@ def main(words):
     only = words[2:]
     top = os.path.join("crates", crate, "proofs")
     for folder, dirs, files in os.walk(top):
-        if "Proof.antt" not in files:
-            continue
         fn = os.path.relpath(folder, top).replace("/", ".")
+        if "Proof.antt" not in files and fn not in only:
+            continue
         if only and fn not in only:
             continue
         key = f"Rattle-{crate}-proofs.{fn}.Lts"

@@ -1,0 +1,8 @@
+-- `put_remainders`: the numbers passed, each modulo n, are in the row.
+use Rattle.std.proofs.Common.{◌≡◌, ◌-◌, ◌<◌, ◌≤◌, length, ◌∙◌, arith, rules}
+use Rattle.model.specs.Sets.{max_states}
+use Rattle.call_generate.proofs.RowsGenerated.{remainder-state, Reducing, reducing_none, reducing_more, reducing_all}
+use Rattle.call_generate.proofs.put_remainders.Given as goal
+
+abbrev pub invariant-loop-i : goal.invariant-loop-i
+invariant-loop-i l = (l.i ≤ l.i-end) × (l.i-end ≡ length l.numbers) × Reducing l.numbers l.n l.i l.initial.row l.row

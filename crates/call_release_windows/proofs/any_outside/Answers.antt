@@ -1,0 +1,17 @@
+-- `any_outside`: each window is looked at.
+use Prim.Native.Nat.{◌-◌}
+use mathlib.Core.Path.{refl}
+use borrow.Author.Rules.{rules}
+use lib.ListN.{length}
+use Rattle.call_release_windows.specs.Windows.{outside}
+use Rattle.call_release_windows.proofs.Searches.{Sought, sought_turn, sought_end}
+use Rattle.call_release_windows.proofs.any_outside.Goals as goal
+
+pub loop-i-init : goal.loop-i-init
+loop-i-init c = record { within = search rules; rest = refl }
+
+pub loop-i-preserved : goal.loop-i-preserved
+loop-i-preserved c = sought_turn c.loop-i.invariant (search rules) c.is_outside-found.ensures
+
+pub returns : goal.returns
+returns c = sought_end c.loop-i.invariant (search rules)

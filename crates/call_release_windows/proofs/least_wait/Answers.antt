@@ -1,0 +1,21 @@
+-- `least_wait`: `least` is the wait for the windows passed.
+use Prim.Native.Nat.{◌-◌}
+use mathlib.Core.Path.{refl}
+use borrow.Author.Rules.{rules}
+use lib.ListN.{length}
+use Rattle.call_release_windows.specs.Windows.{outside}
+use Rattle.call_release_windows.proofs.Searches.{mem_at, some-none}
+use Rattle.call_release_windows.proofs.Waits.{Nearest, nearest_turn, nearest-end}
+use Rattle.call_release_windows.proofs.least_wait.Goals as goal
+
+pub loop-i-init : goal.loop-i-init
+loop-i-init c = record { passed = search rules; rest = refl }
+
+pub wait_for-least-requires : goal.wait_for-least-requires
+wait_for-least-requires c = (search rules, some-none outside _ _ c.requires.1 (mem_at _ _ (search rules)))
+
+pub loop-i-preserved : goal.loop-i-preserved
+loop-i-preserved c = nearest_turn c.loop-i.invariant (search rules) c.wait_for-least.ensures
+
+pub returns : goal.returns
+returns c = nearest-end c.loop-i.invariant (search rules)

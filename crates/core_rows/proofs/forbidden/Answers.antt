@@ -1,0 +1,8 @@
+-- `forbidden`: by the rows of the store.
+use mathlib.Core.Path.{◌∙◌}
+use borrow.Author.Rules.{rules}
+use Rattle.core_rows.proofs.RowsLent.{forbidden_of}
+use Rattle.core_rows.proofs.forbidden.Goals as goal
+
+pub returns : goal.returns
+returns c = c.forbidden_by.ensures ∙ forbidden_of _ _

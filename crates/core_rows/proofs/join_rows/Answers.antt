@@ -1,0 +1,34 @@
+-- `join_rows`: what is joined, with the image of the bits that are left, is the whole.
+use mathlib.Core.Path.{ap, ◌∙◌}
+use mathlib.Core.List.{[]}
+use lib.ListN.{get_or}
+use borrow.Author.Rules.{rules}
+use lib.Count.{trailing_le}
+use Rattle.model.specs.Sets.{max_states, union, image}
+use Rattle.core_state_set.specs.WordSets.{word_set}
+use Rattle.core_state_set.proofs.SetsWords.{proper}
+use Rattle.core_state_set.proofs.SetsOnes.{bits_fit, states_fit}
+use Rattle.core_state_set.proofs.SetsByWord.{word_less}
+use Rattle.core_rows.proofs.SetsJoined.{WordJoining, bits_start, bits_bound, bits_turn, bits_end}
+use Rattle.core_rows.proofs.join_rows.Goals as goal
+
+pub loop-rest-init : goal.loop-rest-init
+loop-rest-init c = bits_start _ _ (proper (search rules) (λ w. search rules)) (search rules)
+
+pub overflow_cast-s : goal.overflow_cast-s
+overflow_cast-s c = bits_fit _ (trailing_le 64 _)
+
+pub overflow_add-s : goal.overflow_add-s
+overflow_add-s c = states_fit _ _ (search rules) (trailing_le 64 _)
+
+pub row_of-requires : goal.row_of-requires
+row_of-requires c = bits_bound c.loop-rest.invariant (search rules) c.loop-rest-test.true
+
+pub loop-rest-smaller : goal.loop-rest-smaller
+loop-rest-smaller c = word_less _ c.loop-rest-test.true
+
+pub loop-rest-preserved : goal.loop-rest-preserved
+loop-rest-preserved c = bits_turn c.loop-rest.invariant (search rules) c.loop-rest-test.true (c.union-joined.ensures ∙ ap (union _) c.row_of.ensures)
+
+pub returns : goal.returns
+returns c = bits_end c.loop-rest.invariant c.loop-rest-test.false
