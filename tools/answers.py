@@ -49,6 +49,11 @@ def groups(text, at):
             i = j
 
 
+# What port.py renames where it sees what a field is of.
+PLAIN_FIRST = {"pre": "requires", "fits": "ranges", "good": "well_formed"}
+PLAIN = {"inv": "invariant", "taken": "true", "left": "false", "came": "branch", "entry": "initial"}
+
+
 class Function:
     """The steps of a function, by the names that they had in a proof by the walk."""
 
@@ -88,14 +93,14 @@ class Function:
                 rest[0] = self.steps[spaced(rest[0])[: -len("_lem")]]  # respell.py took a callee for a lemma
             elif len(rest) > 1 and rest[0] in ("args", "ranges", "fits") and rest[1] in self.args:
                 rest[1] = self.args[rest[1]]
-            if len(rest) > 1 and rest[1] == "inv":
-                rest[1] = "invariant"
-            if rest and rest[0] == "fits":
-                rest[0] = "ranges"
+            rest[:1] = [PLAIN_FIRST.get(it, it) for it in rest[:1]]
+            rest[1:2] = [PLAIN.get(it, it) for it in rest[1:2]]
             return ".".join(["c"] + rest)
 
         names = "|".join(re.escape(it) for it in sorted(known, key=len, reverse=True))
-        return re.sub(r"(?<![\w.'-])(?:" + names + r")(?:\.[\w'-]+)*(?![\w'-])", swap, body)
+        body = re.sub(r"(?<![\w.'-])(?:" + names + r")(?:\.[\w'-]+)*(?![\w'-])", swap, body)
+        # the test of `!b` says what b is
+        return re.sub(r"(?<![\w'-])not[_-](?:true|false) (?:_|\([^()]*\)|[^\s()]+) (c\.[^\s()]*\.(?:true|false))(?![\w'.-])", r"\1", body)
 
 
 def aligned(answers, needs):
@@ -319,7 +324,7 @@ def convert(crate, folder, fn, info):
                         opened.append(opened_in)
                     todo = True
         order = [n for n in lets if n in [it[0] for it in used]]
-        for name in order:
+        for name in reversed(order):
             _, typ, term = [it for it in used if it[0] == name][0]
             body = f"let {name} : {typ} = {term} in\n    {body}"
         for name in order:

@@ -1,0 +1,39 @@
+-- `first_layer`: the layers so far hold no forbidden state, and each has its row. A layer with a state makes one more found, so there are fewer
+-- layers than states.
+use Prim.Native.Nat.{suc, ◌-◌}
+use mathlib.Core.Path.{refl, sym, ap, ◌∙◌}
+use borrow.Author.Rules.{rules}
+use borrow.Author.Tests.{not-false}
+use lib.ListN.{length, length-set}
+use Rattle.model.specs.Sets.{max_states}
+use Rattle.basics.proofs.BoundLaws.{not_true}
+use Rattle.core_state_set.proofs.SetsWords.{proper}
+use Rattle.call_paths.proofs.Outward.{Outward, outward_start, outward_turn, outward_hit, outward_end, PutDown, put_start, put_turn, put_hit}
+use Rattle.call_paths.proofs.first_layer.Goals as goal
+
+pub loop-forbidden-init : goal.loop-forbidden-init
+loop-forbidden-init c = (outward_start _ _ _ (proper (search rules) (λ w. search rules)), put_start _ _ refl)
+
+pub shape_of-layers-then-meets : goal.shape_of-layers-then-meets
+shape_of-layers-then-meets c = ap length c.put_row.ensures ∙ simp length-set c.loop-forbidden.invariant.1.long
+
+pub returns-then-meets : goal.returns-then-meets
+returns-then-meets c =
+    let so = c.loop-forbidden.invariant in (
+      outward_hit _ _ _ so.0 (sym c.meets.ensures ∙ c.if-meets.true),
+      put_hit _ _ _ so.0 so.1 c.meet.ensures c.put_row.ensures,
+    )
+
+pub loop-forbidden-preserved : goal.loop-forbidden-preserved
+loop-forbidden-preserved c =
+    let so = c.loop-forbidden.invariant in
+    let some = sym c.is_empty.ensures ∙ c.loop-forbidden-test.true in (
+      outward_turn _ _ _ so.0 some (sym c.meets.ensures ∙ c.if-meets.false) c.newly_reached-layer.ensures c.union-found.ensures,
+      put_turn _ _ _ so.0 so.1 c.put_row-in-loop-forbidden.ensures,
+    )
+
+pub shape_of-layers : goal.shape_of-layers
+shape_of-layers c = c.loop-forbidden.invariant.1.long
+
+pub returns : goal.returns
+returns c = (outward_end _ _ _ c.loop-forbidden.invariant.0 (sym c.is_empty.ensures ∙ c.loop-forbidden-test.false), tt)

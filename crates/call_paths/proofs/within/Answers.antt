@@ -1,0 +1,70 @@
+-- `within`: the shared grounds, then whether a forbidden state is met.
+use native.Mathlib.Omega.{arith}
+use mathlib.Core.Path.{◌≡◌, sym, ap, ap₂, ◌∙◌}
+use mathlib.Core.Bool.{Bool}
+use borrow.Author.Rules.{rules}
+use Rattle.basics.specs.Refusals.{answered}
+use Rattle.model.specs.Stores.{table_of}
+use Rattle.model.proofs.StoresAccepted.{Store, well_formed}
+use Rattle.core_rows.specs.Rows.{rows_of}
+use Rattle.core_rows.proofs.RowsLent.{rows_long, store_rows}
+use Rattle.call_paths.specs.Search.{first_layer, steps_within}
+use Rattle.call_paths.specs.Within.{within_answer}
+use Rattle.call_paths.specs.declared.PathFound.{PathFound}
+use Rattle.call_paths.proofs.Duality.{first_found, found_within}
+use Rattle.call_paths.proofs.PathsAnswered.{accepted, within-refused, within-answered}
+use Rattle.call_paths.proofs.within.Goals as goal
+
+-- what was found says whether there is a path of at most k steps
+answers : (c : tie.After-is-within) {b : Bool} → c.is_Within.result ≡ b
+    → let a = c.before.before.before.before.before.before.before.before.before.before.args in
+    answered b ≡ within_answer a.store.now a.n a.g a.k
+unfolding table_of
+answers c q =
+    let found = c.before.before in
+    let f = found.before.before in
+    let e = f.before.before.before in
+    let a = e.before.before.before.args in
+    let ok = well_formed _ _ _ (held e) in
+    within-answered _ _ _ _ e.before.refusal.ensures e.if1.false
+    (sym q
+    ∙ c.is_Within.ensures
+    ∙ ap (λ (r : PathFound). steps_within r a.k)
+    (found.first-layer.ensures.0
+    ∙ ap₂ (first_layer (rows_of a.store.now)) f.before.set_at.ensures f.forbidden.ensures
+    ∙ first_found ok _ (store_rows _ _ 0) (held e).small)
+    ∙ found_within ok _ (store_rows _ _ 0) (held e).small a.k)
+
+pub returns-then-refused-ne0 : goal.returns-then-refused-ne0
+returns-then-refused-ne0 c = within-refused _ _ _ _ c.refusal-refused.ensures c.if-refused-ne0.true
+
+pub slice_bounds-first_layer-count : goal.slice_bounds-first_layer-count
+slice_bounds-first_layer-count c =
+    let held : Store c.args.store.now c.args.n c.args.g = accepted c.refusal-refused.ensures c.if-refused-ne0.false in
+    omega (arith, held.long)
+
+pub slice_bounds-first_layer-start : goal.slice_bounds-first_layer-start
+slice_bounds-first_layer-start c =
+    let held : Store c.args.store.now c.args.n c.args.g = accepted c.refusal-refused.ensures c.if-refused-ne0.false in
+    omega (arith, held.long)
+
+pub set_at-requires : goal.set_at-requires
+set_at-requires c =
+    let held : Store c.args.store.now c.args.n c.args.g = accepted c.refusal-refused.ensures c.if-refused-ne0.false in
+    omega (arith, held.long)
+
+pub forbidden-requires : goal.forbidden-requires
+forbidden-requires c =
+    let held : Store c.args.store.now c.args.n c.args.g = accepted c.refusal-refused.ensures c.if-refused-ne0.false in
+    held.long
+
+pub first_layer-found-requires : goal.first_layer-found-requires
+first_layer-found-requires c =
+    let held : Store c.args.store.now c.args.n c.args.g = accepted c.refusal-refused.ensures c.if-refused-ne0.false in
+    rows_long c.args.store.now held.long
+
+pub returns-then-is_within : goal.returns-then-is_within
+returns-then-is_within c = answers c c.if-is_within.true
+
+pub returns-else-is_within : goal.returns-else-is_within
+returns-else-is_within c = answers c c.if-is_within.false

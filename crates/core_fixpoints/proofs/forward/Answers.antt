@@ -1,0 +1,40 @@
+-- `forward`: what is expanded before pass k is recorded, with its successors joined; a pass without states is the last.
+use Prim.Native.Nat.{◌-◌}
+use mathlib.Core.Path.{◌≡◌, sym, ap, ◌∙◌}
+use mathlib.Core.Bool.{false}
+use borrow.Author.Rules.{rules}
+use borrow.Author.Tests.{not-false}
+use Rattle.model.specs.Sets.{max_states, empty, subset}
+use Rattle.basics.proofs.BoundLaws.{not_true}
+use Rattle.core_state_set.proofs.SetsWords.{proper}
+use Rattle.core_fixpoints.specs.Steps.{cover_by}
+use Rattle.core_fixpoints.proofs.Expanding.{Passing, passing_start, passing_room, passing_less, passing_turn, passing_least, passing_order, passing_count, passing_entered}
+use Rattle.core_fixpoints.proofs.forward.Goals as goal
+
+pub loop-z-init : goal.loop-z-init
+loop-z-init c =
+    passing_start _ _ c.requires.1 c.args.initial.words c.args.z.words (proper (search rules) (λ w. search rules))
+    (c.cover_of-frontier.ensures ∙ ap (cover_by c.args.cover.now) c.meet.ensures)
+
+pub expand_set-done-requires : goal.expand_set-done-requires
+expand_set-done-requires c = (passing_room _ _ c.requires.1 _ _ c.loop-z.invariant, search rules)
+
+pub loop-z-smaller : goal.loop-z-smaller
+loop-z-smaller c =
+    let some : subset c.loop-z.frontier.words empty ≡ false = sym c.is_empty.ensures ∙ c.loop-z-test.true in
+    passing_less _ _ c.requires.1 _ _ c.loop-z.invariant some c.expand_set-done.ensures.0
+
+pub loop-z-preserved : goal.loop-z-preserved
+loop-z-preserved c =
+    let some : subset c.loop-z.frontier.words empty ≡ false = sym c.is_empty.ensures ∙ c.loop-z-test.true in
+    passing_turn _ _ c.requires.1 _ _ c.loop-z.invariant some c.expand_set-done.ensures.1 c.expand_set-done.ensures.0
+    c.expand_set-done.ensures.2 c.union-entered.ensures c.joining-frontier.ensures c.union-r.ensures
+
+pub returns : goal.returns
+returns c =
+    let last = sym c.is_empty.ensures ∙ c.loop-z-test.false in (
+      passing_least _ _ c.requires.1 _ _ c.loop-z.invariant last,
+      passing_order _ _ c.requires.1 _ _ c.loop-z.invariant last,
+      passing_count _ _ c.requires.1 _ _ c.loop-z.invariant last,
+      passing_entered _ _ c.requires.1 _ _ c.loop-z.invariant last,
+    )

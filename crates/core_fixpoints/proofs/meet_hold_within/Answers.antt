@@ -1,0 +1,20 @@
+-- `meet_hold_within`: the words passed are those of the states that are in hold.
+use Prim.Native.Nat.{◌-◌}
+use borrow.Author.Rules.{rules}
+use Rattle.model.specs.Sets.{WORDS}
+use Rattle.core_state_set.proofs.SetsWords.{Filling, filling_none, filling_more, filling_all}
+use Rattle.core_rows.specs.Rows.{meet_hold}
+use Rattle.core_rows.proofs.SetsHeld.{meet_hold_proper}
+use Rattle.core_fixpoints.proofs.meet_hold_within.Goals as goal
+
+pub loop-w-init : goal.loop-w-init
+loop-w-init c = filling_none _ _ (meet_hold_proper _ _ _).long (search rules)
+
+pub held_word_within-requires : goal.held_word_within-requires
+held_word_within-requires c = (search rules, search rules, search rules)
+
+pub loop-w-preserved : goal.loop-w-preserved
+loop-w-preserved c = filling_more _ _ _ _ c.loop-w.invariant _ (search rules) c.held_word_within.ensures
+
+pub returns : goal.returns
+returns c = filling_all _ _ _ _ c.loop-w.invariant (search rules)
