@@ -4,7 +4,7 @@ use borrow.Author.Rules.{rules}
 use Rattle.call_paths.proofs.is_within.Goals as goal
 
 pub returns-in-Steps : goal.returns-in-Steps
-returns-in-Steps c = rw c.found-1.given.1 refl
+returns-in-Steps c = rw c.in-Steps.is refl
 
 pub returns-in-Nothing : goal.returns-in-Nothing
-returns-in-Nothing c = rw c.enum_told-1.given.1 refl
+returns-in-Nothing c = rw c.in-Nothing.is refl

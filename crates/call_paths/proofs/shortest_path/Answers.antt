@@ -43,11 +43,11 @@ find_path-requires c =
 pub returns-in-Steps : goal.returns-in-Steps
 returns-in-Steps c =
     let held : Store c.args.store.now c.args.n c.args.g = accepted c.refusal-refused.ensures c.if-refused-ne0.false in
-    shortest-found _ _ _ _ held {c = Steps _} c.if-path-lt-MAX_STATES.false
-    c.steps-1.given.1 (store_path _ _ _ c.forbidden.ensures c.set_at.ensures _ c.find_path.ensures)
+    shortest-found _ _ _ _ held {found = Steps _} c.if-path-lt-MAX_STATES.false
+    c.in-Steps.is (store_path _ _ _ c.forbidden.ensures c.set_at.ensures _ c.find_path.ensures)
 
 pub returns-in-Nothing : goal.returns-in-Nothing
 returns-in-Nothing c =
     let held : Store c.args.store.now c.args.n c.args.g = accepted c.refusal-refused.ensures c.if-refused-ne0.false in
-    shortest-found _ _ _ _ held {c = Nothing} c.if-path-lt-MAX_STATES.false
-    c.enum_told-1.given.1 (store_path _ _ _ c.forbidden.ensures c.set_at.ensures _ c.find_path.ensures)
+    shortest-found _ _ _ _ held {found = Nothing} c.if-path-lt-MAX_STATES.false
+    c.in-Nothing.is (store_path _ _ _ c.forbidden.ensures c.set_at.ensures _ c.find_path.ensures)

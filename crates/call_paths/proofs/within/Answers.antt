@@ -15,26 +15,6 @@ use Rattle.call_paths.proofs.Duality.{first_found, found_within}
 use Rattle.call_paths.proofs.PathsAnswered.{accepted, within-refused, within-answered}
 use Rattle.call_paths.proofs.within.Goals as goal
 
--- what was found says whether there is a path of at most k steps
-answers : (c : tie.After-is-within) {b : Bool} → c.is_Within.result ≡ b
-    → let a = c.before.before.before.before.before.before.before.before.before.before.args in
-    answered b ≡ within_answer a.store.now a.n a.g a.k
-unfolding table_of
-answers c q =
-    let found = c.before.before in
-    let f = found.before.before in
-    let e = f.before.before.before in
-    let a = e.before.before.before.args in
-    let ok = well_formed _ _ _ (held e) in
-    within-answered _ _ _ _ e.before.refusal.ensures e.if1.false
-    (sym q
-    ∙ c.is_Within.ensures
-    ∙ ap (λ (r : PathFound). steps_within r a.k)
-    (found.first-layer.ensures.0
-    ∙ ap₂ (first_layer (rows_of a.store.now)) f.before.set_at.ensures f.forbidden.ensures
-    ∙ first_found ok _ (store_rows _ _ 0) (held e).small)
-    ∙ found_within ok _ (store_rows _ _ 0) (held e).small a.k)
-
 pub returns-then-refused-ne0 : goal.returns-then-refused-ne0
 returns-then-refused-ne0 c = within-refused _ _ _ _ c.refusal-refused.ensures c.if-refused-ne0.true
 
@@ -63,8 +43,33 @@ first_layer-found-requires c =
     let held : Store c.args.store.now c.args.n c.args.g = accepted c.refusal-refused.ensures c.if-refused-ne0.false in
     rows_long c.args.store.now held.long
 
+-- what was found says whether there is a path of at most k steps
 pub returns-then-is_within : goal.returns-then-is_within
-returns-then-is_within c = answers c c.if-is_within.true
+unfolding table_of
+returns-then-is_within c =
+    let a = c.args in
+    let held : Store a.store.now a.n a.g = accepted c.refusal-refused.ensures c.if-refused-ne0.false in
+    let ok = well_formed _ _ _ held in
+    within-answered _ _ _ _ c.refusal-refused.ensures c.if-refused-ne0.false
+    (sym c.if-is_within.true
+    ∙ c.is_within.ensures
+    ∙ ap (λ (r : PathFound). steps_within r a.k)
+    (c.first_layer-found.ensures.0
+    ∙ ap₂ (first_layer (rows_of a.store.now)) c.set_at.ensures c.forbidden.ensures
+    ∙ first_found ok _ (store_rows _ _ 0) held.small)
+    ∙ found_within ok _ (store_rows _ _ 0) held.small a.k)
 
 pub returns-else-is_within : goal.returns-else-is_within
-returns-else-is_within c = answers c c.if-is_within.false
+unfolding table_of
+returns-else-is_within c =
+    let a = c.args in
+    let held : Store a.store.now a.n a.g = accepted c.refusal-refused.ensures c.if-refused-ne0.false in
+    let ok = well_formed _ _ _ held in
+    within-answered _ _ _ _ c.refusal-refused.ensures c.if-refused-ne0.false
+    (sym c.if-is_within.false
+    ∙ c.is_within.ensures
+    ∙ ap (λ (r : PathFound). steps_within r a.k)
+    (c.first_layer-found.ensures.0
+    ∙ ap₂ (first_layer (rows_of a.store.now)) c.set_at.ensures c.forbidden.ensures
+    ∙ first_found ok _ (store_rows _ _ 0) held.small)
+    ∙ found_within ok _ (store_rows _ _ 0) held.small a.k)
