@@ -18,7 +18,7 @@ WORD = r"[^\s(){}\[\],;:]+"
 
 
 def spaced(n):
-    return n.replace("-", "_")
+    return n.replace("-", "_").lower()
 
 
 def groups(text, at):
@@ -63,6 +63,15 @@ class Function:
         for old, parent, step, callee, more in info["places"]:
             if step[0]:
                 self.steps.setdefault(spaced(step[0]), step[1])
+        # what a pattern binds: the arm that it stands in
+        parents = {old: (parent, step) for old, parent, step, callee, more in info["places"]}
+        self.arm_of = {}
+        for old, parent, step, callee, more in info["places"]:
+            p = old
+            while p is not None and not parents[p][1][1].startswith("in-"):
+                p = parents[p][0]
+            if p is not None:
+                self.arm_of[step[1]] = parents[p][1][1]
         self.args = {}
         for old, new in info["args"]:
             if old.startswith(".args .") and new.startswith(".args ."):
@@ -73,7 +82,7 @@ class Function:
         known = {var}
         while True:
             hit = None
-            for m in re.finditer(r"let ([\w']+) = ([\w']+)((?:\.before)*) in\s*", body):
+            for m in re.finditer(r"let ([\w'-]+) = \(?([\w'-]+)\)?((?:\.before)*) in\s*", body):
                 if m[2] in known:
                     hit = m
                     break
@@ -93,6 +102,8 @@ class Function:
                 rest[0] = self.steps[spaced(rest[0])[: -len("_lem")]]  # respell.py took a callee for a lemma
             elif len(rest) > 1 and rest[0] in ("args", "ranges", "fits") and rest[1] in self.args:
                 rest[1] = self.args[rest[1]]
+            if len(rest) > 2 and rest[1:3] == ["given", "1"] and rest[0] in self.arm_of:
+                rest[0:3] = [self.arm_of[rest[0]], "is"]
             rest[:1] = [PLAIN_FIRST.get(it, it) for it in rest[:1]]
             rest[1:2] = [PLAIN.get(it, it) for it in rest[1:2]]
             return ".".join(["c"] + rest)
@@ -282,7 +293,7 @@ def convert(crate, folder, fn, info):
             kept.append(d)
             continue
         name, var, typ, opened_in, params, body = m[1], m[2], m[5].strip(), m[6], m[7].split(), m[8].strip()
-        if re.fullmatch(r"[\w']+(\.before)*", body) and typ.startswith("tie."):
+        if typ.startswith("tie."):
             places.add(name)
             continue
         note = "\n".join(it for it in d[: m.start()].split("\n") if it.startswith("--"))
@@ -295,8 +306,9 @@ def convert(crate, folder, fn, info):
             return body
         names = "|".join(re.escape(it) for it in places)
         while True:
-            new = re.sub(r"\((?:" + names + r") ([\w'.]+?)\)", lambda m: re.sub(r"\..*", "", m[1]) if re.fullmatch(r"[\w']+(\.before)*", m[1]) else m[0], body)
-            new = re.sub(r"(?<![\w.'-])(?:" + names + r") ([\w']+(?:\.before)*)(?![\w'.-])", lambda m: m[1].split(".")[0], new)
+            new = re.sub(r"\((?:" + names + r") ([\w'.-]+?)\)", lambda m: re.sub(r"\..*", "", m[1]) if re.fullmatch(r"[\w'-]+(\.before)*", m[1]) else m[0], body)
+            new = re.sub(r"(?<![\w.'-])(?:" + names + r") ([\w'-]+(?:\.before)*)(?![\w'-]|\.[\w])", lambda m: m[1].split(".")[0], new)
+            new = re.sub(r"\(([\w'-]+)\)(?=\.\w)", r"\1", new)
             if new == body:
                 return body
             body = new

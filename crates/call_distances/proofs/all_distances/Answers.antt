@@ -1,0 +1,71 @@
+-- `all_distances`: the layers so far.
+use Prim.Native.Nat.{suc, ◌-◌}
+use mathlib.Core.Path.{refl, sym, ap₂, ◌∙◌}
+use mathlib.Core.List.{[]}
+use borrow.Author.Rules.{rules}
+use borrow.Author.Tests.{not-false}
+use Rattle.model.specs.Sets.{max_states, empty, difference}
+use Rattle.basics.proofs.BoundLaws.{not_true}
+use Rattle.core_state_set.proofs.SetsWords.{proper}
+use Rattle.core_rows.specs.Rows.{table_on}
+use Rattle.core_rows.proofs.RowsLent.{row_in_lem}
+use Rattle.call_paths.specs.Search.{stepping_into}
+use Rattle.call_distances.proofs.RowsTransposed.{stepping_new}
+use Rattle.call_distances.proofs.DistanceLayers.{Swept, swept_start, swept_turn, swept_end}
+use Rattle.call_distances.proofs.all_distances.Goals as goal
+
+pub loop-forbidden-init : goal.loop-forbidden-init
+unfolding table_on
+loop-forbidden-init c = swept_start _ (row_in_lem _ _) c.requires.formed (proper (search rules) (λ w. search rules))
+
+pub is_empty-requires : goal.is_empty-requires
+unfolding table_on
+is_empty-requires c = search rules
+
+pub first_states-requires : goal.first_states-requires
+unfolding table_on
+first_states-requires c = search rules
+
+pub difference-rest-requires : goal.difference-rest-requires
+unfolding table_on
+difference-rest-requires c = search rules
+
+pub transposing_pays-requires : goal.transposing_pays-requires
+unfolding table_on
+transposing_pays-requires c = search rules
+
+pub sweep_transposed-requires : goal.sweep_transposed-requires
+unfolding table_on
+sweep_transposed-requires c = search rules
+
+pub returns-then-transposing_pays : goal.returns-then-transposing_pays
+unfolding table_on
+returns-then-transposing_pays c = c.sweep_transposed.ensures
+
+pub mark-requires : goal.mark-requires
+unfolding table_on
+mark-requires c = search rules
+
+pub stepping_into-layer-requires : goal.stepping_into-layer-requires
+unfolding table_on
+stepping_into-layer-requires c = c.requires.long
+
+pub union-found-requires : goal.union-found-requires
+unfolding table_on
+union-found-requires c = search rules
+
+pub loop-forbidden-preserved : goal.loop-forbidden-preserved
+unfolding table_on
+loop-forbidden-preserved c =
+    let some = sym c.is_empty.ensures ∙ c.loop-forbidden-test.true in
+    swept_turn _ (row_in_lem _ _) c.requires.formed c.loop-forbidden.invariant some c.mark.ensures
+    (c.stepping_into-layer.ensures
+    ∙ ap₂ (stepping_into _) (c.difference-rest.ensures ∙ ap₂ difference c.first_states.ensures refl) refl
+    ∙ stepping_new _ _ _ _)
+    c.union-found.ensures
+
+pub returns : goal.returns
+unfolding table_on
+returns c =
+    swept_end _ (row_in_lem _ _) c.requires.formed c.loop-forbidden.invariant
+    (sym c.is_empty.ensures ∙ c.loop-forbidden-test.false)

@@ -1,0 +1,57 @@
+-- `sweep_transposed`: the layers so far.
+use Prim.Native.Nat.{suc, ◌-◌}
+use mathlib.Core.Path.{refl, sym, ap₂, ◌∙◌}
+use mathlib.Core.List.{[]}
+use borrow.Author.Rules.{rules}
+use borrow.Author.Tests.{not-false}
+use Rattle.model.specs.Sets.{max_states, empty, difference}
+use Rattle.basics.proofs.BoundLaws.{not_true}
+use Rattle.core_state_set.proofs.SetsWords.{proper}
+use Rattle.core_rows.specs.Rows.{table_on}
+use Rattle.core_rows.proofs.RowsLent.{row_in_lem}
+use Rattle.call_distances.proofs.RowsTransposed.{transposed_start, transposed_image}
+use Rattle.call_distances.proofs.DistanceLayers.{Swept, swept_start, swept_turn, swept_end}
+use Rattle.call_distances.proofs.sweep_transposed.Goals as goal
+
+pub join_predecessors-requires : goal.join_predecessors-requires
+unfolding table_on
+join_predecessors-requires c = let held = c.requires in (transposed_start _, held.small, held.long)
+
+pub loop-before-init : goal.loop-before-init
+unfolding table_on
+loop-before-init c = swept_start _ (row_in_lem _ _) c.requires.formed (proper (search rules) (λ w. search rules))
+
+pub is_empty-requires : goal.is_empty-requires
+unfolding table_on
+is_empty-requires c = search rules
+
+pub mark-requires : goal.mark-requires
+unfolding table_on
+mark-requires c = search rules
+
+pub union_of-requires : goal.union_of-requires
+unfolding table_on
+union_of-requires c = search rules
+
+pub difference-layer-requires : goal.difference-layer-requires
+unfolding table_on
+difference-layer-requires c = search rules
+
+pub union-found-requires : goal.union-found-requires
+unfolding table_on
+union-found-requires c = search rules
+
+pub loop-before-preserved : goal.loop-before-preserved
+unfolding table_on
+loop-before-preserved c =
+    let some = sym c.is_empty.ensures ∙ c.loop-before-test.true in
+    swept_turn _ (row_in_lem _ _) c.requires.formed c.loop-before.invariant some
+    c.mark.ensures
+    (c.difference-layer.ensures ∙ ap₂ difference (c.union_of.ensures ∙ transposed_image _ _ c.join_predecessors.ensures _) refl)
+    c.union-found.ensures
+
+pub returns : goal.returns
+unfolding table_on
+returns c =
+    swept_end _ (row_in_lem _ _) c.requires.formed c.loop-before.invariant
+    (sym c.is_empty.ensures ∙ c.loop-before-test.false)

@@ -1,0 +1,7 @@
+-- `has_step`: the row of the state, and the other among it.
+use borrow.Author.Rules.{rules}
+use Rattle.call_edit_session.proofs.SessionAnswered.{has_step_is}
+use Rattle.call_edit_session.proofs.has_step.Goals as goal
+
+pub returns : goal.returns
+returns c = has_step_is _ _ _ c.contains.ensures c.row_at.ensures

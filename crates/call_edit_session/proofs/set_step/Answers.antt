@@ -1,0 +1,7 @@
+-- `set_step`: the bit of the step, set in its word.
+use borrow.Author.Rules.{rules}
+use Rattle.call_edit_session.proofs.RowsEdited.{set_step_word}
+use Rattle.call_edit_session.proofs.set_step.Goals as goal
+
+pub returns : goal.returns
+returns c = set_step_word _ _ _ (search rules) (search rules) (search rules) (λ i. (c.slice_known-1.given i).fits)

@@ -1,0 +1,11 @@
+-- `write_blocks`: the blocks passed are written.
+use Prim.Native.Nat.{◌-◌, ◌≤◌}
+use borrow.Author.Rules.{rules}
+use Rattle.basics.specs.Bounds.{concat}
+use Rattle.model.specs.Blocks.{block_of}
+use Rattle.model.proofs.BlockLaws.{block_of-is}
+use Rattle.core_table.proofs.ListsOverwritten.{Over, parts_none, parts_more, parts_all}
+use Rattle.file_writing.proofs.write_blocks.Given as goal
+
+abbrev pub invariant-loop-k : goal.invariant-loop-k
+invariant-loop-k l = (l.k ≤ l.blocks) × Over (concat l.k (block_of l.site l.bytes)) l.initial.out l.out
