@@ -2,6 +2,7 @@
 --
 --   not_forbidden-is              all states without the forbidden ones
 --   covers-none, covers-add      the cover for no set; after a set is added
+--   narrowed-all                 once every word of the set is passed, the cover is the one after the set is added
 --   groups_last                  the last of some groups
 --   group_added, Z_added         the set that is added next, where a group is left and where none is
 use Prim.Native.Nat.{ℕ, suc, ◌-◌, ◌*◌, ◌≤◌, ◌<◌}
@@ -15,10 +16,11 @@ use Rattle.model.specs.Sets.{WORDS, max_states, Set, member, meet, difference, s
 use Rattle.model.specs.Tables.{cover_of, not_forbidden}
 use Rattle.model.specs.Stores.{set_at}
 use Rattle.basics.proofs.BoundLaws.{is_false, clash, tabulate_const}
-use Rattle.model.proofs.SetsMembers.{set_of_proper, in_difference, difference_in, same_set}
+use Rattle.model.proofs.SetsMembers.{Proper, set_of_proper, in_difference, difference_in, same_set}
 use Rattle.model.proofs.CoverLaws.{in_not_forbidden, not_forbidden_in, not_forbidden-within}
-use Rattle.core_rows.specs.Rows.{groups_in}
-use Rattle.core_rows.proofs.RowsMapped.{map_at-tabulate}
+use Rattle.core_state_set.specs.WordSets.{words_below}
+use Rattle.core_rows.specs.Rows.{groups_in, map_at}
+use Rattle.core_rows.proofs.RowsMapped.{map_at-tabulate, map-all}
 use Rattle.core_fixpoints.specs.Steps.{covers}
 use Rattle.core_rounds.specs.Adding.{narrowed, next_added}
 
@@ -38,6 +40,11 @@ covers-add n L Z = map_at-tabulate (λ row. meet row Z) [] Z max_states (cover_o
 pub covers-none : (n : ℕ) {all : Set} → all ≡ first_states n → replicate max_states all ≡ covers n []
 unfolding covers cover_of
 covers-none n e = ap (replicate max_states) e ∙ tabulate_const max_states (first_states n)
+
+pub narrowed-all : (before : List Set) (w : ℕ) {X Y : Set} {cover : List Set} → Proper X → WORDS ≤ w
+    → cover ≡ map_at (words_below w X) (λ row. meet row X) [] before → X ≡ Y → cover ≡ narrowed before Y
+unfolding narrowed
+narrowed-all before w p h e is = e ∙ map-all _ _ _ _ w p h ∙ ap (narrowed before) is
 
 -- ---- the sets that are added
 

@@ -4,6 +4,7 @@
 --   Running                             the invariant of the loop: some sets are still to be added to the list that the cover is for, and then it is
 --                                       that of round i
 --   run_start, run-add                  it holds at the start, with Z and all groups left; the last set left is added
+--   run-full                            where no group is left, it is Z that was added, and then no set is left
 --   is-cover                            where none is left, the cover is one
 --   conclude_safe, -unsafe, -open       what `conclude` concludes, by the tests of steps 2 and 4
 --   run-safe, run-unsafe, run-undecided     where the rounds end
@@ -16,13 +17,12 @@ use mathlib.Core.Path.{◌≡◌, refl, sym, ap, ap₂, ◌∙◌, subst}
 use mathlib.Core.Logic.{⊎_elim}
 use mathlib.Core.Bool.{Bool, true, false, not}
 use mathlib.Core.List.{List, [], ◌∷◌, ◌++◌, append_assoc, append-nil}
-use borrow.Author.Tests.{not-false}
 use Rattle.basics.specs.Bounds.{tabulate}
 use Rattle.model.specs.Sets.{Set, empty, union, meet, subset, first_states}
 use Rattle.model.specs.Tables.{Table, hold, not_forbidden}
 use Rattle.model.specs.Rounds.{iterate, forward_step, forward, backward_step, backward, Round, round_of, first_round, next_round, is_safe, is_unsafe, safe, unsafe, undecided, run}
 use Rattle.model.specs.Promises.{IsLeast, IsGreatest, round_at, Continues}
-use Rattle.basics.proofs.BoundLaws.{below_suc, not_true}
+use Rattle.basics.proofs.BoundLaws.{below_suc}
 use Rattle.model.proofs.SetsMembers.{empty_in, meet_in, ◌⊆◌, ⊆-of-eq}
 use Rattle.model.proofs.Fixpoints.{iterate_has, greatest_unique}
 use Rattle.model.proofs.CoverLaws.{hold-within, not_forbidden-within, forward_step-within, backward_step-within}
@@ -31,11 +31,11 @@ use Rattle.core_rows.specs.Rows.{groups_in, successors_by, meet_hold}
 use Rattle.core_rows.proofs.RowsLent.{HasRows}
 use Rattle.core_fixpoints.specs.Steps.{covers, forward_by, backward_by, IsCover}
 use Rattle.core_fixpoints.proofs.Bridge.{successors_by-is, meet_hold-is, backward_by_proper, backward-greatest, least-is, backward-is}
-use Rattle.core_rounds.specs.Adding.{narrowed}
+use Rattle.core_rounds.specs.Adding.{narrowed, next_added}
 use Rattle.core_rounds.specs.declared.Conclusion.TheVariants.{Safe as ConcludesSafe, Unsafe as ConcludesUnsafe, Open}
 use Rattle.core_rounds.specs.declared.Concluded.{Concluded}
 use Rattle.core_rounds.specs.RunAnswers.{concludes, set_beside, Concludes}
-use Rattle.core_rounds.proofs.Adding.{covers-add}
+use Rattle.core_rounds.proofs.Adding.{covers-add, Z_added}
 
 -- ---- sets of the table's states
 
@@ -91,6 +91,10 @@ module _ (t : Table) (rows : List ℕ) (allowance : ℕ) where
         before = so.before;
       }
 
+  pub run-full : (groups : List ℕ) (j : ℕ) {before cover : List Set} {Z : Set} {i : ℕ} → j ≤ 0 → cover ≡ narrowed before (next_added groups j Z)
+      → Running t rows allowance (Z ∷ groups_in groups j) before Z i → Running t rows allowance [] cover Z i
+  run-full groups j {Z = Z} none e so = run-add _ (Z_added groups Z j none) e so
+
 -- ---- what the tests of a round come to
 
 -- in `conclude`: x is step 2's test, y that of step 4
@@ -98,13 +102,13 @@ pub conclude_safe : (inside : Bool) {safe x : Bool} → x ≡ safe → x ≡ tru
 unfolding concludes
 conclude_safe inside e t = ap (λ (b : Bool). concludes b inside) (sym t ∙ e)
 
-pub conclude_unsafe : {safe inside x y : Bool} → x ≡ safe → x ≡ false → y ≡ inside → not y ≡ true → ConcludesUnsafe ≡ concludes safe inside
+pub conclude_unsafe : {safe inside x y : Bool} → x ≡ safe → x ≡ false → y ≡ inside → y ≡ false → ConcludesUnsafe ≡ concludes safe inside
 unfolding concludes
-conclude_unsafe e f g t = ap₂ concludes (sym f ∙ e) (sym (not_true _ t) ∙ g)
+conclude_unsafe e f g t = ap₂ concludes (sym f ∙ e) (sym t ∙ g)
 
-pub conclude_open : {safe inside x y : Bool} → x ≡ safe → x ≡ false → y ≡ inside → not y ≡ false → Open ≡ concludes safe inside
+pub conclude_open : {safe inside x y : Bool} → x ≡ safe → x ≡ false → y ≡ inside → y ≡ true → Open ≡ concludes safe inside
 unfolding concludes
-conclude_open e f g t = ap₂ concludes (sym f ∙ e) (sym (not-false _ t) ∙ g)
+conclude_open e f g t = ap₂ concludes (sym f ∙ e) (sym t ∙ g)
 
 -- in `run`
 is-safe : (safe unsafe : Bool) → concludes safe (not unsafe) ≡ ConcludesSafe → safe ≡ true

@@ -1,4 +1,6 @@
 -- `conclude`: the tests of steps 2 and 4, of R and S.
+--
+-- `entered` says that step 2's test is of Init union post(R).
 use mathlib.Core.Path.{◌≡◌, refl, ap, ◌∙◌}
 use borrow.Author.Rules.{rules}
 use Rattle.model.specs.Sets.{Set, union, subset}
@@ -12,8 +14,9 @@ use Rattle.core_rounds.proofs.conclude.Goals as goal
 pub returns-then-is_subset : goal.returns-then-is_subset
 unfolding set_beside
 returns-then-is_subset c =
-    let entered : let a = c.args in
-    c.is_subset.result ≡ subset (union a.initial.words (successors_by a.rows.now c.forward-reached.result.r.words)) a.z.words = c.is_subset.ensures ∙ ap (λ (X : Set). subset X c.args.z.words) c.forward-reached.ensures.3 in
+    let a = c.args in
+    let entered : c.is_subset.result ≡ subset (union a.initial.words (successors_by a.rows.now c.forward-reached.result.r.words)) a.z.words =
+        c.is_subset.ensures ∙ ap (λ (X : Set). subset X a.z.words) c.forward-reached.ensures.3 in
     record {
       R = _;
       S = _;
@@ -35,12 +38,13 @@ backward-held-requires c =
 pub returns-then-not-is_subset : goal.returns-then-not-is_subset
 unfolding set_beside
 returns-then-not-is_subset c =
-    let entered : let a = c.args in
-    c.is_subset.result ≡ subset (union a.initial.words (successors_by a.rows.now c.forward-reached.result.r.words)) a.z.words = c.is_subset.ensures ∙ ap (λ (X : Set). subset X c.args.z.words) c.forward-reached.ensures.3 in
+    let a = c.args in
+    let entered : c.is_subset.result ≡ subset (union a.initial.words (successors_by a.rows.now c.forward-reached.result.r.words)) a.z.words =
+        c.is_subset.ensures ∙ ap (λ (X : Set). subset X a.z.words) c.forward-reached.ensures.3 in
     record {
       R = _;
       S = _;
-      R_least = (c).forward.ensures.0;
+      R_least = c.forward-reached.ensures.0;
       S_greatest = c.backward-held.ensures.0;
       conclusion = conclude_unsafe entered c.if-is_subset.false c.is_subset-2.ensures c.if-not-is_subset.true;
       set = c.empty.ensures;
@@ -49,12 +53,13 @@ returns-then-not-is_subset c =
 pub returns : goal.returns
 unfolding set_beside
 returns c =
-    let entered : let a = c.args in
-    c.is_subset.result ≡ subset (union a.initial.words (successors_by a.rows.now c.forward-reached.result.r.words)) a.z.words = c.is_subset.ensures ∙ ap (λ (X : Set). subset X c.args.z.words) c.forward-reached.ensures.3 in
+    let a = c.args in
+    let entered : c.is_subset.result ≡ subset (union a.initial.words (successors_by a.rows.now c.forward-reached.result.r.words)) a.z.words =
+        c.is_subset.ensures ∙ ap (λ (X : Set). subset X a.z.words) c.forward-reached.ensures.3 in
     record {
       R = _;
       S = _;
-      R_least = (c).forward.ensures.0;
+      R_least = c.forward-reached.ensures.0;
       S_greatest = c.backward-held.ensures.0;
       conclusion = conclude_open entered c.if-is_subset.false c.is_subset-2.ensures c.if-not-is_subset.false;
       set = c.backward-held.ensures.1;

@@ -1,6 +1,5 @@
 -- `not_forbidden`: all states without the forbidden ones.
 use mathlib.Core.Path.{refl, ap₂, ◌∙◌}
-use borrow.Author.Rules.{rules}
 use Rattle.model.specs.Sets.{difference}
 use Rattle.core_rounds.proofs.Adding.{not_forbidden-is}
 use Rattle.core_rounds.proofs.not_forbidden.Goals as goal
