@@ -17,8 +17,7 @@ use Rattle.call_rewrite.specs.RewriteAnswers.{rewrite_answer}
 use Rattle.call_rewrite.proofs.RewriteAnswered.{new_long, answered_old}
 use Rattle.shuntberry_fields.specs.Fields.{file_fields}
 use Rattle.shuntberry_fields.proofs.FieldsAnswered.{where_answered}
-use Rattle.shuntberry.proofs.shuntberry_rewrite.Statement.{statement}
-use Rattle.shuntberry.proofs.shuntberry_rewrite.Tie as tie
+use Rattle.shuntberry.proofs.shuntberry_rewrite.Goals as goal
 
 rewrite_range : (input : List ℕ) (room : ℕ) {l : ℕ} → rewrite_answer input room ≡ answered l → l ≤ max_file
 rewrite_range input room e =
@@ -32,11 +31,8 @@ rewrite_range input room e =
       file_length-most new_form (states_in input) (groups_in old_form input) facts.small facts.few,
     )
 
-pub shuntberry-rewrite-spec : {M : Type 1} → statement M
-shuntberry-rewrite-spec =
-    tie.close
-    (tie.spec
-    (λ c κs. search rules)
-    (λ c κs. where_answered (λ (l : ℕ). l ≤ max_file) c.before.before.rewrite.ensures.0 (λ a e. rewrite_range _ _ e))
-    (λ c. search rules)
-    (λ c. let written = c.before.before.before.rewrite.ensures in (c.lay-out-file.ensures ∙ ap file_fields written.0, written.1)))
+pub lay_out_file-requires : goal.lay_out_file-requires
+lay_out_file-requires c = where_answered (λ (l : ℕ). l ≤ max_file) c.rewrite.ensures.0 (λ a e. rewrite_range _ _ e)
+
+pub returns : goal.returns
+returns c = let written = c.rewrite.ensures in (c.lay_out_file.ensures ∙ ap file_fields written.0, written.1)
