@@ -24,7 +24,7 @@ use mathlib.Core.List.{List, [], ◌∷◌, ◌++◌}
 use borrow.Author.Tests.{ltb-false, lt-ltb, le-ltb, eqb-true, eqb-false, eq-eqb, ne_eqb, not-false}
 use lib.Dec.{eqb, ltb}
 use lib.ListN.{length, get_or}
-use Rattle.model.specs.Sets.{max_states, number}
+use Rattle.model.specs.Sets.{max_states}
 use Rattle.basics.specs.Bounds.{concat}
 use Rattle.basics.specs.Refusals.{Ground, refuse, refused, answered, unless_refused}
 use Rattle.model.specs.Stores.{max_groups, store_words, dialogue_of, layout, beyond, store_ground, shared_grounds}
