@@ -9,13 +9,9 @@
 //   refusal                      the first of the grounds 10, 14, 15 and 17 that holds, or 0
 //
 // Functions below the calls ask for a store that is long enough; `refusal` asks for nothing.
-use crate::core_refusals::GROUPS;
-use crate::core_refusals::STATES;
-use crate::core_refusals::STORE_SHORT;
-use crate::core_refusals::STRAY_BIT;
-use crate::core_state_set::MAX_STATES;
-use crate::core_state_set::StateSet;
-use crate::core_state_set::WORDS;
+
+use crate::core_refusals::{GROUPS, STATES, STORE_SHORT, STRAY_BIT};
+use crate::core_state_set::{MAX_STATES, StateSet, WORDS};
 
 pub const MAX_GROUPS: usize = 64;
 
