@@ -305,7 +305,7 @@ def fallen_keys(crate, file, fact, named):
     """The names that it falls on: a law, and the theorem of the law's file, if that has one alone; or a function with what its contract ensures; where no
     sentence has one of these, the functions of the crate that call it, up to the first that one has."""
     parts = Path(file).parts
-    if parts[0] != "proofs" or parts[-1] != "Proof.antt":
+    if parts[0] != "proofs" or len(parts) == 2:  # a file of laws; the proof of a function is a folder
         law = {(crate, Path(file).stem, fact.split()[0])}
         proved = [name for path, name, _, _ in theorems(crate) if path.name == parts[-1]]
         return law | {(crate, Path(file).stem, name) for name in proved if len(proved) == 1} if parts[0] == "proofs" else set()
