@@ -14,7 +14,7 @@ use lib.Dec.{eqb}
 use lib.ListN.{length}
 use lib.Seq.{take_all}
 use Rattle.basics.specs.Bounds.{tabulate}
-use Rattle.model.specs.Sets.{WORDS, Set, empty, image, size}
+use Rattle.model.specs.Sets.{WORDS, Set, empty, image}
 use Rattle.model.specs.Tables.{post}
 use Rattle.model.specs.Rounds.{iterate, forward, is_safe, round_of, first_round, safe, settle, rounds, run}
 use Rattle.model.specs.Paths.{shortest, has_path, smallest_path}
