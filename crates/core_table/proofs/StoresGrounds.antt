@@ -5,7 +5,7 @@
 --   none-beyond, all-states     a set has none, nor has any, where n is the most that there can be
 --   joined-none, -turn, -end    a loop that joins sets
 --   joined-beyond               sets joined have a state from n up where one of them has
---   joined_words                sets joined have a state where one of their words in the store is not 0; to_last: up to the last set
+--   joined_words                sets joined have a state where one of their words in the store is not 0
 --   or_none                     words joined are 0 just where each of them is
 --   non_zero_hit                a word other than 0; non_zero_start, -turn, -end: a loop that joins words, to see whether there is one
 use Prim.Native.Nat.{ℕ, zero, suc, ◌+◌, ◌*◌, ◌-◌, ◌/◌, ◌^◌, ◌≤◌, ◌<◌}
@@ -144,11 +144,6 @@ module _ (xs : List ℕ) (at count : ℕ) (room : at + WORDS * count ≤ length 
       ap not (is_false (subset (union_of count set) empty) (λ e. clash p (zero_non_zero xs at end (no_word fits e)))) ∙ sym p)
       (λ (p : non_zero xs at end ≡ false). ap not (in_subset (⊆-of-eq (joined-empty set count (no_set p)))) ∙ sym p)
       (decided (non_zero xs at end))
-
--- from set k on, to the last of `most`
-pub to_last : (xs : List ℕ) (at k most : ℕ) {b : Bool} → k ≤ most → b ≡ non_zero xs (at + WORDS * k) (at + WORDS * k + WORDS * (most - k))
-    → b ≡ non_zero xs (at + WORDS * k) (at + WORDS * most)
-to_last xs at k most h e = e ∙ ap (non_zero xs (at + WORDS * k)) (omega arith)
 
 -- words joined are 0 just where each of them is
 or_none : (a b : ℕ) → not (eqb (bit_or a b) 0) ≡ (not (eqb a 0) || not (eqb b 0))

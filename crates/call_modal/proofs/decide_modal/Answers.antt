@@ -76,7 +76,7 @@ path_on-requires c =
 pub returns-then-not-on_certain : goal.returns-then-not-on_certain
 returns-then-not-on_certain c =
     unsafe-answer _ _ _ _ _ c.refusal_of-refused.ensures c.if-refused-ne0.false (c.forbidden_by-forbidden.ensures ∙ forbidden-is _ _ _) c.check_on-on_possible.ensures
-    c.if-on_possible.false c.check_on-on_certain.ensures (c.if-not-on_certain.true) c.empty-then-not-on_certain.ensures c.path_on.ensures.0
+    c.if-on_possible.false c.check_on-on_certain.ensures (not_true _ c.if-not-on_certain.true) c.empty-then-not-on_certain.ensures c.path_on.ensures.0
     c.path_on.ensures.1
 
 pub path_on-requires-2 : goal.path_on-requires-2
@@ -89,5 +89,5 @@ path_on-requires-2 c =
 pub returns : goal.returns
 returns c =
     depends-answer _ _ _ _ _ c.refusal_of-refused.ensures c.if-refused-ne0.false (c.forbidden_by-forbidden.ensures ∙ forbidden-is _ _ _) c.check_on-on_possible.ensures
-    c.if-on_possible.false c.check_on-on_certain.ensures (c.if-not-on_certain.false) c.count-2.ensures
+    c.if-on_possible.false c.check_on-on_certain.ensures (not-false _ c.if-not-on_certain.false) c.count-2.ensures
     c.path_on-2.ensures.0 c.path_on-2.ensures.1

@@ -1,0 +1,7 @@
+-- `entry_at`: the two bytes of the entry.
+use borrow.Author.Rules.{rules}
+use Rattle.call_replay.proofs.LogEntries.{entry-bytes}
+use Rattle.call_replay.proofs.entry_at.Goals as goal
+
+pub returns : goal.returns
+returns c = entry-bytes _ _ c.wide-low.ensures.0 c.wide-high.ensures.0

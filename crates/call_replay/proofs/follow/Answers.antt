@@ -1,0 +1,68 @@
+-- `follow`: each entry before entry i is followed, and `at` is where the set begins that entry i may be in.
+use Prim.Native.Nat.{◌≤◌, ◌<◌, ◌-◌}
+use native.Mathlib.Omega.{arith}
+use mathlib.Core.Path.{◌≡◌, sym, ◌∙◌}
+use mathlib.Core.Bool.{true}
+use borrow.Author.Rules.{rules}
+use borrow.Author.Tests.{not-true, not-false}
+use Rattle.model.specs.Sets.{max_states, member}
+use Rattle.model.specs.Stores.{set_at}
+use Rattle.model.proofs.SetsMembers.{in_bound}
+use Rattle.call_replay.specs.Logs.{entry_count}
+use Rattle.call_replay.proofs.Following.{Following, following_start, following_bit, following_turn, following_stop, following_end}
+use Rattle.call_replay.proofs.follow.Goals as goal
+
+pub loop-i-init : goal.loop-i-init
+loop-i-init c = (search rules, following_start _ _)
+
+pub returns-then-not-holds_at : goal.returns-then-not-holds_at
+returns-then-not-holds_at c =
+    let so = c.loop-i.invariant.1 in (
+      following_stop _ _ so (search rules) c.entry_at-s.ensures (sym c.holds_at.ensures ∙ c.if-not-holds_at.true),
+      so.seen-is,
+    )
+
+pub overflow_shl-words : goal.overflow_shl-words
+overflow_shl-words c = omega arith
+
+pub offset_bounds-words-s : goal.offset_bounds-words-s
+offset_bounds-words-s c =
+    let held : member (set_at c.args.store.now c.loop-i.at) c.entry_at-s.result ≡ true = sym c.holds_at.ensures ∙ c.if-not-holds_at.false in
+    let state : c.entry_at-s.result < max_states = in_bound (record { is = held }) in
+    record { fits = omega (arith, state) }
+
+pub bounds-words-s : goal.bounds-words-s
+bounds-words-s c =
+    let held : member (set_at c.args.store.now c.loop-i.at) c.entry_at-s.result ≡ true = sym c.holds_at.ensures ∙ c.if-not-holds_at.false in
+    let state : c.entry_at-s.result < max_states = in_bound (record { is = held }) in
+    omega (arith, state)
+
+pub bounds-words-s-in-loop-i : goal.bounds-words-s-in-loop-i
+bounds-words-s-in-loop-i c =
+    let held : member (set_at c.args.store.now c.loop-i.at) c.entry_at-s.result ≡ true = sym c.holds_at.ensures ∙ c.if-not-holds_at.false in
+    let state : c.entry_at-s.result < max_states = in_bound (record { is = held }) in
+    omega (arith, state)
+
+pub overflow_mul-at : goal.overflow_mul-at
+overflow_mul-at c =
+    let held : member (set_at c.args.store.now c.loop-i.at) c.entry_at-s.result ≡ true = sym c.holds_at.ensures ∙ c.if-not-holds_at.false in
+    let state : c.entry_at-s.result < max_states = in_bound (record { is = held }) in
+    record { fits = omega (arith, state) }
+
+pub overflow_add-at : goal.overflow_add-at
+overflow_add-at c =
+    let held : member (set_at c.args.store.now c.loop-i.at) c.entry_at-s.result ≡ true = sym c.holds_at.ensures ∙ c.if-not-holds_at.false in
+    let state : c.entry_at-s.result < max_states = in_bound (record { is = held }) in
+    record { fits = omega (arith, state) }
+
+pub loop-i-preserved : goal.loop-i-preserved
+loop-i-preserved c =
+    let held : member (set_at c.args.store.now c.loop-i.at) c.entry_at-s.result ≡ true = sym c.holds_at.ensures ∙ c.if-not-holds_at.false in
+    let state : c.entry_at-s.result < max_states = in_bound (record { is = held }) in
+    let here = c.loop-i.invariant.1 in (
+      search rules,
+      following_turn _ _ here c.entry_at-s.ensures held (following_bit _ _ here state),
+    )
+
+pub returns : goal.returns
+returns c = following_end _ _ c.loop-i.invariant.1 (search rules) (search rules)
