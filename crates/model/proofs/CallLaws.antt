@@ -17,9 +17,9 @@
 --   no_bytes, draft-says                        what an input of no bytes says
 use Prim.Native.Nat.{ℕ, ◌+◌, ◌*◌, ◌-◌, ◌/◌, ◌%◌, ◌≤◌, ◌<◌}
 use native.Mathlib.Omega.{arith}
-use mathlib.Core.Path.{◌≡◌, refl, sym, ap, ◌∙◌, subst}
+use mathlib.Core.Path.{◌≡◌, refl, sym, ap, ap₂, ◌∙◌, subst}
 use mathlib.Core.Logic.{◌⊎◌, inl, inr, ⊎_elim}
-use mathlib.Core.Bool.{true, false, not}
+use mathlib.Core.Bool.{Bool, true, false, not, ◌||◌}
 use mathlib.Core.List.{List, [], ◌∷◌, ◌++◌}
 use borrow.Author.Tests.{ltb-false, lt-ltb, le-ltb, eqb-true, eqb-false, eq-eqb, ne_eqb, not-false}
 use lib.Dec.{eqb, ltb}
@@ -115,7 +115,7 @@ pub record Readable (form : Form) (input : List ℕ) (site room n g : ℕ) : Typ
 module _ (form : Form) (second : ℕ) where
   pub second_pass : (g : ℕ) → second ≡ added form + g → g ≤ max_groups → bad_second form second ≡ false
   unfolding bad_second
-  second_pass g e h = rw (le-ltb second (added form) (omega arith)) (le-ltb (added form + max_groups) second (omega arith))
+  second_pass g e h = ap₂ (λ (x y : Bool). x || y) (le-ltb second _ (omega arith)) (le-ltb _ second (omega arith))
 
   pub second_passes : bad_second form second ≡ false → (second ≡ added form + (second - added form)) × (second - added form ≤ max_groups)
   unfolding bad_second

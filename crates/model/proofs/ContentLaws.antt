@@ -73,14 +73,7 @@ module _ (form : Form) (t : Dialogue) {g : ℕ} (many : length t.groups ≡ g) w
 
   pub length-sets : length (sets form t) ≡ heads form + g + t.n
   unfolding sets
-  length-sets =
-      omega (
-        arith,
-        length-append (heads_of form t) behind,
-        length-heads form t,
-        length-append t.groups (tabulate t.n t.row),
-        length-tabulate t.row t.n,
-      )
+  length-sets = grind (arith, many, length-append, length-heads form t, length-tabulate t.row t.n)
 
   sets_behind : (j : ℕ) → get_or (sets form t) (heads form + j) [] ≡ get_or behind j []
   unfolding sets

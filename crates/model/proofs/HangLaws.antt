@@ -36,7 +36,7 @@ module _ (n : ℕ) (row : ℕ → Set) (resting : Set) where
 
   pub in_hangs : {s : ℕ} → s < max_states → s < n → is_dead_end row s ≡ true → member resting s ≡ false → In (hangs n row resting) s
   unfolding hangs is_hang
-  in_hangs h l e r = in_states n _ h l (and_intro (is_dead_end row _) (not (member resting _)) e (ap not r))
+  in_hangs h l e r = let rests_not = ap not r in in_states n _ h l (search (e, rests_not, and_intro))
 
   pub hangs_in : {s : ℕ} → In (hangs n row resting) s → (s < n) × (is_dead_end row s ≡ true) × (member resting s ≡ false)
   unfolding hangs is_hang

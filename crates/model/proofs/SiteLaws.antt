@@ -47,15 +47,16 @@ unfolding block_grounds check_of
 grounds_zero block k =
     ap (λ (x : ℕ). (not (eqb (le16_at block 0) k), 12) ∷ (not (eqb (le16_at block check_at) (x % modulus)), 13) ∷ []) (zero-add (weighted block check_at))
 
+-- block k is of a site that is 0: which one, the definition says
 file_zero : (form : Form) (d : Dialogue) → file_of form 0 d ≡ plain_file form d
 unfolding file_of block_file
 file_zero form d =
     ap (λ (f : ℕ → List ℕ). cond (eqb d.n 0) [] (concat (blocks_for (length (contents form d))) f))
-    (fun_ext (block_zero (contents form d)))
+    (fun_ext (λ k. ap (λ (s : ℕ). block_of s (contents form d) k) (omega arith) ∙ block_zero (contents form d) k))
 
 blocks_zero : (input : List ℕ) → blocks_grounds input 0 ≡ concat (length input / block_bytes) (λ k. plain_grounds (part input k) k)
 unfolding blocks_grounds
-blocks_zero input = ap (concat (length input / block_bytes)) (fun_ext (λ k. grounds_zero (part input k) k))
+blocks_zero input = ap (concat (length input / block_bytes)) (fun_ext (λ k. ap (λ (s : ℕ). block_grounds s (part input k) k) (omega arith) ∙ grounds_zero (part input k) k))
 
 read_zero : (form : Form) (input : List ℕ) (room : ℕ) → read_answer_as form input 0 room ≡ plain_read form input room
 unfolding read_answer_as read_grounds_as file_grounds answer

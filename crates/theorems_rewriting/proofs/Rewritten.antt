@@ -51,7 +51,8 @@ module _ (d : Dialogue) where
   unfolding dead_ends
   rests h =
       let w = hangs_in d.n d.row (dead_ends d) h in
-      clash (in_states d.n _ (in_bound h) w.0 w.1).is w.2
+      let dead = w.1 in
+      clash (in_states d.n _ (in_bound h) w.0 (search (dead, refl))).is w.2
 
   dead_rests : (s : ℕ) → s < max_states → (member (rewritten d).resting s ≡ true) ↔ ((s < d.n) × Dead d s)
   unfolding rewritten dead_ends
