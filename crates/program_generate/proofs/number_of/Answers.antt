@@ -20,12 +20,11 @@ pub returns-then-b-gt57 : goal.returns-then-b-gt57
 returns-then-b-gt57 c = not_digit _ c.loop-i.i (search rules) (inr (search rules))
 
 pub loop-i-preserved : goal.loop-i-preserved
-loop-i-preserved c =
-    (
-      search rules,
-      reading_more _ _ _ c.loop-i.invariant.1 _ _ (search rules) (search rules) (search rules)
-          c.wide.ensures c.least-value.ensures,
-    )
+loop-i-preserved c = (
+  search rules,
+  reading_more _ _ _ c.loop-i.invariant.1 _ _ (search rules) (search rules) (search rules)
+      c.wide.ensures c.least-value.ensures,
+)
 
 pub returns : goal.returns
 returns c = reading_all _ _ _ c.loop-i.invariant.1 (search rules) (search rules)
