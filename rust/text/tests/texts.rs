@@ -76,7 +76,7 @@ fn mistakes() {
         ),
         (
             "INITIAL 1",
-            &[(4, "'INITIAL' is written in lower case, initial")],
+            &[(4, "not with 'INITIAL'; did you mean 'initial'?")],
         ),
         ("END", &[(4, "not with 'END'; did you mean 'end'?")]),
         (
@@ -1065,7 +1065,7 @@ fn mistakes_of_houses() {
         ),
         (
             "Window monday 22:00 for 6h",
-            "'Window' is written in lower case, window",
+            "not with 'Window'; did you mean 'window'?",
         ),
         (
             "closed: 2026-12-25",
