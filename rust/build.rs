@@ -27,7 +27,7 @@ fn main() {
     println!("cargo::rerun-if-changed={}", archive.display());
     if !archive.is_file() {
         println!(
-            "cargo::error={ARCHIVE} is missing in {}: copy the package whole from Shuntberry's archive, or with `cp -RL` from the installed one, where it is a link, or set the feature `portable`, or run `rt staticlib shuntberry` in the repository",
+            "cargo::error={ARCHIVE} is missing in {}: copy the package whole from Shuntberry's archive, or with `cp -RL` from the installed one, where it is a link, or set the feature `portable`, or run `scripts/prove shuntberry` in the repository",
             package.display()
         );
         return;

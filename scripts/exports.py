@@ -14,9 +14,9 @@ from header import Call, Header, Place, Struct
 
 WIDTHS = {"u8": "uint8_t", "u16": "uint16_t", "u32": "uint32_t", "u64": "uint64_t", "usize": "size_t"}
 EXPORT = re.compile(
-    r'#\[no_mangle\]\npub extern "C" fn (?P<name>\w+)\((?P<parameters>[^()]*)\)(?: -> (?P<answer>\w+))?\n'
+    r'#\[unsafe\(no_mangle\)\]\npub extern "C" fn (?P<name>\w+)\((?P<parameters>[^()]*)\)(?: -> (?P<answer>\w+))?\n'
     r"(?:    .*\n)*\{\n(?P<body>(?:    .*\n)*)\}\n")
-STRUCT = re.compile(r"#\[repr\(C\)\]\npub struct (?P<name>\w+) \{\n(?P<fields>(?:    .*\n)*)\}\n")
+STRUCT = re.compile(r"#\[repr\(C\)\]\n#\[derive\(Clone, Copy\)\]\npub struct (?P<name>\w+) \{\n(?P<fields>(?:    .*\n)*)\}\n")
 Faults = Iterator[str]
 
 
@@ -24,6 +24,12 @@ def source(top: Path, crate: str) -> str:
     """The source of a crate, without its comments."""
     files = sorted((top / "crates" / crate / "src").glob("*.rt"))
     return "".join(re.sub(r"^ *//.*\n", "", path.read_text(), flags=re.M) for path in files)
+
+
+def imported_from(text: str, name: str) -> List[str]:
+    """The crates that a source brings a name in from, alone or in a list."""
+    uses = re.findall(r"^use (\w+)::(?:(\w+)|\{([^{}]*)\});$", text, re.M)
+    return [crate for crate, one, many in uses if name in [one, *(word.strip() for word in many.split(","))]]
 
 
 def listed(text: str) -> List[Tuple[str, str]]:
@@ -86,7 +92,7 @@ def body_faults(top: Path, exports: str, name: str, parameters: List[Tuple[str, 
         yield f"{name} calls {match[3]}"
     if handed != names:
         yield f"{name} has ({', '.join(names)}) and hands on ({', '.join(handed)})"
-    crates = [match[2]] if match[2] else re.findall(rf"^use (\w+)::{match[3]};$", exports, re.M)
+    crates = [match[2]] if match[2] else imported_from(exports, match[3])
     callee = re.search(rf"^pub fn {match[3]}\(([^()]*)\)", source(top, crates[0]),
         re.M) if len(crates) == 1 else None
     if not callee:
@@ -101,9 +107,9 @@ def body_faults(top: Path, exports: str, name: str, parameters: List[Tuple[str, 
 def export_faults(top: Path, header: Header) -> Faults:
     text = source(top, "shuntberry")
     found = {match["name"]: match for match in EXPORT.finditer(text)}
-    if not len(found) == text.count("#[no_mangle]") == text.count("extern ") or "/*" in text:
+    if not len(found) == text.count("no_mangle") == text.count("extern ") or "/*" in text:
         yield "an export is written in a way that is not known"
-    if re.search(r"^use .* as ", text, re.M):
+    if re.search(r"^use [^;]* as ", text, re.M):
         yield "an import of shuntberry has another name than what it imports"
     calls = {f"shuntberry_{call.name}": call for call in header.calls}
     for name in sorted(found.keys() ^ calls.keys()):

@@ -1,7 +1,7 @@
 """What is said, tried and tested of each sentence of docs/PROMISES.md, read from the sources: the names beside it, each with its place; the must-fail edits
 that change or fall on one of these names; and the tests that carry one of them, by a tag in a comment:
 
-    # tries: Reported.safe-line, call_check::check
+    # tries: Reported.safe_line, call_check::check
 
 A name of a tag is written as docs/PROMISES.md writes it in full: File.name, File.Record.field, crate::function, crate::Type::method, with `crate: ` before it
 where two crates have it. A tag belongs to the case, test or function around it or below it."""
@@ -24,12 +24,12 @@ TAGGED = ("tests/**/*", "rust/outside/**/*.rs")
 TAG = re.compile(r"^\s*(?:#|//)\s*tries: (.*\S)\s*$", re.M)
 FALLS = re.compile(r"^# falls on: (\S+): (.*\S)\s*$", re.M)
 DECLARES = re.compile(r"^(?:(?:unfoldable|abbrev|pub)\s+)*(?:(?:record|data)\s+([^\s(){}]+)|([^\s(){}]+)\s+:(?:\s|$))")
-USED = re.compile(r"^ghost use Rattle·(\w+?)(?:·specs)?\.specs\.(\w+)\.\{([^}]*)\}", re.M)
-NAME = re.compile(r"[^\s(){}\[\],;⌜⌝]+")
+USED = re.compile(r"^ghost use Rattle\.(\w+)\.specs\.(\w+)\.\{([^}]*)\}", re.M)
+NAME = re.compile(r"[^\s(){}\[\],;.]+(?:\.[^\s(){}\[\],;]*)?")  # a projection stands tight behind what it is of: `d.row`
 ITEM = re.compile(r"^(?P<indent> *)(?:pub )?(?:extern \"C\" )?fn (?P<name>\w+).*?^(?P=indent)\}$", re.M | re.S)
 SAID_TEST = re.compile(r"`((?:tests|rust/outside/tests)/[^`]*)`")
 POINTS_BACK = re.compile(r"(?:accepted|all of these|and|get|its?|nor|such|that|the same|these|where)\b")
-FUNCTION = re.compile(r"^\s*(?:#\[\w+\] *)?(?:pub )?(?:extern \"C\" )?fn (\w+)")
+FUNCTION = re.compile(r"^\s*(?:#\[[\w()]+\] *)?(?:pub )?(?:extern \"C\" )?fn (\w+)")
 
 
 class Name(NamedTuple):
@@ -255,7 +255,8 @@ def functions(crate):
         lines = text.splitlines()
         for found in ITEM.finditer(text):
             contract, _, body = found.group().partition("\n" + found.group("indent") + "{\n")
-            cited = {known[name] for name in NAME.findall(contract.partition("ensures")[2]) if name in known} - NUMBERS
+            words = {word.partition(".")[0] for word in NAME.findall(contract.partition("ensures")[2])}
+            cited = {known[name] for name in words if name in known} - NUMBERS
             own = {name for name in cited if name[0] == crate}  # what others define is then what it speaks about
             for key in function_at(lines, line_of(text, found.start("name")) - 1):
                 made[key] = Function(own or cited, body)
@@ -304,7 +305,7 @@ def fallen_keys(crate, file, fact, named):
     """The names that it falls on: a law, and the theorem of the law's file, if that has one alone; or a function with what its contract ensures; where no
     sentence has one of these, the functions of the crate that call it, up to the first that one has."""
     parts = Path(file).parts
-    if parts[0] != "proofs" or parts[-1] != "Proof.antt":
+    if parts[0] != "proofs" or len(parts) == 2:  # a file of laws; the proof of a function is a folder
         law = {(crate, Path(file).stem, fact.split()[0])}
         proved = [name for path, name, _, _ in theorems(crate) if path.name == parts[-1]]
         return law | {(crate, Path(file).stem, name) for name in proved if len(proved) == 1} if parts[0] == "proofs" else set()

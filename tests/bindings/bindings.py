@@ -160,7 +160,7 @@ try:
 
     # ---- exports that are not the header's: the mutants that every contract lets pass, since C knows places
 
-    step = "    reachable: SetFields,\n    from: usize,\n    to: usize,\n) -> SessionFields\n    ensures { λ r. ⌜ (r ≡ sessionFields (reachable .words) (editAnswer (now (store .entry)) n g (reachable .words) (add from to)))"
+    step = "fn shuntberry_add_step(\n    store: &mut [u64],\n    n: usize,\n    g: usize,\n    reachable: SetFields,\n    from: usize,\n    to: usize,\n"
     decide = "    store: &[u64],\n    n: usize,\n    g: usize,\n    allowance: usize,\n"
     for why, place, *edits in (
         ("DecisionFields has (", FIELDS, ("    pub verdict: u32,\n    pub count: u32,\n",
@@ -173,14 +173,14 @@ try:
             "    pub n: u64,\n    pub g: u32,\n")),
         ("FileFields has (", FIELDS, ("    pub length: u32,\n", "    pub size: u32,\n")),
         ("SetFields has (", FIELDS, ("    pub words: [u64; WORDS],\n", "    pub words: [u32; WORDS],\n")),
-        ("a struct of shuntberry_fields is written in a way", FIELDS, ("#[repr(C)]\npub struct FileFields",
-            "pub struct FileFields")),
+        ("a struct of shuntberry_fields is written in a way", FIELDS, ("#[repr(C)]\n#[derive(Clone, Copy)]\npub struct FileFields",
+            "#[derive(Clone, Copy)]\npub struct FileFields")),
         ("PathFields is only in Rattle", FIELDS, ("pub struct ShortestFields", "pub struct PathFields")),
         ("NO_MINUTE is 4_294_967_294 in Rattle", FIELDS, ("4_294_967_295", "4_294_967_294")),
         ("NO_TABLE is 65_000 + 535 in Rattle", FIELDS, ("const NO_TABLE: u32 = 65_535;",
             "const NO_TABLE: u32 = 65_000 + 535;")),
-        ("a struct of shuntberry_fields is written in a way", FIELDS, ("#[repr(C)]\npub struct FileFields",
-            "/* no more */\n#[repr(C)]\npub struct FileFields")),
+        ("a struct of shuntberry_fields is written in a way", FIELDS, ("#[repr(C)]\n#[derive(Clone, Copy)]\npub struct FileFields",
+            "/* no more */\n#[repr(C)]\n#[derive(Clone, Copy)]\npub struct FileFields")),
         ("an export is written in a way", EXPORTS, ("// ---- replay\n", "/* ---- replay */\n")),
         ("SetFields has (words: [u64; 4])", "crates/core_state_set/src/lib.rt",
             ("pub const WORDS: usize = 8;", "pub const WORDS: usize = 4;")),
@@ -198,8 +198,8 @@ try:
             "fn shuntberry_remove_step(")),
         ("shuntberry_read calls write", EXPORTS, ("fn shuntberry_read(", "fn shuntberry_file("),
             ("fn shuntberry_write(", "fn shuntberry_read("), ("fn shuntberry_file(", "fn shuntberry_write(")),
-        ("has another name than what it imports", EXPORTS, ("use call_edit_session::add_step;",
-            "use call_edit_session::remove_step as add_step;")),
+        ("has another name than what it imports", EXPORTS, ("use call_edit_session::{add_step, open, remove_step};",
+            "use call_edit_session::{open, remove_step, remove_step as add_step};")),
         ("shuntberry_within has (", EXPORTS, ("n: usize, g: usize, k: usize)",
             "n: usize, g: usize, k: u32)")),
         ("shuntberry_replay has (", EXPORTS, ("g: usize, log: &[u8])", "g: usize, log: &mut [u8])")),
@@ -209,8 +209,8 @@ try:
         ("shuntberry_rewrite does more", EXPORTS, ("    lay_out_file(rewrite(input, output))\n",
             "    let length = 0;\n    lay_out_file(rewrite(input, output))\n")),
         ("written in a way that is not known", EXPORTS,
-            ("#[no_mangle]\npub extern \"C\" fn shuntberry_replay",
-            "#[inline]\n#[no_mangle]\n#[cold]\npub extern \"C\" fn shuntberry_replay")),
+            ("#[unsafe(no_mangle)]\npub extern \"C\" fn shuntberry_replay",
+            "#[inline]\n#[unsafe(no_mangle)]\n#[cold]\npub extern \"C\" fn shuntberry_replay")),
         ("core_table has 17, and the header STRAY_BIT", "crates/core_table/src/lib.rt",
             ("return STRAY_BIT;", "return 17;")),
         ("file_writing has 19, and the header OUTPUT_SHORT", "crates/file_writing/src/lib.rt",
@@ -258,7 +258,7 @@ try:
     need(status == 1 and re.search(r"^bindings: shuntberry_new is only in the header$", said, re.M),
         "a call that Rattle does not export", said)
     major = re.search(r"#define SHUNTBERRY_VERSION (\d+)", (work / HEADER).read_text())[1]
-    new = "#[no_mangle]\npub extern \"C\" fn shuntberry_new() -> u32\n    ensures { λ r. ⌜ r ≡ version ⌝ }\n{\n    VERSION\n}\n"
+    new = "#[unsafe(no_mangle)]\npub extern \"C\" fn shuntberry_new() -> u32\n    ensures { result ≡ version }\n{\n    VERSION\n}\n"
     for number, holds in (major, True), (f"{major}1", False):
         shutil.copy(TOP / EXPORTS, work / EXPORTS)
         edited(EXPORTS, ("// ---- replay\n", f"{new}\n// ---- replay\n"),

@@ -144,8 +144,8 @@ def order(table):
     return expanded
 
 
-# tries: Order.InOrder.first-pass, Order.InOrder.later-pass, Order.InOrder.rising, Order.orderBy
-# tries: Order.InOrder.each-once, call_first_order::first_order
+# tries: Order.InOrder.first_pass_lem, Order.InOrder.later_pass_lem, Order.InOrder.rising, Order.order_by
+# tries: Order.InOrder.each_once, call_first_order::first_order
 def test_order():
     alone = lambda n: [{s} for s in range(n)]
     steps = lambda text: {(int(pair[0]), int(pair[1])) for pair in text.split()}

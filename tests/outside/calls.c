@@ -226,8 +226,8 @@ static int is_refused_file(struct shuntberry_checked checked, uint32_t refusal)
 }
 
 /* Table E as versions 1 to 3 wrote it: one block, with the check 97. Rewritten it is safe, as it was; 01 has its answer. */
-// tries: CheckAnswers.checkAnswer, Reported.past, Reported.safe-call, Calls.badSecond
-// tries: RewriteAnswers.rewriteAnswer, RewriteCalls.past, RewriteCalls.refusal
+// tries: CheckAnswers.check_answer, Reported.past, Reported.safe_call, Calls.bad_second
+// tries: RewriteAnswers.rewrite_answer, RewriteCalls.past, RewriteCalls.refusal
 static void old_file(void)
 {
     static const uint8_t front[] = {0, 0, 3, 0, 0, 0, 1, 4, 1, 4, 0};
@@ -263,7 +263,7 @@ static void old_file(void)
 }
 
 /* The corridor's file is unsafe; a draft is safe but no table to release; a call that is refused writes nothing. */
-// tries: CheckAnswers.checkGrounds, Reported.unsafe-call, Reported.draft
+// tries: CheckAnswers.check_grounds, Reported.unsafe_call, Reported.draft
 static void checks(void)
 {
     static const char front[] = "states 512 groups 0\nunsafe refinements ", draft[] = "states 0 groups 0\nsafe refinements 0\ninvariant 0: none\n";

@@ -115,7 +115,7 @@ try:
 
     # ---- one that came with the module and is damaged: no other is taken
 
-    for part in (0, 1, 64, 1000, 4096, 20_000, 50_000):
+    for part in (0, 1, 64, 1000, 4096, 20_000, len(WHOLE) * 4 // 5):
         (beside / "shuntberry" / NAME).write_bytes(WHOLE[:part])
         no_answer("came with this module and cannot be loaded", beside, LD_LIBRARY_PATH=str(loader), SHUNTBERRY_LIBRARY=str(named))
     (beside / "shuntberry" / NAME).unlink()

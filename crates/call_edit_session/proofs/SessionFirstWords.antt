@@ -3,7 +3,7 @@
 --   refusal-same                     the first ground that holds, of two stores that are alike in their first words
 --   nothing-same, edited-same        whether an edit changes nothing, and the first words after it
 --   first-words                      specs/SessionPromises
-use Prim.Native.Nat.{ℕ, ◌+◌, ◌-◌, ◌≤◌, ◌<◌}
+use Prim.Native.Nat.{ℕ, ◌+◌, ◌≤◌, ◌<◌}
 use native.Mathlib.Omega.{arith}
 use mathlib.Core.Path.{◌≡◌, refl, sym, ap, ap₂, ◌∙◌}
 use mathlib.Core.Logic.{⊎_elim}

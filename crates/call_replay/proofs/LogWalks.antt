@@ -15,7 +15,7 @@ use mathlib.Core.List.{List}
 use borrow.Author.Tests.{eqb-false, eq-eqb, ne_eqb}
 use lib.Dec.{eqb}
 use lib.ListN.{length, take}
-use Rattle.model.specs.Sets.{member, members, size}
+use Rattle.model.specs.Sets.{member, size}
 use Rattle.model.specs.Tables.{Table}
 use Rattle.basics.proofs.BoundLaws.{not_true, clash, by_cond, lt_or_ge, first_le, first_passes}
 use Rattle.model.proofs.SetsMembers.{In, in_bound, in_union, first_states_in, ◌⊆◌, ⊆-of-eq, in_subset}

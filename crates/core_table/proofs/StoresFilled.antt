@@ -4,7 +4,7 @@
 --   Filling                                     a loop that puts sets at their places: filling_none, -more, -all
 --   sets-long, sets_own, sets_apart, sets-drop  a store so filled: its length, a set that was put, any other, the words behind
 --   holds-overwrite                             a store that holds t, the words past a table as before, is t's layout written over what was there
-use Prim.Native.Nat.{ℕ, zero, suc, ◌+◌, ◌-◌, ◌≤◌, ◌<◌}
+use Prim.Native.Nat.{ℕ, zero, suc, ◌+◌, ◌≤◌, ◌<◌}
 use native.Mathlib.Nat.{not-suc-le-zero, le_antisymm}
 use native.Mathlib.Numerals.{add-one}
 use native.Mathlib.Omega.{arith}

@@ -12,23 +12,21 @@ ghost use Rattle.program_input.specs.Reads.{Within, text_of, ForText};
 
 use call_check::{CHECK_TEXT, Checked, check};
 use core_report::write_refused;
-use libc::{STDERR_FILENO, STDOUT_FILENO};
 use program_input::{Input, Text, input_room, read_input, text_of};
+use std::io;
 
 // The site of the files that the program reads.
 const SITE: usize = 0;
 
-fn main() {
+fn main(rt: HostRuntime) -> io::Result<()> {
     let mut input = input_room();
-    let read = read_input(&mut input);
+    let read = read_input(&mut rt.stdin(), &mut input);
     let mut out = [0u8; CHECK_TEXT];
     match put_answer(read, &input, &mut out) {
-        Text::Bytes(end) => {
-            io::write_all(STDOUT_FILENO, &out[..end]);
-        }
-        Text::Nothing => {
-            io::write_all(STDERR_FILENO, b"check: the input could not be read\n");
-        }
+        Text::Bytes(end) => rt.stdout().write_all(&out[..end]),
+        Text::Nothing => rt
+            .stderr()
+            .write_all(b"check: the input could not be read\n"),
     }
 }
 

@@ -2,6 +2,7 @@
 //
 //   main             reads the words, calls and writes
 //   usage            what is said where the words are not three numbers, the first of them a seed
+//   is_word          whether the program has so many words
 //   argument         one of the program's words
 //   number_of        what a word says as a number
 //   file_room        where the file is put
@@ -22,7 +23,9 @@ use core_report::{ROOM, write_refused};
 use core_table::STORE_WORDS;
 use file_blocks::MAX_FILE;
 use file_writing::{Written, write};
-use libc::{STDERR_FILENO, STDOUT_FILENO};
+use std::env::{Env, FillError};
+use std::io;
+use std::io::{Stderr, Stdout};
 
 // The site of the file that the program writes.
 const SITE: usize = 0;
@@ -30,39 +33,32 @@ const SITE: usize = 0;
 // Seeds are below 2^32.
 const LIMIT: usize = 4294967296;
 
-fn main() {
-    if os::arg_count() != 4 {
-        usage();
-        return;
+fn main(rt: HostRuntime) -> io::Result<()> {
+    let stderr = rt.stderr();
+    if is_word(&rt, 4) {
+        return usage(stderr);
     }
-    let Word::Number(seed) = argument(1) else {
-        usage();
-        return;
+    let Word::Number(seed) = argument(&rt, 1) else {
+        return usage(stderr);
     };
-    let Word::Number(n) = argument(2) else {
-        usage();
-        return;
+    let Word::Number(n) = argument(&rt, 2) else {
+        return usage(stderr);
     };
-    let Word::Number(f) = argument(3) else {
-        usage();
-        return;
+    let Word::Number(f) = argument(&rt, 3) else {
+        return usage(stderr);
     };
     if LIMIT <= seed {
-        usage();
-        return;
+        return usage(stderr);
     }
     let mut file = file_room();
     match put_file(seed as u32, n, f, &mut file) {
-        Written::File(length) => write_out(&file, length),
-        Written::Refused(refusal) => say_refused(refusal),
+        Written::File(length) => write_out(rt.stdout(), stderr, &file, length),
+        Written::Refused(refusal) => say_refused(stderr, refusal),
     }
 }
 
-fn usage() {
-    io::write_all(
-        STDERR_FILENO,
-        b"usage: generate SEED STATES FANOUT > FILE, where SEED is below 4294967296\n",
-    );
+fn usage(stderr: Stderr) -> io::Result<()> {
+    stderr.write_all(b"usage: generate SEED STATES FANOUT > FILE, where SEED is below 4294967296\n")
 }
 
 // ---- words
@@ -73,14 +69,18 @@ pub enum Word {
     Other,
 }
 
+// Whether word i is there. Word 0 is the program's name.
+fn is_word(env: &impl Env, i: usize) -> bool {
+    !matches!(env.arg(i, &mut []), Err(FillError::NotPresent))
+}
+
 // A word that is missing, or longer than the buffer, is no number.
-fn argument(i: usize) -> Word {
-    let mut buffer = io::buffer();
-    let length = os::arg(i, &mut buffer);
-    if os::errno() != 0 {
-        return Word::Other;
+fn argument(env: &impl Env, i: usize) -> Word {
+    let mut buffer = [0; 4096];
+    match env.arg(i, &mut buffer) {
+        Ok(length) => number_of(&buffer[..length]),
+        Err(_) => Word::Other,
     }
-    number_of(&buffer[..length])
 }
 
 // A number from the limit up is taken for the limit: nothing is cut.
@@ -136,17 +136,17 @@ fn put_file(seed: u32, n: usize, f: usize, out: &mut [u8]) -> Written
     }
 }
 
-fn write_out(file: &[u8], length: usize) {
+fn write_out(stdout: Stdout, stderr: Stderr, file: &[u8], length: usize) -> io::Result<()> {
     if length <= file.len() {
-        if io::write_all(STDOUT_FILENO, &file[..length]) {
-            return;
+        if stdout.write_all(&file[..length]).is_ok() {
+            return Ok(());
         }
     }
-    io::write_all(STDERR_FILENO, b"generate: the file could not be written\n");
+    stderr.write_all(b"generate: the file could not be written\n")
 }
 
-fn say_refused(refusal: u8) {
+fn say_refused(stderr: Stderr, refusal: u8) -> io::Result<()> {
     let mut text = [0u8; ROOM];
     let end = write_refused(refusal, &mut text);
-    io::write_all(STDERR_FILENO, &text[..end]);
+    stderr.write_all(&text[..end])
 }

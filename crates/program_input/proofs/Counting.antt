@@ -10,12 +10,15 @@ use mathlib.Core.Path.{◌≡◌, sym, ap, ◌∙◌, subst}
 use mathlib.Core.List.{List}
 use lib.ListN.{length, take}
 use lib.Seq.{length-take-le}
-use Rattle.io.specs.Counts.{IsPrefixLen}
 use Rattle.program_input.specs.declared.Input.{Input}
 use Rattle.program_input.specs.declared.Input.TheVariants.{Ended, Full, Failed}
 use Rattle.program_input.specs.declared.Text.{Text}
 use Rattle.program_input.specs.declared.Text.TheVariants.{Bytes, Nothing}
 use Rattle.program_input.specs.Reads.{Within, text_of, ForText, some, none}
+
+-- The first n bytes of xs are n bytes.
+abbrev pub IsPrefixLen : ℕ → List ℕ → Type 0
+IsPrefixLen n xs = (n ≤ length xs) × (n ≡ length (take n xs))
 
 pub counts : (n : ℕ) (xs : List ℕ) → n ≤ length xs → IsPrefixLen n xs
 counts n xs h = (h, sym (length-take-le n xs h))

@@ -1,5 +1,6 @@
 -- What reading means.
 --
+--   number_read    what a read gave, as the number that C's read returns for it
 --   after_read     the state of reading after one read: by how many bytes are there, how many the room has, and the number that C's read returned
 --   OneRead       one read, of which no byte that is there is lost
 --   Within        what reading a whole input may answer, in a room of so many bytes
@@ -8,13 +9,17 @@
 --
 -- No contract says what C's read returns on which input, nor which bytes it puts into the room. So `Within` is what holds for every run of reads;
 -- that the answer is the one for the reads that were made is tested (tests/programs, tests/input).
-use Rattle.std.specs.Prelude.{ℕ, zero, suc, ◌+◌, ◌<◌, cond, ◌≡◌, List, eqb, ltb, ℤ, pos, negsuc, length, take}
+use Rattle.std.specs.Prelude.{ℕ, zero, suc, ◌+◌, ◌<◌, cond, ◌≡◌, List, eqb, ltb, ℤ, pos, negsuc, length, take, Result, Ok, Err}
 use Rattle.program_input.specs.declared.Input.{Input}
 use Rattle.program_input.specs.declared.Input.TheVariants.{Ended, Full, Failed}
 use Rattle.program_input.specs.declared.Reading.{Reading}
 use Rattle.program_input.specs.declared.Reading.TheVariants.{More, Stopped}
 use Rattle.program_input.specs.declared.Text.{Text}
 use Rattle.program_input.specs.declared.Text.TheVariants.{Bytes, Nothing}
+
+abbrev pub number_read : {E : Type 0} → Result ℕ E → ℤ
+number_read (Ok n) = pos n
+number_read (Err e) = negsuc 0
 
 -- Below 0 it failed, 0 is the end of the input, and from 1 up it is a number of bytes, which C's read keeps within the room.
 unfoldable pub after_read : ℕ → ℕ → ℤ → Reading

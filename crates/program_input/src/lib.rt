@@ -3,16 +3,18 @@
 //   Text, text_of              which bytes of the room are the input's text
 //   Input, read_input          how reading ended, and how many bytes were read
 //   Reading, read_more         one read, and the state of reading after it
-//   after_read                 that state, from the number that C's read returned
+//   number_read                what a read gave as a number, as C's read gives it
+//   after_read                 that state, from that number
 //   input_room                 where the file is read into
 #![tactic(auto)]
 
-ghost use Rattle.std.specs.Prelude.{◌≡◌, ◌+◌, ◌<◌, length};
+ghost use Rattle.std.specs.Prelude.{◌≡◌, ◌+◌, ◌<◌, ◌^◌, length, IfOk};
 ghost use Rattle.model.specs.Files.{max_file};
-ghost use Rattle.program_input.specs.Reads.{after_read, OneRead, Within, text_of};
+ghost use Rattle.program_input.specs.Reads.{number_read, after_read, OneRead, Within, text_of};
 
 use file_blocks::MAX_FILE;
-use libc::STDIN_FILENO;
+use std::io;
+use std::io::Read;
 
 // One byte more than the largest file.
 const INPUT: usize = MAX_FILE + 1;
@@ -44,8 +46,8 @@ pub fn text_of(input: Input, room: usize) -> Text
     }
 }
 
-// Reads until the room is full, the input ends or a read fails. (`io::read_full` does not tell the last two apart.)
-pub fn read_input(room: &mut [u8]) -> Input
+// Reads until the room is full, the input ends or a read fails.
+pub fn read_input<R: Read>(reader: &mut R, room: &mut [u8]) -> Input
     ensures { Within result (length room.new) }
 {
     if room.len() == 0 {
@@ -53,7 +55,7 @@ pub fn read_input(room: &mut [u8]) -> Input
     }
     let mut there = 0;
     loop {
-        match read_more(there, room) {
+        match read_more(reader, there, room) {
             Reading::More(length) => there = length,
             Reading::Stopped(input) => return input,
         }
@@ -68,15 +70,26 @@ enum Reading {
 }
 
 // One read, into the room after what is there.
-fn read_more(there: usize, room: &mut [u8]) -> Reading
+fn read_more<R: Read>(reader: &mut R, there: usize, room: &mut [u8]) -> Reading
     requires { there < length room.old }
     ensures { OneRead there room.old result room.new }
 {
-    let got = libc::read(STDIN_FILENO, &mut room[there..]);
+    let got = number_read(reader.read(&mut room[there..]));
     after_read(there, room.len(), got)
 }
 
-// Of the number that C's read returned. More bytes than there is room for is an error too: C's read promises that it does not
+// A read that a signal interrupts counts as one that failed.
+fn number_read(read: io::Result<usize>) -> isize
+    requires { IfOk read (λ n. n < 2 ^ 63) }
+    ensures { result ≡ number_read read }
+{
+    match read {
+        Ok(count) => count as isize,
+        Err(_) => -1,
+    }
+}
+
+// Of the number that C's read returns. More bytes than there is room for is an error too: a read promises that it does not
 // happen, and if it did, nothing that was read could be trusted.
 fn after_read(there: usize, room: usize, got: isize) -> Reading
     requires { there < room }

@@ -19,22 +19,22 @@ use call_rewrite::rewrite;
 use core_report::write_refused;
 use file_blocks::MAX_FILE;
 use file_writing::Written;
-use libc::{STDERR_FILENO, STDOUT_FILENO};
 use program_input::{Input, Text, input_room, read_input, text_of};
+use std::io;
 
-fn main() {
+fn main(rt: HostRuntime) -> io::Result<()> {
     let mut input = input_room();
-    let read = read_input(&mut input);
+    let read = read_input(&mut rt.stdin(), &mut input);
     let mut out = file_room();
+    let stderr = rt.stderr();
     match put_answer(read, &input, &mut out) {
         Text::Bytes(end) => {
-            if !io::write_all(STDOUT_FILENO, &out[..end]) {
-                io::write_all(STDERR_FILENO, b"rewrite: the output could not be written\n");
+            if rt.stdout().write_all(&out[..end]).is_err() {
+                return stderr.write_all(b"rewrite: the output could not be written\n");
             }
+            Ok(())
         }
-        Text::Nothing => {
-            io::write_all(STDERR_FILENO, b"rewrite: the input could not be read\n");
-        }
+        Text::Nothing => stderr.write_all(b"rewrite: the input could not be read\n"),
     }
 }
 

@@ -7,6 +7,8 @@ use call_decide::{Decision, Verdict, decide};
 use core_rounds::MAX_ALLOWANCE;
 use core_state_set::{MAX_STATES, StateSet, WORD_BITS, WORDS};
 use core_table::{MARKED_AT, RESTING_AT, ROWS_AT, STORE_WORDS};
+use std::io;
+use std::io::Stdout;
 use test_support::{
     digest, digest_places, digest_words, generate, groups_of, labelled, left_out, line, states_of,
     unchanged_words, wide,
@@ -19,76 +21,78 @@ const TABLES: usize = 4000;
 // More steps than any path has: no path.
 const NONE: usize = 9999;
 
-fn holds(store: &[u64], at: usize, s: usize) -> bool {
+fn holds(stdout: Stdout, store: &[u64], at: usize, s: usize) -> io::Result<bool> {
     if at < store.len() {
         if s < MAX_STATES {
             let i = at + s / WORD_BITS;
             if i < store.len() {
-                return (store[i] >> (s % WORD_BITS)) % 2 == 1;
+                return Ok((store[i] >> (s % WORD_BITS)) % 2 == 1);
             }
         }
     }
-    left_out();
-    false
+    left_out(stdout)?;
+    Ok(false)
 }
 
 // The words of its row are all 0.
-fn is_dead_end(store: &[u64], s: usize) -> bool {
+fn is_dead_end(stdout: Stdout, store: &[u64], s: usize) -> io::Result<bool> {
     let from = ROWS_AT + WORDS * (s % MAX_STATES);
     let to = from + WORDS;
     if to <= store.len() {
-        return unchanged_words(&store[from..to], 0, 0);
+        return Ok(unchanged_words(&store[from..to], 0, 0));
     }
-    left_out();
-    false
+    left_out(stdout)?;
+    Ok(false)
 }
 
-fn is_forbidden(store: &[u64], s: usize) -> bool {
-    if holds(store, MARKED_AT, s) {
-        return true;
+fn is_forbidden(stdout: Stdout, store: &[u64], s: usize) -> io::Result<bool> {
+    if holds(stdout, store, MARKED_AT, s)? {
+        return Ok(true);
     }
-    if holds(store, RESTING_AT, s) {
-        return false;
+    if holds(stdout, store, RESTING_AT, s)? {
+        return Ok(false);
     }
-    is_dead_end(store, s)
+    is_dead_end(stdout, store, s)
 }
 
-fn at(xs: &[usize], i: usize) -> usize {
+fn at(stdout: Stdout, xs: &[usize], i: usize) -> io::Result<usize> {
     if i < xs.len() {
-        return xs[i];
+        return Ok(xs[i]);
     }
-    left_out();
-    NONE
+    left_out(stdout)?;
+    Ok(NONE)
 }
 
 // A state put at the queue's end if it is wanted and was never there, with its steps from an initial state; the end after that.
 fn visit(
+    stdout: Stdout,
     wanted: bool,
     s: usize,
     d: usize,
     queue: &mut [usize],
     end: usize,
     steps: &mut [usize],
-) -> usize {
+) -> io::Result<usize> {
     if !wanted {
-        return end;
+        return Ok(end);
     }
     if s < steps.len() {
         if steps[s] != NONE {
-            return end;
+            return Ok(end);
         }
         if end < queue.len() {
             steps[s] = d;
             queue[end] = s;
-            return end + 1;
+            return Ok(end + 1);
         }
     }
-    left_out();
-    end
+    left_out(stdout)?;
+    Ok(end)
 }
 
 // The states of the set that begins at `place`, one after another.
 fn visit_set(
+    stdout: Stdout,
     store: &[u64],
     n: usize,
     place: usize,
@@ -96,27 +100,42 @@ fn visit_set(
     queue: &mut [usize],
     from: usize,
     steps: &mut [usize],
-) -> usize {
+) -> io::Result<usize> {
     let mut end = from;
     for s in 0..n {
-        end = visit(holds(store, place, s), s, d, queue, end, steps);
+        end = visit(
+            stdout,
+            holds(stdout, store, place, s)?,
+            s,
+            d,
+            queue,
+            end,
+            steps,
+        )?;
     }
-    end
+    Ok(end)
 }
 
 // The first forbidden state in the queue has the fewest steps.
-fn search_by(store: &[u64], n: usize, queue: &mut [usize], steps: &mut [usize]) -> usize {
-    let mut end = visit_set(store, n, 0, 0, queue, 0, steps);
+fn search_by(
+    stdout: Stdout,
+    store: &[u64],
+    n: usize,
+    queue: &mut [usize],
+    steps: &mut [usize],
+) -> io::Result<usize> {
+    let mut end = visit_set(stdout, store, n, 0, 0, queue, 0, steps)?;
     for i in 0..n {
         if end <= i {
-            return NONE;
+            return Ok(NONE);
         }
-        let s = at(queue, i);
-        let d = at(steps, s);
-        if is_forbidden(store, s) {
-            return d;
+        let s = at(stdout, queue, i)?;
+        let d = at(stdout, steps, s)?;
+        if is_forbidden(stdout, store, s)? {
+            return Ok(d);
         }
         end = visit_set(
+            stdout,
             store,
             n,
             ROWS_AT + WORDS * (s % MAX_STATES),
@@ -124,16 +143,16 @@ fn search_by(store: &[u64], n: usize, queue: &mut [usize], steps: &mut [usize]) 
             queue,
             end,
             steps,
-        );
+        )?;
     }
-    NONE
+    Ok(NONE)
 }
 
 // The fewest steps from an initial to a forbidden state, or NONE.
-fn search(store: &[u64], n: usize) -> usize {
+fn search(stdout: Stdout, store: &[u64], n: usize) -> io::Result<usize> {
     let mut queue = [0usize; MAX_STATES];
     let mut steps = [NONE; MAX_STATES];
-    search_by(store, n, &mut queue, &mut steps)
+    search_by(stdout, store, n, &mut queue, &mut steps)
 }
 
 // ---- the tallies
@@ -178,21 +197,21 @@ fn digest_numbers(d: usize, verdict: usize, count: usize, size: usize, steps: us
     digest(digest(digest(digest(d, verdict), count), size), steps)
 }
 
-fn digest_verdict(d: usize, verdict: Verdict, path: &[u16]) -> usize {
+fn digest_verdict(stdout: Stdout, d: usize, verdict: Verdict, path: &[u16]) -> io::Result<usize> {
     match verdict {
-        Verdict::Safe { count, size } => digest_numbers(d, 0, count, size, 0),
+        Verdict::Safe { count, size } => Ok(digest_numbers(d, 0, count, size, 0)),
         Verdict::Unsafe { count, steps } => {
             let e = digest_numbers(d, 1, count, 0, steps);
-            digest_places(e, path, steps % MAX_STATES + 1)
+            digest_places(stdout, e, path, steps % MAX_STATES + 1)
         }
-        Verdict::Undecided { count } => digest_numbers(d, 2, count, 0, 0),
-        Verdict::Refused(refusal) => digest_numbers(d, 3, wide(refusal), 0, 0),
+        Verdict::Undecided { count } => Ok(digest_numbers(d, 2, count, 0, 0)),
+        Verdict::Refused(refusal) => Ok(digest_numbers(d, 3, wide(refusal), 0, 0)),
     }
 }
 
-fn digest_set(d: usize, x: StateSet) -> usize {
+fn digest_set(stdout: Stdout, d: usize, x: StateSet) -> io::Result<usize> {
     let words = x.words;
-    digest_words(d, &words, WORDS)
+    digest_words(stdout, d, &words, WORDS)
 }
 
 fn put_digest(tallies: &mut [usize], d: usize) {
@@ -201,49 +220,68 @@ fn put_digest(tallies: &mut [usize], d: usize) {
     }
 }
 
-fn compare(tallies: &mut [usize], d: Decision, path: &[u16], found: usize) {
+fn compare(
+    stdout: Stdout,
+    tallies: &mut [usize],
+    d: Decision,
+    path: &[u16],
+    found: usize,
+) -> io::Result<()> {
     let verdict = d.verdict;
     let invariant = d.invariant;
     tally_verdict(tallies, verdict, found);
-    let before = at(tallies, DIGEST);
+    let before = at(stdout, tallies, DIGEST)?;
     put_digest(
         tallies,
-        digest_set(digest_verdict(before, verdict, path), invariant),
+        digest_set(
+            stdout,
+            digest_verdict(stdout, before, verdict, path)?,
+            invariant,
+        )?,
     );
+    Ok(())
 }
 
-fn try_one(tallies: &mut [usize], t: usize, store: &mut [u64], path: &mut [u16]) {
+fn try_one(
+    stdout: Stdout,
+    tallies: &mut [usize],
+    t: usize,
+    store: &mut [u64],
+    path: &mut [u16],
+) -> io::Result<()> {
     let n = states_of(t);
-    generate(store, t);
+    generate(stdout, store, t)?;
     let d = decide(store, n, groups_of(t), MAX_ALLOWANCE, path);
-    compare(tallies, d, path, search(store, n));
+    compare(stdout, tallies, d, path, search(stdout, store, n)?)
 }
 
-fn try_table(tallies: &mut [usize], t: usize) {
+fn try_table(stdout: Stdout, tallies: &mut [usize], t: usize) -> io::Result<()> {
     let mut store = [0u64; STORE_WORDS];
     let mut path = [0u16; MAX_STATES];
-    try_one(tallies, t, &mut store, &mut path);
+    try_one(stdout, tallies, t, &mut store, &mut path)
 }
 
-fn try_tables(tallies: &mut [usize]) {
+fn try_tables(stdout: Stdout, tallies: &mut [usize]) -> io::Result<()> {
     for t in 0..TABLES {
-        try_table(tallies, t);
+        try_table(stdout, tallies, t)?;
     }
+    Ok(())
 }
 
-fn print_tally(label: &[u8], tallies: &[usize], i: usize) {
-    labelled(label, at(tallies, i));
-    line();
+fn print_tally(stdout: Stdout, label: &[u8], tallies: &[usize], i: usize) -> io::Result<()> {
+    labelled(stdout, label, at(stdout, tallies, i)?)?;
+    line(stdout)
 }
 
-fn main() {
+fn main(rt: HostRuntime) -> io::Result<()> {
+    let stdout = rt.stdout();
     let mut tallies = [0usize; TALLIES];
-    try_tables(&mut tallies);
-    labelled(b"tables ", TABLES);
-    line();
-    print_tally(b"safe ", &tallies, SAFE);
-    print_tally(b"unsafe ", &tallies, UNSAFE);
-    print_tally(b"same verdict ", &tallies, SAME_VERDICT);
-    print_tally(b"same length of path ", &tallies, SAME_LENGTH);
-    print_tally(b"digest of all answers ", &tallies, DIGEST);
+    try_tables(stdout, &mut tallies)?;
+    labelled(stdout, b"tables ", TABLES)?;
+    line(stdout)?;
+    print_tally(stdout, b"safe ", &tallies, SAFE)?;
+    print_tally(stdout, b"unsafe ", &tallies, UNSAFE)?;
+    print_tally(stdout, b"same verdict ", &tallies, SAME_VERDICT)?;
+    print_tally(stdout, b"same length of path ", &tallies, SAME_LENGTH)?;
+    print_tally(stdout, b"digest of all answers ", &tallies, DIGEST)
 }

@@ -21,6 +21,8 @@ ghost use Rattle.std.specs.Prelude.{◌+◌, ◌*◌, ◌≤◌};
 use crate::{add, group, left_out, step};
 use core_state_set::MAX_STATES;
 use core_table::{MARKED_AT, RESTING_AT, STORE_WORDS};
+use std::io;
+use std::io::Stdout;
 
 // More than the places of any table.
 const PLACES: usize = 32 * MAX_STATES;
@@ -67,18 +69,19 @@ fn few(t: usize, place: usize) -> usize {
     (5 + draw(t, place) % 13) / 6
 }
 
-fn add_if(wanted: bool, store: &mut [u64], at: usize, s: usize) {
+fn add_if(stdout: Stdout, wanted: bool, store: &mut [u64], at: usize, s: usize) -> io::Result<()> {
     if wanted {
-        add(store, at, s);
+        add(stdout, store, at, s)?;
     }
+    Ok(())
 }
 
-fn put_ends(store: &mut [u64], t: usize) {
+fn put_ends(stdout: Stdout, store: &mut [u64], t: usize) -> io::Result<()> {
     let n = states_of(t);
-    add_if(0 < few(t, 2), store, 0, draw_state(t, 3, n));
-    add_if(1 < few(t, 2), store, 0, draw_state(t, 4, n));
-    add_if(0 < few(t, 5), store, MARKED_AT, draw_state(t, 6, n));
-    add_if(1 < few(t, 5), store, MARKED_AT, draw_state(t, 7, n));
+    add_if(stdout, 0 < few(t, 2), store, 0, draw_state(t, 3, n))?;
+    add_if(stdout, 1 < few(t, 2), store, 0, draw_state(t, 4, n))?;
+    add_if(stdout, 0 < few(t, 5), store, MARKED_AT, draw_state(t, 6, n))?;
+    add_if(stdout, 1 < few(t, 5), store, MARKED_AT, draw_state(t, 7, n))
 }
 
 fn fan_out(t: usize, p: usize) -> usize {
@@ -98,34 +101,55 @@ fn successor(t: usize, p: usize, n: usize, s: usize) -> usize {
     (s % 4294967296 + draw(t, p) % 6) % n
 }
 
-fn step_if(wanted: bool, store: &mut [u64], a: usize, b: usize) {
+fn step_if(stdout: Stdout, wanted: bool, store: &mut [u64], a: usize, b: usize) -> io::Result<()> {
     if wanted {
-        step(store, a, b);
+        step(stdout, store, a, b)?;
     }
+    Ok(())
 }
 
-fn group_if(wanted: bool, store: &mut [u64], j: usize, g: usize, s: usize) {
+fn group_if(
+    stdout: Stdout,
+    wanted: bool,
+    store: &mut [u64],
+    j: usize,
+    g: usize,
+    s: usize,
+) -> io::Result<()> {
     if wanted {
         if j < g {
-            group(store, j, s);
+            group(stdout, store, j, s)?;
         }
     }
+    Ok(())
 }
 
-fn put_successors(store: &mut [u64], t: usize, n: usize, s: usize) {
+fn put_successors(
+    stdout: Stdout,
+    store: &mut [u64],
+    t: usize,
+    n: usize,
+    s: usize,
+) -> io::Result<()> {
     let p = place_of(s);
     let count = fan_out(t, p);
-    step_if(0 < count, store, s, successor(t, p + 1, n, s));
-    step_if(1 < count, store, s, successor(t, p + 2, n, s));
-    step_if(2 < count, store, s, successor(t, p + 3, n, s));
+    step_if(stdout, 0 < count, store, s, successor(t, p + 1, n, s))?;
+    step_if(stdout, 1 < count, store, s, successor(t, p + 2, n, s))?;
+    step_if(stdout, 2 < count, store, s, successor(t, p + 3, n, s))
 }
 
-fn put_in_groups(store: &mut [u64], t: usize, g: usize, s: usize) {
+fn put_in_groups(
+    stdout: Stdout,
+    store: &mut [u64],
+    t: usize,
+    g: usize,
+    s: usize,
+) -> io::Result<()> {
     let p = place_of(s);
-    group_if(draw(t, p + 4) % 2 == 0, store, 0, g, s);
-    group_if(draw(t, p + 5) % 2 == 0, store, 1, g, s);
-    group_if(draw(t, p + 6) % 2 == 0, store, 2, g, s);
-    group_if(draw(t, p + 7) % 2 == 0, store, 3, g, s);
+    group_if(stdout, draw(t, p + 4) % 2 == 0, store, 0, g, s)?;
+    group_if(stdout, draw(t, p + 5) % 2 == 0, store, 1, g, s)?;
+    group_if(stdout, draw(t, p + 6) % 2 == 0, store, 2, g, s)?;
+    group_if(stdout, draw(t, p + 7) % 2 == 0, store, 3, g, s)
 }
 
 fn rests(t: usize, s: usize) -> bool {
@@ -140,36 +164,46 @@ fn rests(t: usize, s: usize) -> bool {
     fan_out(t, p) == 0
 }
 
-fn put_state(store: &mut [u64], t: usize, n: usize, g: usize, s: usize) {
-    put_successors(store, t, n, s);
-    put_in_groups(store, t, g, s);
-    add_if(rests(t, s), store, RESTING_AT, s);
+fn put_state(
+    stdout: Stdout,
+    store: &mut [u64],
+    t: usize,
+    n: usize,
+    g: usize,
+    s: usize,
+) -> io::Result<()> {
+    put_successors(stdout, store, t, n, s)?;
+    put_in_groups(stdout, store, t, g, s)?;
+    add_if(stdout, rests(t, s), store, RESTING_AT, s)
 }
 
-fn put_states(store: &mut [u64], t: usize, n: usize, g: usize) {
+fn put_states(stdout: Stdout, store: &mut [u64], t: usize, n: usize, g: usize) -> io::Result<()> {
     for s in 0..n {
-        put_state(store, t, n, g, s);
+        put_state(stdout, store, t, n, g, s)?;
     }
+    Ok(())
 }
 
 // Table t put into a store that holds zeros.
-pub fn generate(store: &mut [u64], t: usize) {
-    put_ends(store, t);
-    put_states(store, t, states_of(t), groups_of(t));
+pub fn generate(stdout: Stdout, store: &mut [u64], t: usize) -> io::Result<()> {
+    put_ends(stdout, store, t)?;
+    put_states(stdout, store, t, states_of(t), groups_of(t))
 }
 
-fn put_word(store: &mut [u64], i: usize) {
+fn put_word(stdout: Stdout, store: &mut [u64], i: usize) -> io::Result<()> {
     if i < store.len() {
         let p = 2 * (i % 4294967296);
         let high = draw(0, p) % 4294967296;
         store[i] = (high * 4294967296 + draw(0, p + 1) % 4294967296) as u64;
     } else {
-        left_out();
+        left_out(stdout)?;
     }
+    Ok(())
 }
 
-pub fn generate_largest(store: &mut [u64]) {
+pub fn generate_largest(stdout: Stdout, store: &mut [u64]) -> io::Result<()> {
     for i in 0..STORE_WORDS {
-        put_word(store, i);
+        put_word(stdout, store, i)?;
     }
+    Ok(())
 }

@@ -21,160 +21,182 @@
 
 mod generated;
 
-ghost use Rattle.std.specs.Prelude.{◌<◌};
+ghost use Rattle.std.specs.Prelude.{◌<◌, IfOk};
 
 use core_state_set::{MAX_STATES, StateSet, WORD_BITS, WORDS};
 use core_table::{GROUPS_AT, MARKED_AT, MAX_GROUPS, RESTING_AT, ROWS_AT};
 use generated::noise;
 pub use generated::{generate, generate_largest, groups_of, states_of};
-use libc::STDOUT_FILENO;
+use std::io;
+use std::io::Stdout;
 
 // ---- what does not fit
 
 // Said among what the program prints, where no expected output has it: nothing is left out silently.
-pub fn left_out() {
-    text(b"\nLEFT OUT\n");
+pub fn left_out(stdout: Stdout) -> io::Result<()> {
+    text(stdout, b"\nLEFT OUT\n")
 }
 
 // ---- tables
 
 // Bit i of the word `at` set.
-fn put_bit(store: &mut [u64], at: usize, i: usize) {
+fn put_bit(stdout: Stdout, store: &mut [u64], at: usize, i: usize) -> io::Result<()> {
     if at < store.len() {
         store[at] |= 1 << (i % WORD_BITS);
     } else {
-        left_out();
+        left_out(stdout)?;
     }
+    Ok(())
 }
 
 // State s put into the set that begins at `at`.
-pub fn add(store: &mut [u64], at: usize, s: usize) {
+pub fn add(stdout: Stdout, store: &mut [u64], at: usize, s: usize) -> io::Result<()> {
     if s < MAX_STATES {
         if at < store.len() {
-            put_bit(store, at + s / WORD_BITS, s % WORD_BITS);
-            return;
+            put_bit(stdout, store, at + s / WORD_BITS, s % WORD_BITS)?;
+            return Ok(());
         }
     }
-    left_out();
+    left_out(stdout)
 }
 
-pub fn initial(store: &mut [u64], s: usize) {
-    add(store, 0, s);
+pub fn initial(stdout: Stdout, store: &mut [u64], s: usize) -> io::Result<()> {
+    add(stdout, store, 0, s)
 }
 
-pub fn marked(store: &mut [u64], s: usize) {
-    add(store, MARKED_AT, s);
+pub fn marked(stdout: Stdout, store: &mut [u64], s: usize) -> io::Result<()> {
+    add(stdout, store, MARKED_AT, s)
 }
 
-pub fn resting(store: &mut [u64], s: usize) {
-    add(store, RESTING_AT, s);
+pub fn resting(stdout: Stdout, store: &mut [u64], s: usize) -> io::Result<()> {
+    add(stdout, store, RESTING_AT, s)
 }
 
-pub fn group(store: &mut [u64], j: usize, s: usize) {
+pub fn group(stdout: Stdout, store: &mut [u64], j: usize, s: usize) -> io::Result<()> {
     if j < MAX_GROUPS {
-        add(store, GROUPS_AT + WORDS * j, s);
+        add(stdout, store, GROUPS_AT + WORDS * j, s)?;
     } else {
-        left_out();
+        left_out(stdout)?;
     }
+    Ok(())
 }
 
-pub fn step(store: &mut [u64], a: usize, b: usize) {
+pub fn step(stdout: Stdout, store: &mut [u64], a: usize, b: usize) -> io::Result<()> {
     if a < MAX_STATES {
-        add(store, ROWS_AT + WORDS * a, b);
+        add(stdout, store, ROWS_AT + WORDS * a, b)?;
     } else {
-        left_out();
+        left_out(stdout)?;
     }
+    Ok(())
 }
 
 // The state whose digit stands at place i, or one that no set takes.
-fn digit(digits: &[u8], i: usize) -> usize {
-    let b = byte_at(digits, i);
+fn digit(stdout: Stdout, digits: &[u8], i: usize) -> io::Result<usize> {
+    let b = byte_at(stdout, digits, i)?;
     if b < 48 {
-        return MAX_STATES;
+        return Ok(MAX_STATES);
     }
-    b - 48
+    Ok(b - 48)
 }
 
-fn put_digits(store: &mut [u64], at: usize, digits: &[u8]) {
+fn put_digits(stdout: Stdout, store: &mut [u64], at: usize, digits: &[u8]) -> io::Result<()> {
     for i in 0..digits.len() {
-        add(store, at, digit(digits, i));
+        add(stdout, store, at, digit(stdout, digits, i)?)?;
     }
+    Ok(())
 }
 
 // A pair begins at each third place.
-fn put_steps(store: &mut [u64], pairs: &[u8]) {
+fn put_steps(stdout: Stdout, store: &mut [u64], pairs: &[u8]) -> io::Result<()> {
     let mut i = 0;
     while i < pairs.len() {
-        step(store, digit(pairs, i), digit(pairs, i + 1));
+        step(
+            stdout,
+            store,
+            digit(stdout, pairs, i)?,
+            digit(stdout, pairs, i + 1)?,
+        )?;
         i += 3;
     }
+    Ok(())
 }
 
 // A table of at most ten states, without groups and resting states: its initial and its marked states, as b"03", and its steps, as b"01 12".
-pub fn put_table(store: &mut [u64], first: &[u8], last: &[u8], steps: &[u8]) {
-    put_digits(store, 0, first);
-    put_digits(store, MARKED_AT, last);
-    put_steps(store, steps);
+pub fn put_table(
+    stdout: Stdout,
+    store: &mut [u64],
+    first: &[u8],
+    last: &[u8],
+    steps: &[u8],
+) -> io::Result<()> {
+    put_digits(stdout, store, 0, first)?;
+    put_digits(stdout, store, MARKED_AT, last)?;
+    put_steps(stdout, store, steps)
 }
 
 // Each of as many states as a table can have steps to the next; the last is a hang.
-pub fn put_corridor(store: &mut [u64]) {
-    initial(store, 0);
+pub fn put_corridor(stdout: Stdout, store: &mut [u64]) -> io::Result<()> {
+    initial(stdout, store, 0)?;
     for s in 0..MAX_STATES - 1 {
-        step(store, s, s + 1);
+        step(stdout, store, s, s + 1)?;
     }
+    Ok(())
 }
 
 // ---- printing
 
-pub fn text(bytes: &[u8]) {
-    io::write_all(STDOUT_FILENO, bytes);
+pub fn text(stdout: Stdout, bytes: &[u8]) -> io::Result<()> {
+    stdout.write_all(bytes)
 }
 
-pub fn number(x: usize) {
-    io::print_decimal(STDOUT_FILENO, x as u64);
+pub fn number(stdout: Stdout, x: usize) -> io::Result<()> {
+    stdout.print(x)
 }
 
 // A number after its label.
-pub fn labelled(label: &[u8], x: usize) {
-    text(label);
-    number(x);
+pub fn labelled(stdout: Stdout, label: &[u8], x: usize) -> io::Result<()> {
+    text(stdout, label)?;
+    number(stdout, x)
 }
 
-pub fn line() {
-    text(b"\n");
+pub fn line(stdout: Stdout) -> io::Result<()> {
+    text(stdout, b"\n")
 }
 
 // A number after a space.
-fn spaced(x: usize) {
-    labelled(b" ", x);
+fn spaced(stdout: Stdout, x: usize) -> io::Result<()> {
+    labelled(stdout, b" ", x)
 }
 
-fn spaced_if(wanted: bool, x: usize) {
+fn spaced_if(stdout: Stdout, wanted: bool, x: usize) -> io::Result<()> {
     if wanted {
-        spaced(x);
+        spaced(stdout, x)?;
     }
+    Ok(())
 }
 
 // The states of a set, each after a space.
-pub fn states(x: StateSet) {
+pub fn states(stdout: Stdout, x: StateSet) -> io::Result<()> {
     for s in 0..MAX_STATES {
-        spaced_if(x.contains(s), s);
+        spaced_if(stdout, x.contains(s), s)?;
     }
+    Ok(())
 }
 
 // The first `count` bytes, each after a space.
-pub fn bytes(buffer: &[u8], count: usize) {
+pub fn bytes(stdout: Stdout, buffer: &[u8], count: usize) -> io::Result<()> {
     for i in 0..count {
-        spaced(byte_at(buffer, i));
+        spaced(stdout, byte_at(stdout, buffer, i)?)?;
     }
+    Ok(())
 }
 
 // The first `count` places, each after a space.
-pub fn places(buffer: &[u16], count: usize) {
+pub fn places(stdout: Stdout, buffer: &[u16], count: usize) -> io::Result<()> {
     for i in 0..count {
-        spaced(place_at(buffer, i));
+        spaced(stdout, place_at(stdout, buffer, i)?)?;
     }
+    Ok(())
 }
 
 // ---- buffers
@@ -185,34 +207,35 @@ pub fn wide(b: u8) -> usize
     b as usize
 }
 
-pub fn byte_at(buffer: &[u8], i: usize) -> usize
-    ensures { result < 256 }
+pub fn byte_at(stdout: Stdout, buffer: &[u8], i: usize) -> io::Result<usize>
+    ensures { IfOk result (λ x. x < 256) }
 {
     if i < buffer.len() {
-        return wide(buffer[i]);
+        return Ok(wide(buffer[i]));
     }
-    left_out();
-    0
+    left_out(stdout)?;
+    Ok(0)
 }
 
-pub fn put_byte(buffer: &mut [u8], i: usize, value: u8) {
+pub fn put_byte(stdout: Stdout, buffer: &mut [u8], i: usize, value: u8) -> io::Result<()> {
     if i < buffer.len() {
         buffer[i] = value;
     } else {
-        left_out();
+        left_out(stdout)?;
     }
+    Ok(())
 }
 
 fn wide_place(x: u16) -> usize {
     x as usize
 }
 
-pub fn place_at(buffer: &[u16], i: usize) -> usize {
+pub fn place_at(stdout: Stdout, buffer: &[u16], i: usize) -> io::Result<usize> {
     if i < buffer.len() {
-        return wide_place(buffer[i]);
+        return Ok(wide_place(buffer[i]));
     }
-    left_out();
-    0
+    left_out(stdout)?;
+    Ok(0)
 }
 
 // Each byte from `from` on is `value`.
@@ -251,12 +274,13 @@ pub fn unchanged_words(buffer: &[u64], from: usize, value: u64) -> bool {
     true
 }
 
-pub fn print_unchanged(same: bool) {
+pub fn print_unchanged(stdout: Stdout, same: bool) -> io::Result<()> {
     if same {
-        text(b", the rest unchanged\n");
+        text(stdout, b", the rest unchanged\n")?;
     } else {
-        text(b", the rest CHANGED\n");
+        text(stdout, b", the rest CHANGED\n")?;
     }
+    Ok(())
 }
 
 // ---- digests
@@ -266,37 +290,37 @@ pub fn digest(d: usize, x: usize) -> usize {
     noise(d % 4294967296 + x % 4294967296)
 }
 
-pub fn digest_bytes(d: usize, buffer: &[u8], count: usize) -> usize {
+pub fn digest_bytes(stdout: Stdout, d: usize, buffer: &[u8], count: usize) -> io::Result<usize> {
     let mut now = d;
     for i in 0..count {
-        now = digest(now, byte_at(buffer, i));
+        now = digest(now, byte_at(stdout, buffer, i)?);
     }
-    now
+    Ok(now)
 }
 
-pub fn digest_places(d: usize, buffer: &[u16], count: usize) -> usize {
+pub fn digest_places(stdout: Stdout, d: usize, buffer: &[u16], count: usize) -> io::Result<usize> {
     let mut now = d;
     for i in 0..count {
-        now = digest(now, place_at(buffer, i));
+        now = digest(now, place_at(stdout, buffer, i)?);
     }
-    now
+    Ok(now)
 }
 
 // A word goes in as its lower and its upper half.
-fn digest_word(d: usize, buffer: &[u64], i: usize) -> usize {
+fn digest_word(stdout: Stdout, d: usize, buffer: &[u64], i: usize) -> io::Result<usize> {
     if i < buffer.len() {
         let word = buffer[i];
         let lower = digest(d, (word % 4294967296) as usize);
-        return digest(lower, (word / 4294967296) as usize);
+        return Ok(digest(lower, (word / 4294967296) as usize));
     }
-    left_out();
-    d
+    left_out(stdout)?;
+    Ok(d)
 }
 
-pub fn digest_words(d: usize, buffer: &[u64], count: usize) -> usize {
+pub fn digest_words(stdout: Stdout, d: usize, buffer: &[u64], count: usize) -> io::Result<usize> {
     let mut now = d;
     for i in 0..count {
-        now = digest_word(now, buffer, i);
+        now = digest_word(stdout, now, buffer, i)?;
     }
-    now
+    Ok(now)
 }

@@ -11,8 +11,8 @@ use crate::table::STORE_WORDS;
 /// The places of the exchange that a sum modulo 65,536 would not see, with bytes 128 apart.
 const APART: (usize, usize) = (255, 511);
 
-// tries: Intact.Detects.one-byte, Intact.Detects.exchange, Intact.Block, Blocks.blockGrounds
-// tries: Intact.Detects.intact-read, Intact.Detects.damaged-read
+// tries: Intact.Detects.one_byte, Intact.Detects.exchange, Intact.Block, Blocks.block_grounds
+// tries: Intact.Detects.intact_read, Intact.Detects.damaged_read
 /// Every change of one byte and every exchange of two, in blocks with random contents.
 pub fn block_checks(libraries: &[&dyn Calls], random: &mut Random) -> Outcome {
     for (number, site) in [(0, 0), (1, random.within(1, MAX_SITE - 1)), (3, MAX_SITE)] {

@@ -152,7 +152,7 @@ pub fn random_log(table: &Table, random: &mut Random) -> Vec<u8> {
 
 // ---- The tests
 
-// tries: call_replay::replay, Fields.replayFields
+// tries: call_replay::replay, Fields.replay_fields
 /// One call, with both buffers compared.
 pub fn replay(
     library: &dyn Calls,
@@ -172,7 +172,7 @@ pub fn replay(
     log.holds(&format!("log after {what}"), &[])
 }
 
-// tries: Logs.mayHold, Logs.reachableCount, ReplayPromises.WalkIs
+// tries: Logs.may_hold, Logs.reachable_count, ReplayPromises.WalkIs
 // tries: ReplayPromises.ReplayPromises.first-words
 /// A random log through an accepted table, and what the specification says of every answer.
 pub fn random_logs(
@@ -270,8 +270,8 @@ pub fn spoiled(
         .try_for_each(|library| replay(*library, store, (n, g), &log, answer))
 }
 
-// tries: Logs.entry, Logs.maxLog, ReplayPromises.ReplayPromises.empty-log
-// tries: ReplayPromises.ReplayPromises.draft, Logs.logGrounds, Figures.Figures
+// tries: Logs.entry, Logs.max_log, ReplayPromises.ReplayPromises.empty_log
+// tries: ReplayPromises.ReplayPromises.draft, Logs.log_grounds, Figures.Figures
 /// Lengths about the limit, entries about n, and figures worked out by hand.
 pub fn edges(libraries: &[&dyn Calls], random: &mut Random) -> Outcome {
     let each = |dialogue: &Dialogue, log: &[u8], by_hand: Replay| -> Outcome {

@@ -235,7 +235,7 @@ fn optional(kind: Kind, dialogue: &Dialogue, random: &mut Random) -> Optional {
 
 // ---- The tests
 
-// tries: Modal.modalBuffer, Fields.modalFields
+// tries: Modal.modal_buffer, Fields.modal_fields
 /// One call, with all its buffers compared.
 pub fn decide_modal(
     library: &dyn Calls,
@@ -270,7 +270,7 @@ pub fn random_options(
     accepted(libraries, &optional, random, tally).map_err(|fault| format!("{kind:?}: {fault}"))
 }
 
-// tries: Modal.possibleRow, Modal.modalAnswer, ModalPromises.ModalPromises.equal-rows
+// tries: Modal.possible_row, Modal.modal_answer, ModalPromises.ModalPromises.equal_rows
 // tries: ModalPromises.ModalPromises.first-words, Faithful.Cases
 fn accepted(
     libraries: &[&dyn Calls],
@@ -299,8 +299,8 @@ fn accepted(
 }
 
 // tries: ModalPromises.OfChoices.safe, ModalPromises.OfChoices.unsafe, ModalPromises.OfChoices.verdict
-// tries: ModalPromises.OfChoices.depends, ModalPromises.ComesWith.invariant-of-each
-// tries: ModalPromises.ComesWith.path-of-each
+// tries: ModalPromises.OfChoices.depends, ModalPromises.ComesWith.invariant_of_each
+// tries: ModalPromises.ComesWith.path_of_each
 /// The verdict is the one that the choices give, and what comes with it belongs to each of them.
 fn of_choices(
     optional: &Optional,
@@ -340,7 +340,7 @@ fn of_choices(
     Ok(())
 }
 
-// tries: ModalPromises.OfChoices.checked-safe, ModalPromises.ComesWith
+// tries: ModalPromises.OfChoices.checked_safe, ModalPromises.ComesWith
 /// Two release checks by the library itself. Where both rows of each state are equal, one of the store as it is.
 fn release_checks(library: &dyn Calls, optional: &Optional, answer: &Modal) -> Outcome {
     let (n, g) = (optional.dialogue.n, optional.dialogue.g());
@@ -432,7 +432,7 @@ fn put(buffer: &mut [u64], at: usize, bits: u64) {
     }
 }
 
-// tries: Modal.modalForbidden
+// tries: Modal.modal_forbidden
 /// Answers worked out by hand, the order of the grounds, steps that are certain and not possible, and tables without states.
 pub fn edges(libraries: &[&dyn Calls], random: &mut Random, tally: &mut Tally) -> Outcome {
     for (name, optional, by_hand) in by_hand() {
@@ -519,7 +519,7 @@ fn by_hand() -> Vec<(&'static str, Optional, Expected<Modal, u16>)> {
     ]
 }
 
-// tries: Modal.modalGrounds, Grounds.Listed.malformed-possible, Figures.Figures
+// tries: Modal.modal_grounds, Grounds.Listed.malformed-possible, Figures.Figures
 /// Each ground with all that come after it, and the last state and row in bounds.
 fn orders(libraries: &[&dyn Calls], random: &mut Random) -> Outcome {
     let last = MAX_STATES - 1;
@@ -632,7 +632,7 @@ fn uncertain(libraries: &[&dyn Calls], random: &mut Random) -> Outcome {
     Ok(())
 }
 
-// tries: ModalPromises.ModalPromises.draft, ModalPromises.ModalPromises.draft-17
+// tries: ModalPromises.ModalPromises.draft, ModalPromises.ModalPromises.draft_17
 /// A table without states: safe where the possible words are all 0, 17 where one is not; what lies past them plays no part.
 fn drafts(libraries: &[&dyn Calls], random: &mut Random) -> Outcome {
     let store = named::draft().to_store();

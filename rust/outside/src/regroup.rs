@@ -34,7 +34,7 @@ const CALLS: [(usize, usize); 7] = [
     (MAX_ALLOWANCE, PATH_PLACES - 1),
 ];
 
-// tries: Regrouping.SameDecisions, Regrouping.rewriting-covers
+// tries: Regrouping.SameDecisions, Regrouping.rewriting_covers
 /// Random tables, each with every rewriting of its groups by itself, and with some in turn.
 pub fn regrouped_tables(
     libraries: &[&dyn Calls],

@@ -142,7 +142,7 @@ fn random_set(n: usize, random: &mut Random) -> Words {
 
 // ---- The tests
 
-// tries: Fields.sessionFields, Edits.openAnswer
+// tries: Fields.session_fields, Edits.open_answer
 fn open(library: &dyn Calls, store: &[u64], (n, g): (usize, usize), expected: Session) -> Outcome {
     let what = format!("{}'s open({n}, {g})", library.name());
     let store = Lent::new(store);
@@ -249,7 +249,7 @@ fn edit_list(
 
 // tries: SessionPromises.SessionPromises.nothing, SessionPromises.SessionPromises.unreached
 // tries: SessionPromises.SessionPromises.reached, SessionPromises.SessionPromises.removed
-// tries: SessionPromises.SessionPromises.one-word, Edits.editAnswer
+// tries: SessionPromises.SessionPromises.one_word, Edits.edit_answer
 /// A short list of edits, then edits with sets of any states.
 pub fn random_edits(
     libraries: &[&dyn Calls],
@@ -298,7 +298,7 @@ pub fn spoiled(
     Ok(())
 }
 
-// tries: SessionPromises.SessionPromises.open-refusal, SessionPromises.SessionPromises.edit-refusal
+// tries: SessionPromises.SessionPromises.open_refusal, SessionPromises.SessionPromises.edit-refusal
 /// Opening and an edit of any two numbers near n, with any set: why each is refused, or 0.
 pub fn refusals(
     libraries: &[&dyn Calls],
@@ -323,7 +323,7 @@ pub fn refusals(
     Ok([first.refusal, expected.0.refusal])
 }
 
-// tries: SessionPromises.SessionPromises.keeps, SessionPromises.SessionPromises.drops, Edits.stateGround
+// tries: SessionPromises.SessionPromises.keeps, SessionPromises.SessionPromises.drops, Edits.state_ground
 /// Figures worked out by hand, the edges of n, a table without states, and the order of the grounds.
 pub fn edges(libraries: &[&dyn Calls], random: &mut Random) -> Outcome {
     let set = |states: &[usize]| {

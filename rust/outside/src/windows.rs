@@ -167,7 +167,7 @@ impl Calendar {
 
 // ---- One call
 
-// tries: call_release_windows::next_open, Fields.minuteFields
+// tries: call_release_windows::next_open, Fields.minute_fields
 fn same(
     library: &dyn NextOpen,
     (time, windows, closed): (u64, &[u64], &[u32]),
@@ -208,8 +208,8 @@ fn all_same(
 
 // ---- The tests
 
-// tries: WindowAnswers.maxTime, WindowAnswers.maxWindows, WindowAnswers.maxDays, Windows.outside
-// tries: WindowPromises.window-is, Windows.inWindow, Windows.isClosed, WindowPromises.with-window
+// tries: WindowAnswers.max_time, WindowAnswers.max_windows, WindowAnswers.max_days, Windows.outside
+// tries: WindowPromises.window-is, Windows.in_window, Windows.is_closed, WindowPromises.with_window
 // tries: WindowPromises.without, WindowAnswers.grounds, Figures.Figures
 /// The edges that the request names, with their answers worked out by hand.
 pub fn edges(libraries: &[&dyn NextOpen], tally: &mut Tally) -> Outcome {
@@ -300,7 +300,7 @@ pub fn edges(libraries: &[&dyn NextOpen], tally: &mut Tally) -> Outcome {
     Ok(())
 }
 
-// tries: WindowPromises.open-minutes, WindowPromises.FirstOpen
+// tries: WindowPromises.open_minutes, WindowPromises.FirstOpen
 /// Each minute of 70 weeks, for some calendars: without closed days, with 64 of them, and up to the limit on
 /// times.
 pub fn seventy_weeks(libraries: &[&dyn NextOpen], random: &mut Random) -> Outcome {

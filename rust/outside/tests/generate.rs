@@ -114,7 +114,7 @@ fn the_specifications_numbers() {
     assert_eq!(numbers, [683_154_905, 1_697_059_147]);
 }
 
-// tries: Load.numbers, call_generate::put_sums, Load.successors, Load.loadFrom, Figures.Figures
+// tries: Load.numbers, call_generate::put_sums, Load.successors, Load.load_from, Figures.Figures
 #[test]
 fn every_fan_out_at_the_edges_of_n() {
     let mut random = Random::new(1);
@@ -130,7 +130,7 @@ fn every_fan_out_at_the_edges_of_n() {
     }
 }
 
-// tries: Load.generateGrounds, Loads.refusal
+// tries: Load.generate_grounds, Loads.refusal
 #[test]
 fn the_stores_length() {
     let mut random = Random::new(2);
@@ -143,7 +143,7 @@ fn the_stores_length() {
     }
 }
 
-// tries: Load.generateBuffer, Loads.past
+// tries: Load.generate_buffer, Loads.past
 #[test]
 fn random_loads() {
     let mut random = Random::new(3);

@@ -3,7 +3,7 @@
 
 use shuntberry::{FILE_BYTES, MAX_SITE, Refused, STORE_WORDS, read, write};
 
-// tries: Sites.check-zero, Sites.write-zero, Sites.read-zero
+// tries: Sites.check_zero, Sites.write_zero, Sites.read_zero
 /// Byte for byte at site 0, and turned away by 13 at six others, unless it has no block. A file that is refused is refused with the
 /// number that stands beside it.
 #[test]

@@ -434,7 +434,7 @@ fn text(dialogue: &Dialogue) -> String {
     format!("states {n} groups {g}\n{verdict} refinements {count}\n{third}\n")
 }
 
-// tries: CheckText.releaseCheck, Reported.decided, Reported.safe-line, Reported.safe-call
+// tries: CheckText.release_check, Reported.decided, Reported.safe_line, Reported.safe_call
 fn reported(table: &Table, dialogue: &Dialogue) {
     let report = table.check().unwrap();
     let text = text(dialogue);

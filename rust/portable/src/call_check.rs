@@ -4,21 +4,15 @@
 //
 //   Checked, check    the text at the front of the output, its length and the verdict, or why the call is refused
 //   check_table       the same for the table that a store holds, where there is room for the text
-use crate::call_decide::Verdict;
-use crate::call_decide::decide;
-use crate::core_refusals::OUTPUT_SHORT;
-use crate::core_refusals::SITE;
-use crate::core_report::ROOM;
-use crate::core_report::write_refused;
-use crate::core_report::write_safe;
-use crate::core_report::write_undecided;
-use crate::core_report::write_unsafe;
+
+use crate::call_decide::{Verdict, decide};
+use crate::core_refusals::{OUTPUT_SHORT, SITE};
+use crate::core_report::{ROOM, write_refused, write_safe, write_undecided, write_unsafe};
 use crate::core_rounds::MAX_ALLOWANCE;
 use crate::core_state_set::MAX_STATES;
 use crate::core_table::STORE_WORDS;
 use crate::file_blocks::MAX_SITE;
-use crate::file_reading::TableRead;
-use crate::file_reading::read;
+use crate::file_reading::{TableRead, read};
 
 // Bytes of output that hold the text of any file.
 pub const CHECK_TEXT: usize = ROOM;

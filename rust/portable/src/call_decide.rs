@@ -4,21 +4,13 @@
 //
 //   decide_refusal     why a check is refused
 //   Decision, decide   the call
-use crate::call_paths::find_path;
-use crate::call_paths::steps_of;
-use crate::core_refusals::ALLOWANCE;
-use crate::core_refusals::PATH_SHORT;
-use crate::core_rounds::Ending;
-use crate::core_rounds::MAX_ALLOWANCE;
-use crate::core_rounds::run;
+
+use crate::call_paths::{find_path, steps_of};
+use crate::core_refusals::{ALLOWANCE, PATH_SHORT};
+use crate::core_rounds::{Ending, MAX_ALLOWANCE, run};
 use crate::core_rows::forbidden;
-use crate::core_state_set::MAX_STATES;
-use crate::core_state_set::StateSet;
-use crate::core_table::GROUPS_AT;
-use crate::core_table::INITIAL_AT;
-use crate::core_table::ROWS_AT;
-use crate::core_table::refusal;
-use crate::core_table::set_at;
+use crate::core_state_set::{MAX_STATES, StateSet};
+use crate::core_table::{GROUPS_AT, INITIAL_AT, ROWS_AT, refusal, set_at};
 
 // Why a check is refused, or 0.
 fn decide_refusal(store: &[u64], n: usize, g: usize, allowance: usize, room: usize) -> u8

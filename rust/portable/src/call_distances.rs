@@ -11,18 +11,12 @@
 //
 // What works on a table is lent its rows, and its sets by value; all_distances and sweep_transposed ask that the table is well formed. The call is lent
 // a store, works out its forbidden states once, and asks for nothing.
+
 use crate::call_paths::stepping_into;
 use crate::core_refusals::DISTANCES_SHORT;
-use crate::core_rows::Rows;
-use crate::core_rows::forbidden;
-use crate::core_rows::row_at;
-use crate::core_rows::union_of;
-use crate::core_state_set::MAX_STATES;
-use crate::core_state_set::StateSet;
-use crate::core_state_set::WORD_BITS;
-use crate::core_state_set::WORDS;
-use crate::core_table::ROWS_AT;
-use crate::core_table::refusal;
+use crate::core_rows::{Rows, forbidden, row_at, union_of};
+use crate::core_state_set::{MAX_STATES, StateSet, WORD_BITS, WORDS};
+use crate::core_table::{ROWS_AT, refusal};
 
 // The distance of a state from which no forbidden state can be reached.
 pub const UNREACHABLE: u16 = 65535;

@@ -10,16 +10,12 @@
 //   Status, Session              what a call answers
 //   edit                         a step added or removed
 //   open, add_step, remove_step  the calls
+
 use crate::core_reach::reached;
 use crate::core_refusals::STEP_STATE;
 use crate::core_rows::row_at;
-use crate::core_state_set::StateSet;
-use crate::core_state_set::WORD_BITS;
-use crate::core_state_set::WORDS;
-use crate::core_table::INITIAL_AT;
-use crate::core_table::ROWS_AT;
-use crate::core_table::refusal;
-use crate::core_table::set_at;
+use crate::core_state_set::{StateSet, WORD_BITS, WORDS};
+use crate::core_table::{INITIAL_AT, ROWS_AT, refusal, set_at};
 
 fn has_step(store: &[u64], from: usize, to: usize) -> bool
 {

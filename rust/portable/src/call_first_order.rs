@@ -4,18 +4,12 @@
 //
 //   met_with, first_cover_of            the cover of a state after one set is added; for the list of the first round
 //   first_order                         the order in which the first round expands the states of R
-use crate::core_fixpoints::Order;
-use crate::core_fixpoints::forward;
+
+use crate::core_fixpoints::{Order, forward};
 use crate::core_rounds::not_forbidden;
 use crate::core_rows::forbidden;
-use crate::core_state_set::MAX_STATES;
-use crate::core_state_set::StateSet;
-use crate::core_state_set::WORDS;
-use crate::core_table::GROUPS_AT;
-use crate::core_table::INITIAL_AT;
-use crate::core_table::ROWS_AT;
-use crate::core_table::refusal;
-use crate::core_table::set_at;
+use crate::core_state_set::{MAX_STATES, StateSet, WORDS};
+use crate::core_table::{GROUPS_AT, INITIAL_AT, ROWS_AT, refusal, set_at};
 
 // How many states were expanded, or the number of the ground on which the call is refused.
 #[derive(Clone, Copy)]

@@ -10,19 +10,10 @@
 //   put_remainders, remainder    the numbers that a state takes, each modulo n; the remainder by a multiplication
 //
 // n is the number of states and f the fan-out. The call, `generate`, asks for nothing.
-use crate::core_refusals::FAN_OUT;
-use crate::core_refusals::STATES;
-use crate::core_refusals::STORE_SHORT;
-use crate::core_state_set::MAX_STATES;
-use crate::core_state_set::StateSet;
-use crate::core_state_set::WORD_BITS;
-use crate::core_state_set::WORDS;
-use crate::core_table::INITIAL_AT;
-use crate::core_table::MARKED_AT;
-use crate::core_table::ROWS_AT;
-use crate::core_table::STORE_WORDS;
-use crate::core_table::clear;
-use crate::core_table::put_set;
+
+use crate::core_refusals::{FAN_OUT, STATES, STORE_SHORT};
+use crate::core_state_set::{MAX_STATES, StateSet, WORD_BITS, WORDS};
+use crate::core_table::{INITIAL_AT, MARKED_AT, ROWS_AT, STORE_WORDS, clear, put_set};
 
 pub const MAX_FAN_OUT: usize = 16;
 

@@ -8,27 +8,13 @@
 //   decide_modal                   the call
 //
 // The certain rows are those of the store; the possible ones are read where they are lent.
-use crate::call_paths::find_path;
-use crate::call_paths::steps_of;
-use crate::core_refusals::NOT_POSSIBLE;
-use crate::core_refusals::PATH_SHORT;
-use crate::core_refusals::STORE_SHORT;
-use crate::core_refusals::STRAY_BIT;
-use crate::core_rounds::Ending;
-use crate::core_rounds::MAX_ALLOWANCE;
-use crate::core_rounds::run;
-use crate::core_rows::forbidden_by;
-use crate::core_rows::row_at;
-use crate::core_state_set::MAX_STATES;
-use crate::core_state_set::StateSet;
-use crate::core_state_set::WORDS;
-use crate::core_table::GROUPS_AT;
-use crate::core_table::INITIAL_AT;
-use crate::core_table::ROWS_AT;
-use crate::core_table::any_stored;
-use crate::core_table::any_stored_beyond;
-use crate::core_table::refusal;
-use crate::core_table::set_at;
+
+use crate::call_paths::{find_path, steps_of};
+use crate::core_refusals::{NOT_POSSIBLE, PATH_SHORT, STORE_SHORT, STRAY_BIT};
+use crate::core_rounds::{Ending, MAX_ALLOWANCE, run};
+use crate::core_rows::{forbidden_by, row_at};
+use crate::core_state_set::{MAX_STATES, StateSet, WORDS};
+use crate::core_table::{GROUPS_AT, INITIAL_AT, ROWS_AT, any_stored, any_stored_beyond, refusal, set_at};
 
 // The words that the rows of possible steps take.
 pub const POSSIBLE_WORDS: usize = WORDS * MAX_STATES;

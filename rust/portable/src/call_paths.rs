@@ -12,20 +12,12 @@
 //
 // What works on a table is lent its rows, and its sets by value; find_path asks that the table is well formed. The calls are lent a store, work out its
 // forbidden states once, and ask for nothing.
+
 use crate::core_reach::newly_reached;
 use crate::core_refusals::PATH_SHORT;
-use crate::core_rows::Rows;
-use crate::core_rows::forbidden;
-use crate::core_rows::meet_hold;
-use crate::core_rows::row_at;
-use crate::core_rows::row_of;
-use crate::core_state_set::MAX_STATES;
-use crate::core_state_set::StateSet;
-use crate::core_state_set::WORDS;
-use crate::core_table::INITIAL_AT;
-use crate::core_table::ROWS_AT;
-use crate::core_table::refusal;
-use crate::core_table::set_at;
+use crate::core_rows::{Rows, forbidden, meet_hold, row_at, row_of};
+use crate::core_state_set::{MAX_STATES, StateSet, WORDS};
+use crate::core_table::{INITIAL_AT, ROWS_AT, refusal, set_at};
 
 // The states of x that step to a state of y: those that are not in hold of all other states.
 pub fn stepping_into(rows: &[u64], x: StateSet, y: StateSet) -> StateSet

@@ -10,9 +10,8 @@
 //   minutes_to_open              the minutes until a window is open on a day that is not closed: jumps from midnight to midnight over closed
 //                                days, and over the least wait on any other, so that even the longest search takes some hundred turns
 //   next_open                    the call
-use crate::core_refusals::TIME;
-use crate::core_refusals::TOO_MANY;
-use crate::core_refusals::WINDOW_RANGE;
+
+use crate::core_refusals::{TIME, TOO_MANY, WINDOW_RANGE};
 
 pub const MAX_TIME: usize = 2147483647;
 

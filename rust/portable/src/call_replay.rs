@@ -7,16 +7,11 @@
 //   Covered, coverage      whole percent and remainder of the states that can be reached
 //   replay_refusal         the first of the grounds 10, 14, 15, 17, 25 and 26 that holds, or 0
 //   Replayed, replay       the call
+
 use crate::core_reach::reached;
-use crate::core_refusals::LOG_LONG;
-use crate::core_refusals::LOG_ODD;
-use crate::core_state_set::StateSet;
-use crate::core_state_set::WORD_BITS;
-use crate::core_state_set::WORDS;
-use crate::core_table::INITIAL_AT;
-use crate::core_table::ROWS_AT;
-use crate::core_table::refusal;
-use crate::core_table::set_at;
+use crate::core_refusals::{LOG_LONG, LOG_ODD};
+use crate::core_state_set::{StateSet, WORD_BITS, WORDS};
+use crate::core_table::{INITIAL_AT, ROWS_AT, refusal, set_at};
 
 // The bytes of an entry, and the most that a log may have.
 pub const ENTRY_BYTES: usize = 2;

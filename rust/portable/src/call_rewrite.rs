@@ -5,16 +5,12 @@
 //
 //   rewrite          the new file at the front of the output and its length, or why the call is refused
 //   rest_dead_ends   the states without a successor put to rest, and no other
+
 use crate::core_rows::meet_hold;
 use crate::core_state_set::StateSet;
-use crate::core_table::RESTING_AT;
-use crate::core_table::ROWS_AT;
-use crate::core_table::STORE_WORDS;
-use crate::core_table::put_set;
-use crate::file_reading::TableRead;
-use crate::file_reading::read_old;
-use crate::file_writing::Written;
-use crate::file_writing::write;
+use crate::core_table::{RESTING_AT, ROWS_AT, STORE_WORDS, put_set};
+use crate::file_reading::{TableRead, read_old};
+use crate::file_writing::{Written, write};
 
 // The site of both files.
 const SITE: usize = 0;

@@ -8,16 +8,9 @@
 //   steps_by_word, held_word_within, meet_hold_within
 //                                       the states that stay in a smaller set
 //   backward                            S, by the states that stay in it
-use crate::core_rows::Rows;
-use crate::core_rows::held_word;
-use crate::core_rows::join_successors;
-use crate::core_rows::row_at;
-use crate::core_rows::row_of;
-use crate::core_rows::union_of;
-use crate::core_state_set::MAX_STATES;
-use crate::core_state_set::StateSet;
-use crate::core_state_set::WORD_BITS;
-use crate::core_state_set::WORDS;
+
+use crate::core_rows::{Rows, held_word, join_successors, row_at, row_of, union_of};
+use crate::core_state_set::{MAX_STATES, StateSet, WORD_BITS, WORDS};
 
 // ---- the cover
 

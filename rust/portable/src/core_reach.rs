@@ -4,6 +4,7 @@
 //
 //   newly_reached      the next layer: the successors of a layer that are not reached yet
 //   reached            all states that a set reaches, itself included
+
 use crate::core_rows::successors;
 use crate::core_state_set::StateSet;
 

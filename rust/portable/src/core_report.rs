@@ -8,13 +8,13 @@
 //
 // Each piece asks for the room that its longest text takes, and says that its text takes no more. All numbers are of 16 bits, as a path's
 // entries are, so each takes five bytes at most, and a state with the space before it six.
-use crate::core_state_set::MAX_STATES;
-use crate::core_state_set::StateSet;
+
+use crate::core_state_set::{MAX_STATES, StateSet};
 
 // A number and the space before it.
 const SPACED: usize = 6;
 
-// The specs' textRoom is the same number.
+// The specs' text_room is the same number.
 pub const ROOM: usize = 1024 + SPACED * MAX_STATES;
 
 pub fn write_safe(n: usize, g: usize, count: usize, invariant: StateSet, out: &mut [u8]) -> usize

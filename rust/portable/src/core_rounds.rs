@@ -6,16 +6,10 @@
 //   next_added                          the set that is added to the list next
 //   conclude                            what a round comes to
 //   run                                 the rounds, and the cover: a row of words for each state, narrowed as a set is added to the list
-use crate::core_fixpoints::WordSteps;
-use crate::core_fixpoints::backward;
-use crate::core_fixpoints::forward;
-use crate::core_fixpoints::steps_by_word;
-use crate::core_rows::Rows;
-use crate::core_rows::row_of;
-use crate::core_state_set::MAX_STATES;
-use crate::core_state_set::StateSet;
-use crate::core_state_set::WORD_BITS;
-use crate::core_state_set::WORDS;
+
+use crate::core_fixpoints::{WordSteps, backward, forward, steps_by_word};
+use crate::core_rows::{Rows, row_of};
+use crate::core_state_set::{MAX_STATES, StateSet, WORD_BITS, WORDS};
 use crate::core_table::set_at;
 
 // As many refinements as there can be states.

@@ -11,14 +11,9 @@
 //
 // What works on a table is lent its parts: the rows (`&store[ROWS_AT..]`, or possible steps as they are lent), the
 // groups (`&store[GROUPS_AT..]`), and sets by value. Functions ask for rows, or for a store, that are long enough.
-use crate::core_state_set::MAX_STATES;
-use crate::core_state_set::StateSet;
-use crate::core_state_set::WORD_BITS;
-use crate::core_state_set::WORDS;
-use crate::core_table::MARKED_AT;
-use crate::core_table::RESTING_AT;
-use crate::core_table::ROWS_AT;
-use crate::core_table::set_at;
+
+use crate::core_state_set::{MAX_STATES, StateSet, WORD_BITS, WORDS};
+use crate::core_table::{MARKED_AT, RESTING_AT, ROWS_AT, set_at};
 
 // The successors of state s.
 pub fn row_at(rows: &[u64], s: usize) -> StateSet

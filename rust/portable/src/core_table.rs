@@ -6,16 +6,13 @@
 //   clear, put_set               0 in every word of a table; a set put into the store
 //   any_stored_beyond            whether some of the store's sets have a state from n up
 //   any_stored                   whether some of them have a state
+//   non_zero_word                whether some of its words are not 0
 //   refusal                      the first of the grounds 10, 14, 15 and 17 that holds, or 0
 //
 // Functions below the calls ask for a store that is long enough; `refusal` asks for nothing.
-use crate::core_refusals::GROUPS;
-use crate::core_refusals::STATES;
-use crate::core_refusals::STORE_SHORT;
-use crate::core_refusals::STRAY_BIT;
-use crate::core_state_set::MAX_STATES;
-use crate::core_state_set::StateSet;
-use crate::core_state_set::WORDS;
+
+use crate::core_refusals::{GROUPS, STATES, STORE_SHORT, STRAY_BIT};
+use crate::core_state_set::{MAX_STATES, StateSet, WORDS};
 
 pub const MAX_GROUPS: usize = 64;
 
@@ -37,11 +34,9 @@ pub const STORE_WORDS: usize = (HEAD_SETS + MAX_GROUPS + MAX_STATES) * WORDS;
 // The set whose words begin at `at`.
 pub fn set_at(store: &[u64], at: usize) -> StateSet
 {
-    let end = at + WORDS;
-    let part = &store[at..end];
     let mut words = [0; WORDS];
     for w in 0..WORDS {
-        words[w] = part[w];
+        words[w] = store[at + w];
     }
     StateSet { words }
 }
@@ -96,6 +91,16 @@ pub fn any_stored(store: &[u64], at: usize, count: usize) -> bool
     !joined(store, at, count).is_empty()
 }
 
+// Some word from `from` on and before `to` is not 0. They are joined and tested once, which the compiler does several at a time.
+pub fn non_zero_word(store: &[u64], from: usize, to: usize) -> bool
+{
+    let mut joined = 0;
+    for i in from..to {
+        joined |= store[i];
+    }
+    joined != 0
+}
+
 // A 1 bit for a state from n up, or a word of an unused group or row not 0.
 fn is_malformed(store: &[u64], n: usize, g: usize) -> bool
 {
@@ -114,10 +119,10 @@ fn is_malformed(store: &[u64], n: usize, g: usize) -> bool
     if any_stored_beyond(store, ROWS_AT, n, n) {
         return true;
     }
-    if any_stored(store, GROUPS_AT + WORDS * g, MAX_GROUPS - g) {
+    if non_zero_word(store, GROUPS_AT + WORDS * g, ROWS_AT) {
         return true;
     }
-    any_stored(store, ROWS_AT + WORDS * n, MAX_STATES - n)
+    non_zero_word(store, ROWS_AT + WORDS * n, STORE_WORDS)
 }
 
 // Groups but no state.

@@ -16,9 +16,9 @@
 //   lanes_sum, wide_lane                     the weighted sum that two rows stand for; a lane as a 32-bit number
 //   set_width, set_count                     the bytes of a set, and how many sets there are
 //   content_length, blocks_for               the bytes of the contents (L), and the blocks that hold so many
+
 use crate::core_state_set::MAX_STATES;
-use crate::core_table::HEAD_SETS;
-use crate::core_table::MAX_GROUPS;
+use crate::core_table::{HEAD_SETS, MAX_GROUPS};
 
 pub const BLOCK: usize = 512;
 

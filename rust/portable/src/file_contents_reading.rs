@@ -6,20 +6,10 @@
 //   non_zero_byte                        ground 18
 //   fill, fill_sets, fill_set            the table put into the store: its three parts; the sets of a part; one set
 //   word_in                              a word of a set in the contents
-use crate::core_state_set::MAX_STATES;
-use crate::core_state_set::StateSet;
-use crate::core_state_set::WORDS;
-use crate::core_table::GROUPS_AT;
-use crate::core_table::HEAD_SETS;
-use crate::core_table::MAX_GROUPS;
-use crate::core_table::ROWS_AT;
-use crate::core_table::put_set;
-use crate::file_blocks::Form;
-use crate::file_blocks::HEADER;
-use crate::file_blocks::head_sets;
-use crate::file_blocks::set_count;
-use crate::file_blocks::set_width;
-use crate::file_blocks::wide;
+
+use crate::core_state_set::{MAX_STATES, StateSet, WORDS};
+use crate::core_table::{GROUPS_AT, HEAD_SETS, MAX_GROUPS, ROWS_AT, put_set};
+use crate::file_blocks::{Form, HEADER, head_sets, set_count, set_width, wide};
 
 // ---- grounds of the contents
 

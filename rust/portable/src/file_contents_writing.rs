@@ -9,15 +9,10 @@
 //   write_le16                     a two-byte number, low byte first
 //
 // What is written is said with the model's `overwrite`: at the front of what was lent, the rest of it untouched.
+
 use crate::core_state_set::WORDS;
-use crate::core_table::GROUPS_AT;
-use crate::core_table::HEAD_SETS;
-use crate::core_table::ROWS_AT;
-use crate::file_blocks::Form;
-use crate::file_blocks::HEADER;
-use crate::file_blocks::added;
-use crate::file_blocks::set_count;
-use crate::file_blocks::set_width;
+use crate::core_table::{GROUPS_AT, HEAD_SETS, ROWS_AT};
+use crate::file_blocks::{Form, HEADER, added, set_count, set_width};
 
 pub fn join_contents(store: &[u64], n: usize, g: usize, out: &mut [u8])
 {

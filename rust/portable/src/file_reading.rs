@@ -6,37 +6,18 @@
 //   read_old, read_as                the same of a file of the old form, and of either
 //   read_file, read_contents         the same of an input that has bytes, and of contents: each looks at its own grounds
 //   join_blocks, block_fault         the contents of the blocks joined, each once it is checked; the grounds of one block, on its own 512 bytes
-use crate::core_refusals::BLOCK_CHECK;
-use crate::core_refusals::BLOCK_COUNT;
-use crate::core_refusals::BLOCK_NUMBER;
-use crate::core_refusals::FILLER;
-use crate::core_refusals::GROUPS;
-use crate::core_refusals::INPUT_LENGTH;
-use crate::core_refusals::SITE;
-use crate::core_refusals::STATES;
-use crate::core_refusals::STORE_SHORT;
-use crate::core_refusals::STRAY_BIT;
+
+use crate::core_refusals::{
+    BLOCK_CHECK, BLOCK_COUNT, BLOCK_NUMBER, FILLER, GROUPS, INPUT_LENGTH, SITE, STATES,
+    STORE_SHORT, STRAY_BIT,
+};
 use crate::core_state_set::MAX_STATES;
-use crate::core_table::MAX_GROUPS;
-use crate::core_table::STORE_WORDS;
-use crate::core_table::clear;
-use crate::file_blocks::BLOCK;
-use crate::file_blocks::CHECK_AT;
-use crate::file_blocks::CONTENT_AT;
-use crate::file_blocks::CONTENT_BYTES;
-use crate::file_blocks::Form;
-use crate::file_blocks::JOINED_ROOM;
-use crate::file_blocks::MAX_FILE;
-use crate::file_blocks::MAX_SITE;
-use crate::file_blocks::added;
-use crate::file_blocks::blocks_for;
-use crate::file_blocks::checksum_of;
-use crate::file_blocks::content_length;
-use crate::file_blocks::copy_content;
-use crate::file_blocks::le16_at;
-use crate::file_contents_reading::any_content_beyond;
-use crate::file_contents_reading::fill;
-use crate::file_contents_reading::non_zero_byte;
+use crate::core_table::{MAX_GROUPS, STORE_WORDS, clear};
+use crate::file_blocks::{
+    BLOCK, CHECK_AT, CONTENT_AT, CONTENT_BYTES, Form, JOINED_ROOM, MAX_FILE, MAX_SITE, added,
+    blocks_for, checksum_of, content_length, copy_content, le16_at,
+};
+use crate::file_contents_reading::{any_content_beyond, fill, non_zero_byte};
 
 #[derive(Clone, Copy)]
 pub enum TableRead {

@@ -7,24 +7,14 @@
 //   write_blocks, write_block      the first so many blocks; one block: its number, its content, its check
 //
 // What is written is said with the model's `overwrite`: at the front of what was lent, the rest of it untouched.
-use crate::core_refusals::OUTPUT_SHORT;
-use crate::core_refusals::SITE;
-use crate::core_refusals::STORE_SHORT;
-use crate::core_table::STORE_WORDS;
-use crate::core_table::refusal;
-use crate::file_blocks::BLOCK;
-use crate::file_blocks::CHECK_AT;
-use crate::file_blocks::CONTENT_AT;
-use crate::file_blocks::CONTENT_BYTES;
-use crate::file_blocks::Form;
-use crate::file_blocks::JOINED_ROOM;
-use crate::file_blocks::MAX_SITE;
-use crate::file_blocks::blocks_for;
-use crate::file_blocks::checksum_of;
-use crate::file_blocks::content_length;
-use crate::file_blocks::copy_content;
-use crate::file_contents_writing::join_contents;
-use crate::file_contents_writing::write_le16;
+
+use crate::core_refusals::{OUTPUT_SHORT, SITE, STORE_SHORT};
+use crate::core_table::{STORE_WORDS, refusal};
+use crate::file_blocks::{
+    BLOCK, CHECK_AT, CONTENT_AT, CONTENT_BYTES, Form, JOINED_ROOM, MAX_SITE, blocks_for,
+    checksum_of, content_length, copy_content,
+};
+use crate::file_contents_writing::{join_contents, write_le16};
 
 #[derive(Clone, Copy)]
 pub enum Written {

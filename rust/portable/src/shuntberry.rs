@@ -1,44 +1,26 @@
 // Made by scripts/portable from crates/shuntberry/src/lib.rt, which is proved. Change that one.
 
 // The calls for C (include/shuntberry.h). Each only calls the call of the same name and lays its answer out as C reads it (`shuntberry_fields`).
+
 use crate::call_check::check;
 use crate::call_decide::decide;
-use crate::call_edit_session::add_step;
-use crate::call_edit_session::open;
-use crate::call_edit_session::remove_step;
+use crate::call_edit_session::{add_step, open, remove_step};
 use crate::call_generate::generate;
 use crate::call_modal::decide_modal;
-use crate::call_paths::shortest_path;
-use crate::call_paths::within;
+use crate::call_paths::{shortest_path, within};
 use crate::call_release_windows::next_open;
 use crate::call_replay::replay;
 use crate::call_rewrite::rewrite;
 use crate::core_state_set::StateSet;
 use crate::file_reading::read;
 use crate::file_writing::write;
-use crate::shuntberry_fields::CheckedFields;
-use crate::shuntberry_fields::DecisionFields;
-use crate::shuntberry_fields::FileFields;
-use crate::shuntberry_fields::MinuteFields;
-use crate::shuntberry_fields::ModalFields;
-use crate::shuntberry_fields::ReplayFields;
-use crate::shuntberry_fields::SessionFields;
-use crate::shuntberry_fields::SetFields;
-use crate::shuntberry_fields::ShortestFields;
-use crate::shuntberry_fields::TableFields;
-use crate::shuntberry_fields::WithinFields;
-use crate::shuntberry_fields::lay_out_check;
-use crate::shuntberry_fields::lay_out_decision;
-use crate::shuntberry_fields::lay_out_distances;
-use crate::shuntberry_fields::lay_out_file;
-use crate::shuntberry_fields::lay_out_generated;
-use crate::shuntberry_fields::lay_out_minute;
-use crate::shuntberry_fields::lay_out_modal;
-use crate::shuntberry_fields::lay_out_replay;
-use crate::shuntberry_fields::lay_out_session;
-use crate::shuntberry_fields::lay_out_shortest;
-use crate::shuntberry_fields::lay_out_table;
-use crate::shuntberry_fields::lay_out_within;
+use crate::shuntberry_fields::{
+    CheckedFields, DecisionFields, FileFields, MinuteFields, ModalFields, ReplayFields,
+    SessionFields, SetFields, ShortestFields, TableFields, WithinFields, lay_out_check,
+    lay_out_decision, lay_out_distances, lay_out_file, lay_out_generated, lay_out_minute,
+    lay_out_modal, lay_out_replay, lay_out_session, lay_out_shortest, lay_out_table,
+    lay_out_within,
+};
 
 // ---- the version
 

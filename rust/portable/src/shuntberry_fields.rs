@@ -5,21 +5,17 @@
 //
 //   lay_out_CALL                          the fields of an answer or a refusal; of distances and generate the refusal alone, or 0
 //   refused_decision, refused_modal       those of a refusal
+
 use crate::call_check::Checked;
-use crate::call_decide::Decision;
-use crate::call_decide::Verdict;
+use crate::call_decide::{Decision, Verdict};
 use crate::call_distances::DistancesAnswer;
-use crate::call_edit_session::Session;
-use crate::call_edit_session::Status;
+use crate::call_edit_session::{Session, Status};
 use crate::call_generate::Generated;
-use crate::call_modal::ModalDecision;
-use crate::call_modal::ModalVerdict;
-use crate::call_paths::Shortest;
-use crate::call_paths::WithinAnswer;
+use crate::call_modal::{ModalDecision, ModalVerdict};
+use crate::call_paths::{Shortest, WithinAnswer};
 use crate::call_release_windows::NextOpen;
 use crate::call_replay::Replayed;
-use crate::core_state_set::StateSet;
-use crate::core_state_set::WORDS;
+use crate::core_state_set::{StateSet, WORDS};
 use crate::file_reading::TableRead;
 use crate::file_writing::Written;
 

@@ -2,7 +2,6 @@
 -- then the answer for each ending of the rounds.
 use Prim.Native.Nat.{◌≤◌}
 use native.Mathlib.Omega.{arith}
-use borrow.Author.Rules.{rules}
 use lib.ListN.{length}
 use Rattle.model.specs.Sets.{max_states}
 use Rattle.model.proofs.StoresAccepted.{Store}

@@ -1,6 +1,5 @@
 -- `distances`: the grounds in their order, then the distances of the first n states.
 use native.Mathlib.Omega.{arith}
-use borrow.Author.Rules.{rules}
 use Rattle.model.proofs.SetsMembers.{empty_in}
 use Rattle.model.proofs.StoresAccepted.{Store}
 use Rattle.call_paths.proofs.Groups.{holds-states}

@@ -1,14 +1,8 @@
 -- `join_predecessor`: s is joined to the rows of the states in the words passed.
-use Prim.Native.Nat.{◌-◌, ◌≤◌}
-use mathlib.Core.Path.{◌≡◌, ◌∙◌}
-use mathlib.Core.List.{[]}
+use mathlib.Core.Path.{◌∙◌}
 use borrow.Author.Rules.{rules}
-use Rattle.model.specs.Sets.{WORDS}
-use Rattle.core_state_set.specs.WordSets.{words_below}
 use Rattle.core_state_set.proofs.SetsWords.{proper}
-use Rattle.core_rows.specs.Rows.{map_at}
 use Rattle.core_rows.proofs.RowsMapped.{map_start, map_word, map-all}
-use Rattle.call_distances.specs.Transposing.{with_bit}
 use Rattle.call_distances.proofs.join_predecessor.Goals as goal
 
 pub loop-w-init : goal.loop-w-init

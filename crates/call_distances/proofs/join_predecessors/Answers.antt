@@ -1,7 +1,6 @@
 -- `join_predecessors`: the rows of the states passed, transposed.
-use Prim.Native.Nat.{◌-◌, ◌≤◌}
 use native.Mathlib.Nat.{le_antisymm}
-use mathlib.Core.Path.{◌≡◌, ap, ◌∙◌}
+use mathlib.Core.Path.{ap, ◌∙◌}
 use borrow.Author.Rules.{rules}
 use Rattle.call_distances.specs.Transposing.{predecessor_rows}
 use Rattle.call_distances.proofs.RowsTransposed.{transposed_turn}

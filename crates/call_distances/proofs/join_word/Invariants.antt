@@ -1,14 +1,8 @@
 -- `join_word`: to join s to the rows of the bits that are left leads to the whole.
-use native.Mathlib.Omega.{arith}
-use mathlib.Core.Path.{refl}
 use mathlib.Core.List.{[]}
-use borrow.Author.Rules.{rules}
-use lib.Count.{trailing_le}
 use Rattle.core_state_set.specs.WordSets.{word_set}
-use Rattle.core_state_set.proofs.SetsOnes.{bits_fit, states_fit}
-use Rattle.core_state_set.proofs.SetsByWord.{word_less}
 use Rattle.core_rows.specs.Rows.{map_at}
-use Rattle.core_rows.proofs.RowsMapped.{Mapping, mapping_bound, mapping_turn, mapping_end}
+use Rattle.core_rows.proofs.RowsMapped.{Mapping}
 use Rattle.call_distances.specs.Transposing.{with_bit}
 use Rattle.call_distances.proofs.join_word.Given as goal
 

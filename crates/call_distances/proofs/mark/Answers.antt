@@ -1,11 +1,7 @@
 -- `mark`: the states in the words passed are marked.
-use Prim.Native.Nat.{◌-◌, ◌≤◌}
-use mathlib.Core.Path.{◌≡◌, ◌∙◌}
+use mathlib.Core.Path.{◌∙◌}
 use borrow.Author.Rules.{rules}
-use Rattle.model.specs.Sets.{WORDS}
-use Rattle.core_state_set.specs.WordSets.{words_below}
 use Rattle.core_state_set.proofs.SetsWords.{proper}
-use Rattle.core_rows.specs.Rows.{map_at}
 use Rattle.core_rows.proofs.RowsMapped.{map_start, map_word, map-all}
 use Rattle.call_distances.proofs.mark.Goals as goal
 

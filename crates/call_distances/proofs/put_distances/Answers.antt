@@ -1,10 +1,9 @@
 -- `put_distances`: the front of the buffer so far.
-use Prim.Native.Nat.{◌-◌, ◌≤◌}
 use mathlib.Core.Path.{refl}
 use borrow.Author.Rules.{rules}
 use lib.ListN.{get_or}
 use Rattle.basics.specs.Bounds.{tabulate}
-use Rattle.core_table.proofs.ListsOverwritten.{Over, over_none, over_next, over_all}
+use Rattle.core_table.proofs.ListsOverwritten.{over_none, over_next, over_all}
 use Rattle.call_distances.proofs.put_distances.Goals as goal
 
 pub loop-s-init : goal.loop-s-init

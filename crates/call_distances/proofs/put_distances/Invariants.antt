@@ -1,10 +1,8 @@
 -- `put_distances`: the front of the buffer so far.
-use Prim.Native.Nat.{◌-◌, ◌≤◌}
-use mathlib.Core.Path.{refl}
-use borrow.Author.Rules.{rules}
+use Prim.Native.Nat.{◌≤◌}
 use lib.ListN.{get_or}
 use Rattle.basics.specs.Bounds.{tabulate}
-use Rattle.core_table.proofs.ListsOverwritten.{Over, over_none, over_next, over_all}
+use Rattle.core_table.proofs.ListsOverwritten.{Over}
 use Rattle.call_distances.proofs.put_distances.Given as goal
 
 abbrev pub invariant-loop-s : goal.invariant-loop-s

@@ -3,8 +3,6 @@
 use Prim.Native.Nat.{◌<◌}
 use native.Mathlib.Omega.{arith}
 use mathlib.Core.Path.{refl, sym, ◌∙◌}
-use borrow.Author.Rules.{rules}
-use borrow.Author.Tests.{not-true, not-false}
 use Rattle.model.proofs.StoresAccepted.{Store}
 use Rattle.call_edit_session.specs.declared.Change.TheVariants.{Add, Remove}
 use Rattle.call_edit_session.specs.declared.Status.TheVariants.{Accepted}

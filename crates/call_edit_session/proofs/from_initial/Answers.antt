@@ -1,5 +1,4 @@
 -- `from_initial`: what the first set of the store reaches.
-use borrow.Author.Rules.{rules}
 use Rattle.call_edit_session.proofs.SessionAnswered.{from_initial-is}
 use Rattle.call_edit_session.proofs.from_initial.Goals as goal
 

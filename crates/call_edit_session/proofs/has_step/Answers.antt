@@ -1,5 +1,4 @@
 -- `has_step`: the row of the state, and the other among it.
-use borrow.Author.Rules.{rules}
 use Rattle.call_edit_session.proofs.SessionAnswered.{has_step_is}
 use Rattle.call_edit_session.proofs.has_step.Goals as goal
 

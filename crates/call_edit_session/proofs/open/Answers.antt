@@ -1,6 +1,5 @@
 -- `open`: the grounds, then what the initial states reach.
 use mathlib.Core.Path.{refl}
-use borrow.Author.Rules.{rules}
 use Rattle.call_edit_session.proofs.SessionAnswered.{accepted_open, reached-opened, open_refused, open_answered}
 use Rattle.call_edit_session.proofs.open.Goals as goal
 

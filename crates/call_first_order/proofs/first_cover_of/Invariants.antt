@@ -1,6 +1,5 @@
 -- `first_cover_of`: the groups but the first `left` are added, and then z.
-use borrow.Author.Rules.{rules}
-use Rattle.call_first_order.proofs.FirstCover.{Meeting, meeting_start, meeting_turn, meeting_end}
+use Rattle.call_first_order.proofs.FirstCover.{Meeting}
 use Rattle.call_first_order.proofs.first_cover_of.Given as goal
 
 abbrev pub invariant-loop-left : goal.invariant-loop-left

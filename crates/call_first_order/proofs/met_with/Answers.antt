@@ -1,6 +1,5 @@
 -- `met_with`: one case for each side of the test.
 use mathlib.Core.Path.{sym, ◌∙◌}
-use borrow.Author.Rules.{rules}
 use Rattle.call_first_order.proofs.met_with.Goals as goal
 
 pub returns-then-contains : goal.returns-then-contains

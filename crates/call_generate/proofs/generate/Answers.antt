@@ -1,5 +1,5 @@
 -- `generate`: the store is filled where nothing is refused.
-use Rattle.std.proofs.Common.{sym, le_of_eq, arith, rules}
+use Rattle.std.proofs.Common.{sym, le_of_eq, arith}
 use Rattle.call_generate.proofs.Numbers.{front_long}
 use Rattle.call_generate.proofs.GenerateAnswered.{accepted-load, refused-load, filled_load}
 use Rattle.call_generate.proofs.generate.Goals as goal

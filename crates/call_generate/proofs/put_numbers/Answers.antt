@@ -1,6 +1,5 @@
 -- `put_numbers`: the buffer begins with the numbers made.
-use Rattle.std.proofs.Common.{◌≡◌, ◌+◌, ◌-◌, ◌≤◌, length, take, rules}
-use Rattle.call_generate.specs.Load.{long_lag, short_lag, numbers}
+use Rattle.std.proofs.Common.{rules}
 use Rattle.call_generate.proofs.Numbers.{fewer}
 use Rattle.call_generate.proofs.put_numbers.Goals as goal
 

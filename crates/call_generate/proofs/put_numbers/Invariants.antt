@@ -1,7 +1,6 @@
 -- `put_numbers`: the buffer begins with the numbers made.
-use Rattle.std.proofs.Common.{◌≡◌, ◌+◌, ◌-◌, ◌≤◌, length, take, rules}
+use Rattle.std.proofs.Common.{◌≡◌, ◌+◌, ◌-◌, ◌≤◌, length, take}
 use Rattle.call_generate.specs.Load.{long_lag, short_lag, numbers}
-use Rattle.call_generate.proofs.Numbers.{fewer}
 use Rattle.call_generate.proofs.put_numbers.Given as goal
 
 abbrev pub invariant-loop-made : goal.invariant-loop-made

@@ -1,7 +1,7 @@
 -- `put_remainders`: the numbers passed, each modulo n, are in the row.
-use Rattle.std.proofs.Common.{◌≡◌, ◌-◌, ◌<◌, ◌≤◌, length, ◌∙◌, arith, rules}
+use Rattle.std.proofs.Common.{◌<◌, ◌∙◌, arith, rules}
 use Rattle.model.specs.Sets.{max_states}
-use Rattle.call_generate.proofs.RowsGenerated.{remainder-state, Reducing, reducing_none, reducing_more, reducing_all}
+use Rattle.call_generate.proofs.RowsGenerated.{remainder-state, reducing_none, reducing_more, reducing_all}
 use Rattle.call_generate.proofs.put_remainders.Goals as goal
 
 pub loop-i-init : goal.loop-i-init

@@ -1,7 +1,6 @@
 -- `put_remainders`: the numbers passed, each modulo n, are in the row.
-use Rattle.std.proofs.Common.{◌≡◌, ◌-◌, ◌<◌, ◌≤◌, length, ◌∙◌, arith, rules}
-use Rattle.model.specs.Sets.{max_states}
-use Rattle.call_generate.proofs.RowsGenerated.{remainder-state, Reducing, reducing_none, reducing_more, reducing_all}
+use Rattle.std.proofs.Common.{◌≡◌, ◌≤◌, length}
+use Rattle.call_generate.proofs.RowsGenerated.{Reducing}
 use Rattle.call_generate.proofs.put_remainders.Given as goal
 
 abbrev pub invariant-loop-i : goal.invariant-loop-i

@@ -1,8 +1,7 @@
 -- `put_rows`: the rows passed stand in their places.
-use Rattle.std.proofs.Common.{◌+◌, ◌-◌, ◌*◌, ◌≤◌, length, refl, mul-le-mul_right, suc-mul, arith, length-drop, length-take, rules}
-use Rattle.model.specs.Stores.{row_at}
-use Rattle.core_table.proofs.StoresFilled.{Filling, filling_none, filling_more, filling_all}
-use Rattle.call_generate.specs.Load.{long_lag, successors}
+use Rattle.std.proofs.Common.{◌+◌, ◌*◌, ◌≤◌, length, refl, mul-le-mul_right, suc-mul, arith, length-drop, length-take, rules}
+use Rattle.core_table.proofs.StoresFilled.{filling_none, filling_more, filling_all}
+use Rattle.call_generate.specs.Load.{long_lag}
 use Rattle.call_generate.proofs.RowsGenerated.{row_put}
 use Rattle.call_generate.proofs.put_rows.Goals as goal
 
@@ -48,11 +47,10 @@ pub put_remainders-requires : goal.put_remainders-requires
 put_remainders-requires c = (search rules, search rules, refl, simp (length-take, length-drop) (omega arith))
 
 pub loop-s-preserved : goal.loop-s-preserved
-loop-s-preserved c =
-    (
-      search rules,
-      filling_more _ _ _ _ _ c.loop-s.invariant.1 _ (search rules) (row_put _ _ _ _ _ _ refl c.put_remainders.ensures),
-    )
+loop-s-preserved c = (
+  search rules,
+  filling_more _ _ _ _ _ c.loop-s.invariant.1 _ (search rules) (row_put _ _ _ _ _ _ refl c.put_remainders.ensures),
+)
 
 pub returns : goal.returns
 returns c = filling_all _ _ _ _ _ c.loop-s.invariant.1 _ (search rules) (search rules)

@@ -1,6 +1,5 @@
 -- `put_start`: the buffer begins with the numbers passed.
-use Rattle.std.proofs.Common.{◌≡◌, ◌-◌, ◌<◌, ◌≤◌, length, take, length-set, rules}
-use Rattle.call_generate.specs.Load.{long_lag, numbers}
+use Rattle.std.proofs.Common.{length-set, rules}
 use Rattle.call_generate.proofs.Numbers.{first-number, start_more, fewer}
 use Rattle.call_generate.proofs.put_start.Goals as goal
 

@@ -1,7 +1,6 @@
 -- `put_start`: the buffer begins with the numbers passed.
-use Rattle.std.proofs.Common.{◌≡◌, ◌-◌, ◌<◌, ◌≤◌, length, take, length-set, rules}
+use Rattle.std.proofs.Common.{◌≡◌, ◌<◌, ◌≤◌, length, take}
 use Rattle.call_generate.specs.Load.{long_lag, numbers}
-use Rattle.call_generate.proofs.Numbers.{first-number, start_more, fewer}
 use Rattle.call_generate.proofs.put_start.Given as goal
 
 abbrev pub invariant-loop-k : goal.invariant-loop-k

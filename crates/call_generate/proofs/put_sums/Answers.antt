@@ -1,6 +1,5 @@
 -- `put_sums`: whatever the seed, the buffer begins with the numbers passed.
-use Rattle.std.proofs.Common.{◌≡◌, ℕ, ◌-◌, ◌≤◌, length, take, length-set, rules}
-use Rattle.call_generate.specs.Load.{long_lag, numbers}
+use Rattle.std.proofs.Common.{length-set, rules}
 use Rattle.call_generate.proofs.Numbers.{sum_more, fewer}
 use Rattle.call_generate.proofs.put_sums.Goals as goal
 

@@ -1,7 +1,6 @@
 -- `put_sums`: whatever the seed, the buffer begins with the numbers passed.
-use Rattle.std.proofs.Common.{◌≡◌, ℕ, ◌-◌, ◌≤◌, length, take, length-set, rules}
+use Rattle.std.proofs.Common.{◌≡◌, ℕ, ◌≤◌, length, take}
 use Rattle.call_generate.specs.Load.{long_lag, numbers}
-use Rattle.call_generate.proofs.Numbers.{sum_more, fewer}
 use Rattle.call_generate.proofs.put_sums.Given as goal
 
 abbrev pub invariant-loop-k : goal.invariant-loop-k

@@ -1,12 +1,8 @@
 -- `any_impossible`: no state passed has a certain step that is not possible.
-use Prim.Native.Nat.{◌-◌, ◌≤◌}
-use mathlib.Core.Path.{◌≡◌, sym}
+use Prim.Native.Nat.{◌≤◌}
+use mathlib.Core.Path.{◌≡◌}
 use mathlib.Core.Bool.{false}
-use borrow.Author.Rules.{rules}
-use borrow.Author.Tests.{not-false}
-use Rattle.basics.proofs.BoundLaws.{not_true}
 use Rattle.call_modal.specs.Modal.{certain_impossible}
-use Rattle.call_modal.proofs.ModalGrounds.{impossible_start, impossible_hit, impossible_pass, impossible-end}
 use Rattle.call_modal.proofs.any_impossible.Given as goal
 
 abbrev pub invariant-loop-s : goal.invariant-loop-s

@@ -1,5 +1,4 @@
 -- `check_on`: the rounds on those rows.
-use borrow.Author.Rules.{rules}
 use Rattle.call_modal.proofs.Checking.{checked}
 use Rattle.call_modal.proofs.check_on.Goals as goal
 

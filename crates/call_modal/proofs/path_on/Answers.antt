@@ -1,5 +1,4 @@
 -- `path_on`: the path on those rows.
-use borrow.Author.Rules.{rules}
 use Rattle.call_modal.proofs.Checking.{holds_lent, path-found}
 use Rattle.call_modal.proofs.path_on.Goals as goal
 

@@ -1,6 +1,5 @@
 -- `find_path`: where no layer holds a forbidden state, there is no path; else the walk through what is kept of the layers is it.
 use mathlib.Core.Path.{refl, sym, ◌∙◌}
-use borrow.Author.Rules.{rules}
 use Rattle.call_paths.proofs.PathsFound.{find_none, find_short, find_writable, find_some}
 use Rattle.call_paths.proofs.find_path.Goals as goal
 

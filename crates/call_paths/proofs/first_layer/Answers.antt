@@ -1,14 +1,10 @@
 -- `first_layer`: the layers so far hold no forbidden state, and each has its row. A layer with a state makes one more found, so there are fewer
 -- layers than states.
-use Prim.Native.Nat.{suc, ◌-◌}
 use mathlib.Core.Path.{refl, sym, ap, ◌∙◌}
 use borrow.Author.Rules.{rules}
-use borrow.Author.Tests.{not-false}
 use lib.ListN.{length, length-set}
-use Rattle.model.specs.Sets.{max_states}
-use Rattle.basics.proofs.BoundLaws.{not_true}
 use Rattle.core_state_set.proofs.SetsWords.{proper}
-use Rattle.call_paths.proofs.Outward.{Outward, outward_start, outward_turn, outward_hit, outward_end, PutDown, put_start, put_turn, put_hit}
+use Rattle.call_paths.proofs.Outward.{outward_start, outward_turn, outward_hit, outward_end, put_start, put_turn, put_hit}
 use Rattle.call_paths.proofs.first_layer.Goals as goal
 
 pub loop-forbidden-init : goal.loop-forbidden-init

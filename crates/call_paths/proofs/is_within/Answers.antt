@@ -1,6 +1,5 @@
 -- `is_within`: by the cases of what was found.
 use mathlib.Core.Path.{refl}
-use borrow.Author.Rules.{rules}
 use Rattle.call_paths.proofs.is_within.Goals as goal
 
 pub returns-in-Steps : goal.returns-in-Steps

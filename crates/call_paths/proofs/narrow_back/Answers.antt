@@ -1,9 +1,7 @@
 -- `narrow_back`: to narrow the rows that are left leads to the whole.
-use Prim.Native.Nat.{◌≤◌}
 use native.Mathlib.Omega.{arith}
-use mathlib.Core.Path.{◌≡◌, refl, sym, ◌∙◌}
+use mathlib.Core.Path.{refl, sym, ◌∙◌}
 use borrow.Author.Rules.{rules}
-use Rattle.call_paths.specs.Search.{narrowed_back}
 use Rattle.call_paths.proofs.Narrowing.{narrowed_turn, narrowed-end}
 use Rattle.call_paths.proofs.narrow_back.Goals as goal
 

@@ -1,6 +1,5 @@
 -- `put_row`: past the end nothing is set.
 use mathlib.Core.Path.{sym}
-use borrow.Author.Rules.{rules}
 use lib.Seq.{set_out}
 use Rattle.call_paths.proofs.put_row.Goals as goal
 

@@ -1,6 +1,5 @@
 -- `shortest_path`: the grounds in their order, then what find_path found.
 use native.Mathlib.Omega.{arith}
-use borrow.Author.Rules.{rules}
 use Rattle.model.proofs.StoresAccepted.{Store}
 use Rattle.call_paths.specs.declared.PathFound.TheVariants.{Steps, Nothing}
 use Rattle.call_paths.proofs.Groups.{holds-table, store_path}

@@ -1,6 +1,5 @@
 -- `smallest_in_layer`: the contracts of its three calls.
 use mathlib.Core.Path.{refl, ap, ap₂, ◌∙◌}
-use borrow.Author.Rules.{rules}
 use Rattle.model.specs.Sets.{meet, smallest}
 use Rattle.call_paths.proofs.smallest_in_layer.Goals as goal
 

@@ -1,6 +1,5 @@
 -- `stepping_into`: what is left of the set without those in hold of all other states.
 use mathlib.Core.Path.{refl, ap₂, ◌∙◌}
-use borrow.Author.Rules.{rules}
 use Rattle.model.specs.Sets.{difference}
 use Rattle.core_rows.specs.Rows.{meet_hold}
 use Rattle.call_paths.proofs.RowsStepping.{stepping_is}

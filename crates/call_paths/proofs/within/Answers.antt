@@ -1,15 +1,11 @@
 -- `within`: the shared grounds, then whether a forbidden state is met.
 use native.Mathlib.Omega.{arith}
-use mathlib.Core.Path.{◌≡◌, sym, ap, ap₂, ◌∙◌}
-use mathlib.Core.Bool.{Bool}
-use borrow.Author.Rules.{rules}
-use Rattle.basics.specs.Refusals.{answered}
+use mathlib.Core.Path.{sym, ap, ap₂, ◌∙◌}
 use Rattle.model.specs.Stores.{table_of}
 use Rattle.model.proofs.StoresAccepted.{Store, well_formed}
 use Rattle.core_rows.specs.Rows.{rows_of}
 use Rattle.core_rows.proofs.RowsLent.{rows_long, store_rows}
 use Rattle.call_paths.specs.Search.{first_layer, steps_within}
-use Rattle.call_paths.specs.Within.{within_answer}
 use Rattle.call_paths.specs.declared.PathFound.{PathFound}
 use Rattle.call_paths.proofs.Duality.{first_found, found_within}
 use Rattle.call_paths.proofs.PathsAnswered.{accepted, within-refused, within-answered}

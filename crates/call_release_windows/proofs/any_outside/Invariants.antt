@@ -1,10 +1,6 @@
 -- `any_outside`: each window is looked at.
-use Prim.Native.Nat.{◌-◌}
-use mathlib.Core.Path.{refl}
-use borrow.Author.Rules.{rules}
-use lib.ListN.{length}
 use Rattle.call_release_windows.specs.Windows.{outside}
-use Rattle.call_release_windows.proofs.Searches.{Sought, sought_turn, sought_end}
+use Rattle.call_release_windows.proofs.Searches.{Sought}
 use Rattle.call_release_windows.proofs.any_outside.Given as goal
 
 abbrev pub invariant-loop-i : goal.invariant-loop-i

@@ -1,10 +1,7 @@
 -- `is_closed`: each closed day is looked at.
-use Prim.Native.Nat.{◌-◌}
 use mathlib.Core.Path.{refl}
 use borrow.Author.Rules.{rules}
-use lib.Dec.{eqb}
-use lib.ListN.{length}
-use Rattle.call_release_windows.proofs.Searches.{Sought, sought_turn, sought_end}
+use Rattle.call_release_windows.proofs.Searches.{sought_turn, sought_end}
 use Rattle.call_release_windows.proofs.is_closed.Goals as goal
 
 pub loop-i-init : goal.loop-i-init

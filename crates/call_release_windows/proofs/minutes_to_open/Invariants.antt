@@ -1,10 +1,7 @@
 -- `minutes_to_open`: none of the minutes waited is open. Each jump is over one minute at least.
 use Prim.Native.Nat.{◌-◌}
-use native.Mathlib.Omega.{arith}
-use mathlib.Core.Path.{sym, ◌∙◌}
-use borrow.Author.Rules.{rules}
 use Rattle.call_release_windows.specs.WindowAnswers.{span}
-use Rattle.call_release_windows.proofs.Jumps.{at_most-week, NoneOpen, over_day, over_wait, opened, all_shut}
+use Rattle.call_release_windows.proofs.Jumps.{NoneOpen}
 use Rattle.call_release_windows.proofs.minutes_to_open.Given as goal
 
 abbrev pub invariant-loop-waited : goal.invariant-loop-waited

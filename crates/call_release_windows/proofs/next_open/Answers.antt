@@ -1,7 +1,6 @@
 -- `next_open`: the grounds in their order, then what the search found.
 use native.Mathlib.Omega.{arith}
 use mathlib.Core.Path.{sym, ◌∙◌}
-use borrow.Author.Rules.{rules}
 use Rattle.call_release_windows.proofs.WindowsAnswered.{Sound, sound, refuses, opened, never_opens}
 use Rattle.call_release_windows.proofs.next_open.Goals as goal
 

@@ -1,5 +1,4 @@
 -- `coverage`: nothing can be reached, or the division with its remainder.
-use borrow.Author.Rules.{rules}
 use borrow.Author.Tests.{eq-eqb, ne_eqb}
 use Rattle.call_replay.specs.Logs.{percent_of, remainder_of}
 use Rattle.call_replay.proofs.coverage.Goals as goal

@@ -1,5 +1,4 @@
 -- `entry_at`: the two bytes of the entry.
-use borrow.Author.Rules.{rules}
 use Rattle.call_replay.proofs.LogEntries.{entry-bytes}
 use Rattle.call_replay.proofs.entry_at.Goals as goal
 

@@ -1,6 +1,5 @@
 -- `replay`: the grounds in their order, then what was followed of the log beside what can be reached.
 use native.Mathlib.Omega.{arith}
-use borrow.Author.Rules.{rules}
 use Rattle.model.proofs.StoresAccepted.{Store}
 use Rattle.model.proofs.SetsCounted.{size-most}
 use Rattle.core_rows.proofs.RowsLent.{rows_long}

@@ -1,5 +1,4 @@
 -- `rest_dead_ends`: the states in hold of the empty set.
-use borrow.Author.Rules.{rules}
 use Rattle.call_rewrite.proofs.StoresRested.{rested_by}
 use Rattle.call_rewrite.proofs.rest_dead_ends.Goals as goal
 

@@ -2,7 +2,7 @@
 use native.Mathlib.Omega.{arith}
 use mathlib.Core.Path.{sym, ap, ◌∙◌}
 use borrow.Author.Rules.{rules}
-use Rattle.model.specs.Sets.{member, smallest, max_states, union, difference}
+use Rattle.model.specs.Sets.{member, smallest, max_states, union}
 use Rattle.basics.proofs.BoundLaws.{first_passes}
 use Rattle.model.proofs.SetsMembers.{In, in_bound, in_subset, smallest_le}
 use Rattle.model.proofs.SetsImages.{image-none}

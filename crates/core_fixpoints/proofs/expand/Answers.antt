@@ -1,6 +1,5 @@
 -- `expand`: the state is written, and its row joined.
 use mathlib.Core.Path.{refl, ap, ◌∙◌}
-use borrow.Author.Rules.{rules}
 use Rattle.model.specs.Sets.{union}
 use Rattle.core_fixpoints.proofs.expand.Goals as goal
 

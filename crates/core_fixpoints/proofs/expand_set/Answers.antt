@@ -1,11 +1,9 @@
 -- `expand_set`: what is found and recorded is that of the words passed.
-use Prim.Native.Nat.{◌-◌}
 use borrow.Author.Rules.{rules}
-use Rattle.model.specs.Sets.{WORDS}
 use Rattle.core_state_set.proofs.SetsWords.{proper}
-use Rattle.core_rows.specs.Rows.{row_in, successors_by}
-use Rattle.core_rows.proofs.SetsJoined.{WordsJoining, words_start, words_turn, words-end}
-use Rattle.core_fixpoints.proofs.Expanding.{WordsRecording, recording_start, recording_room, recording_turn, recording_end}
+use Rattle.core_rows.specs.Rows.{successors_by}
+use Rattle.core_rows.proofs.SetsJoined.{words_start, words_turn, words-end}
+use Rattle.core_fixpoints.proofs.Expanding.{recording_start, recording_room, recording_turn, recording_end}
 use Rattle.core_fixpoints.proofs.expand_set.Goals as goal
 
 pub empty-requires : goal.empty-requires

@@ -1,18 +1,11 @@
 -- `expand_word`: what is joined and recorded, with the bits that are left, is the whole.
 use Prim.Native.Nat.{◌+◌}
-use native.Mathlib.Omega.{arith}
-use mathlib.Core.Path.{refl}
-use borrow.Author.Rules.{rules}
-use lib.Count.{trailing_le}
 use lib.Seq.{sets}
 use Rattle.model.specs.Sets.{max_states, union, members, size, image}
 use Rattle.core_state_set.specs.WordSets.{word_set}
-use Rattle.core_state_set.proofs.SetsWords.{proper}
-use Rattle.core_state_set.proofs.SetsOnes.{bits_fit, states_fit}
-use Rattle.core_state_set.proofs.SetsByWord.{word_less}
-use Rattle.core_rows.specs.Rows.{row_in, successors_by}
-use Rattle.core_rows.proofs.SetsJoined.{WordJoining, bits_start, bits_bound, bits_turn, bits_end}
-use Rattle.core_fixpoints.proofs.Expanding.{Recording, record_room, record_turn, record_end}
+use Rattle.core_rows.specs.Rows.{row_in}
+use Rattle.core_rows.proofs.SetsJoined.{WordJoining}
+use Rattle.core_fixpoints.proofs.Expanding.{Recording}
 use Rattle.core_fixpoints.proofs.expand_word.Given as goal
 
 abbrev pub invariant-loop-rest : goal.invariant-loop-rest

@@ -1,6 +1,5 @@
 -- `joining`: the calls, one in the other.
 use mathlib.Core.Path.{ap, ◌∙◌}
-use borrow.Author.Rules.{rules}
 use Rattle.model.specs.Sets.{Set, difference}
 use Rattle.core_fixpoints.specs.Steps.{cover_by}
 use Rattle.core_fixpoints.proofs.joining.Goals as goal

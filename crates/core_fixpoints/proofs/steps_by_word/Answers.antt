@@ -1,12 +1,7 @@
 -- `steps_by_word`: what the states of each word passed step to is stored.
-use Prim.Native.Nat.{◌-◌}
 use borrow.Author.Rules.{rules}
-use lib.ListN.{get_or}
-use Rattle.model.specs.Sets.{WORDS}
-use Rattle.core_state_set.specs.WordSets.{word_set}
-use Rattle.core_rows.specs.Rows.{successors_by}
 use Rattle.core_fixpoints.specs.Steps.{steps_by_word}
-use Rattle.core_fixpoints.proofs.SetsListed.{Stored, stored_start, stored_turn, stored-all}
+use Rattle.core_fixpoints.proofs.SetsListed.{stored_start, stored_turn, stored-all}
 use Rattle.core_fixpoints.proofs.Leaving.{steps_word}
 use Rattle.core_fixpoints.proofs.steps_by_word.Goals as goal
 

@@ -1,6 +1,5 @@
 -- `newly_reached`: the contracts of its two calls.
 use mathlib.Core.Path.{refl, ap₂, ◌∙◌}
-use borrow.Author.Rules.{rules}
 use Rattle.model.specs.Sets.{difference}
 use Rattle.core_reach.proofs.newly_reached.Goals as goal
 

@@ -1,12 +1,10 @@
 -- `reached`: after some number of turns, what so many steps lead to, till a layer is empty. The measure: the states not looked at yet.
-use Prim.Native.Nat.{ℕ, suc, ◌-◌}
+use Prim.Native.Nat.{suc}
 use native.Mathlib.Omega.{arith}
 use mathlib.Core.Path.{◌≡◌, sym, ap, ◌∙◌}
 use mathlib.Core.Bool.{false}
 use borrow.Author.Rules.{rules}
-use borrow.Author.Tests.{not-false}
-use Rattle.model.specs.Sets.{max_states, empty, difference, subset, size}
-use Rattle.basics.proofs.BoundLaws.{not_true}
+use Rattle.model.specs.Sets.{empty, difference, subset, size}
 use Rattle.model.proofs.SetsCounted.{size-most}
 use Rattle.core_state_set.proofs.SetsWords.{proper}
 use Rattle.core_rows.specs.Rows.{row_in, successors_by}

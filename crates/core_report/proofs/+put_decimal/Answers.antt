@@ -1,5 +1,5 @@
 -- `put_decimal`: by the call all digits but the last, then that one.
-use Prim.Native.Nat.{◌/◌, ◌%◌, ◌<◌}
+use Prim.Native.Nat.{◌/◌, ◌%◌}
 use native.Mathlib.Omega.{arith}
 use mathlib.Core.Path.{ap}
 use mathlib.Core.List.{[], ◌∷◌}

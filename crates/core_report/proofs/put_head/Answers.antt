@@ -1,5 +1,4 @@
 -- `core_report::put_head` meets its contract: its lines one after the other.
-use borrow.Author.Rules.{rules}
 use Rattle.core_report.proofs.TextsPut.{put_then}
 use Rattle.core_report.proofs.put_head.Goals as goal
 

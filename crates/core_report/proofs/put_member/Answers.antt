@@ -1,7 +1,6 @@
 -- `core_report::put_member` meets its contract.
 use native.Mathlib.Omega.{arith}
 use mathlib.Core.Path.{◌∙◌, sym}
-use borrow.Author.Rules.{rules}
 use Rattle.core_report.specs.Text.{spaced}
 use Rattle.core_report.proofs.TextsPut.{put_none, put_most}
 use Rattle.core_report.proofs.put_member.Goals as goal

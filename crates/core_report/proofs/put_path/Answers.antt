@@ -1,11 +1,9 @@
 -- `core_report::put_path` meets its contract. After i turns the first i states are put.
-use Prim.Native.Nat.{◌-◌, ◌*◌, ◌≤◌, ◌<◌}
+use Prim.Native.Nat.{◌<◌}
 use native.Mathlib.Omega.{arith}
-use borrow.Author.Rules.{rules}
-use lib.ListN.{length, take}
+use lib.ListN.{length}
 use lib.Seq.{take_all}
 use Rattle.core_report.specs.Text.{spaced}
-use Rattle.core_report.specs.Put.{spaced_bytes, Put}
 use Rattle.core_report.proofs.TextsPut.{put_none, put_then, put_most}
 use Rattle.core_report.proofs.Turns.{take_more, spaced-append}
 use Rattle.core_report.proofs.put_path.Goals as goal

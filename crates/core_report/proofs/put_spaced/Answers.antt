@@ -1,6 +1,5 @@
 -- `core_report::put_spaced` meets its contract.
 use mathlib.Core.List.{append-nil}
-use borrow.Author.Rules.{rules}
 use Rattle.core_report.specs.Text.{ascii, spaced}
 use Rattle.core_report.proofs.put_spaced.Goals as goal
 

@@ -1,12 +1,9 @@
 -- `core_report::put_states` meets its contract. After s turns the states below s are put.
-use Prim.Native.Nat.{◌-◌, ◌*◌, ◌≤◌}
 use native.Mathlib.Omega.{arith}
 use mathlib.Core.Path.{◌≡◌}
-use borrow.Author.Rules.{rules}
 use Rattle.basics.specs.Bounds.{filter}
-use Rattle.model.specs.Sets.{max_states, member, members}
+use Rattle.model.specs.Sets.{max_states, members}
 use Rattle.core_report.specs.Text.{spaced}
-use Rattle.core_report.specs.Put.{spaced_bytes, Put}
 use Rattle.core_report.proofs.TextsPut.{put_none, put_then, put_most}
 use Rattle.core_report.proofs.Turns.{filter_more, spaced-append}
 use Rattle.core_report.proofs.put_states.Goals as goal
@@ -25,11 +22,10 @@ pub loop-s-smaller : goal.loop-s-smaller
 loop-s-smaller c = omega arith
 
 pub loop-s-preserved : goal.loop-s-preserved
-loop-s-preserved c =
-    (
-      omega arith,
-      rw (filter_more, spaced-append) (put_most (omega arith) (put_then c.loop-s.invariant.1 c.put_member-end.ensures)),
-    )
+loop-s-preserved c = (
+  omega arith,
+  rw (filter_more, spaced-append) (put_most (omega arith) (put_then c.loop-s.invariant.1 c.put_member-end.ensures)),
+)
 
 pub returns : goal.returns
 unfolding members

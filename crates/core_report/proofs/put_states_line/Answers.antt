@@ -1,6 +1,5 @@
 -- `core_report::put_states_line` meets its contract: its pieces one after the other.
 use mathlib.Core.List.{append_assoc}
-use borrow.Author.Rules.{rules}
 use Rattle.core_report.specs.Text.{ascii, states_line}
 use Rattle.core_report.proofs.TextsPut.{put_then}
 use Rattle.core_report.proofs.put_states_line.Goals as goal

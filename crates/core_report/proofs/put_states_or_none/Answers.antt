@@ -1,6 +1,5 @@
 -- `core_report::put_states_or_none` meets its contract.
 use native.Mathlib.Omega.{arith}
-use borrow.Author.Rules.{rules}
 use borrow.Author.Tests.{eq-eqb, ne_eqb}
 use Rattle.core_report.specs.Text.{ascii}
 use Rattle.core_report.proofs.TextsPut.{put_most}

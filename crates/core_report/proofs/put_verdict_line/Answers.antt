@@ -1,7 +1,6 @@
 -- `core_report::put_verdict_line` meets its contract: its pieces one after the other.
 use native.Mathlib.Omega.{arith}
 use mathlib.Core.List.{append_assoc}
-use borrow.Author.Rules.{rules}
 use Rattle.core_report.specs.Text.{ascii, verdict_line}
 use Rattle.core_report.proofs.TextsPut.{put_then, put_most}
 use Rattle.core_report.proofs.put_verdict_line.Goals as goal

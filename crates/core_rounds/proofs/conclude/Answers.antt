@@ -16,7 +16,7 @@ unfolding set_beside
 returns-then-is_subset c =
     let a = c.args in
     let entered : c.is_subset.result ≡ subset (union a.initial.words (successors_by a.rows.now c.forward-reached.result.r.words)) a.z.words =
-        c.is_subset.ensures ∙ ap (λ (X : Set). subset X a.z.words) c.forward-reached.ensures.3 in
+    c.is_subset.ensures ∙ ap (λ (X : Set). subset X a.z.words) c.forward-reached.ensures.3 in
     record {
       R = _;
       S = _;
@@ -27,20 +27,19 @@ returns-then-is_subset c =
     }
 
 pub backward-held-requires : goal.backward-held-requires
-backward-held-requires c =
-    (
-      search rules,
-      c.requires.1.is-cover,
-      forward-closed _ _ c.requires.1.is-cover _ _ c.forward-reached.ensures.0,
-      leads_start _ _ _ _ _ c.requires.1 c.forward-reached.ensures.0 c.forward-reached.ensures.3,
-    )
+backward-held-requires c = (
+  search rules,
+  c.requires.1.is-cover,
+  forward-closed _ _ c.requires.1.is-cover _ _ c.forward-reached.ensures.0,
+  leads_start _ _ _ _ _ c.requires.1 c.forward-reached.ensures.0 c.forward-reached.ensures.3,
+)
 
 pub returns-then-not-is_subset : goal.returns-then-not-is_subset
 unfolding set_beside
 returns-then-not-is_subset c =
     let a = c.args in
     let entered : c.is_subset.result ≡ subset (union a.initial.words (successors_by a.rows.now c.forward-reached.result.r.words)) a.z.words =
-        c.is_subset.ensures ∙ ap (λ (X : Set). subset X a.z.words) c.forward-reached.ensures.3 in
+    c.is_subset.ensures ∙ ap (λ (X : Set). subset X a.z.words) c.forward-reached.ensures.3 in
     record {
       R = _;
       S = _;
@@ -55,7 +54,7 @@ unfolding set_beside
 returns c =
     let a = c.args in
     let entered : c.is_subset.result ≡ subset (union a.initial.words (successors_by a.rows.now c.forward-reached.result.r.words)) a.z.words =
-        c.is_subset.ensures ∙ ap (λ (X : Set). subset X a.z.words) c.forward-reached.ensures.3 in
+    c.is_subset.ensures ∙ ap (λ (X : Set). subset X a.z.words) c.forward-reached.ensures.3 in
     record {
       R = _;
       S = _;

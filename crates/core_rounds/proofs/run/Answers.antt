@@ -56,21 +56,21 @@ pub row_of-requires : goal.row_of-requires
 unfolding table_on
 row_of-requires c =
     let taken : In (word_set c.loop-w.w c.loop-rest.rest) (64 * c.loop-w.w + count_trailing_zeros 64 c.loop-rest.rest) =
-        word_lowest _ _ (search rules) c.loop-rest.invariant.fits c.loop-rest-test.true in
+    word_lowest _ _ (search rules) c.loop-rest.invariant.fits c.loop-rest-test.true in
     in_bound taken
 
 pub offset_bounds-cover-s : goal.offset_bounds-cover-s
 unfolding table_on
 offset_bounds-cover-s c =
     let taken : In (word_set c.loop-w.w c.loop-rest.rest) (64 * c.loop-w.w + count_trailing_zeros 64 c.loop-rest.rest) =
-        word_lowest _ _ (search rules) c.loop-rest.invariant.fits c.loop-rest-test.true in
+    word_lowest _ _ (search rules) c.loop-rest.invariant.fits c.loop-rest-test.true in
     record { fits = omega (arith, in_bound taken) }
 
 pub bounds-cover-s : goal.bounds-cover-s
 unfolding table_on
 bounds-cover-s c =
     let taken : In (word_set c.loop-w.w c.loop-rest.rest) (64 * c.loop-w.w + count_trailing_zeros 64 c.loop-rest.rest) =
-        word_lowest _ _ (search rules) c.loop-rest.invariant.fits c.loop-rest-test.true in
+    word_lowest _ _ (search rules) c.loop-rest.invariant.fits c.loop-rest-test.true in
     in_bound taken
 
 pub loop-rest-smaller : goal.loop-rest-smaller
@@ -90,14 +90,13 @@ loop-w-preserved c =
 
 pub loop-added-preserved-then-j-gt0 : goal.loop-added-preserved-then-j-gt0
 unfolding table_on
-loop-added-preserved-then-j-gt0 c =
-    (
-      omega (arith, c.loop-added.invariant.0),
-      λ F e.
-          run-add _ _ _ _ (group_added _ _ _ c.if-j-gt0.true)
-          (narrowed-all _ _ (proper (search rules) (λ w. search rules)) (search rules) c.loop-w.invariant.1 c.next_added-added.ensures)
-          (c.loop-added.invariant.1 F e),
-    )
+loop-added-preserved-then-j-gt0 c = (
+  omega (arith, c.loop-added.invariant.0),
+  λ F e.
+      run-add _ _ _ _ (group_added _ _ _ c.if-j-gt0.true)
+      (narrowed-all _ _ (proper (search rules) (λ w. search rules)) (search rules) c.loop-w.invariant.1 c.next_added-added.ensures)
+      (c.loop-added.invariant.1 F e),
+)
 
 pub conclude-round-requires : goal.conclude-round-requires
 unfolding table_on
@@ -106,10 +105,9 @@ conclude-round-requires c =
     let now :
     Running (table_on a.n a.initial.words a.forbidden.words (groups_in a.groups.now a.g) a.rows.now) a.rows.now a.allowance [] c.loop-w.cover
     c.loop-added.z.words c.loop-added.i =
-        run-full _ _ _ a.groups.now _ c.if-j-gt0.false
-        (narrowed-all _ _ (proper (search rules) (λ w. search rules)) (search rules) c.loop-w.invariant.1 c.next_added-added.ensures)
-        (c.loop-added.invariant.1 _ c.not_forbidden-z.ensures) in
-    (
+    run-full _ _ _ a.groups.now _ c.if-j-gt0.false
+    (narrowed-all _ _ (proper (search rules) (λ w. search rules)) (search rules) c.loop-w.invariant.1 c.next_added-added.ensures)
+    (c.loop-added.invariant.1 _ c.not_forbidden-z.ensures) in (
       search rules,
       record { is-cover = is-cover now; steps_are = c.steps_by_word-steps.ensures ∙ ap (steps_by_word a.rows.now) c.first_states-all.ensures },
     )
@@ -121,9 +119,9 @@ returns-in-Safe c =
     let now :
     Running (table_on a.n a.initial.words a.forbidden.words (groups_in a.groups.now a.g) a.rows.now) a.rows.now a.allowance [] c.loop-w.cover
     c.loop-added.z.words c.loop-added.i =
-        run-full _ _ _ a.groups.now _ c.if-j-gt0.false
-        (narrowed-all _ _ (proper (search rules) (λ w. search rules)) (search rules) c.loop-w.invariant.1 c.next_added-added.ensures)
-        (c.loop-added.invariant.1 _ c.not_forbidden-z.ensures) in
+    run-full _ _ _ a.groups.now _ c.if-j-gt0.false
+    (narrowed-all _ _ (proper (search rules) (λ w. search rules)) (search rules) c.loop-w.invariant.1 c.next_added-added.ensures)
+    (c.loop-added.invariant.1 _ c.not_forbidden-z.ensures) in
     (run-safe now c.conclude-round.ensures c.in-Safe.is, refl)
 
 pub returns-in-Unsafe : goal.returns-in-Unsafe
@@ -133,9 +131,9 @@ returns-in-Unsafe c =
     let now :
     Running (table_on a.n a.initial.words a.forbidden.words (groups_in a.groups.now a.g) a.rows.now) a.rows.now a.allowance [] c.loop-w.cover
     c.loop-added.z.words c.loop-added.i =
-        run-full _ _ _ a.groups.now _ c.if-j-gt0.false
-        (narrowed-all _ _ (proper (search rules) (λ w. search rules)) (search rules) c.loop-w.invariant.1 c.next_added-added.ensures)
-        (c.loop-added.invariant.1 _ c.not_forbidden-z.ensures) in
+    run-full _ _ _ a.groups.now _ c.if-j-gt0.false
+    (narrowed-all _ _ (proper (search rules) (λ w. search rules)) (search rules) c.loop-w.invariant.1 c.next_added-added.ensures)
+    (c.loop-added.invariant.1 _ c.not_forbidden-z.ensures) in
     run-unsafe now c.conclude-round.ensures c.in-Unsafe.is
 
 pub returns-then-i-allowance : goal.returns-then-i-allowance
@@ -145,9 +143,9 @@ returns-then-i-allowance c =
     let now :
     Running (table_on a.n a.initial.words a.forbidden.words (groups_in a.groups.now a.g) a.rows.now) a.rows.now a.allowance [] c.loop-w.cover
     c.loop-added.z.words c.loop-added.i =
-        run-full _ _ _ a.groups.now _ c.if-j-gt0.false
-        (narrowed-all _ _ (proper (search rules) (λ w. search rules)) (search rules) c.loop-w.invariant.1 c.next_added-added.ensures)
-        (c.loop-added.invariant.1 _ c.not_forbidden-z.ensures) in
+    run-full _ _ _ a.groups.now _ c.if-j-gt0.false
+    (narrowed-all _ _ (proper (search rules) (λ w. search rules)) (search rules) c.loop-w.invariant.1 c.next_added-added.ensures)
+    (c.loop-added.invariant.1 _ c.not_forbidden-z.ensures) in
     (run-undecided now c.conclude-round.ensures c.in-Open.is c.if-i-allowance.true, c.empty.ensures)
 
 pub overflow_add-i : goal.overflow_add-i
@@ -157,9 +155,9 @@ overflow_add-i c =
     let now :
     Running (table_on a.n a.initial.words a.forbidden.words (groups_in a.groups.now a.g) a.rows.now) a.rows.now a.allowance [] c.loop-w.cover
     c.loop-added.z.words c.loop-added.i =
-        run-full _ _ _ a.groups.now _ c.if-j-gt0.false
-        (narrowed-all _ _ (proper (search rules) (λ w. search rules)) (search rules) c.loop-w.invariant.1 c.next_added-added.ensures)
-        (c.loop-added.invariant.1 _ c.not_forbidden-z.ensures) in
+    run-full _ _ _ a.groups.now _ c.if-j-gt0.false
+    (narrowed-all _ _ (proper (search rules) (λ w. search rules)) (search rules) c.loop-w.invariant.1 c.next_added-added.ensures)
+    (c.loop-added.invariant.1 _ c.not_forbidden-z.ensures) in
     omega (arith, now.used, c.ranges.allowance.fits)
 
 pub loop-added-smaller : goal.loop-added-smaller
@@ -169,19 +167,18 @@ loop-added-smaller c =
     let now :
     Running (table_on a.n a.initial.words a.forbidden.words (groups_in a.groups.now a.g) a.rows.now) a.rows.now a.allowance [] c.loop-w.cover
     c.loop-added.z.words c.loop-added.i =
-        run-full _ _ _ a.groups.now _ c.if-j-gt0.false
-        (narrowed-all _ _ (proper (search rules) (λ w. search rules)) (search rules) c.loop-w.invariant.1 c.next_added-added.ensures)
-        (c.loop-added.invariant.1 _ c.not_forbidden-z.ensures) in
+    run-full _ _ _ a.groups.now _ c.if-j-gt0.false
+    (narrowed-all _ _ (proper (search rules) (λ w. search rules)) (search rules) c.loop-w.invariant.1 c.next_added-added.ensures)
+    (c.loop-added.invariant.1 _ c.not_forbidden-z.ensures) in
     omega (arith, now.used)
 
 pub loop-added-preserved : goal.loop-added-preserved
 unfolding table_on
-loop-added-preserved c =
-    (
-      c.loop-added.invariant.0,
-      λ F e.
-          run_turn
-          (run-full _ _ _ c.args.groups.now _ c.if-j-gt0.false
-          (narrowed-all _ _ (proper (search rules) (λ w. search rules)) (search rules) c.loop-w.invariant.1 c.next_added-added.ensures)
-          (c.loop-added.invariant.1 F e)) c.conclude-round.ensures _ c.if-j-gt0.false c.in-Open.is c.if-i-allowance.false,
-    )
+loop-added-preserved c = (
+  c.loop-added.invariant.0,
+  λ F e.
+      run_turn
+      (run-full _ _ _ c.args.groups.now _ c.if-j-gt0.false
+      (narrowed-all _ _ (proper (search rules) (λ w. search rules)) (search rules) c.loop-w.invariant.1 c.next_added-added.ensures)
+      (c.loop-added.invariant.1 F e)) c.conclude-round.ensures _ c.if-j-gt0.false c.in-Open.is c.if-i-allowance.false,
+)

@@ -1,6 +1,5 @@
 -- `forbidden`: by the rows of the store.
 use mathlib.Core.Path.{◌∙◌}
-use borrow.Author.Rules.{rules}
 use Rattle.core_rows.proofs.RowsLent.{forbidden_of}
 use Rattle.core_rows.proofs.forbidden.Goals as goal
 

@@ -1,6 +1,5 @@
 -- `forbidden_by`: the marked states, and the hangs of the rows.
 use mathlib.Core.Path.{◌≡◌, ap, ap₂, ◌∙◌}
-use borrow.Author.Rules.{rules}
 use Rattle.model.specs.Sets.{union}
 use Rattle.model.specs.Tables.{hangs}
 use Rattle.model.specs.Stores.{set_at, marked_at, resting_at}

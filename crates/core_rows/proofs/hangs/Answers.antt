@@ -1,6 +1,5 @@
 -- `hangs`: of the states that do not rest those that are in the hold of no state.
 use mathlib.Core.Path.{refl, ap₂, ◌∙◌}
-use borrow.Author.Rules.{rules}
 use Rattle.model.specs.Sets.{difference}
 use Rattle.core_rows.specs.Rows.{meet_hold}
 use Rattle.core_rows.proofs.RowsLent.{hangs-is}

@@ -1,15 +1,11 @@
 -- `held_word`: what is gathered, with what passes of the bits that are left, is the whole.
-use Prim.Native.Nat.{◌+◌, ◌*◌}
 use native.Mathlib.Omega.{arith}
 use mathlib.Core.Path.{sym, ◌∙◌}
-use mathlib.Core.Logic.{⊎_elim}
 use borrow.Author.Rules.{rules}
 use lib.Count.{trailing_le}
-use Rattle.model.specs.Sets.{subset}
 use Rattle.core_state_set.proofs.SetsOnes.{bits_fit, states_fit}
 use Rattle.core_state_set.proofs.SetsByWord.{word_less}
-use Rattle.core_rows.specs.Rows.{row_in}
-use Rattle.core_rows.proofs.SetsHeld.{lowest_place, Gathering, gather_start, gather_take, gather_skip, gather_end}
+use Rattle.core_rows.proofs.SetsHeld.{lowest_place, gather_start, gather_take, gather_skip, gather_end}
 use Rattle.core_rows.proofs.held_word.Goals as goal
 use Rattle.core_rows.proofs.held_word.Goals.{then-row_inside, else-row_inside}
 
@@ -34,8 +30,8 @@ loop-rest-smaller c = word_less _ c.loop-rest-test.true
 pub loop-rest-preserved : goal.loop-rest-preserved
 loop-rest-preserved c =
     elim c.if-row_inside.branch [
-      then-row_inside w ↦ gather_take c.loop-rest.invariant c.loop-rest-test.true (sym c.row_inside.ensures ∙ w.if-row_inside.true) w.kept-is
-    | else-row_inside w ↦ gather_skip c.loop-rest.invariant c.loop-rest-test.true (sym c.row_inside.ensures ∙ w.if-row_inside.false) w.kept-is
+      | then-row_inside w ↦ gather_take c.loop-rest.invariant c.loop-rest-test.true (sym c.row_inside.ensures ∙ w.if-row_inside.true) w.kept-is
+      | else-row_inside w ↦ gather_skip c.loop-rest.invariant c.loop-rest-test.true (sym c.row_inside.ensures ∙ w.if-row_inside.false) w.kept-is
     ]
 
 pub returns : goal.returns

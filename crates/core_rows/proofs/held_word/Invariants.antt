@@ -1,15 +1,8 @@
 -- `held_word`: what is gathered, with what passes of the bits that are left, is the whole.
 use Prim.Native.Nat.{◌+◌, ◌*◌}
-use native.Mathlib.Omega.{arith}
-use mathlib.Core.Path.{sym, ◌∙◌}
-use mathlib.Core.Logic.{⊎_elim}
-use borrow.Author.Rules.{rules}
-use lib.Count.{trailing_le}
 use Rattle.model.specs.Sets.{subset}
-use Rattle.core_state_set.proofs.SetsOnes.{bits_fit, states_fit}
-use Rattle.core_state_set.proofs.SetsByWord.{word_less}
 use Rattle.core_rows.specs.Rows.{row_in}
-use Rattle.core_rows.proofs.SetsHeld.{lowest_place, Gathering, gather_start, gather_take, gather_skip, gather_end}
+use Rattle.core_rows.proofs.SetsHeld.{Gathering}
 use Rattle.core_rows.proofs.held_word.Given as goal
 
 abbrev pub invariant-loop-rest : goal.invariant-loop-rest

@@ -1,15 +1,9 @@
 -- `join_rows`: what is joined, with the image of the bits that are left, is the whole.
-use mathlib.Core.Path.{ap, ◌∙◌}
 use mathlib.Core.List.{[]}
 use lib.ListN.{get_or}
-use borrow.Author.Rules.{rules}
-use lib.Count.{trailing_le}
 use Rattle.model.specs.Sets.{max_states, union, image}
 use Rattle.core_state_set.specs.WordSets.{word_set}
-use Rattle.core_state_set.proofs.SetsWords.{proper}
-use Rattle.core_state_set.proofs.SetsOnes.{bits_fit, states_fit}
-use Rattle.core_state_set.proofs.SetsByWord.{word_less}
-use Rattle.core_rows.proofs.SetsJoined.{WordJoining, bits_start, bits_bound, bits_turn, bits_end}
+use Rattle.core_rows.proofs.SetsJoined.{WordJoining}
 use Rattle.core_rows.proofs.join_rows.Given as goal
 
 abbrev pub invariant-loop-rest : goal.invariant-loop-rest

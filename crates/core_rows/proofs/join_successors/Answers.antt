@@ -2,13 +2,12 @@
 use mathlib.Core.Path.{ap, ◌∙◌}
 use borrow.Author.Rules.{rules}
 use lib.Count.{trailing_le}
-use Rattle.model.specs.Sets.{max_states, union, image}
-use Rattle.core_rows.specs.Rows.{row_in, successors_by}
-use Rattle.core_state_set.specs.WordSets.{word_set}
+use Rattle.model.specs.Sets.{union}
+use Rattle.core_rows.specs.Rows.{successors_by}
 use Rattle.core_state_set.proofs.SetsWords.{proper}
 use Rattle.core_state_set.proofs.SetsOnes.{bits_fit, states_fit}
 use Rattle.core_state_set.proofs.SetsByWord.{word_less}
-use Rattle.core_rows.proofs.SetsJoined.{WordJoining, bits_start, bits_bound, bits_turn, bits_end}
+use Rattle.core_rows.proofs.SetsJoined.{bits_start, bits_bound, bits_turn, bits_end}
 use Rattle.core_rows.proofs.join_successors.Goals as goal
 
 pub loop-rest-init : goal.loop-rest-init

@@ -1,9 +1,6 @@
 -- `meet_hold`: the words passed are those of the states that are in hold.
-use Prim.Native.Nat.{◌-◌}
 use borrow.Author.Rules.{rules}
-use Rattle.model.specs.Sets.{WORDS}
-use Rattle.core_state_set.proofs.SetsWords.{Filling, filling_none, filling_more, filling_all}
-use Rattle.core_rows.specs.Rows.{meet_hold}
+use Rattle.core_state_set.proofs.SetsWords.{filling_none, filling_more, filling_all}
 use Rattle.core_rows.proofs.SetsHeld.{meet_hold_proper}
 use Rattle.core_rows.proofs.meet_hold.Goals as goal
 

@@ -1,6 +1,5 @@
 -- `row_inside`: one call in the other.
 use mathlib.Core.Path.{ap, ◌∙◌}
-use borrow.Author.Rules.{rules}
 use Rattle.model.specs.Sets.{Set, subset}
 use Rattle.core_rows.proofs.row_inside.Goals as goal
 

@@ -2,7 +2,6 @@
 use Prim.Native.Nat.{ℕ, ◌-◌, ◌^◌, ◌≤◌}
 use native.Mathlib.Omega.{arith}
 use mathlib.Core.Path.{◌≡◌, sym, ap, ◌∙◌, subst}
-use borrow.Author.Rules.{rules}
 use lib.Pow.{pow_pos}
 use Rattle.core_state_set.proofs.SetsBits.{one_shl}
 use Rattle.core_state_set.proofs.word_below.Goals as goal

@@ -1,11 +1,9 @@
 -- `clear`: the words passed are 0.
-use Prim.Native.Nat.{◌-◌, ◌≤◌}
 use mathlib.Core.Path.{refl}
 use borrow.Author.Rules.{rules}
 use Rattle.basics.specs.Bounds.{tabulate}
-use Rattle.model.specs.Stores.{store_words}
 use Rattle.core_table.specs.Writing.{cleared}
-use Rattle.core_table.proofs.ListsOverwritten.{Over, over_none, over_next, over_all}
+use Rattle.core_table.proofs.ListsOverwritten.{over_none, over_next, over_all}
 use Rattle.core_table.proofs.clear.Goals as goal
 
 pub loop-i-init : goal.loop-i-init

@@ -1,11 +1,8 @@
 -- `clear`: the words passed are 0.
-use Prim.Native.Nat.{◌-◌, ◌≤◌}
-use mathlib.Core.Path.{refl}
-use borrow.Author.Rules.{rules}
+use Prim.Native.Nat.{◌≤◌}
 use Rattle.basics.specs.Bounds.{tabulate}
 use Rattle.model.specs.Stores.{store_words}
-use Rattle.core_table.specs.Writing.{cleared}
-use Rattle.core_table.proofs.ListsOverwritten.{Over, over_none, over_next, over_all}
+use Rattle.core_table.proofs.ListsOverwritten.{Over}
 use Rattle.core_table.proofs.clear.Given as goal
 
 abbrev pub invariant-loop-i : goal.invariant-loop-i

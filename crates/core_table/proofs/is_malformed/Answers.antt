@@ -1,6 +1,5 @@
 -- `is_malformed`: the tests of ground 17, one after the other.
 use mathlib.Core.Path.{sym, ap, ◌∙◌}
-use borrow.Author.Rules.{rules}
 use Rattle.model.specs.Stores.{beyond, malformed}
 use Rattle.basics.proofs.BoundLaws.{or_left, or_right}
 use Rattle.core_table.proofs.is_malformed.Goals as goal

@@ -1,10 +1,6 @@
 -- `joined`: what is joined is the union of the sets passed.
-use Prim.Native.Nat.{◌+◌, ◌*◌, ◌-◌, ◌≤◌}
-use mathlib.Core.Path.{◌≡◌, ◌∙◌}
+use mathlib.Core.Path.{◌∙◌}
 use borrow.Author.Rules.{rules}
-use Rattle.model.specs.Sets.{WORDS}
-use Rattle.model.specs.Stores.{set_at}
-use Rattle.core_table.specs.Joining.{union_of}
 use Rattle.core_table.proofs.StoresGrounds.{joined-none, joined_turn, joined_end}
 use Rattle.core_table.proofs.joined.Goals as goal
 

@@ -1,8 +1,6 @@
 -- `put_set`: the words passed are those of the set.
-use Prim.Native.Nat.{◌-◌}
-use borrow.Author.Rules.{rules}
 use Rattle.model.specs.Sets.{WORDS}
-use Rattle.core_table.proofs.StoresPut.{Putting, putting_none, putting_more, putting_all}
+use Rattle.core_table.proofs.StoresPut.{Putting}
 use Rattle.core_table.proofs.put_set.Given as goal
 
 abbrev pub invariant-loop-w : goal.invariant-loop-w

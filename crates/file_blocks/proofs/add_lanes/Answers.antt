@@ -1,9 +1,7 @@
 -- `add_lanes`: the lanes passed are added.
-use Prim.Native.Nat.{◌-◌}
 use native.Mathlib.Omega.{arith}
 use borrow.Author.Rules.{rules}
-use Rattle.file_blocks.specs.Lanes.{lanes}
-use Rattle.file_blocks.proofs.Lanes.{Adding, add_none, add-fits, add-more, add-all}
+use Rattle.file_blocks.proofs.Lanes.{add_none, add-fits, add-more, add-all}
 use Rattle.file_blocks.proofs.add_lanes.Goals as goal
 
 pub loop-l-init : goal.loop-l-init

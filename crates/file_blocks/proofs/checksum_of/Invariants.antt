@@ -1,11 +1,8 @@
 -- `checksum_of`: the weighted sum of the bytes passed.
-use Prim.Native.Nat.{ℕ, ◌+◌, ◌*◌, ◌-◌}
-use native.Mathlib.Omega.{arith}
-use mathlib.Core.Path.{ap}
-use borrow.Author.Rules.{rules}
+use Prim.Native.Nat.{◌+◌, ◌*◌}
 use Rattle.model.specs.Blocks.{check_at, max_site, weighted}
 use Rattle.file_blocks.specs.Lanes.{lanes, byte_most, lane_most}
-use Rattle.file_blocks.proofs.Summing.{Summing, sum_fits, sum_more, sum-all, check-next, term_most, term_fits}
+use Rattle.file_blocks.proofs.Summing.{Summing}
 use Rattle.file_blocks.proofs.checksum_of.Given as goal
 
 abbrev pub invariant-loop-i : goal.invariant-loop-i

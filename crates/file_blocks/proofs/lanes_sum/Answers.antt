@@ -1,9 +1,8 @@
 -- `lanes_sum`: the sum of the lanes passed.
-use Prim.Native.Nat.{◌*◌, ◌-◌}
 use native.Mathlib.Omega.{arith}
 use borrow.Author.Rules.{rules}
-use Rattle.file_blocks.specs.Lanes.{lanes, lane_most, lanes_sum}
-use Rattle.file_blocks.proofs.Summing.{Summing, sum_fits, sum_more, sum-end, lanes-none, lanes_next, lanes-most, lanes-fits, term_fits}
+use Rattle.file_blocks.specs.Lanes.{lanes, lane_most}
+use Rattle.file_blocks.proofs.Summing.{sum_fits, sum_more, sum-end, lanes-none, lanes_next, lanes-most, lanes-fits, term_fits}
 use Rattle.file_blocks.proofs.lanes_sum.Goals as goal
 
 pub loop-l-init : goal.loop-l-init

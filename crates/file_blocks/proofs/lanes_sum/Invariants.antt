@@ -1,9 +1,7 @@
 -- `lanes_sum`: the sum of the lanes passed.
-use Prim.Native.Nat.{◌*◌, ◌-◌}
-use native.Mathlib.Omega.{arith}
-use borrow.Author.Rules.{rules}
+use Prim.Native.Nat.{◌*◌}
 use Rattle.file_blocks.specs.Lanes.{lanes, lane_most, lanes_sum}
-use Rattle.file_blocks.proofs.Summing.{Summing, sum_fits, sum_more, sum-end, lanes-none, lanes_next, lanes-most, lanes-fits, term_fits}
+use Rattle.file_blocks.proofs.Summing.{Summing}
 use Rattle.file_blocks.proofs.lanes_sum.Given as goal
 
 abbrev pub invariant-loop-l : goal.invariant-loop-l

@@ -1,11 +1,6 @@
 -- `any_content_beyond`: no set passed has a state from n up.
-use Prim.Native.Nat.{◌-◌, ◌≤◌}
-use mathlib.Core.Path.{◌≡◌, sym, ◌∙◌}
-use mathlib.Core.Bool.{false}
+use mathlib.Core.Path.{sym, ◌∙◌}
 use borrow.Author.Rules.{rules}
-use Rattle.basics.specs.Bounds.{any}
-use Rattle.model.specs.Stores.{beyond}
-use Rattle.model.specs.Contents.{set_number}
 use Rattle.basics.proofs.BoundLaws.{any_start, any_turn, any_intro, any-end}
 use Rattle.file_contents_reading.proofs.ContentsWords.{set_inside}
 use Rattle.file_contents_reading.proofs.any_content_beyond.Goals as goal
@@ -23,12 +18,11 @@ returns-then-is_set_beyond c =
     (sym c.is_set_beyond.ensures ∙ c.if-is_set_beyond.true))
 
 pub loop-k-preserved : goal.loop-k-preserved
-loop-k-preserved c =
-    (
-      search rules,
-      any_turn _ _ c.loop-k.invariant.1
-          (sym c.is_set_beyond.ensures ∙ c.if-is_set_beyond.false),
-    )
+loop-k-preserved c = (
+  search rules,
+  any_turn _ _ c.loop-k.invariant.1
+      (sym c.is_set_beyond.ensures ∙ c.if-is_set_beyond.false),
+)
 
 pub returns : goal.returns
 returns c = sym (any-end _ _ _ (search rules) (search rules) c.loop-k.invariant.1)

@@ -1,13 +1,10 @@
 -- `any_content_beyond`: no set passed has a state from n up.
-use Prim.Native.Nat.{◌-◌, ◌≤◌}
-use mathlib.Core.Path.{◌≡◌, sym, ◌∙◌}
+use Prim.Native.Nat.{◌≤◌}
+use mathlib.Core.Path.{◌≡◌}
 use mathlib.Core.Bool.{false}
-use borrow.Author.Rules.{rules}
 use Rattle.basics.specs.Bounds.{any}
 use Rattle.model.specs.Stores.{beyond}
 use Rattle.model.specs.Contents.{set_number}
-use Rattle.basics.proofs.BoundLaws.{any_start, any_turn, any_intro, any-end}
-use Rattle.file_contents_reading.proofs.ContentsWords.{set_inside}
 use Rattle.file_contents_reading.proofs.any_content_beyond.Given as goal
 
 abbrev pub invariant-loop-k : goal.invariant-loop-k

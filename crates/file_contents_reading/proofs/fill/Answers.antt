@@ -1,5 +1,4 @@
 -- `fill`: the three parts of the store, one behind the other.
-use borrow.Author.Rules.{rules}
 use Rattle.file_contents_reading.proofs.StoresRead.{filled}
 use Rattle.file_contents_reading.proofs.fill.Goals as goal
 

@@ -1,14 +1,10 @@
 -- `fill_set`: the words passed are those of the set, without the states that `own` has not.
-use Prim.Native.Nat.{◌*◌, ◌-◌, ◌≤◌}
 use borrow.Author.Rules.{rules}
-use lib.ListN.{get_or}
-use Rattle.basics.specs.Bounds.{tabulate}
 use Rattle.model.specs.Sets.{WORDS, meet}
-use Rattle.model.specs.Contents.{set_in}
 use Rattle.model.proofs.SetsMembers.{set_of_proper}
 use Rattle.model.proofs.SetsBytes.{set_in_proper}
 use Rattle.core_state_set.proofs.SetsWords.{proper}
-use Rattle.core_table.proofs.ListsOverwritten.{Over, over_none, over_next, over_list}
+use Rattle.core_table.proofs.ListsOverwritten.{over_none, over_next, over_list}
 use Rattle.file_contents_reading.proofs.ContentsWords.{cut_word}
 use Rattle.file_contents_reading.proofs.fill_set.Goals as goal
 

@@ -1,10 +1,6 @@
 -- `non_zero_byte`: the bytes passed, joined, are 0 just where none of them is other than 0.
-use Prim.Native.Nat.{◌-◌, ◌≤◌}
-use mathlib.Core.Path.{◌≡◌, sym}
-use mathlib.Core.Bool.{not}
-use lib.Dec.{eqb}
+use mathlib.Core.Path.{sym}
 use borrow.Author.Rules.{rules}
-use Rattle.model.specs.Stores.{non_zero}
 use Rattle.core_table.proofs.StoresGrounds.{non_zero_start, non_zero_turn, non_zero_end}
 use Rattle.file_contents_reading.proofs.non_zero_byte.Goals as goal
 

@@ -1,8 +1,6 @@
 -- `word_in`: the bytes passed are the low bits of the word.
-use Prim.Native.Nat.{◌-◌, ◌≤◌}
-use mathlib.Core.Path.{◌≡◌}
 use borrow.Author.Rules.{rules}
-use Rattle.file_contents_reading.proofs.ContentsWords.{low_bytes, word_none, word_more, word_all}
+use Rattle.file_contents_reading.proofs.ContentsWords.{word_none, word_more, word_all}
 use Rattle.file_contents_reading.proofs.word_in.Goals as goal
 
 pub loop-b-init : goal.loop-b-init

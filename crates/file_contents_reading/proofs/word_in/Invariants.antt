@@ -1,8 +1,7 @@
 -- `word_in`: the bytes passed are the low bits of the word.
-use Prim.Native.Nat.{◌-◌, ◌≤◌}
+use Prim.Native.Nat.{◌≤◌}
 use mathlib.Core.Path.{◌≡◌}
-use borrow.Author.Rules.{rules}
-use Rattle.file_contents_reading.proofs.ContentsWords.{low_bytes, word_none, word_more, word_all}
+use Rattle.file_contents_reading.proofs.ContentsWords.{low_bytes}
 use Rattle.file_contents_reading.proofs.word_in.Given as goal
 
 abbrev pub invariant-loop-b : goal.invariant-loop-b

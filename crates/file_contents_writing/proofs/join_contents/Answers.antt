@@ -1,6 +1,5 @@
 -- `join_contents`: the header, then the sets.
 use mathlib.Core.Path.{refl, ◌∙◌}
-use borrow.Author.Rules.{rules}
 use Rattle.model.specs.Contents.{header_bytes}
 use Rattle.core_table.proofs.ListsOverwritten.{overwrite_lent}
 use Rattle.file_contents_writing.proofs.ContentsJoined.{contents-written}

@@ -1,12 +1,8 @@
 -- `join_sets`: the sets passed are joined.
-use Prim.Native.Nat.{◌+◌, ◌-◌, ◌≤◌}
 use native.Mathlib.Omega.{arith}
 use borrow.Author.Rules.{rules}
 use lib.ListN.{length-take, length-drop}
-use Rattle.basics.specs.Bounds.{concat}
-use Rattle.model.specs.Stores.{head_sets}
-use Rattle.file_contents_writing.specs.Placed.{placed_set}
-use Rattle.core_table.proofs.ListsOverwritten.{Over, parts_none}
+use Rattle.core_table.proofs.ListsOverwritten.{parts_none}
 use Rattle.file_blocks.proofs.ContentsLength.{sets_fit}
 use Rattle.file_contents_writing.proofs.ContentsJoined.{sets_more, sets-all, set_room}
 use Rattle.file_contents_writing.proofs.join_sets.Goals as goal
@@ -24,12 +20,11 @@ pub slice_bounds-put_set_bytes-start-in-loop-k : goal.slice_bounds-put_set_bytes
 slice_bounds-put_set_bytes-start-in-loop-k c = omega (arith, set_room _ _ c.loop-k.k c.set_width-width.ensures c.requires.1 (search rules), c.loop-k.invariant.1.long)
 
 pub put_set_bytes-requires : goal.put_set_bytes-requires
-put_set_bytes-requires c =
-    (
-      simp (length-take, length-drop) (omega arith),
-      search rules,
-      simp (length-take, length-drop) (omega (arith, set_room _ _ c.loop-k.k c.set_width-width.ensures c.requires.1 (search rules), c.loop-k.invariant.1.long)),
-    )
+put_set_bytes-requires c = (
+  simp (length-take, length-drop) (omega arith),
+  search rules,
+  simp (length-take, length-drop) (omega (arith, set_room _ _ c.loop-k.k c.set_width-width.ensures c.requires.1 (search rules), c.loop-k.invariant.1.long)),
+)
 
 pub loop-k-preserved : goal.loop-k-preserved
 loop-k-preserved c = (search rules, sets_more _ _ _ _ _ _ _ c.place_of-a.ensures.0 c.loop-k.invariant.1 c.put_set_bytes.ensures (search rules))

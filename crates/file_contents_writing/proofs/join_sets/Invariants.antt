@@ -1,14 +1,9 @@
 -- `join_sets`: the sets passed are joined.
-use Prim.Native.Nat.{◌+◌, ◌-◌, ◌≤◌}
-use native.Mathlib.Omega.{arith}
-use borrow.Author.Rules.{rules}
-use lib.ListN.{length-take, length-drop}
+use Prim.Native.Nat.{◌+◌, ◌≤◌}
 use Rattle.basics.specs.Bounds.{concat}
 use Rattle.model.specs.Stores.{head_sets}
 use Rattle.file_contents_writing.specs.Placed.{placed_set}
-use Rattle.core_table.proofs.ListsOverwritten.{Over, parts_none}
-use Rattle.file_blocks.proofs.ContentsLength.{sets_fit}
-use Rattle.file_contents_writing.proofs.ContentsJoined.{sets_more, sets-all, set_room}
+use Rattle.core_table.proofs.ListsOverwritten.{Over}
 use Rattle.file_contents_writing.proofs.join_sets.Given as goal
 
 abbrev pub invariant-loop-k : goal.invariant-loop-k

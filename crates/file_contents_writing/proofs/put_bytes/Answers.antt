@@ -1,9 +1,8 @@
 -- `put_bytes`: the bytes passed are written.
-use Prim.Native.Nat.{◌-◌, ◌≤◌}
 use mathlib.Core.Path.{refl}
 use borrow.Author.Rules.{rules}
 use Rattle.file_contents_writing.specs.Placed.{word_bytes}
-use Rattle.core_table.proofs.ListsOverwritten.{Over, over_all}
+use Rattle.core_table.proofs.ListsOverwritten.{over_all}
 use Rattle.file_contents_writing.proofs.SetsBytesWritten.{bytes-none, bytes-more}
 use Rattle.file_contents_writing.proofs.put_bytes.Goals as goal
 

@@ -1,10 +1,7 @@
 -- `put_bytes`: the bytes passed are written.
-use Prim.Native.Nat.{◌-◌, ◌≤◌}
-use mathlib.Core.Path.{refl}
-use borrow.Author.Rules.{rules}
+use Prim.Native.Nat.{◌≤◌}
 use Rattle.file_contents_writing.specs.Placed.{word_bytes}
-use Rattle.core_table.proofs.ListsOverwritten.{Over, over_all}
-use Rattle.file_contents_writing.proofs.SetsBytesWritten.{bytes-none, bytes-more}
+use Rattle.core_table.proofs.ListsOverwritten.{Over}
 use Rattle.file_contents_writing.proofs.put_bytes.Given as goal
 
 abbrev pub invariant-loop-b : goal.invariant-loop-b

@@ -1,9 +1,6 @@
 -- `put_words`: the words passed are written.
-use Prim.Native.Nat.{◌-◌, ◌≤◌}
 use borrow.Author.Rules.{rules}
-use Rattle.basics.specs.Bounds.{concat}
-use Rattle.file_contents_writing.specs.Placed.{words_bytes}
-use Rattle.core_table.proofs.ListsOverwritten.{Over, parts_none, parts_all}
+use Rattle.core_table.proofs.ListsOverwritten.{parts_none, parts_all}
 use Rattle.file_contents_writing.proofs.SetsBytesWritten.{words_more}
 use Rattle.file_contents_writing.proofs.put_words.Goals as goal
 

@@ -1,10 +1,8 @@
 -- `put_words`: the words passed are written.
-use Prim.Native.Nat.{◌-◌, ◌≤◌}
-use borrow.Author.Rules.{rules}
+use Prim.Native.Nat.{◌≤◌}
 use Rattle.basics.specs.Bounds.{concat}
 use Rattle.file_contents_writing.specs.Placed.{words_bytes}
-use Rattle.core_table.proofs.ListsOverwritten.{Over, parts_none, parts_all}
-use Rattle.file_contents_writing.proofs.SetsBytesWritten.{words_more}
+use Rattle.core_table.proofs.ListsOverwritten.{Over}
 use Rattle.file_contents_writing.proofs.put_words.Given as goal
 
 abbrev pub invariant-loop-v : goal.invariant-loop-v

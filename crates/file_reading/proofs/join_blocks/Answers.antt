@@ -1,10 +1,8 @@
 -- `join_blocks`: the blocks passed have no fault, and their contents are joined.
-use Prim.Native.Nat.{◌/◌, ◌-◌}
 use native.Mathlib.Omega.{arith}
 use borrow.Author.Rules.{rules}
-use lib.ListN.{length, length-take, length-drop}
-use Rattle.model.specs.Blocks.{block_bytes}
-use Rattle.file_reading.proofs.BlocksJoined.{Joining, joining_none, joining_stop, joining_more, joining_all}
+use lib.ListN.{length-take, length-drop}
+use Rattle.file_reading.proofs.BlocksJoined.{joining_none, joining_stop, joining_more, joining_all}
 use Rattle.file_reading.proofs.join_blocks.Goals as goal
 
 pub loop-k-init : goal.loop-k-init

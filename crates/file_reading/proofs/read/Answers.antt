@@ -1,5 +1,4 @@
 -- `read`: `read_as` of the new form.
-use borrow.Author.Rules.{rules}
 use Rattle.file_reading.proofs.read.Goals as goal
 
 pub returns : goal.returns

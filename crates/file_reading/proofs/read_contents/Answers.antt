@@ -49,9 +49,9 @@ pub returns-then-blocks-blocks_for : goal.returns-then-blocks-blocks_for
 unfolding bytes_grounds
 returns-then-blocks-blocks_for c =
     let header : let args = c.args in ((eqb args.n 0 || ltb max_states args.n) ≡ false) × (bad_second (form_of args.form) args.second ≡ false) = (
-  search (rules, ne_eqb, le-ltb, or_none),
-  second_pass _ _ _ (second_is c.added-least.ensures.0 c.if-second-least.false) c.if-g-gt-MAX_GROUPS.false,
-) in
+      search (rules, ne_eqb, le-ltb, or_none),
+      second_pass _ _ _ (second_is c.added-least.ensures.0 c.if-second-least.false) c.if-g-gt-MAX_GROUPS.false,
+    ) in
     let needed : let args = c.args in
     c.blocks_for.result ≡ blocks_for (content_length (form_of args.form) args.n (args.second - c.added-least.result)) = c.blocks_for.ensures ∙ ap (λ (l : ℕ). blocks_for l) c.content_length-size.ensures.0 in
     let h = header in
@@ -66,9 +66,9 @@ pub returns-then-any_content_beyond : goal.returns-then-any_content_beyond
 unfolding bytes_grounds
 returns-then-any_content_beyond c =
     let header : let args = c.args in ((eqb args.n 0 || ltb max_states args.n) ≡ false) × (bad_second (form_of args.form) args.second ≡ false) = (
-  search (rules, ne_eqb, le-ltb, or_none),
-  second_pass _ _ _ (second_is c.added-least.ensures.0 c.if-second-least.false) c.if-g-gt-MAX_GROUPS.false,
-) in
+      search (rules, ne_eqb, le-ltb, or_none),
+      second_pass _ _ _ (second_is c.added-least.ensures.0 c.if-second-least.false) c.if-g-gt-MAX_GROUPS.false,
+    ) in
     let needed : let args = c.args in
     c.blocks_for.result ≡ blocks_for (content_length (form_of args.form) args.n (args.second - c.added-least.result)) = c.blocks_for.ensures ∙ ap (λ (l : ℕ). blocks_for l) c.content_length-size.ensures.0 in
     let whole : let args = c.args in
@@ -85,9 +85,9 @@ pub returns-then-non_zero_byte : goal.returns-then-non_zero_byte
 unfolding bytes_grounds
 returns-then-non_zero_byte c =
     let header : let args = c.args in ((eqb args.n 0 || ltb max_states args.n) ≡ false) × (bad_second (form_of args.form) args.second ≡ false) = (
-  search (rules, ne_eqb, le-ltb, or_none),
-  second_pass _ _ _ (second_is c.added-least.ensures.0 c.if-second-least.false) c.if-g-gt-MAX_GROUPS.false,
-) in
+      search (rules, ne_eqb, le-ltb, or_none),
+      second_pass _ _ _ (second_is c.added-least.ensures.0 c.if-second-least.false) c.if-g-gt-MAX_GROUPS.false,
+    ) in
     let needed : let args = c.args in
     c.blocks_for.result ≡ blocks_for (content_length (form_of args.form) args.n (args.second - c.added-least.result)) = c.blocks_for.ensures ∙ ap (λ (l : ℕ). blocks_for l) c.content_length-size.ensures.0 in
     let whole : let args = c.args in
@@ -104,9 +104,9 @@ pub returns : goal.returns
 unfolding bytes_grounds
 returns c =
     let header : let args = c.args in ((eqb args.n 0 || ltb max_states args.n) ≡ false) × (bad_second (form_of args.form) args.second ≡ false) = (
-  search (rules, ne_eqb, le-ltb, or_none),
-  second_pass _ _ _ (second_is c.added-least.ensures.0 c.if-second-least.false) c.if-g-gt-MAX_GROUPS.false,
-) in
+      search (rules, ne_eqb, le-ltb, or_none),
+      second_pass _ _ _ (second_is c.added-least.ensures.0 c.if-second-least.false) c.if-g-gt-MAX_GROUPS.false,
+    ) in
     let needed : let args = c.args in
     c.blocks_for.result ≡ blocks_for (content_length (form_of args.form) args.n (args.second - c.added-least.result)) = c.blocks_for.ensures ∙ ap (λ (l : ℕ). blocks_for l) c.content_length-size.ensures.0 in
     let whole : let args = c.args in

@@ -1,5 +1,4 @@
 -- `read_old`: `read_as` of the old form.
-use borrow.Author.Rules.{rules}
 use Rattle.file_reading.proofs.read_old.Goals as goal
 
 pub returns : goal.returns

@@ -1,6 +1,5 @@
 -- `write_block`: number, content and check, one behind the other.
 use mathlib.Core.Path.{refl, ◌∙◌}
-use borrow.Author.Rules.{rules}
 use Rattle.model.specs.Blocks.{check_at}
 use Rattle.core_table.proofs.ListsOverwritten.{overwrite_lent}
 use Rattle.file_writing.proofs.WriteLaws.{length_block_front, block_written}

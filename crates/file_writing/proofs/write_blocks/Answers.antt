@@ -1,10 +1,7 @@
 -- `write_blocks`: the blocks passed are written.
-use Prim.Native.Nat.{◌-◌, ◌≤◌}
 use borrow.Author.Rules.{rules}
-use Rattle.basics.specs.Bounds.{concat}
-use Rattle.model.specs.Blocks.{block_of}
 use Rattle.model.proofs.BlockLaws.{block_of-is}
-use Rattle.core_table.proofs.ListsOverwritten.{Over, parts_none, parts_more, parts_all}
+use Rattle.core_table.proofs.ListsOverwritten.{parts_none, parts_more, parts_all}
 use Rattle.file_writing.proofs.write_blocks.Goals as goal
 
 pub loop-k-init : goal.loop-k-init

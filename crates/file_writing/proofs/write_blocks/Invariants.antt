@@ -1,10 +1,8 @@
 -- `write_blocks`: the blocks passed are written.
-use Prim.Native.Nat.{◌-◌, ◌≤◌}
-use borrow.Author.Rules.{rules}
+use Prim.Native.Nat.{◌≤◌}
 use Rattle.basics.specs.Bounds.{concat}
 use Rattle.model.specs.Blocks.{block_of}
-use Rattle.model.proofs.BlockLaws.{block_of-is}
-use Rattle.core_table.proofs.ListsOverwritten.{Over, parts_none, parts_more, parts_all}
+use Rattle.core_table.proofs.ListsOverwritten.{Over}
 use Rattle.file_writing.proofs.write_blocks.Given as goal
 
 abbrev pub invariant-loop-k : goal.invariant-loop-k

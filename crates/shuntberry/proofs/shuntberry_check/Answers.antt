@@ -1,6 +1,5 @@
 -- `shuntberry_check`: the answer of `check`, laid out.
 use mathlib.Core.Path.{ap, ◌∙◌}
-use borrow.Author.Rules.{rules}
 use Rattle.shuntberry_fields.specs.Fields.{check_fields}
 use Rattle.shuntberry.proofs.shuntberry_check.Goals as goal
 

@@ -1,6 +1,5 @@
 -- `shuntberry_decide`: the answer of `decide`, whose numbers are small, laid out.
 use mathlib.Core.Path.{ap, ◌∙◌}
-use borrow.Author.Rules.{rules}
 use Rattle.model.proofs.RangesOfAnswers.{DecisionRange, decide_range}
 use Rattle.shuntberry_fields.specs.Fields.{decision_fields}
 use Rattle.shuntberry_fields.proofs.FieldsAnswered.{where_answered}

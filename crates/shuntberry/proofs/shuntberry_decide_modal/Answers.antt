@@ -1,6 +1,5 @@
 -- `shuntberry_decide_modal`: the answer of `decide_modal`, whose numbers are small, laid out.
 use mathlib.Core.Path.{ap, ◌∙◌}
-use borrow.Author.Rules.{rules}
 use Rattle.call_modal.proofs.ModalRanges.{ModalRange, modal_range}
 use Rattle.shuntberry_fields.specs.Fields.{modal_fields}
 use Rattle.shuntberry_fields.proofs.FieldsAnswered.{where_answered}

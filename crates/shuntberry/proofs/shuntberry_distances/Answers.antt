@@ -1,6 +1,5 @@
 -- `shuntberry_distances`: the answer of `distances` as a number.
 use mathlib.Core.Path.{ap, ◌∙◌}
-use borrow.Author.Rules.{rules}
 use Rattle.shuntberry_fields.specs.Fields.{refusal_number}
 use Rattle.shuntberry.proofs.shuntberry_distances.Goals as goal
 

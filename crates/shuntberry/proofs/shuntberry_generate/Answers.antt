@@ -1,6 +1,5 @@
 -- `shuntberry_generate`: the answer of `generate`, laid out.
 use mathlib.Core.Path.{ap, ◌∙◌}
-use borrow.Author.Rules.{rules}
 use Rattle.shuntberry_fields.specs.Fields.{refusal_number}
 use Rattle.shuntberry.proofs.shuntberry_generate.Goals as goal
 

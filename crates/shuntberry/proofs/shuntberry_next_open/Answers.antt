@@ -1,6 +1,5 @@
 -- `shuntberry_next_open`: the answer of `next_open`, laid out.
 use mathlib.Core.Path.{ap, ◌∙◌}
-use borrow.Author.Rules.{rules}
 use Rattle.shuntberry_fields.specs.Fields.{minute_fields}
 use Rattle.shuntberry.proofs.shuntberry_next_open.Goals as goal
 

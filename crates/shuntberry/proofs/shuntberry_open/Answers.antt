@@ -1,6 +1,5 @@
 -- `shuntberry_open`: the answer of `open`, laid out.
 use mathlib.Core.Path.{◌∙◌}
-use borrow.Author.Rules.{rules}
 use Rattle.model.specs.Sets.{empty}
 use Rattle.shuntberry_fields.proofs.FieldsAnswered.{beside}
 use Rattle.shuntberry.proofs.shuntberry_open.Goals as goal

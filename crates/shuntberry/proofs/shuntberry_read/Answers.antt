@@ -1,6 +1,5 @@
 -- `shuntberry_read`: the answer of `read`, whose numbers are small, laid out.
 use mathlib.Core.Path.{ap, ◌∙◌}
-use borrow.Author.Rules.{rules}
 use Rattle.model.proofs.RangesOfAnswers.{ReadRange, read_range}
 use Rattle.shuntberry_fields.specs.Fields.{table_fields}
 use Rattle.shuntberry_fields.proofs.FieldsAnswered.{where_answered}

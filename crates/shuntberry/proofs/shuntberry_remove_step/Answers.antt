@@ -1,6 +1,5 @@
 -- `shuntberry_remove_step`: the answer of `remove_step`, laid out.
 use mathlib.Core.Path.{◌∙◌}
-use borrow.Author.Rules.{rules}
 use Rattle.shuntberry_fields.proofs.FieldsAnswered.{beside}
 use Rattle.shuntberry.proofs.shuntberry_remove_step.Goals as goal
 

@@ -1,6 +1,5 @@
 -- `shuntberry_replay`: the answer of `replay`, whose numbers are small, laid out.
 use mathlib.Core.Path.{ap, ◌∙◌}
-use borrow.Author.Rules.{rules}
 use Rattle.call_replay.proofs.ReplayRanges.{ReplayRange, replay_range}
 use Rattle.shuntberry_fields.specs.Fields.{replay_fields}
 use Rattle.shuntberry_fields.proofs.FieldsAnswered.{where_answered}

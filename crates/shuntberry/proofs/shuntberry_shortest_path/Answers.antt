@@ -1,6 +1,5 @@
 -- `shuntberry_shortest_path`: the answer of `shortest_path`, whose steps are few, laid out.
 use mathlib.Core.Path.{ap, ◌∙◌}
-use borrow.Author.Rules.{rules}
 use Prim.Native.Nat.{◌≤◌}
 use Rattle.model.specs.Sets.{max_states}
 use Rattle.model.specs.Calls.{Shortest}

@@ -1,6 +1,5 @@
 -- `shuntberry_within`: the answer of `within`, laid out.
 use mathlib.Core.Path.{ap, ◌∙◌}
-use borrow.Author.Rules.{rules}
 use Rattle.shuntberry_fields.specs.Fields.{within_fields}
 use Rattle.shuntberry.proofs.shuntberry_within.Goals as goal
 

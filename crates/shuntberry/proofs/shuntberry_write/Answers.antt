@@ -1,6 +1,5 @@
 -- `shuntberry_write`: the answer of `write`, whose length is small, laid out.
 use mathlib.Core.Path.{ap, ◌∙◌}
-use borrow.Author.Rules.{rules}
 use Prim.Native.Nat.{ℕ, ◌≤◌}
 use Rattle.model.specs.Files.{max_file}
 use Rattle.model.proofs.RangesOfAnswers.{write_range}

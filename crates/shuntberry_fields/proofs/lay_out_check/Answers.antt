@@ -1,6 +1,5 @@
 -- `lay_out_check`: the numbers of each case.
 use mathlib.Core.Path.{sym, ap}
-use borrow.Author.Rules.{rules}
 use Rattle.call_check.specs.CheckAnswers.{checked_of}
 use Rattle.shuntberry_fields.specs.Fields.{check_fields}
 use Rattle.shuntberry_fields.proofs.lay_out_check.Goals as goal

@@ -1,7 +1,6 @@
 -- `lay_out_decision`: the numbers are small, so that the casts keep them.
 use mathlib.Core.Path.{◌≡◌, refl}
 use native.Mathlib.Omega.{arith}
-use borrow.Author.Rules.{rules}
 use Rattle.model.specs.Sets.{Set}
 use Rattle.model.proofs.RangesOfAnswers.{DecisionRange}
 use Rattle.call_decide.specs.declared.Verdict.{Verdict}

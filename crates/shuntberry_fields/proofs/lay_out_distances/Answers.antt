@@ -1,6 +1,5 @@
 -- `lay_out_distances`: case by case.
 use mathlib.Core.Path.{refl}
-use borrow.Author.Rules.{rules}
 use Rattle.shuntberry_fields.proofs.lay_out_distances.Goals as goal
 
 pub returns-in-Written : goal.returns-in-Written

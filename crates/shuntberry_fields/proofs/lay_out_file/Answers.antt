@@ -1,7 +1,6 @@
 -- `lay_out_file`: the length is small, so that the cast keeps it.
 use mathlib.Core.Path.{sym, ap}
 use native.Mathlib.Omega.{arith}
-use borrow.Author.Rules.{rules}
 use Rattle.file_writing.specs.WriteAnswers.{written_of}
 use Rattle.shuntberry_fields.specs.Fields.{file_fields}
 use Rattle.shuntberry_fields.proofs.lay_out_file.Goals as goal

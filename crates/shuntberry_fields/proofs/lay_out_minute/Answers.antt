@@ -1,6 +1,5 @@
 -- `lay_out_minute`: each case has its numbers.
 use mathlib.Core.Path.{refl}
-use borrow.Author.Rules.{rules}
 use Rattle.shuntberry_fields.proofs.lay_out_minute.Goals as goal
 
 pub returns-in-Minute : goal.returns-in-Minute

@@ -1,7 +1,6 @@
 -- `lay_out_modal`: the numbers are small, so that the casts keep them.
 use mathlib.Core.Path.{◌≡◌, refl}
 use native.Mathlib.Omega.{arith}
-use borrow.Author.Rules.{rules}
 use Rattle.model.specs.Sets.{Set}
 use Rattle.call_modal.proofs.ModalRanges.{ModalRange}
 use Rattle.call_modal.specs.declared.ModalVerdict.{ModalVerdict}

@@ -1,7 +1,6 @@
 -- `lay_out_replay`: the numbers are small, so that the casts keep them.
 use mathlib.Core.Path.{sym, ap}
 use native.Mathlib.Omega.{arith}
-use borrow.Author.Rules.{rules}
 use Rattle.call_replay.specs.ReplayAnswers.{replayed_of}
 use Rattle.shuntberry_fields.specs.Fields.{replay_fields}
 use Rattle.shuntberry_fields.proofs.lay_out_replay.Goals as goal

@@ -1,6 +1,5 @@
 -- `lay_out_session`: the numbers of each case.
 use mathlib.Core.Path.{refl}
-use borrow.Author.Rules.{rules}
 use Rattle.shuntberry_fields.proofs.lay_out_session.Goals as goal
 
 pub returns-in-Accepted : goal.returns-in-Accepted

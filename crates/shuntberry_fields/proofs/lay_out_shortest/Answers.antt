@@ -1,7 +1,6 @@
 -- `lay_out_shortest`: the steps are few, so that the cast keeps them.
 use mathlib.Core.Path.{sym, ap}
 use native.Mathlib.Omega.{arith}
-use borrow.Author.Rules.{rules}
 use Rattle.call_paths.specs.PathAnswers.{shortest_of}
 use Rattle.shuntberry_fields.specs.Fields.{shortest_fields}
 use Rattle.shuntberry_fields.proofs.lay_out_shortest.Goals as goal

@@ -1,7 +1,6 @@
 -- `lay_out_table`: n and g are small, so that the casts keep them.
 use mathlib.Core.Path.{sym, ap}
 use native.Mathlib.Omega.{arith}
-use borrow.Author.Rules.{rules}
 use Rattle.file_reading.specs.ReadAnswers.{read_of}
 use Rattle.shuntberry_fields.specs.Fields.{table_fields}
 use Rattle.shuntberry_fields.proofs.lay_out_table.Goals as goal

@@ -1,6 +1,5 @@
 -- `lay_out_within`: case by case.
 use mathlib.Core.Path.{refl}
-use borrow.Author.Rules.{rules}
 use Rattle.shuntberry_fields.proofs.lay_out_within.Goals as goal
 
 pub returns-in-Yes : goal.returns-in-Yes

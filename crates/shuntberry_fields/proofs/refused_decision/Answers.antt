@@ -1,6 +1,5 @@
 -- `refused_decision`: the empty set, and the numbers of a refused call.
 use mathlib.Core.Path.{ap}
-use borrow.Author.Rules.{rules}
 use Rattle.model.specs.Sets.{Set}
 use Rattle.shuntberry_fields.specs.Fields.{no_verdict}
 use Rattle.shuntberry_fields.proofs.refused_decision.Goals as goal

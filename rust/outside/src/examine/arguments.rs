@@ -134,8 +134,8 @@ impl Arguments {
     }
 }
 
-// tries: Promises.Untouched, Stores.sharedGrounds, Grounds.Listed.malformed-store, Calls.writeGrounds
-// tries: Calls.decideLimits, DecideDemands.refusal, PathDemands.refusal, DistancePromises.refusal
+// tries: Promises.Untouched, Stores.shared_grounds, Grounds.Listed.malformed_store, Calls.write_grounds
+// tries: Calls.decide_limits, DecideDemands.refusal, PathDemands.refusal, DistancePromises.refusal
 // tries: basics: Refusals.refuse
 /// The calls that are lent a table, with one to three faults in their arguments.
 pub(super) fn spoiled_arguments(

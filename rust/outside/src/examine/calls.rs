@@ -5,7 +5,7 @@ use crate::buffer::Lent;
 use crate::calls::{Calls, Decision, Shortest, TableRead, Within, Written};
 use crate::expected::Expected;
 
-// tries: Calls.decideBuffer, Promises.Carries, Fields.decisionFields
+// tries: Calls.decide_buffer, Promises.Carries, Fields.decision_fields
 pub(crate) fn decide(
     library: &dyn Calls,
     store: &[u64],
@@ -21,7 +21,7 @@ pub(crate) fn decide(
     store.holds(&format!("store after {what}"), &[])
 }
 
-// tries: Fields.shortestFields
+// tries: Fields.shortest_fields
 pub(crate) fn shortest_path(
     library: &dyn Calls,
     store: &[u64],
@@ -37,7 +37,7 @@ pub(crate) fn shortest_path(
     store.holds(&format!("store after {what}"), &[])
 }
 
-// tries: Distances.distancesBuffer
+// tries: Distances.distances_buffer
 pub(crate) fn distances(
     library: &dyn Calls,
     store: &[u64],
@@ -71,7 +71,7 @@ pub(crate) fn within(
     store.holds("store after within", &[])
 }
 
-// tries: Fields.tableFields
+// tries: Fields.table_fields
 pub(crate) fn read(
     library: &dyn Calls,
     (input, site): (&[u8], usize),
@@ -86,7 +86,7 @@ pub(crate) fn read(
     input.holds(&format!("input after {what}"), &[])
 }
 
-// tries: Fields.fileFields
+// tries: Fields.file_fields
 pub(super) fn write(
     library: &dyn Calls,
     store: &[u64],

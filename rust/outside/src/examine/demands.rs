@@ -29,7 +29,7 @@ pub(super) fn agreement(table: &Table, judged: &Judged, far: &[u16]) -> Outcome 
 }
 
 // tries: Promises.Demand2.unsafe-path, Promises.Demand2.path-unsafe
-// tries: Promises.Demand2.invariant, Paths.isPath
+// tries: Promises.Demand2.invariant, Paths.is_path
 /// Demand 2: the verdict is unsafe just where a depth-first search, which knows no rounds, finds a
 /// forbidden state; a safe set is an invariant; a path is one.
 pub(super) fn demand_2(

@@ -15,7 +15,7 @@ use crate::named;
 use crate::sessions;
 use crate::table::{MAX_GROUPS, MAX_STATES, STORE_WORDS};
 
-// tries: Draft.read, Draft.decide, Draft.write, Draft.groups-alone, Draft.block-without-states
+// tries: Draft.read, Draft.decide, Draft.write, Draft.groups_alone, Draft.block-without-states
 /// n = 0 in every call that is lent a table: with g 0, 1 and 65, with a stray word at each place of the
 /// store, with short buffers, and a file that says it in a block.
 pub(super) fn drafts(libraries: &[&dyn Calls], random: &mut Random, tally: &mut Tally) -> Outcome {

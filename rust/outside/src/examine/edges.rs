@@ -7,7 +7,7 @@ use crate::expected;
 use crate::generate::Random;
 use crate::table::{Dialogue, MAX_GROUPS, MAX_STATES, STORE_WORDS};
 
-// tries: Stores.maxGroups, Calls.maxAllowance, Sets.maxStates, PromisesKept.sizes
+// tries: Stores.max_groups, Calls.max_allowance, Sets.max_states, PromisesKept.sizes
 /// n, g and the allowance at their greatest and one more, n one fewer, the store and the path buffer just long enough and one short.
 pub(super) fn edges(libraries: &[&dyn Calls], random: &mut Random, tally: &mut Tally) -> Outcome {
     let corridor: Vec<(usize, usize)> = (1..MAX_STATES).map(|s| (s - 1, s)).collect();

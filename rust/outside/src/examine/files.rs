@@ -9,7 +9,7 @@ use crate::generate::{Kind, Random};
 use crate::named;
 use crate::table::{Dialogue, HEAD_SETS, STORE_WORDS};
 
-// tries: Calls.fileGrounds, ReadAnswers.CalledRead
+// tries: Calls.file_grounds, ReadAnswers.CalledRead
 /// A random file, whole, damaged in one way or in several, of the old form, or of random bytes.
 pub fn random_file(libraries: &[&dyn Calls], random: &mut Random, tally: &mut Tally) -> Outcome {
     let kind = Kind::random(random);
@@ -63,7 +63,7 @@ pub fn random_file(libraries: &[&dyn Calls], random: &mut Random, tally: &mut Ta
     Ok(())
 }
 
-// tries: Blocks.blockOf, Figures.CheckIs, Contents.contents, Blocks.blocksFor, Contents.added
+// tries: Blocks.block_of, Figures.CheckIs, Contents.contents, Blocks.blocks_for, Contents.added
 // tries: PromisesKept.sizes
 /// The specification's figures about files: E's bytes and check, H's lengths, in both forms.
 pub(super) fn named_files(

@@ -8,7 +8,7 @@ use crate::generate::{Kind, Random};
 use crate::named;
 use crate::table::{MAX_GROUPS, MAX_STATES, STORE_WORDS};
 
-// tries: Sites.own-block, Sites.foreign-block, Sites.read-over, Blocks.maxSite, Grounds.Listed.blocks
+// tries: Sites.own_block, Sites.foreign_block, Sites.read_over, Blocks.max_site, Grounds.Listed.blocks
 // tries: Figures.Figures
 /// Files of two sites, whole and with a block of one put into the other; sites at the ends of their range
 /// and past it; the order of 24 among the other grounds; drafts.

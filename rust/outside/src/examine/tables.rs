@@ -33,16 +33,16 @@ pub fn random_table(libraries: &[&dyn Calls], random: &mut Random, tally: &mut T
         .map_err(|fault| format!("{kind:?}: {fault}"))
 }
 
-// tries: Promises.stops, Paths.smallestPath, Promises.Demand2.smallest-path
+// tries: Promises.stops, Paths.smallest_path, Promises.Demand2.smallest-path
 // tries: Promises.Operations.post-members, Promises.Operations.hold-members
-// tries: Promises.Operations.coverOf-members, Promises.Operations.cover-members, Promises.Operations.add-in
-// tries: Promises.IsFirst, Promises.IsRound.R-least, Promises.FirstStop.at-safe
-// tries: Promises.IsRound.S-greatest, Promises.FirstStop.at-unsafe, Promises.FirstStop.at-undecided
+// tries: Promises.Operations.cover_of-members, Promises.Operations.cover-members, Promises.Operations.add_in
+// tries: Promises.IsFirst, Promises.IsRound.R_least, Promises.FirstStop.at_safe
+// tries: Promises.IsRound.S_greatest, Promises.FirstStop.at_unsafe, Promises.FirstStop.at_undecided
 // tries: Promises.IsNext, Paths.walk, DecideDemands.DecideDemands, PathDemands.PathDemands, Sets.member
-// tries: Stores.dialogueOf, core_state_set::StateSet::count, Promises.first-words
-// tries: DistancePromises.first-words, Within.isWithin, DistancePromises.WithinIs.path
-// tries: DistancePromises.WithinIs.at-zero, Accepting.ExactPlaces.enough, Accepting.ExactPlaces.too-few
-// tries: DistancePromises.DistancePromises, Tables.tableFrom, Promises.PathAnswer, Faithful.Cases
+// tries: Stores.dialogue_of, core_state_set::StateSet::count, Promises.first-words
+// tries: DistancePromises.first-words, Within.is_within, DistancePromises.WithinIs.path
+// tries: DistancePromises.WithinIs.at_zero, Accepting.ExactPlaces.enough, Accepting.ExactPlaces.too_few
+// tries: DistancePromises.DistancePromises, Tables.table_from, Promises.PathAnswer, Faithful.Cases
 /// The calls on a table, with demands 2 and 3, both round trips, and what distances and within share.
 pub fn accepted_table(
     libraries: &[&dyn Calls],
@@ -152,7 +152,7 @@ fn count_forbidden(dialogue: &Dialogue, table: &Table, tally: &mut Tally) {
 }
 
 // tries: RoundTrip.WriteRead, RoundTrip.ReadWrite, Buffers.CallsFill.write-past
-// tries: Buffers.CallsFill.read-past, file_contents_reading::fill_set, Buffers.CallsFill.write
+// tries: Buffers.CallsFill.read_past, file_contents_reading::fill_set, Buffers.CallsFill.write
 /// What is written is the expected file and reads back as the store; what is read from the file is
 /// written again as the file. With an output that is just long enough, longer, and one byte short.
 fn round_trips(

@@ -1,10 +1,6 @@
 -- `StateSet::equals`: the words passed are the same.
-use Prim.Native.Nat.{ℕ, ◌-◌, ◌≤◌, ◌<◌}
-use mathlib.Core.Path.{◌≡◌}
 use borrow.Author.Count.{below_none, below_more}
 use borrow.Author.Rules.{rules}
-use lib.ListN.{get_or}
-use Rattle.model.specs.Sets.{WORDS}
 use Rattle.core_state_set.proofs.SetsWords.{proper}
 use Rattle.core_state_set.proofs.SetsTests.{same-words, other_word}
 use Rattle.core_state_set.proofs.StateSet.equals.Goals as goal

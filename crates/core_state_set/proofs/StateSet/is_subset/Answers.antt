@@ -1,6 +1,5 @@
 -- `StateSet::is_subset`: nothing in the difference.
 use mathlib.Core.Path.{ap, ◌∙◌}
-use borrow.Author.Rules.{rules}
 use Rattle.model.specs.Sets.{empty, subset}
 use Rattle.core_state_set.proofs.SetsTests.{subset-difference}
 use Rattle.core_state_set.proofs.StateSet.is_subset.Goals as goal

@@ -1,7 +1,6 @@
 -- `StateSet::meets`: something in the meet.
 use mathlib.Core.Bool.{not}
 use mathlib.Core.Path.{ap, ◌∙◌}
-use borrow.Author.Rules.{rules}
 use Rattle.model.specs.Sets.{empty, subset}
 use Rattle.core_state_set.proofs.SetsTests.{meets-meet}
 use Rattle.core_state_set.proofs.StateSet.meets.Goals as goal

@@ -1,14 +1,8 @@
 -- `StateSet::smallest`: the words passed are 0.
-use Prim.Native.Nat.{ℕ, ◌-◌, ◌≤◌, ◌<◌}
+use Prim.Native.Nat.{ℕ, ◌≤◌, ◌<◌}
 use mathlib.Core.Path.{◌≡◌}
-use borrow.Author.Count.{below_none, below_more}
-use borrow.Author.Rules.{rules}
-use lib.Count.{trailing_le}
 use lib.ListN.{get_or}
 use Rattle.model.specs.Sets.{WORDS}
-use Rattle.core_state_set.proofs.SetsWords.{proper}
-use Rattle.core_state_set.proofs.SetsOnes.{bits_fit, states_fit}
-use Rattle.core_state_set.proofs.SetsByWord.{smallest_word, smallest-none}
 use Rattle.core_state_set.proofs.StateSet.smallest.Given as goal
 
 abbrev pub invariant-loop-w : goal.invariant-loop-w

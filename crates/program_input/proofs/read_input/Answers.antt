@@ -1,0 +1,25 @@
+-- `read_input`: the state lies within the room, and each read that gives bytes leaves less of it.
+use Prim.Native.Nat.{◌-◌, ◌<◌}
+use native.Mathlib.Omega.{arith}
+use mathlib.Core.Path.{◌≡◌, refl}
+use borrow.Author.Rules.{rules}
+use lib.ListN.{length}
+use Rattle.program_input.proofs.Results.{more-fits, stopped_within, not_empty}
+use Rattle.program_input.proofs.read_input.Goals as goal
+
+pub loop-length-init : goal.loop-length-init
+loop-length-init g c = (not_empty _ c.if-room-eq0.false, refl)
+
+pub loop-length-smaller : goal.loop-length-smaller
+loop-length-smaller g c =
+    let inside = c.loop-length.invariant.0 in
+    omega (arith, c.read_more.ensures.long, more-fits c.read_more.ensures inside c.in-More.is)
+
+pub loop-length-preserved : goal.loop-length-preserved
+loop-length-preserved g c =
+    let at = c.loop-length in
+    let fits = more-fits c.read_more.ensures at.invariant.0 c.in-More.is in
+    (omega (arith, fits), omega (arith, c.read_more.ensures.long, at.invariant.1))
+
+pub returns-in-Stopped : goal.returns-in-Stopped
+returns-in-Stopped g c = stopped_within c.read_more.ensures c.loop-length.invariant.0 c.in-Stopped.is
