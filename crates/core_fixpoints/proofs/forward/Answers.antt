@@ -23,8 +23,8 @@ loop-z-smaller c =
 
 pub loop-z-preserved : goal.loop-z-preserved
 loop-z-preserved c =
-    let some : subset c.loop-z.frontier.words empty ≡ false = sym c.is_empty.ensures ∙ c.loop-z-test.true in
-    passing_turn _ _ c.requires.1 _ _ c.loop-z.invariant some c.expand_set-done.ensures.1 c.expand_set-done.ensures.0
+    let more : subset c.loop-z.frontier.words empty ≡ false = sym c.is_empty.ensures ∙ c.loop-z-test.true in
+    passing_turn _ _ c.requires.1 _ _ c.loop-z.invariant more c.expand_set-done.ensures.1 c.expand_set-done.ensures.0
     c.expand_set-done.ensures.2 c.union-entered.ensures c.joining-frontier.ensures c.union-r.ensures
 
 pub returns : goal.returns

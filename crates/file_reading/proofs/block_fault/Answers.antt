@@ -26,8 +26,9 @@ checksum_of-sum-requires c = search rules
 pub returns-then-check-sum : goal.returns-then-check-sum
 unfolding block_grounds
 returns-then-check-sum c =
+    let right = sym c.le16_at-number.ensures ∙ c.if-number-k.false in
     refuse-first 1 _ (
-      ap not (eq-eqb _ _ (sym c.le16_at-number.ensures ∙ c.if-number-k.false)),
+      ap not (eq-eqb _ _ right),
       ap not (ne_eqb _ _ (λ e. c.if-check-sum.true (c.le16_at-check.ensures ∙ e ∙ sym c.checksum_of-sum.ensures))),
     )
 
