@@ -24,8 +24,7 @@ RULES = dict(line.split("|", 1) for line in (TOP / "rust/command/refusals.txt").
 
 OLD = "this is a file of the old form, of versions 1 to 3: the command rewrite makes a new one of it"
 MANY = "the program that wrote the file gave it too many groups"
-TEXT = "this looks like a text: --text reads it, and the command encode makes a file of it"
-NO_FILE = "this looks like a text: the command encode makes a file of it"
+TEXT = "this looks like a text: check --text reads it, and the command encode makes a file of it"
 
 
 def refused(number, advice=None):
@@ -552,7 +551,7 @@ out.unlink()
 gives(FAILED, "", "release", TABLES / "missing", out, err="No such file")
 need(not out.exists(), "release of a file that is missing")
 gives(REFUSED, "refused 13\n", "release", TABLES / "bad-check.table", WORK / "never", err="nothing was released: it is refused 13: .*damaged, or was made for another site")
-gives(REFUSED, "refused 11\n", "release", TABLES / "e.txt", WORK / "never", err=re.escape(NO_FILE))
+gives(REFUSED, "refused 11\n", "release", TABLES / "e.txt", WORK / "never", err=re.escape(TEXT))
 # of an old file of another site no message sends to rewrite, which would refuse it
 old = (TABLES / "old-e.table").read_bytes()
 for site, err in (0, "the command rewrite makes a new one of it"), (7, "rewrite reads for site 0 alone: have it saved anew"):

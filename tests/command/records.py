@@ -873,7 +873,7 @@ for old in None, b"what was there":
     as_it_was(FAILED, "No such file", TABLES / "missing")
     as_it_was(FAILED, "is a directory", TABLES)
     as_it_was(REFUSED, "refused 13", TABLES / "bad-check.table")
-    as_it_was(REFUSED, "refused 11.*looks like a text: the command encode makes a file of it", TABLES / "e.txt")
+    as_it_was(REFUSED, "refused 11.*looks like a text: check --text reads it, and the command encode makes a file of it", TABLES / "e.txt")
     as_it_was(FAILED, "No such file", A, "--names", TABLES / "missing")
     as_it_was(FAILED, "expected a number", A, "--site", "x")
     as_it_was(FAILED, "unknown option", A, "--text")

@@ -84,7 +84,7 @@ for path, expected in tables():
             gives(REFUSED, expected, command, path, err=f"^{command}: {path}: {expected.strip()}: ")
 gives(REFUSED, "refused 15\n", "decode", TABLES / "old-e.table", err="the command rewrite makes a new one")
 need(b"rewrite" not in call("decode", TABLES / "too-many-groups.table").err, "a file with too many groups is taken for an old one")
-gives(REFUSED, "refused 11\n", "decode", TABLES / "e.txt", err="looks like a text: --text reads it, and the command encode makes a file of it")
+gives(REFUSED, "refused 11\n", "decode", TABLES / "e.txt", err="looks like a text: check --text reads it, and the command encode makes a file of it")
 for site in 1, 65520:
     made = model.at_site((TABLES / "h1.table").read_bytes(), site)
     gives(SAFE, made, "encode", "--site", str(site), TABLES / "h1.txt")
@@ -389,16 +389,15 @@ is_told(REFUSED, f"{LOG}: this looks like a log of two-byte numbers: leave out -
 is_told(REFUSED, f"{E}: this looks like a table's file, and no log: expected FILE LOG, in this order", "replay", "--text-log", E, E)
 is_told(REFUSED, f"{E} looks like one: expected FILE LOG, in this order", "replay", LOG, E)
 gives(NO_RELEASE, None, "replay", E, E, err=re.escape(f"{E} looks like a table's file, and no log"))
-BOTH = "this looks like a text: --text reads it, and the command encode makes a file of it"
+MAKES = "this looks like a text: check --text reads it, and the command encode makes a file of it"
 for words in ("check",), ("inspect",), ("within", "3"), ("decode",), ("picture",), ("options", "--possible", E):
-    is_told(REFUSED, BOTH, *words, TEXT)
-is_told(REFUSED, BOTH, "replay", TEXT, LOG)
-is_told(FAILED, BOTH, "diff", E, TEXT)
-FILE_ALONE = "this looks like a text: the command encode makes a file of it"
+    is_told(REFUSED, MAKES, *words, TEXT)
+is_told(REFUSED, MAKES, "replay", TEXT, LOG)
+is_told(FAILED, MAKES, "diff", E, TEXT)
 for status, words in (REFUSED, ("release", TEXT, WORK / "never")), (REFUSED, ("report", "-o", WORK / "never", TEXT)), (REFUSED, ("rewrite", TEXT)), (FAILED, ("report", "-o", WORK / "never", "--since", TEXT, E)), (
         REFUSED, ("options", "--possible", TEXT, E)):
-    is_told(status, FILE_ALONE, *words)
-gives(REFUSED, None, "check-all", TEXT, err=re.escape(FILE_ALONE))
+    is_told(status, MAKES, *words)
+gives(REFUSED, None, "check-all", TEXT, err=re.escape(MAKES))
 for other in HOUSE, TEXT_LOG, TOP / "README.md":
     is_told(REFUSED, "this looks like a text, but does not begin as that of a table does", "check", other)
 # what is a text is read as one, whatever else it looks like, and bytes that are neither are told as neither

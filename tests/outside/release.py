@@ -43,7 +43,7 @@ def main():
                 need(SAID[status] in said and words in said and (status == SAFE) == (said == ""), path, *site, "says", repr(said))
                 after = out.read_bytes() if out.exists() else None
                 need(after == (bytes_after if status == SAFE else there), path, "left another OUT")
-                need(not beside.exists(), path, "left a file beside OUT")
+                need([each.name for each in folder.iterdir() if each.name.endswith(".new")] == [], path, "left a file beside OUT")
             seen.add(status)
 
         for path in tables:
@@ -95,7 +95,7 @@ def main():
 
         ours.write_bytes(safe.read_bytes())  # OUT is FILE itself: the same bytes
         need(run(ours, ours)[0] == SAFE and ours.read_bytes() == safe.read_bytes(), "in its own place")
-        for words in ((), (safe,), (safe, out, "0", "0")):
+        for words in ((), (safe,), (safe, out, out), (safe, out, "0", "0")):
             ended, printed, said = run(*words)
             need(ended == FAILED and not printed and said, words, ended, printed)
     print(f"the C example of release: {len(tables)} files of tests/files printed, ended and released as expected")

@@ -19,8 +19,8 @@ fn hint(refused: Refused) -> Option<String> {
 
 /// A file that is refused, in words: the number, the ground, and what to do. Of a check no number to try: of all sites one may fit
 /// a damaged block.
-pub fn explained(refused: Refused, file: &[u8], site: usize, takes_text: bool) -> String {
-    let to_do = by_form(refused, file, site).or_else(|| text(file, takes_text));
+pub fn explained(refused: Refused, file: &[u8], site: usize) -> String {
+    let to_do = by_form(refused, file, site).or_else(|| text(file));
     with(refused, to_do.map(str::to_string).or_else(|| hint(refused)))
 }
 
@@ -40,14 +40,13 @@ fn by_form(refused: Refused, file: &[u8], site: usize) -> Option<&'static str> {
     }
 }
 
-/// What is said of a text in the place of a file, by a command that reads texts too or not.
-fn text(file: &[u8], takes_text: bool) -> Option<&'static str> {
-    match (looks_like_text(file), takes_text) {
-        (true, true) => Some(
-            "this looks like a text: --text reads it, and the command encode makes a file of it",
+/// What is said of a text in the place of a file.
+fn text(file: &[u8]) -> Option<&'static str> {
+    match looks_like_text(file) {
+        true => Some(
+            "this looks like a text: check --text reads it, and the command encode makes a file of it",
         ),
-        (true, false) => Some("this looks like a text: the command encode makes a file of it"),
-        (false, _) => is_printed(file)
+        false => is_printed(file)
             .then_some("this looks like a text, but does not begin as that of a table does"),
     }
 }
@@ -66,7 +65,7 @@ pub fn old_ground(refused: Refused, file: &[u8]) -> String {
             "it is damaged, or was not made for site 0, and no command reads an old file of another site",
         ),
         Refused::GROUPS if has_new_form(file) => Some("this file is of the new form already"),
-        _ => text(file, false),
+        _ => text(file),
     };
     with(refused, more.map(str::to_string))
 }

@@ -57,8 +57,6 @@ pub struct Source {
     pub shown: String,
     /// The site that the file is of.
     pub site: usize,
-    /// Whether the command reads texts too.
-    pub takes_text: bool,
     /// The bytes of the file; of a text the file that it stands for.
     pub file: Vec<u8>,
     /// The table in them, or why it is refused.
@@ -102,7 +100,6 @@ impl Source {
             return Ok(source);
         }
         let mut source = Source::of_bytes(input, take(input, FILE_BYTES + 1)?, site);
-        source.takes_text = call.takes(&TEXT);
         if let Some(path) = call.path(names) {
             source.take_names(Input::of(call, Some(path)))?;
         }
@@ -118,7 +115,6 @@ impl Source {
         Source {
             shown: input.shown(),
             site,
-            takes_text: false,
             table: Table::from_bytes(&file, site),
             file,
             names: Names::new(),
@@ -159,7 +155,7 @@ impl Source {
 
     /// Why the file is refused, and what to do.
     pub fn why_refused(&self, refused: Refused) -> String {
-        explained(refused, &self.file, self.site, self.takes_text)
+        explained(refused, &self.file, self.site)
     }
 }
 

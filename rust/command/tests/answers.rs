@@ -10,7 +10,6 @@ fn source(file: &[u8], table: Result<Table, Refused>) -> Source {
     Source {
         shown: "a test".to_string(),
         site: 0,
-        takes_text: false,
         file: file.to_vec(),
         table,
         names: Names::new(),

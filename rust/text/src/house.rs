@@ -325,10 +325,10 @@ impl Moment {
     /// What is amiss with a word that is no moment, as far as that can be told.
     pub fn amiss(word: &str) -> Option<String> {
         let (date, time) = word.split_once(&['T', ' '][..]).unwrap_or((word, ""));
-        match (day_of(date), time) {
-            (None, _) => date_amiss(date),
-            (Some(_), "") => Some("its hour and minute are missing".to_string()),
-            (Some(_), time) => amiss(time),
+        day_of(date)?;
+        match time {
+            "" => Some("its hour and minute are missing".to_string()),
+            _ => amiss(time),
         }
     }
 

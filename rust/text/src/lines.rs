@@ -235,21 +235,19 @@ pub fn bare(word: &str) -> &str {
     word.trim_matches(|c: char| !c.is_alphanumeric())
 }
 
-/// The one of some words that a line begins with, be it in upper case or before a colon, which is a mistake.
+/// The one of some words that a line begins with, be it before a colon, which is a mistake.
 pub fn keyword<'k>(word: &str, known: &[&'k str]) -> Option<&'k str> {
-    let plain = word.strip_suffix(':').unwrap_or(word);
-    let is_it = |known: &&&str| known.eq_ignore_ascii_case(plain);
+    let is_it = |known: &&&str| match word.strip_suffix(':') {
+        Some(plain) => known.eq_ignore_ascii_case(plain),
+        None => **known == word,
+    };
     known.iter().find(is_it).copied()
 }
 
 /// What is said of such a word, where it is not written as it should be.
 pub fn miswritten(word: &str, keyword: &str) -> Option<String> {
-    let how = match word {
-        _ if word == keyword => return None,
-        _ if word.ends_with(':') => "has a colon: it is written",
-        _ => "is written in lower case,",
-    };
-    Some(format!("{} {how} {keyword}", quoted(word)))
+    let said = || format!("{} has a colon: it is written {keyword}", quoted(word));
+    (word != keyword).then(said)
 }
 
 /// The number that digits stand for; one that is too large for the machine is the largest.

@@ -76,7 +76,7 @@ fn mistakes() {
         ),
         (
             "INITIAL 1",
-            &[(4, "'INITIAL' is written in lower case, initial")],
+            &[(4, "not with 'INITIAL'; did you mean 'initial'?")],
         ),
         ("END", &[(4, "not with 'END'; did you mean 'end'?")]),
         (
@@ -1065,7 +1065,7 @@ fn mistakes_of_houses() {
         ),
         (
             "Window monday 22:00 for 6h",
-            "'Window' is written in lower case, window",
+            "not with 'Window'; did you mean 'window'?",
         ),
         (
             "closed: 2026-12-25",
@@ -1114,8 +1114,8 @@ fn mistakes_of_houses() {
         ("2026-12-24T", Some("its hour and minute are missing")),
         ("2026-12-24T:05", Some("its hour is missing, as in 00:05")),
         ("2026-12-24 9:05", Some("it is written 09:05")),
-        ("2026-12-32T09:05", Some("December 2026 has 31 days")),
-        ("2026-02-29", Some("February 2026 has 28 days")),
+        ("2026-12-32T09:05", None),
+        ("2026-02-29", None),
         (
             "2026-12-24T09:05:00",
             Some("it is written 09:05, without seconds"),
@@ -1124,7 +1124,7 @@ fn mistakes_of_houses() {
         // which is the day, and which the month?
         ("12/11/2026", None),
         ("1999-02-29T09:05", None),
-        ("1600-13-01", Some("there is no month 13")),
+        ("1600-13-01", None),
         ("2026-12", None),
         ("x-y-zzzz", None),
         ("", None),
