@@ -1,5 +1,4 @@
 -- `put_answer`: a text lies within the room, and what `put_text` puts for it is what is asked; for no text nothing is.
-use borrow.Author.Rules.{rules}
 use Rattle.program_input.proofs.Counting.{text-within, put_bytes, put_nothing}
 use Rattle.program_check.proofs.put_answer.Goals as goal
 

@@ -1,5 +1,4 @@
 -- `after_read`: each answer from the tests that lead to it.
-use borrow.Author.Rules.{rules}
 use Rattle.program_input.proofs.Results.{castable, failed, ended, more, full, over}
 use Rattle.program_input.proofs.after_read.Goals as goal
 

@@ -1,9 +1,6 @@
 -- `read_input`: the state lies within the room, and each read that gives bytes leaves less of it.
-use Prim.Native.Nat.{◌-◌, ◌<◌}
 use native.Mathlib.Omega.{arith}
-use mathlib.Core.Path.{◌≡◌, refl}
-use borrow.Author.Rules.{rules}
-use lib.ListN.{length}
+use mathlib.Core.Path.{refl}
 use Rattle.program_input.proofs.Results.{more-fits, stopped_within, not_empty}
 use Rattle.program_input.proofs.read_input.Goals as goal
 
