@@ -497,13 +497,14 @@ for words in [TOP / "check", "--version"], [TOP / "check", "--help"]:
 # a clone without the tools says what to do; one that cannot be built does not run what is there
 clone = WORK / "clone"
 (clone / "scripts").mkdir(parents=True)
-for name in "check", "shuntberry", "VERSION", "crates.txt", "scripts/native":
+for name in "check", "shuntberry", "VERSION", "crates.txt", "scripts/native", "scripts/prove":
     (clone / name).write_bytes((TOP / name).read_bytes())
     os.chmod(clone / name, 0o755)
 bare = WORK / "bare"
 bare.mkdir()
 for tool in "tail mv mkdir flock rm".split():
     os.symlink(subprocess.run(["which", tool], capture_output=True, text=True).stdout.strip(), bare / tool)
+os.symlink(sys.executable, bare / "python3")
 for script in "check", "shuntberry":
     run = subprocess.run([clone / script, A], capture_output=True, env={"PATH": str(bare)}, text=True)
     need(run.returncode == FAILED and f"shuntberry-{(TOP / 'VERSION').read_text().strip()}-x86_64-linux.tar.gz" in run.stderr and not run.stdout, run)
