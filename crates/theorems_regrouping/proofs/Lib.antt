@@ -1,3 +1,4 @@
 pub mod CoversKept
 pub mod RoundsKept
 pub mod Regrouped
+pub mod RegroupingKept

@@ -1,11 +1,10 @@
--- The proof of specs/Regrouping.
+-- Decide on two stores whose tables are alike but for their groups.
 --
 --   alike_is          a table alike but for its groups is the other one with those groups
 --   decision-same     the same outcome gives the same decision
 --   path-written      the states that an unsafe check writes
 --   own_buffers       two checks, each with a path buffer of its own
 --   decisions         decide on two stores that hold such tables
---   regrouping        all of specs/Regrouping
 use Prim.Native.Nat.{ℕ, suc}
 use mathlib.Core.Path.{◌≡◌, refl, sym, ap, ap₂, ◌∙◌, subst, subst₂, fun_ext}
 use mathlib.Core.Bool.{cond}
@@ -24,11 +23,10 @@ use Rattle.model.specs.Promises.{Carries, SameAnswer}
 use Rattle.basics.proofs.RefusalLaws.{answer_cong}
 use Rattle.model.proofs.StoresAccepted.{accepted_store, store_accepted}
 use Rattle.model.proofs.PromisesKept.{promises}
-use Rattle.theorems_regrouping.specs.Regrouping.{Alike, SameCovers, first_list, SameDecisions, Regrouping}
-use Rattle.theorems_regrouping.proofs.CoversKept.{rewriting_same}
-use Rattle.theorems_regrouping.proofs.RoundsKept.{regroup, covers-add, run-same, shortest-same, smallest-same}
+use Rattle.theorems_regrouping.specs.Regrouping.{Alike, SameCovers, first_list, SameDecisions}
+use Rattle.theorems_regrouping.proofs.RoundsKept.{regroup, run-same, shortest-same, smallest-same}
 
-alike_is : (t u : Table) → Alike t u → regroup t u.groups ≡ u
+pub alike_is : (t u : Table) → Alike t u → regroup t u.groups ≡ u
 alike_is t u a = λ i.
     record { n = a.n i; initial = a.initial i; forbidden = a.forbidden i; groups = u.groups; row = fun_ext a.row i }
 
@@ -100,7 +98,7 @@ module _ (store other : List ℕ) (n g h : ℕ) (held : AcceptedStore store n g)
             ∙ sym (path-written (promises.carries other n h allowance q b f) (sym (ap (λ (d : Decision). d.verdict) same) ∙ v));
       }
 
-  decisions : SameDecisions store other n g h
+  pub decisions : SameDecisions store other n g h
   decisions =
       record {
         calls = λ allowance before r s after-r after-s c d.
@@ -115,20 +113,3 @@ module _ (store other : List ℕ) (n g h : ℕ) (held : AcceptedStore store n g)
         answers = answers;
         buffers = buffers;
       }
-
-pub regrouping : Regrouping
-unfolding table_of
-regrouping =
-    record {
-      covers = decisions;
-      groups-covers = λ store other n g h held held' a c.
-          decisions store other n g h held held' a (first_lists (table_of store n g) (table_of other n h) a c);
-      rewriting_covers = λ n L M r. rewriting_same n r;
-      rewritten = λ store other n g h held held' a r.
-          decisions store other n g h held held' a (first_lists (table_of store n g) (table_of other n h) a (rewriting_same n r));
-    }
-  where
-    -- Z0 is the same for both
-    first_lists : (t u : Table) → Alike t u → SameCovers t.n t.groups u.groups → SameCovers t.n (first_list t) (first_list u)
-    first_lists t u a c =
-        subst (λ (v : Table). SameCovers t.n (first_list t) (first_list v)) (alike_is t u a) (covers-add t.n t.groups u.groups c _)
