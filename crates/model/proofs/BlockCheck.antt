@@ -26,6 +26,7 @@ use Rattle.model.specs.Blocks.{block_bytes, check_at, modulus, le16_at, weighted
 use Rattle.model.specs.Intact.{Intact, Block, DifferInOne, Exchanged, Detects}
 use Rattle.basics.proofs.BoundLaws.{or_true, not_true, is_false, decided, by_cond, lt_or_ge, below_suc, all_at}
 use Rattle.model.proofs.ListsInParts.{get_or_past}
+use Rattle.model.proofs.BlockWeights.{weight}
 
 -- ---- multiples of the modulus
 
@@ -64,9 +65,6 @@ apart u v d x y s t differ u-small v-small d-some d_small p q e =
     (lt_or_ge u v)
 
 -- ---- the weights
-
-abbrev weight : ℕ → ℕ
-weight i = i + 1
 
 -- the check's own bytes count as what is to be taken from the sum
 unfoldable weight_of : ℕ → ℕ

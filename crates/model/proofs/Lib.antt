@@ -14,10 +14,12 @@ pub mod StoresTables
 pub mod FileLaws
 pub mod StoresAccepted
 pub mod CallLaws
+pub mod FilesWritten
 pub mod RoundTrips
 pub mod StoresFirstWords
 pub mod Drafts
 pub mod PromisesKept
 pub mod RangesOfAnswers
+pub mod BlockWeights
 pub mod BlockCheck
 pub mod SiteLaws

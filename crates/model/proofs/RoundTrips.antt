@@ -3,7 +3,6 @@
 --   Storable t g, readable_file     a table that a file can hold; read takes its blocks, and finds its n, g and sets (read-n, read-g, read_set)
 --   storable, read-holds            an accepted store holds such a table, and also holds the table that is read from its file (ReadsBack, file-read;
 --                                   new_read: of the new form, with no more asked)
---   file-is                         the file that write leaves
 --   write_read                      so a table that is written is read again
 --   contents-table, file-table      a table that was read has the contents and the file that it was read from
 --   Taken, taken                    what is known of an input that read takes, in either form
@@ -33,13 +32,14 @@ use Rattle.model.specs.Calls.{overwrite, TableRead, states_in, second_in, groups
 use Rattle.model.specs.RoundTrip.{Bounded, WriteRead, ReadWrite, RoundTrips, FileSizes}
 use Rattle.basics.proofs.BoundLaws.{by_cond, lt_or_ge, length-tabulate, get_or-tabulate}
 use Rattle.model.proofs.SetsMembers.{In, empty_in, empty_proper}
-use Rattle.model.proofs.ListsInParts.{get_or_past, concat_cong, length-overwrite, take-overwrite}
+use Rattle.model.proofs.ListsInParts.{get_or_past, concat_cong, length-overwrite}
 use Rattle.model.proofs.BlockLaws.{le16_at-le16, IsBlock, block_unique, block-number, block-check, is_block, block_of-is, length_part, part-bounded, concat-part, length-contents_of, get_or-contents_of, contents_of-bounded}
 use Rattle.model.proofs.SetsBytes.{set_in_proper, set_in_below, number-set_in, set_in-is}
 use Rattle.model.proofs.ContentLaws.{dialogue_in-row, added-most, heads-least, heads-each, sets_group, sets-row, sets-each, by_resting, length-contents, contents-header, contents-set, contents_cong, header_pairs, by_content}
 use Rattle.model.proofs.FileLaws.{length-block_file, part-block_file, contents_of-block_file, file-draft, file-blocks, length-draft, length-blocks, length-file_of, file_length-most}
 use Rattle.model.proofs.StoresTables.{set_at_proper, dialogue_of-row, set_at-empty, Holds, holds-layout, Laid, length-layout, overwrite-holds, holds-sets, Within, beyond_below, below_beyond, malformed_clean, clean_malformed, holds_clean}
 use Rattle.model.proofs.StoresAccepted.{Store}
+use Rattle.model.proofs.FilesWritten.{file-is}
 use Rattle.model.proofs.CallLaws.{Writable, written, write-answer, write-buffer, Readable, read_none, readable, draft-refusal, readable_refusal, read_answer_lem, read-buffer, no_bytes, draft-says}
 
 -- ---- the file of a table, read
@@ -161,14 +161,6 @@ module _ (form : Form) (store : List ℕ) (n g : ℕ) (held : Store store n g) (
             let l = ltb-false s n q in
             set_at-empty store (row_at s) (omega (arith, held.long)) (λ v x. clean.no_row (row_at s + v) (omega arith) (omega arith)));
       }
-
--- the file that write leaves at the front of its output
-pub file-is : (store : List ℕ) (n g site : ℕ) (out : List ℕ) → Writable store n g site (length out)
-    → take (file_length new_form n g) (write_buffer store n g site out) ≡ file_of new_form site (dialogue_of store n g)
-unfolding dialogue_of
-file-is store n g site out w =
-    ap (take (file_length new_form n g)) (write-buffer store n g site out w)
-    ∙ take-overwrite (file_of new_form site (dialogue_of store n g)) out (file_length new_form n g) (length-file_of new_form site (dialogue_of store n g) (length-tabulate _ g))
 
 -- the file of a store in a form, read in that form into another store, gives back n, g and the words of the table
 pub record ReadsBack (form : Form) (store : List ℕ) (n g site : ℕ) (file other : List ℕ) : Type 0 where

@@ -29,7 +29,7 @@ use Rattle.basics.proofs.RefusalLaws.{refuse-first, refuse-append, clear_refuse,
 use Rattle.model.proofs.BlockLaws.{block-number, block-check, block_of-is}
 use Rattle.model.proofs.FileLaws.{part-block_file, file-blocks, length-draft, length-blocks, file_length-most}
 use Rattle.model.proofs.CallLaws.{Writable, write_over, write-refused, written, clear_block, right_block, read-refused, read_over, behind_length}
-use Rattle.model.proofs.RoundTrips.{file-is}
+use Rattle.model.proofs.FilesWritten.{file-is}
 
 -- ---- site 0
 
