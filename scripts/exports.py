@@ -3,12 +3,12 @@
 From the source of `shuntberry` and `shuntberry_fields`: the names of the exports; the names, order and widths of
 their parameters and of the fields of the structs; that each export hands its parameters on, under the same names
 and in the same order, to the call of its own name, which has those that it names in the same places (or, without
-parameters, is a constant); and the numbers of the constants. From all source: that the code names its refusals
-(`core_refusals`, which is made from the header) and has no number of one.
+parameters, is a constant); and the numbers of the constants. From all source: that code names its refusals
+(`Refusal` of `core_refusals`, which is made from the header), gives none by a number and makes none of one.
 """
 import re
 from pathlib import Path
-from typing import Dict, Iterator, List, Tuple
+from typing import Dict, Iterator, List, Optional, Tuple
 
 from header import Call, Header, Place, Struct
 
@@ -16,7 +16,24 @@ WIDTHS = {"u8": "uint8_t", "u16": "uint16_t", "u32": "uint32_t", "u64": "uint64_
 EXPORT = re.compile(
     r'#\[unsafe\(no_mangle\)\]\npub extern "C" fn (?P<name>\w+)\((?P<parameters>[^()]*)\)(?: -> (?P<answer>\w+))?\n'
     r"(?:    .*\n)*\{\n(?P<body>(?:    .*\n)*)\}\n")
-STRUCT = re.compile(r"#\[repr\(C\)\]\n#\[derive\(Clone, Copy\)\]\npub struct (?P<name>\w+) \{\n(?P<fields>(?:    .*\n)*)\}\n")
+STRUCT = re.compile(
+    r"#\[repr\(C\)\]\n#\[derive\(Clone, Copy(?:, \w+)*\)\]\npub struct (?P<name>\w+) \{\n"
+    r"(?P<fields>(?:    .*\n)*)\}\n")
+# The set that an export is handed, as the proved code has it.
+HANDED = "let handed = StateSet::from(reachable);"
+LAID_OUT = re.compile(
+    r"\s*(?P<handed>let handed = StateSet::from\(reachable\);)?\s*"
+    r"\w+\((?:(?P<set>handed|StateSet::empty\(\)), )?"
+    r"(?:(?P<crate>\w+)::)?(?P<call>\w+)\((?P<given>[^()]*)\)\)\s*")
+# A number in the place of a refusal: given back, of a variant that holds one, beside one in a match, compared
+# with one, and as a discriminant.
+NUMBERED = [re.compile(form, re.M) for form in (
+    r"\breturn (\d+)\b", r"\b(?:Err|Refused)\(\s*(\d+)\b",
+    r"\b(\d+)(?:u\d+)? => (?:return )?(?:\w+\()?Refusal::",
+    r"\bRefusal::\w+ => (?:return )?(?:\w+\()?(\d+)\b", r"(?:\bas u\d+|\bu\d+::from\(\w+\)) [=!]= (\d+)\b",
+    r"^ +\w+ = (\d+),$")]
+# What makes a refusal of something else.
+MADE = re.compile(r"\bRefusal::from\(|\bas Refusal\b|\bFrom<.*> for Refusal\b")
 Faults = Iterator[str]
 
 
@@ -34,7 +51,7 @@ def imported_from(text: str, name: str) -> List[str]:
 
 def listed(text: str) -> List[Tuple[str, str]]:
     """Names with their types, as a list of parameters or fields has them."""
-    parts = [part.strip() for part in re.split(r",\s*(?![^\[]*\])", text) if part.strip()]
+    parts = [part.strip() for part in re.split(r",\s*(?![^\[]*\]|[^<]*>)", text) if part.strip()]
     return [(name, kind) for name, _, kind in (part.partition(": ") for part in parts)]
 
 
@@ -76,32 +93,36 @@ def differ(what: str, found: List[Tuple[str, str]], expected: List[Tuple[str, st
         yield f"{what} has ({shown[0]}), and the header ({shown[1]})"
 
 
+def taken_by(top: Path, crate: str, call: str) -> Optional[List[str]]:
+    """The names of a call's parameters, where there is one such call, over however many lines."""
+    found = re.findall(rf"^pub fn {call}(?:<[^()]*>)?\(([^()]*)\)(?: -> .+)?$", source(top, crate), re.M)
+    return [parameter for parameter, _ in listed(found[0])] if len(found) == 1 else None
+
+
 def body_faults(top: Path, exports: str, name: str, parameters: List[Tuple[str, str]], body: str) -> Faults:
     """Whether an export hands its parameters on, each under its name, to the call of its own name."""
     if not parameters and re.fullmatch(r"\s*[A-Z][A-Z_]*\s*", body):
         return
-    match = re.fullmatch(r"\s*(let words = reachable\.words;\s*)?\w+\((?:(\w+)::)?(\w+)\(([^()]*)\)\)\s*",
-        body)
-    if not match:
+    match = LAID_OUT.fullmatch(body)
+    if not match or bool(match["handed"]) != (match["set"] == "handed"):
         yield f"{name} does more than to lay out what its call answers"
         return
-    given = match[4].replace("StateSet { words }", "reachable" if match[1] else "words").split(",")
-    handed = [word.strip() for word in given if word.strip()]
+    given = [word.strip() for word in match["given"].split(",") if word.strip()]
+    handed = ["reachable" if match["handed"] and word == "handed" else word for word in given]
     names = [parameter for parameter, _ in parameters]
-    if f"shuntberry_{match[3]}" != name:
-        yield f"{name} calls {match[3]}"
+    call = match["call"]
+    if f"shuntberry_{call}" != name:
+        yield f"{name} calls {call}"
     if handed != names:
         yield f"{name} has ({', '.join(names)}) and hands on ({', '.join(handed)})"
-    crates = [match[2]] if match[2] else imported_from(exports, match[3])
-    callee = re.search(rf"^pub fn {match[3]}\(([^()]*)\)", source(top, crates[0]),
-        re.M) if len(crates) == 1 else None
-    if not callee:
-        yield f"{name}: there is no one call {match[3]}"
+    crates = [match["crate"]] if match["crate"] else imported_from(exports, call)
+    taken = taken_by(top, crates[0], call) if len(crates) == 1 else None
+    if taken is None:
+        yield f"{name}: there is no one call {call}"
         return
-    taken = [parameter for parameter, _ in listed(callee[1])]
     if len(taken) != len(names) or any(one in names and names.index(one) != at for at,
         one in enumerate(taken)):
-        yield f"{name} has ({', '.join(names)}), and {match[3]} takes ({', '.join(taken)})"
+        yield f"{name} has ({', '.join(names)}), and {call} takes ({', '.join(taken)})"
 
 
 def export_faults(top: Path, header: Header) -> Faults:
@@ -150,10 +171,16 @@ def constant_faults(top: Path, header: Header) -> Faults:
 
 def number_faults(top: Path, header: Header) -> Faults:
     refusals = {refusal.number: refusal.name for refusal in header.refusals}
+    named = re.compile(rf"\bconst (?:{'|'.join(refusals.values())}): u\d+ = (\d+);")
     for crate in sorted(folder.name for folder in (top / "crates").iterdir()):
-        for number in map(int, re.findall(r"(?:\breturn|\bRefused\() *(\d+)\b", source(top, crate))):
+        if crate == "core_refusals":
+            continue
+        text = source(top, crate)
+        for number in (int(number) for form in (*NUMBERED, named) for number in form.findall(text)):
             if number in refusals:
                 yield f"{crate} has {number}, and the header {refusals[number]}"
+        if MADE.search(text):
+            yield f"{crate} makes a refusal of something else"
 
 
 def faults(top: Path, header: Header) -> List[str]:

@@ -24,11 +24,12 @@ TAGGED = ("tests/**/*", "rust/outside/**/*.rs")
 TAG = re.compile(r"^\s*(?:#|//)\s*tries: (.*\S)\s*$", re.M)
 FALLS = re.compile(r"^# falls on: (\S+): (.*\S)\s*$", re.M)
 DECLARES = re.compile(r"^(?:(?:unfoldable|abbrev|pub)\s+)*(?:(?:record|data)\s+([^\s(){}]+)|([^\s(){}]+)\s+:(?:\s|$))")
-USED = re.compile(r"^ghost use Rattle\.(\w+)\.specs\.(\w+)\.\{([^}]*)\}", re.M)
+USED = re.compile(r"^ *ghost use Rattle\.(\w+)\.specs\.(\w+)\.\{([^}]*)\}", re.M)
 NAME = re.compile(r"[^\s(){}\[\],;.]+(?:\.[^\s(){}\[\],;]*)?")  # a projection stands tight behind what it is of: `d.row`
 ITEM = re.compile(r"^(?P<indent> *)(?:pub )?(?:extern \"C\" )?fn (?P<name>\w+).*?^(?P=indent)\}$", re.M | re.S)
 SAID_TEST = re.compile(r"`((?:tests|rust/outside/tests)/[^`]*)`")
 POINTS_BACK = re.compile(r"(?:accepted|all of these|and|get|its?|nor|such|that|the same|these|where)\b")
+OWNER = re.compile(r"(?:impl(?:<[^>]*>)? (?:[^{\n]* for )?|(?:pub )?trait )(\w+)(?:<[^>]*>)?(?:: [^{]*)?(?: \{|$)")
 FUNCTION = re.compile(r"^\s*(?:#\[[\w()]+\] *)?(?:pub )?(?:extern \"C\" )?fn (\w+)")
 
 
@@ -134,7 +135,7 @@ def source_name(full):
         for path in sorted((promises.CRATES[crate] / "src").glob("*.rt")):
             text = path.read_text()
             owner = parts[-2] if parts[-2:-1] and parts[-2] not in promises.CRATES else None
-            blocks = re.finditer(rf"^impl {owner} \{{.*?^\}}", text, re.M | re.S) if owner and owner != path.stem else [re.match(r"(?s).*", text)]
+            blocks = promises.blocks(text, owner) if owner and owner != path.stem else [re.match(r"(?s).*", text)]
             for block in blocks:
                 found = re.search(rf"\b(?:fn|struct|enum|const|type|mod)\s+{re.escape(parts[-1])}\b", block.group())
                 if found:
@@ -205,7 +206,7 @@ def function_at(lines, at):
         found = FUNCTION.match(lines[k])
         if name is None and found:
             name = found.group(1)
-        opened = re.match(r"^impl (\w+) \{", lines[k])
+        opened = OWNER.match(lines[k])
         if opened and name and not any(line == "}" for line in lines[k:at]):
             owner = opened.group(1)
             break

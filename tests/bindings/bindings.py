@@ -13,8 +13,9 @@ TOP = Path(__file__).resolve().parents[2]
 PLACES = [
     "scripts/bindings", "scripts/header.py", "scripts/exports.py", "include/shuntberry.h", "man/shuntberry.1",
         "man/shuntberry.3", "docs/SPECIFICATION.md",
-    "rust/command/refusals.txt", "rust/src/raw.rs", "rust/src/refusals.rs", "python/shuntberry/_raw.py", "js/raw.mjs", *(
-        str(path.relative_to(TOP)) for path in sorted(TOP.glob("crates/*/src/*.rt")))]
+    "rust/command/refusals.txt", "rust/src/raw.rs", "rust/src/refusals.rs", "python/shuntberry/_raw.py", "js/raw.mjs",
+    "crates/core_refusals/specs/Refusals.antt",
+    *(str(path.relative_to(TOP)) for path in sorted(TOP.glob("crates/*/src/*.rt")))]
 HEADER, EXPORTS, FIELDS = "include/shuntberry.h", "crates/shuntberry/src/lib.rt", "crates/shuntberry_fields/src/lib.rt"
 sys.path.insert(0, str(TOP / "scripts"))
 sys.dont_write_bytecode = True
@@ -75,7 +76,10 @@ try:
         ("rust/src/raw.rs", "        k: usize,", "        k: u32,"), ("rust/src/refusals.rs", '(13, "a block',
             '(12, "a block'), ("rust/src/refusals.rs", "FILLER: Refused = Refused(18)",
             "FILLER: Refused = Refused(19)"),
-        ("crates/core_refusals/src/lib.rt", "STRAY_BIT: u8 = 17;", "STRAY_BIT: u8 = 18;"),
+        ("crates/core_refusals/src/lib.rt", "    StrayBit = 17,", "    StrayBit = 18,"),
+        ("crates/core_refusals/src/lib.rt", "From<Refusal> for u32", "From<Refusal> for u64"),
+        ("crates/core_refusals/specs/Refusals.antt", "number StrayBit = 17\n", "number StrayBit = 18\n"),
+        ("crates/core_refusals/specs/Refusals.antt", "number_of (Ok a) = 0", "number_of (Ok a) = 10"),
         ("python/shuntberry/_raw.py", "STRAY_BIT = 17", "STRAY_BIT = 18"), ("python/shuntberry/_raw.py",
             "MAX_WINDOWS = 32", "MAX_WINDOWS = 33"),
         ("js/raw.mjs", '["n", "size_t", 4, 0]', '["n", "size_t", 8, 0]'), ("js/raw.mjs",
@@ -191,8 +195,15 @@ try:
         ("hands on (store, g, n, site, output)", EXPORTS, ("lay_out_file(write(store, n, g, site, output))",
             "lay_out_file(write(store, g, n, site, output))")),
         ("hands on (store, n, g, reachable, to, from)", EXPORTS,
-            ("add_step(store, n, g, StateSet { words }, from, to)",
-            "add_step(store, n, g, StateSet { words }, to, from)")),
+            ("add_step(store, n, g, handed, from, to)", "add_step(store, n, g, handed, to, from)")),
+        ("hands on (store, n, g, other, from, to)", EXPORTS,
+            ("add_step(store, n, g, handed, from, to)", "add_step(store, n, g, other, from, to)")),
+        ("hands on (store, n, g, handed, from, to)", EXPORTS,
+            ("lay_out_session(handed, add_step(store", "lay_out_session(StateSet::empty(), add_step(store"),
+            ("    let handed = StateSet::from(reachable);\n    lay_out_session(StateSet", "    lay_out_session(StateSet")),
+        ("shuntberry_remove_step does more", EXPORTS, ("lay_out_session(handed, remove_step(store",
+            "lay_out_session(StateSet::empty(), remove_step(store")),
+        ("hands on (store, g, n)", EXPORTS, ("open(store, n, g)", "open(store, g, n)")),
         ("shuntberry_add_step calls remove_step", EXPORTS, ("fn shuntberry_add_step(", "fn shuntberry_step("),
             ("fn shuntberry_remove_step(", "fn shuntberry_add_step("), ("fn shuntberry_step(",
             "fn shuntberry_remove_step(")),
@@ -212,15 +223,36 @@ try:
             ("#[unsafe(no_mangle)]\npub extern \"C\" fn shuntberry_replay",
             "#[inline]\n#[unsafe(no_mangle)]\n#[cold]\npub extern \"C\" fn shuntberry_replay")),
         ("core_table has 17, and the header STRAY_BIT", "crates/core_table/src/lib.rt",
-            ("return STRAY_BIT;", "return 17;")),
+            ("Err(Refusal::StrayBit)", "Err(17)")),
         ("file_writing has 19, and the header OUTPUT_SHORT", "crates/file_writing/src/lib.rt",
-            ("Written::Refused(OUTPUT_SHORT)", "Written::Refused(19)")),
+            ("Err(Refusal::OutputShort)", "Err(19)")),
+        ("call_check has 19, and the header OUTPUT_SHORT", "crates/call_check/src/lib.rt",
+            ("Err(Refusal::OutputShort)", "Err(ground(match n {\n        19 => Refusal::OutputShort,\n    }))")),
+        ("call_check has 12, and the header BLOCK_NUMBER", "crates/call_check/src/lib.rt",
+            ("pub enum FileVerdict {\n", "pub enum FileVerdict {\n    Numbered = 12,\n")),
+        ("call_paths has 21, and the header PATH_SHORT", "crates/call_paths/src/lib.rt",
+            ("// ---- within\n", "const PATH_SHORT: u8 = 21;\n")),
+        ("call_paths makes a refusal of something else", "crates/call_paths/src/lib.rt",
+            ("// ---- within\n", "impl From<u8> for Refusal {\n}\n")),
         ("and within takes (store, g, n, k)", "crates/call_paths/src/lib.rt",
             ("pub fn within(store: &[u64], n: usize, g: usize, k: usize)",
             "pub fn within(store: &[u64], g: usize, n: usize, k: usize)")),
     ):
         refuses(why, place, *edits)
         need(not bindings()[0] and bindings("--check")[0], f"{place} after {edits}: bindings mends Rattle")
+
+    # ---- what may be written otherwise
+
+    for place, *edits in (
+        (FIELDS, ("#[derive(Clone, Copy)]\npub struct FileFields",
+            "#[derive(Clone, Copy, Debug, PartialEq, Eq)]\npub struct FileFields")),
+        ("crates/call_paths/src/lib.rt", ("pub fn within(store: &[u64], n: usize, g: usize, k: usize)",
+            "pub fn within(\n    store: &[u64],\n    n: usize,\n    g: usize,\n    k: usize,\n)")),
+    ):
+        restore()
+        edited(place, *edits)
+        status, said = bindings("--check")
+        need(status == 0, f"{place} after {edits}", said)
 
     # ---- what is made of a new refusal, and of a new call
 
@@ -233,7 +265,8 @@ try:
     for place, line in {
         HEADER: '    case SHUNTBERRY_NEW:\n        return "the new ground";\n',
             "rust/src/refusals.rs": '    (32, "the new ground"),\n',
-        "crates/core_refusals/src/lib.rt": "\n\npub const NEW: u8 = 32;\n",
+        "crates/core_refusals/src/lib.rt": "    Time = 31,\n    New = 32,\n}\n",
+        "crates/core_refusals/specs/Refusals.antt": "number Time = 31\nnumber New = 32\n",
         "python/shuntberry/_raw.py": '    NEW = 32, "the new ground"\n',
             "js/raw.mjs": '  [32, ["NEW", "the new ground"]],\n',
             "rust/command/refusals.txt": "\n32|the new ground|it is old\n",

@@ -16,6 +16,7 @@ use mathlib.Core.List.{List, []}
 use borrow.Author.Tests.{lt-ltb, le-ltb, ne_eqb}
 use lib.Dec.{eqb}
 use lib.ListN.{length, get_or, take, drop}
+use Rattle.std.specs.Prelude.{Result}
 use Rattle.basics.specs.Bounds.{tabulate, filter}
 use Rattle.basics.specs.Refusals.{refuse, Answered, refused, answered, unless_refused}
 use Rattle.basics.proofs.BoundLaws.{is_false}
@@ -36,6 +37,7 @@ use Rattle.model.proofs.RoundTrips.{taken, filled_held}
 use Rattle.model.proofs.PromisesKept.{promises}
 use Rattle.model.proofs.Drafts.{draft}
 use Rattle.core_report.specs.Text.{ascii, digits, decimal, spaced, states_line, verdict_line, invariant_line, safe_text, unsafe_text, report_text, refused_text}
+use Rattle.core_refusals.specs.declared.Refusal.{Refusal}
 use Rattle.call_check.specs.declared.Checked.{Checked}
 use Rattle.call_check.specs.CheckText.{zero_store, zero_path, ReleaseCheck, check_table, release_check, text_for, verdict_for, FileVerdict, safe, unsafe, refused_file, check_text, file_verdict}
 use Rattle.call_check.specs.CheckAnswers.{CheckedFile, checked_file, check_grounds, check_answer, check_buffer, checked_of, CalledCheck}
@@ -189,7 +191,7 @@ module _ (input : List ℕ) (site : ℕ) where
 
 -- ---- a call that is answered
 
-module _ (input : List ℕ) (site : ℕ) (before : List ℕ) (r : Checked) (after : List ℕ) (f : CheckedFile)
+module _ (input : List ℕ) (site : ℕ) (before : List ℕ) (r : Result Checked Refusal) (after : List ℕ) (f : CheckedFile)
     (called : CalledCheck input site before r after) (e : checked_of r ≡ answered f) where
   call_says : f ≡ checked_file (release_check input site)
   unfolding check_answer

@@ -12,9 +12,10 @@ use mathlib.Core.Path.{◌≡◌, refl, sym, ap, ◌∙◌, subst}
 use mathlib.Core.List.{List}
 use borrow.Author.Tests.{ltb-true, lt-ltb, le-ltb}
 use lib.ListN.{length, take}
+use Rattle.std.specs.Prelude.{Result, Ok, Err}
 use Rattle.basics.specs.Refusals.{refuse, Answered, refused, answered, unless_refused}
 use Rattle.basics.proofs.RefusalLaws.{refuse-first, answer-refused, answer_clear}
-use Rattle.model.specs.Sets.{max_states, Set}
+use Rattle.model.specs.Sets.{max_states}
 use Rattle.model.specs.Tables.{Table}
 use Rattle.model.specs.Rounds.{Outcome, safe, unsafe, undecided, run}
 use Rattle.model.specs.Paths.{shortest, has_path}
@@ -28,11 +29,14 @@ use Rattle.model.proofs.StoresAccepted.{well_formed, check_of_lem}
 use Rattle.model.proofs.RangesOfAnswers.{decide_range}
 use Rattle.call_decide.specs.declared.Verdict.{Verdict}
 use Rattle.call_decide.specs.declared.Verdict.TheVariants as verdict
-use Rattle.call_decide.specs.declared.Decision.{Decision as Decision·code}
-use Rattle.call_decide.specs.DecideAnswers.{decided_with, decided_of}
+use Rattle.call_decide.specs.DecideAnswers.{decided_of}
+use Rattle.core_refusals.specs.declared.Refusal.{Refusal}
+use Rattle.core_refusals.specs.declared.Refusal.TheVariants.{Site, OutputShort}
+use Rattle.core_refusals.specs.Refusals.{number}
+use Rattle.core_state_set.specs.declared.StateSet.{StateSet}
 use Rattle.core_report.specs.Text.{safe_text, unsafe_text, undecided_text, report_text, refused_text}
 use Rattle.core_report.specs.Put.{text_room, Front}
-use Rattle.call_check.specs.declared.Checked.TheVariants.{Safe, Unsafe, RefusedFile, Refused}
+use Rattle.call_check.specs.declared.FileVerdict.TheVariants as file
 use Rattle.call_check.specs.CheckText.{zero_store, zero_path, check_table, release_check, FileVerdict, check_text}
 use Rattle.call_check.specs.CheckText as check
 use Rattle.call_check.specs.CheckAnswers.{CheckedFile, checked_file, check_grounds, check_answer, check_buffer, checked_of, Reports, CalledCheck}
@@ -52,8 +56,8 @@ length_is : (v : FileVerdict) {l m : ℕ} → l ≡ m → ◌≡◌ {A = Answere
 length_is v e = ap (λ (k : ℕ). answered (record { text_length = k; verdict = v })) e
 
 -- decide's answer, by the case that it gave
-pub told : (r : Decision·code) {v : Verdict} {x : Answered Decision} → r.verdict ≡ v → decided_of r ≡ x → decided_with v r.invariant.words ≡ x
-told r e f = sym (ap (λ (v : Verdict). decided_with v r.invariant.words) e) ∙ f
+pub told : {r v : Result Verdict Refusal} {x : Answered Decision} → r ≡ v → decided_of r ≡ x → decided_of v ≡ x
+told e f = sym (ap decided_of e) ∙ f
 
 module _ (store : List ℕ) (n g : ℕ) where
   pub report_range : {a : Decision} → answered a ≡ decide_answer store n g release max_states
@@ -69,34 +73,43 @@ module _ (store : List ℕ) (n g : ℕ) where
       (held.small, held.few, (decide_range store n g release max_states (sym e)).count, steps)
 
   module _ {before after : List ℕ} {end : ℕ} where
-    pub safe_reported : {i k : ℕ} {X : Set} → decided_with (verdict.Safe i k) X ≡ decide_answer store n g release max_states
-        → Front (safe_text n g i X) before end after → Reports (check_table store n g) before (checked_of (Safe end n)) after
+    pub safe_reported : {i k : ℕ} {X : StateSet} → decided_of (Ok (verdict.Safe i X k)) ≡ decide_answer store n g release max_states
+        → Front (safe_text n g i X.words) before end after
+        → Reports (check_table store n g) before (checked_of (Ok (record { length = end; verdict = file.Safe n }))) after
     unfolding check_table report_text
     safe_reported e f = rw (← e) (length_is (check.safe n) f.ends, f.bytes)
 
-    pub unsafe_reported : {i d : ℕ} {X : Set} {path : List ℕ} → decided_with (verdict.Unsafe i d) X ≡ decide_answer store n g release max_states
+    pub unsafe_reported : {i d : ℕ} {path : List ℕ} → decided_of (Ok (verdict.Unsafe i d)) ≡ decide_answer store n g release max_states
         → path ≡ decide_buffer store n g release zero_path
-        → Front (unsafe_text n g i (take (d + 1) path)) before end after → Reports (check_table store n g) before (checked_of (Unsafe end n)) after
+        → Front (unsafe_text n g i (take (d + 1) path)) before end after
+        → Reports (check_table store n g) before (checked_of (Ok (record { length = end; verdict = file.Unsafe n }))) after
     unfolding check_table report_text
     unsafe_reported e p f = rw (← e, ← p) (length_is (check.unsafe n) f.ends, f.bytes)
 
-    pub undecided_reported : {i : ℕ} {X : Set} → decided_with (verdict.Undecided i) X ≡ decide_answer store n g release max_states
-        → Front (undecided_text n g i) before end after → Reports (check_table store n g) before (checked_of (Unsafe end n)) after
+    pub undecided_reported : {i : ℕ} → decided_of (Ok (verdict.Undecided i)) ≡ decide_answer store n g release max_states
+        → Front (undecided_text n g i) before end after
+        → Reports (check_table store n g) before (checked_of (Ok (record { length = end; verdict = file.Unsafe n }))) after
     unfolding check_table report_text
     undecided_reported e f = rw (← e) (length_is (check.unsafe n) f.ends, f.bytes)
 
-    pub refused_reported : {k : ℕ} → refused k ≡ decide_answer store n g release max_states
-        → Front (refused_text k) before end after → Reports (check_table store n g) before (checked_of (RefusedFile end k)) after
-    unfolding check_table
-    refused_reported {k} e f = rw (← e) (length_is (check.refused_file k) f.ends, f.bytes)
+  pub refused_reported : (before after : List ℕ) {k : ℕ} {r : Answered CheckedFile} → refused k ≡ decide_answer store n g release max_states
+      → Reports (refused k) before r after → Reports (check_table store n g) before r after
+  unfolding check_table
+  refused_reported before after e f = rw (← e) f
+
+-- ---- refused_file
+
+pub refused_told : (r : Refusal) {before after : List ℕ} {end : ℕ} → Front (refused_text (number r)) before end after
+    → Reports (refused (number r)) before (checked_of (Ok (record { length = end; verdict = file.Refused r }))) after
+refused_told r f = (length_is (check.refused_file (number r)) f.ends, f.bytes)
 
 -- ---- check
 
 module _ (input : List ℕ) (site : ℕ) (before : List ℕ) {after : List ℕ} where
-  pub file-refused : {k end : ℕ} → refused k ≡ read_answer input site store_words
-      → Front (refused_text k) before end after → Reports (release_check input site) before (checked_of (RefusedFile end k)) after
+  pub file-refused : {k : ℕ} {r : Answered CheckedFile} → refused k ≡ read_answer input site store_words
+      → Reports (refused k) before r after → Reports (release_check input site) before r after
   unfolding release_check
-  file-refused {k} e f = rw (← e) (length_is (check.refused_file k) f.ends, f.bytes)
+  file-refused e f = rw (← e) f
 
   pub file-read : {n g : ℕ} {store : List ℕ} {r : Answered CheckedFile} → answered (record { n = n; g = g }) ≡ read_answer input site store_words
       → store ≡ read_buffer input site zero_store
@@ -113,15 +126,15 @@ module _ (input : List ℕ) (site : ℕ) (before : List ℕ) {after : List ℕ} 
       (f.0 ∙ sym clear, f.1 ∙ sym (ap (unless_refused before (λ (a : CheckedFile). overwrite (check_text input site) before)) clear))
 
 module _ (input : List ℕ) (site : ℕ) (before : List ℕ) where
-  call_refused : {k : ℕ} → k ≡ refuse (check_grounds site (length before)) → (k ≡ 0 → ⊥) → CalledCheck input site before (Refused k) before
+  call_refused : (r : Refusal) → number r ≡ refuse (check_grounds site (length before)) → (number r ≡ 0 → ⊥) → CalledCheck input site before (Err r) before
   unfolding check_answer check_buffer
-  call_refused e some =
+  call_refused r e some =
       let no = answer-refused (check_grounds site (length before)) (checked_file (release_check input site)) e some in
       (sym no, sym (ap (unless_refused before (λ (a : CheckedFile). overwrite (check_text input site) before)) no))
 
-  pub site_refused : max_site < site → CalledCheck input site before (Refused 24) before
-  site_refused h = call_refused (refuse-first 0 _ (lt-ltb max_site site h)) (λ e. omega arith)
+  pub site_refused : max_site < site → CalledCheck input site before (Err Site) before
+  site_refused h = call_refused Site (refuse-first 0 _ (lt-ltb max_site site h)) (λ e. omega arith)
 
-  pub room-refused : site ≤ max_site → length before < text_room → CalledCheck input site before (Refused 19) before
+  pub room-refused : site ≤ max_site → length before < text_room → CalledCheck input site before (Err OutputShort) before
   room-refused known h =
-      call_refused (refuse-first 1 _ (le-ltb max_site site known, lt-ltb (length before) text_room h)) (λ e. omega arith)
+      call_refused OutputShort (refuse-first 1 _ (le-ltb max_site site known, lt-ltb (length before) text_room h)) (λ e. omega arith)

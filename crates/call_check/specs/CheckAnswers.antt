@@ -2,18 +2,21 @@
 --
 --   CheckedFile                               what it answers: the length of the text, and the verdict; checked_file x: for a release check
 --   check_grounds, check_answer, check_buffer    the grounds in order, the answer, the output at exit
---   checked_of r                               what each case of its answer says
+--   verdict_of, checked_of                     what each case of a verdict says; what the answer says
 --   Reports                                   what a part of the call gave for a release check, where there is room for the text
 --   CalledCheck                               a call and what it gave: its contract
 --
 -- A file that read refuses is an answer: the text says so. The call itself is refused only for its site or its output.
-use Rattle.std.specs.Prelude.{ℕ, ◌≡◌, List, [], ◌∷◌, ltb, length}
-use Rattle.basics.specs.Refusals.{Ground, Answered, refused, answered, answer, unless_refused}
+use Rattle.std.specs.Prelude.{ℕ, ◌≡◌, List, [], ◌∷◌, Result, ltb, length}
+use Rattle.basics.specs.Refusals.{Ground, Answered, answered, answer, unless_refused}
+use Rattle.core_refusals.specs.declared.Refusal.{Refusal}
+use Rattle.core_refusals.specs.Refusals.{number, answer_of}
 use Rattle.model.specs.Blocks.{site_ground}
 use Rattle.model.specs.Calls.{overwrite}
 use Rattle.core_report.specs.Put.{text_room}
 use Rattle.call_check.specs.declared.Checked.{Checked}
-use Rattle.call_check.specs.declared.Checked.TheVariants.{Safe, Unsafe, RefusedFile, Refused}
+use Rattle.call_check.specs.declared.FileVerdict.{FileVerdict as CodeVerdict}
+use Rattle.call_check.specs.declared.FileVerdict.TheVariants.{Safe, Unsafe, Refused}
 use Rattle.call_check.specs.CheckText.{ReleaseCheck, release_check, text_for, FileVerdict, safe, unsafe, refused_file, verdict_for, check_text}
 
 pub record CheckedFile : Type 0 where
@@ -34,17 +37,19 @@ unfoldable pub check_buffer : List ℕ → ℕ → List ℕ → List ℕ
 check_buffer input site output =
     unless_refused output (λ a. overwrite (check_text input site) output) (check_answer input site (length output))
 
-abbrev pub checked_of : Checked → Answered CheckedFile
-checked_of (Safe l n) = answered (record { text_length = l; verdict = safe n })
-checked_of (Unsafe l n) = answered (record { text_length = l; verdict = unsafe n })
-checked_of (RefusedFile l k) = answered (record { text_length = l; verdict = refused_file k })
-checked_of (Refused k) = refused k
+abbrev pub verdict_of : CodeVerdict → FileVerdict
+verdict_of (Safe n) = safe n
+verdict_of (Unsafe n) = unsafe n
+verdict_of (Refused r) = refused_file (number r)
+
+abbrev pub checked_of : Result Checked Refusal → Answered CheckedFile
+checked_of = answer_of (λ c. record { text_length = c.length; verdict = verdict_of c.verdict })
 
 abbrev pub Reports : Answered ReleaseCheck → List ℕ → Answered CheckedFile → List ℕ → Type 0
 Reports x before r after = (r ≡ answered (checked_file x)) × (after ≡ overwrite (text_for x) before)
 
 -- The output before the call and after it.
-abbrev pub CalledCheck : List ℕ → ℕ → List ℕ → Checked → List ℕ → Type 0
+abbrev pub CalledCheck : List ℕ → ℕ → List ℕ → Result Checked Refusal → List ℕ → Type 0
 CalledCheck input site before r after =
     (checked_of r ≡ check_answer input site (length before))
     × (after ≡ check_buffer input site before)

@@ -5,7 +5,7 @@
 --   SafeReport, UnsafeReport    the two reports of decide's answer d, each with its verdict and what it says of the table
 --   after_line text              what stands after the first line of a text
 --   Reported                    of every list of bytes and every site
-use Rattle.std.specs.Prelude.{ℕ, ◌≤◌, ◌<◌, ◌≡◌, ◌⊎◌, true, false, cond, List, [], ◌∷◌, ◌++◌, eqb, length, take, drop}
+use Rattle.std.specs.Prelude.{ℕ, ◌≤◌, ◌<◌, ◌≡◌, ◌⊎◌, true, false, cond, List, [], ◌∷◌, ◌++◌, eqb, length, take, drop, Result}
 use Prim.Native.Char.{code}
 use Rattle.basics.specs.Refusals.{refuse, refused, answered}
 use Rattle.model.specs.Sets.{max_states}
@@ -17,6 +17,7 @@ use Rattle.model.specs.Files.{max_file}
 use Rattle.model.specs.Calls.{release, Decision, decide_answer, TableRead, read_answer, read_buffer}
 use Rattle.model.specs.Promises.{IsInvariant, IsSmallest}
 use Rattle.core_report.specs.Text.{ascii, verdict_line, invariant_line, path_line, safe_text, unsafe_text, refused_text}
+use Rattle.core_refusals.specs.declared.Refusal.{Refusal}
 use Rattle.call_check.specs.declared.Checked.{Checked}
 use Rattle.call_check.specs.CheckText.{zero_store, safe, unsafe, refused_file, check_text, file_verdict}
 use Rattle.call_check.specs.CheckAnswers.{CheckedFile, check_grounds, checked_of, CalledCheck}
@@ -66,22 +67,22 @@ pub record Reported : Type 0 where
   pub refused_line : (input : List ℕ) (site : ℕ) → take 8 (check_text input site) ≡ ascii "refused "
       → (k : ℕ) × (read_answer input site store_words ≡ refused k) × (check_text input site ≡ refused_text k)
   -- the same of the call that says safe, unsafe or a refused file; n is that of the table
-  pub safe_call : (input : List ℕ) (site : ℕ) (before : List ℕ) (r : Checked) (after : List ℕ) (l n : ℕ)
+  pub safe_call : (input : List ℕ) (site : ℕ) (before : List ℕ) (r : Result Checked Refusal) (after : List ℕ) (l n : ℕ)
       → CalledCheck input site before r after → checked_of r ≡ answered (record { text_length = l; verdict = safe n })
       → (a : TableRead) × (read_answer input site store_words ≡ answered a) × (n ≡ a.n) × NoPath (file_table input site a)
-  pub unsafe_call : (input : List ℕ) (site : ℕ) (before : List ℕ) (r : Checked) (after : List ℕ) (l n : ℕ)
+  pub unsafe_call : (input : List ℕ) (site : ℕ) (before : List ℕ) (r : Result Checked Refusal) (after : List ℕ) (l n : ℕ)
       → CalledCheck input site before r after → checked_of r ≡ answered (record { text_length = l; verdict = unsafe n })
       → (a : TableRead) × (read_answer input site store_words ≡ answered a) × (n ≡ a.n) × SomePath (file_table input site a)
-  pub refused-file_call : (input : List ℕ) (site : ℕ) (before : List ℕ) (r : Checked) (after : List ℕ) (l k : ℕ)
+  pub refused-file_call : (input : List ℕ) (site : ℕ) (before : List ℕ) (r : Result Checked Refusal) (after : List ℕ) (l k : ℕ)
       → CalledCheck input site before r after → checked_of r ≡ answered (record { text_length = l; verdict = refused_file k })
       → read_answer input site store_words ≡ refused k
   -- the text stands at the front of the output, as long as the answer says, and no byte past it is touched
-  pub past : (input : List ℕ) (site : ℕ) (before : List ℕ) (r : Checked) (after : List ℕ) (f : CheckedFile)
+  pub past : (input : List ℕ) (site : ℕ) (before : List ℕ) (r : Result Checked Refusal) (after : List ℕ) (f : CheckedFile)
       → CalledCheck input site before r after → checked_of r ≡ answered f
       → (length (check_text input site) ≡ f.text_length) × (take f.text_length after ≡ check_text input site)
       × (drop f.text_length after ≡ drop f.text_length before)
   -- a call that is refused is so for its site or its output, and leaves the output as it was
-  pub refused_call : (input : List ℕ) (site : ℕ) (before : List ℕ) (r : Checked) (after : List ℕ) (k : ℕ)
+  pub refused_call : (input : List ℕ) (site : ℕ) (before : List ℕ) (r : Result Checked Refusal) (after : List ℕ) (k : ℕ)
       → CalledCheck input site before r after → checked_of r ≡ refused k
       → (k ≡ refuse (check_grounds site (length before))) × (after ≡ before)
   -- an untouched draft

@@ -2,80 +2,95 @@
 //
 //   Checked, check    the text at the front of the output, its length and the verdict, or why the call is refused
 //   check_table       the same for the table that a store holds, where there is room for the text
+//   refused_file      the same for a file that read refuses
 #![tactic(auto)]
 
 ghost use Rattle.std.specs.Prelude.{◌≤◌, length};
+ghost use Rattle.basics.specs.Refusals.{refused};
+ghost use Rattle.core_refusals.specs.Refusals.{number};
 ghost use Rattle.core_report.specs.Put.{text_room};
 ghost use Rattle.call_check.specs.CheckText.{check_table};
 ghost use Rattle.call_check.specs.CheckAnswers.{checked_of, Reports, CalledCheck};
 
 use call_decide::{Verdict, decide};
-use core_refusals::{OUTPUT_SHORT, SITE};
+use core_refusals::Refusal;
 use core_report::{ROOM, write_refused, write_safe, write_undecided, write_unsafe};
 use core_rounds::MAX_ALLOWANCE;
 use core_state_set::MAX_STATES;
 use core_table::STORE_WORDS;
 use file_blocks::MAX_SITE;
-use file_reading::{TableRead, read};
+use file_reading::read;
 
 // Bytes of output that hold the text of any file.
 pub const CHECK_TEXT: usize = ROOM;
 
-// Each verdict with the length of the text: safe and unsafe with the number of states, a refused file with the number on which read refuses it.
-// `Refused` has the number of the ground on which the call itself is refused, and no text.
-#[derive(Clone, Copy)]
-pub enum Checked {
-    Safe { length: usize, n: usize },
-    Unsafe { length: usize, n: usize },
-    RefusedFile { length: usize, refusal: u8 },
-    Refused(u8),
+// The verdict on a file: safe and unsafe with the number of states, a refused file with the ground on which read refuses it.
+#[derive(Clone, Copy, Debug, PartialEq, Eq)]
+pub enum FileVerdict {
+    Safe { n: usize },
+    Unsafe { n: usize },
+    Refused(Refusal),
 }
 
-pub fn check(input: &[u8], site: usize, output: &mut [u8]) -> Checked
+// The length of the text, and the verdict.
+#[derive(Clone, Copy, Debug, PartialEq, Eq)]
+pub struct Checked {
+    pub length: usize,
+    pub verdict: FileVerdict,
+}
+
+pub fn check(input: &[u8], site: usize, output: &mut [u8]) -> Result<Checked, Refusal>
     ensures { CalledCheck input.now site output.old result output.new }
 {
     if MAX_SITE < site {
-        return Checked::Refused(SITE);
+        return Err(Refusal::Site);
     }
     if output.len() < CHECK_TEXT {
-        return Checked::Refused(OUTPUT_SHORT);
+        return Err(Refusal::OutputShort);
     }
     let mut store = [0u64; STORE_WORDS];
-    match read(input, site, &mut store) {
-        TableRead::Table { n, g } => check_table(&store, n, g, output),
-        TableRead::Refused(refusal) => Checked::RefusedFile {
-            length: write_refused(refusal, output),
-            refusal,
-        },
-    }
+    Ok(match read(input, site, &mut store) {
+        Ok(size) => check_table(&store, size.n, size.g, output),
+        Err(refusal) => refused_file(refusal, output),
+    })
 }
 
 // Only safe is given as safe. A release check is never undecided, and of a store that read filled it is never refused: if it were, the table would be
 // given as unsafe, and as a refused file.
 fn check_table(store: &[u64], n: usize, g: usize, out: &mut [u8]) -> Checked
     requires { text_room ≤ length out.old }
-    ensures { Reports (check_table store.now n g) out.old (checked_of result) out.new }
+    ensures { Reports (check_table store.now n g) out.old (checked_of (Ok result)) out.new }
 {
     let mut path = [0u16; MAX_STATES];
-    let decision = decide(store, n, g, MAX_ALLOWANCE, &mut path);
-    let verdict = decision.verdict;
-    let invariant = decision.invariant;
-    match verdict {
-        Verdict::Safe { count, size: _ } => Checked::Safe {
+    match decide(store, n, g, MAX_ALLOWANCE, &mut path) {
+        Ok(
+            Verdict::Safe {
+                count,
+                invariant,
+                size: _,
+            },
+        ) => Checked {
             length: write_safe(n, g, count, invariant, out),
-            n,
+            verdict: FileVerdict::Safe { n },
         },
-        Verdict::Unsafe { count, steps } => Checked::Unsafe {
+        Ok(Verdict::Unsafe { count, steps }) => Checked {
             length: write_unsafe(n, g, count, &path[..steps + 1], out),
-            n,
+            verdict: FileVerdict::Unsafe { n },
         },
-        Verdict::Undecided { count } => Checked::Unsafe {
+        Ok(Verdict::Undecided { count }) => Checked {
             length: write_undecided(n, g, count, out),
-            n,
+            verdict: FileVerdict::Unsafe { n },
         },
-        Verdict::Refused(refusal) => Checked::RefusedFile {
-            length: write_refused(refusal, out),
-            refusal,
-        },
+        Err(refusal) => refused_file(refusal, out),
+    }
+}
+
+fn refused_file(refusal: Refusal, out: &mut [u8]) -> Checked
+    requires { text_room ≤ length out.old }
+    ensures { Reports (refused (number refusal)) out.old (checked_of (Ok result)) out.new }
+{
+    Checked {
+        length: write_refused(u8::from(refusal), out),
+        verdict: FileVerdict::Refused(refusal),
     }
 }

@@ -1,69 +1,74 @@
 // The call `decide`: the rounds of a table that a store holds, and the path where they say unsafe.
 //
-//   decide_refusal     why a check is refused
-//   Decision, decide   the call
+//   accept_check      whether a check is accepted
+//   Verdict, decide   the call
 #![tactic(auto)]
 
 ghost use Rattle.std.specs.Prelude.{◌≡◌};
 ghost use Rattle.basics.specs.Refusals.{refuse};
+ghost use Rattle.core_refusals.specs.Refusals.{number_of};
 ghost use Rattle.model.specs.Calls.{decide_grounds};
 ghost use Rattle.call_decide.specs.DecideAnswers.{CalledDecide};
 
-use call_paths::{find_path, steps_of};
-use core_refusals::{ALLOWANCE, PATH_SHORT};
+use call_paths::find_path;
+use core_refusals::Refusal;
 use core_rounds::{Ending, MAX_ALLOWANCE, run};
-use core_rows::forbidden;
+use core_rows::{Steps, forbidden};
 use core_state_set::{MAX_STATES, StateSet};
-use core_table::{GROUPS_AT, INITIAL_AT, ROWS_AT, refusal, set_at};
+use core_table::{GROUPS_AT, INITIAL_AT, accept, set_at};
 
-// Why a check is refused, or 0.
-fn decide_refusal(store: &[u64], n: usize, g: usize, allowance: usize, room: usize) -> u8
-    ensures { result ≡ refuse (decide_grounds store.now n g allowance room) }
+// Whether a check with this allowance is accepted where the path has so much room.
+fn accept_check(
+    store: &[u64],
+    n: usize,
+    g: usize,
+    allowance: usize,
+    room: usize,
+) -> Result<(), Refusal>
+    ensures { number_of result ≡ refuse (decide_grounds store.now n g allowance room) }
 {
-    let shared = refusal(store, n, g);
-    if shared != 0 {
-        return shared;
-    }
+    accept(store, n, g)?;
     if MAX_ALLOWANCE < allowance {
-        return ALLOWANCE;
+        return Err(Refusal::Allowance);
     }
     if room < MAX_STATES {
-        return PATH_SHORT;
+        return Err(Refusal::PathShort);
     }
-    0
+    Ok(())
 }
 
-// The verdicts, each with its count of refinements: safe with the number of states of the invariant, unsafe with the steps of the path.
-// `Refused` has the number of the ground on which the call is refused.
+// The verdicts, each with its count of refinements: safe with the invariant and the number of its states, unsafe with the steps of the path.
 #[derive(Clone, Copy)]
 pub enum Verdict {
-    Safe { count: usize, size: usize },
-    Unsafe { count: usize, steps: usize },
-    Undecided { count: usize },
-    Refused(u8),
+    Safe {
+        count: usize,
+        invariant: StateSet,
+        size: usize,
+    },
+    Unsafe {
+        count: usize,
+        steps: usize,
+    },
+    Undecided {
+        count: usize,
+    },
 }
 
-// The verdict, with the invariant beside it where that is safe and the empty set where it is not.
-#[derive(Clone, Copy)]
-pub struct Decision {
-    pub verdict: Verdict,
-    pub invariant: StateSet,
-}
-
-pub fn decide(store: &[u64], n: usize, g: usize, allowance: usize, path: &mut [u16]) -> Decision
+pub fn decide(
+    store: &[u64],
+    n: usize,
+    g: usize,
+    allowance: usize,
+    path: &mut [u16],
+) -> Result<Verdict, Refusal>
     ensures { CalledDecide store.now n g allowance path.old result path.new }
 {
-    let refused = decide_refusal(store, n, g, allowance, path.len());
-    if refused != 0 {
-        return Decision {
-            verdict: Verdict::Refused(refused),
-            invariant: StateSet::empty(),
-        };
-    }
+    accept_check(store, n, g, allowance, path.len())?;
     let initial = set_at(store, INITIAL_AT);
     let forbidden = forbidden(store, n);
-    let ended = run(
-        &store[ROWS_AT..],
+    let steps = Steps::of(store);
+    let ending = run(
+        steps,
         &store[GROUPS_AT..],
         g,
         n,
@@ -71,26 +76,16 @@ pub fn decide(store: &[u64], n: usize, g: usize, allowance: usize, path: &mut [u
         forbidden,
         allowance,
     );
-    let ending = ended.ending;
-    let invariant = ended.invariant;
-    match ending {
-        Ending::Safe(count) => Decision {
-            verdict: Verdict::Safe {
-                count,
-                size: invariant.count(),
-            },
+    Ok(match ending {
+        Ending::Safe { count, invariant } => Verdict::Safe {
+            count,
             invariant,
+            size: invariant.count(),
         },
-        Ending::Unsafe(count) => Decision {
-            verdict: Verdict::Unsafe {
-                count,
-                steps: steps_of(find_path(&store[ROWS_AT..], n, initial, forbidden, path)),
-            },
-            invariant,
+        Ending::Unsafe { count } => Verdict::Unsafe {
+            count,
+            steps: find_path(steps, n, initial, forbidden, path).unwrap_or(0),
         },
-        Ending::Undecided(count) => Decision {
-            verdict: Verdict::Undecided { count },
-            invariant,
-        },
-    }
+        Ending::Undecided { count } => Verdict::Undecided { count },
+    })
 }

@@ -2,18 +2,20 @@
 --
 --   distance_alike                        distances of tables that differ in groups and initial states alone
 --   store_distance                        so what all_distances says of a table without them is so of the store's table
+--   all_long                              there are distances of the first n states
 --   distances-refused, distances-short, distances-written     one of the shared grounds holds; the call's own does; neither
 use Prim.Native.Nat.{ℕ, ◌≤◌, ◌<◌}
 use native.Mathlib.Omega.{arith}
-use mathlib.Core.Path.{◌≡◌, refl, ap, ◌∙◌, fun_ext}
+use mathlib.Core.Path.{◌≡◌, refl, sym, ap, ap₂, ◌∙◌, fun_ext}
 use mathlib.Core.Bool.{cond}
-use mathlib.Core.List.{List, []}
+use mathlib.Core.List.{List, [], ◌++◌}
 use borrow.Author.Tests.{lt-ltb, le-ltb}
 use lib.Dec.{ltb}
-use lib.ListN.{length, get_or}
+use lib.ListN.{length, take, drop}
+use lib.Seq.{ext_get_or, length-take-le, get_or-take}
 use Rattle.basics.specs.Bounds.{first, tabulate}
 use Rattle.basics.specs.Refusals.{refuse}
-use Rattle.basics.proofs.BoundLaws.{get_or-tabulate, tabulate_cong}
+use Rattle.basics.proofs.BoundLaws.{length-tabulate, get_or-tabulate}
 use Rattle.model.specs.Sets.{max_states, Set, member, empty}
 use Rattle.model.specs.Tables.{Table}
 use Rattle.model.specs.Paths.{unreachable, distance}
@@ -24,7 +26,11 @@ use Rattle.core_rows.specs.Rows.{rows_of, groups_of, groups_in, table_on}
 use Rattle.call_paths.proofs.Groups.{reaching_alike, store_table_lem}
 use Rattle.call_paths.proofs.PathsAnswered.{call_refused, call_short, call_answered}
 use Rattle.call_distances.specs.Distances.{distances_grounds, distances_answer, distances_buffer, CalledDistances}
-use Rattle.call_distances.specs.declared.DistancesAnswer.TheVariants.{Written, Refused}
+use Rattle.core_refusals.specs.declared.Refusal.{Refusal}
+use Rattle.core_refusals.specs.declared.Refusal.TheVariants.{DistancesShort}
+use Rattle.core_refusals.specs.Refusals.{number}
+use Rattle.core_refusals.proofs.RefusalNumbers.{number_some}
+use Rattle.std.specs.Prelude.{Ok, Err}
 
 -- ---- what the distances do not read
 
@@ -42,23 +48,33 @@ module _ (store : List ℕ) (n g : ℕ) {F : Set} (f : F ≡ (table_of store n 0
 
 -- ---- the answers
 
+pub all_long : (f : ℕ → ℕ) {xs : List ℕ} {n : ℕ} → xs ≡ tabulate max_states f → n ≤ max_states → n ≤ length xs
+all_long f e l = rw (e, length-tabulate) l
+
 module _ (store : List ℕ) (n g : ℕ) (before : List ℕ) where
-  pub distances-refused : {k : ℕ} → k ≡ refuse (shared_grounds store n g) → (k ≡ 0 → ⊥) → CalledDistances store n g before (Refused k) before
+  pub distances-refused : (r : Refusal) → number r ≡ refuse (shared_grounds store n g) → CalledDistances store n g before (Err r) before
   unfolding distances_grounds distances_answer distances_buffer
-  distances-refused = call_refused store n g _ tt before _
+  distances-refused r e = call_refused store n g _ tt before _ e (number_some r)
 
   module _ (s : Store store n g) where
-    pub distances-short : length before < n → CalledDistances store n g before (Refused 23) before
+    pub distances-short : length before < n → CalledDistances store n g before (Err DistancesShort) before
     unfolding distances_grounds distances_answer distances_buffer
     distances-short l = call_short store n g _ tt before _ s (lt-ltb (length before) n l) (λ e. omega arith)
 
-    pub distances-written : {distances after : List ℕ} {F : Set} → n ≤ length before → F ≡ (table_of store n 0).forbidden
+    -- (front: what was copied, of the distances of all places)
+    pub distances-written : {distances front : List ℕ} {F : Set} → n ≤ length before → F ≡ (table_of store n 0).forbidden
         → distances ≡ tabulate max_states (distance (table_on n empty F [] (rows_of store)))
-        → after ≡ overwrite (tabulate n (λ i. get_or distances i 0)) before → CalledDistances store n g before Written after
-    unfolding distances_grounds distances_answer distances_buffer
-    distances-written {distances} l f d a =
-        let gives = call_answered store n g _ tt before _ s refl (le-ltb (length before) n l) in
+        → front ≡ take n distances → CalledDistances store n g before (Ok tt) (front ++ drop n before)
+    unfolding distances_grounds distances_answer distances_buffer overwrite
+    distances-written {distances} l f d e =
+        let long = all_long _ d s.small in
         let known =
-        tabulate_cong (λ i. get_or distances i 0) (distance (table_of store n g)) n
-        (λ i h. rw d (get_or-tabulate _ max_states i 0 (omega (arith, s.small)) ∙ store_distance store n g f i)) in
-        (gives.0, a ∙ ap (λ (xs : List ℕ). overwrite xs before) known ∙ gives.1)
+        ext_get_or 0 (take n distances) (tabulate n (distance (table_of store n g)))
+        (length-take-le n distances long ∙ sym (length-tabulate _ n))
+        (λ i h.
+        let below : i < n = omega (arith, length-take-le n distances long, h) in
+        get_or-take n distances i 0 below
+        ∙ rw d (get_or-tabulate _ max_states i 0 (omega (arith, s.small, below)) ∙ store_distance store n g f i)
+        ∙ sym (get_or-tabulate _ n i 0 below)) in
+        let gives = call_answered store n g _ tt before _ s refl (le-ltb (length before) n l) in
+        (gives.0, ap₂ (λ (xs : List ℕ) (k : ℕ). xs ++ drop k before) (e ∙ known) (sym (length-tabulate _ n)) ∙ gives.1)

@@ -33,7 +33,8 @@ use Rattle.model.proofs.StoresFirstWords.{same_call, same-buffer}
 use Rattle.call_distances.specs.Distances.{distances_grounds, distances_answer, distances_buffer, distances_of, CalledDistances}
 use Rattle.call_paths.specs.Within.{is_within, within_answer}
 use Rattle.call_distances.specs.DistancePromises.{DistanceIs, Measured, WithinIs, DistancePromises}
-use Rattle.call_distances.specs.declared.DistancesAnswer.{DistancesAnswer}
+use Rattle.core_refusals.specs.declared.Refusal.{Refusal}
+use Rattle.std.specs.Prelude.{Result}
 use Rattle.call_paths.proofs.Nearness.{within-some, some-within, reach_near, near_distance, within-reaching, within-shortest}
 
 -- ---- one table
@@ -79,7 +80,7 @@ record Written (store : List ℕ) (n g : ℕ) (before after : List ℕ) : Type 0
   room : n ≤ length before
   is : after ≡ overwrite (tabulate n (distance (table_of store n g))) before
 
-written : (store : List ℕ) (n g : ℕ) (before : List ℕ) (r : DistancesAnswer) (after : List ℕ) → CalledDistances store n g before r after
+written : (store : List ℕ) (n g : ℕ) (before : List ℕ) (r : Result (Unit {0}) Refusal) (after : List ℕ) → CalledDistances store n g before r after
     → distances_of r ≡ answered tt → Written store n g before after
 unfolding distances_grounds distances_answer distances_buffer
 written store n g before r after c e =

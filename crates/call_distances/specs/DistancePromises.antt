@@ -5,7 +5,7 @@
 --   WithinIs t k yes       what within says: a path of at most k steps; for k = 0 a state that is initial and forbidden
 --   FirstWords             two stores that neither call tells apart
 --   DistancePromises       all of it, of every call
-use Rattle.std.specs.Prelude.{ℕ, suc, ◌≤◌, ◌<◌, ◌≡◌, ◌↔◌, Bool, true, List, length, get_or, take}
+use Rattle.std.specs.Prelude.{ℕ, suc, ◌≤◌, ◌<◌, ◌≡◌, ◌↔◌, Bool, true, List, Result, length, get_or, take}
 use Rattle.model.specs.Sets.{member}
 use Rattle.model.specs.Tables.{Table}
 use Rattle.model.specs.Paths.{leads, is_path, unreachable}
@@ -13,8 +13,7 @@ use Rattle.basics.specs.Refusals.{refuse, refused, answered}
 use Rattle.model.specs.Stores.{store_words, table_of, shared_grounds}
 use Rattle.call_distances.specs.Distances.{distances_grounds, distances_answer, distances_buffer, distances_of, CalledDistances}
 use Rattle.call_paths.specs.Within.{within_answer, within_of, CalledWithin}
-use Rattle.call_distances.specs.declared.DistancesAnswer.{DistancesAnswer}
-use Rattle.call_paths.specs.declared.WithinAnswer.{WithinAnswer}
+use Rattle.core_refusals.specs.declared.Refusal.{Refusal}
 
 pub record DistanceIs (t : Table) (s d : ℕ) : Type 0 where
   -- from s so many steps lead to a forbidden state
@@ -40,17 +39,17 @@ pub record FirstWords (store other : List ℕ) : Type 0 where
 
 pub record DistancePromises : Type 0 where
   -- a refused call gives the number of the first ground that holds, and leaves its buffer
-  pub refusal : (store : List ℕ) (n g : ℕ) (before : List ℕ) (r : DistancesAnswer) (after : List ℕ) (k : ℕ)
+  pub refusal : (store : List ℕ) (n g : ℕ) (before : List ℕ) (r : Result (Unit {0}) Refusal) (after : List ℕ) (k : ℕ)
       → CalledDistances store n g before r after → distances_of r ≡ refused k
       → (k ≡ refuse (distances_grounds store n g (length before))) × (after ≡ before)
-  pub distances : (store : List ℕ) (n g : ℕ) (before : List ℕ) (r : DistancesAnswer) (after : List ℕ)
+  pub distances : (store : List ℕ) (n g : ℕ) (before : List ℕ) (r : Result (Unit {0}) Refusal) (after : List ℕ)
       → CalledDistances store n g before r after → distances_of r ≡ answered tt → Measured (table_of store n g) before after
-  pub within : (store : List ℕ) (n g k : ℕ) (r : WithinAnswer) (yes : Bool)
+  pub within : (store : List ℕ) (n g k : ℕ) (r : Result Bool Refusal) (yes : Bool)
       → CalledWithin store n g k r → within_of r ≡ answered yes → WithinIs (table_of store n g) k yes
-  pub within-refusal : (store : List ℕ) (n g k : ℕ) (r : WithinAnswer) (j : ℕ) → CalledWithin store n g k r → within_of r ≡ refused j
+  pub within-refusal : (store : List ℕ) (n g k : ℕ) (r : Result Bool Refusal) (j : ℕ) → CalledWithin store n g k r → within_of r ≡ refused j
       → j ≡ refuse (shared_grounds store n g)
   -- the two calls agree
-  pub agree : (store : List ℕ) (n g : ℕ) (before : List ℕ) (r : DistancesAnswer) (after : List ℕ) (k : ℕ) (w : WithinAnswer)
+  pub agree : (store : List ℕ) (n g : ℕ) (before : List ℕ) (r : Result (Unit {0}) Refusal) (after : List ℕ) (k : ℕ) (w : Result Bool Refusal)
       → CalledDistances store n g before r after → distances_of r ≡ answered tt → CalledWithin store n g k w
       → (within_of w ≡ answered true)
       ↔ ((s : ℕ) × (member (table_of store n g).initial s ≡ true) × (get_or after s 0 ≡ unreachable → ⊥) × (get_or after s 0 ≤ k))

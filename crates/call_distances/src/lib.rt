@@ -4,29 +4,26 @@
 //   mark                                 one number as the distance of each state of a set
 //   all_distances, sweep_transposed      the distance of each state, layer by layer from the forbidden states outward: by the rows; by the rows transposed
 //   transposing_pays                     when the second of these is quicker
-//   put_distances                        the distances of the first n states, at the front of a buffer
 //   distances                            the call
 //
 // What works on a table is lent its rows, and its sets by value; all_distances and sweep_transposed ask that the table is well formed. The call is lent
 // a store, works out its forbidden states once, and asks for nothing.
 #![tactic(auto)]
 
-ghost use Rattle.std.specs.Prelude.{◌≡◌, ◌≤◌, ◌<◌, length, get_or, []};
+ghost use Rattle.std.specs.Prelude.{◌≡◌, ◌≤◌, ◌<◌, []};
 ghost use Rattle.basics.specs.Bounds.{tabulate};
 ghost use Rattle.model.specs.Sets.{WORDS, max_states, empty};
 ghost use Rattle.model.specs.Paths.{distance};
-ghost use Rattle.model.specs.Calls.{overwrite};
-ghost use Rattle.core_state_set.specs.WordSets.{word_set};
-ghost use Rattle.core_rows.specs.Rows.{rows_words, table_on, map_at};
+ghost use Rattle.core_rows.specs.Rows.{table_on, map_at};
 ghost use Rattle.call_paths.specs.Search.{HoldsTable};
 ghost use Rattle.call_distances.specs.Transposing.{with_bit, predecessor_rows};
 ghost use Rattle.call_distances.specs.Distances.{CalledDistances};
 
 use call_paths::stepping_into;
-use core_refusals::DISTANCES_SHORT;
-use core_rows::{Rows, forbidden, row_at, union_of};
+use core_refusals::Refusal;
+use core_rows::{Rows, Steps, forbidden, union_of};
 use core_state_set::{MAX_STATES, StateSet, WORD_BITS, WORDS};
-use core_table::{ROWS_AT, refusal};
+use core_table::accept;
 
 // The distance of a state from which no forbidden state can be reached.
 pub const UNREACHABLE: u16 = 65535;
@@ -38,49 +35,23 @@ const LAYERS_BY_ROWS: u16 = 3;
 // A layer is thin where the rest is this many layers of its size: to transpose the rows takes as long as some tens of looks at each.
 const THIN: usize = 32;
 
-// s joins the predecessors of each of its successors that `bits` has in word w.
-fn join_word(before: &mut Rows, s: usize, w: usize, bits: u64)
-    requires { (s < max_states) × (w < WORDS) }
-    ensures { before.new ≡ map_at (word_set w bits) (with_bit s) [] before.old }
-{
-    let mut rest = bits;
-    while rest != 0 {
-        let u = WORD_BITS * w + u64::trailing_zeros(rest) as usize;
-        before[u][s / WORD_BITS] |= 1 << (s % WORD_BITS);
-        rest &= rest - 1;
-    }
-}
-
 // s joins the predecessors of each of its successors.
 fn join_predecessor(before: &mut Rows, s: usize, successors: StateSet)
     requires { s < max_states }
     ensures { before.new ≡ map_at successors.words (with_bit s) [] before.old }
 {
-    for w in 0..WORDS {
-        join_word(before, s, w, successors.words[w]);
+    for u in successors.states() {
+        before[u][s / WORD_BITS] |= 1 << (s % WORD_BITS);
     }
 }
 
 // Each of the first n states joins the predecessors of its successors.
-fn join_predecessors(before: &mut Rows, rows: &[u64], n: usize)
-    requires { (before.old ≡ predecessor_rows rows.now 0) × (n ≤ max_states) × (rows_words ≤ length rows.now) }
-    ensures { before.new ≡ predecessor_rows rows.now n }
+fn join_predecessors(before: &mut Rows, steps: Steps, n: usize)
+    requires { (before.old ≡ predecessor_rows steps.words.now 0) × (n ≤ max_states) }
+    ensures { before.new ≡ predecessor_rows steps.entry.words.now n }
 {
     for s in 0..n {
-        join_predecessor(before, s, row_at(rows, s));
-    }
-}
-
-// d is the distance of each state that `bits` has in word w.
-fn mark_word(distances: &mut [u16; MAX_STATES], w: usize, bits: u64, d: u16)
-    requires { w < WORDS }
-    ensures { distances.new ≡ map_at (word_set w bits) (λ _. d) 0 distances.old }
-{
-    let mut rest = bits;
-    while rest != 0 {
-        let s = WORD_BITS * w + u64::trailing_zeros(rest) as usize;
-        distances[s] = d;
-        rest &= rest - 1;
+        join_predecessor(before, s, steps.row(s));
     }
 }
 
@@ -88,23 +59,24 @@ fn mark_word(distances: &mut [u16; MAX_STATES], w: usize, bits: u64, d: u16)
 fn mark(distances: &mut [u16; MAX_STATES], layer: StateSet, d: u16)
     ensures { distances.new ≡ map_at layer.words (λ _. d) 0 distances.old }
 {
-    for w in 0..WORDS {
-        mark_word(distances, w, layer.words[w], d);
+    for s in layer.states() {
+        distances[s] = d;
     }
 }
 
 // The distance of each state by the rows transposed: the next layer is what steps into this one and is not found yet.
-fn sweep_transposed(rows: &[u64], n: usize, forbidden: StateSet) -> [u16; MAX_STATES]
-    requires { HoldsTable rows.now n empty forbidden.words }
-    ensures { result ≡ tabulate max_states (distance (table_on n empty forbidden.words [] rows.now)) }
+// kept: beside all_distances, which may begin again by this: in one loop the closure would give up by None
+fn sweep_transposed(steps: Steps, n: usize, forbidden: StateSet) -> [u16; MAX_STATES]
+    requires { HoldsTable steps.words.now n empty forbidden.words }
+    ensures { result ≡ tabulate max_states (distance (table_on n empty forbidden.words [] steps.entry.words.now)) }
 {
-    let none = [0; WORDS];
-    let mut before = [none; MAX_STATES];
-    join_predecessors(&mut before, rows, n);
+    let mut before = [[0; WORDS]; MAX_STATES];
+    join_predecessors(&mut before, steps, n);
     let mut distances = [UNREACHABLE; MAX_STATES];
     let mut found = forbidden;
     let mut layer = forbidden;
     let mut d: u16 = 0;
+    // kept: d beside the loop, whose test is of the layer; a range of u16 with a second exit is no plainer
     while !layer.is_empty() {
         mark(&mut distances, layer, d);
         layer = union_of(&before, layer).difference(found);
@@ -122,21 +94,22 @@ fn transposing_pays(d: u16, layer: StateSet, rest: StateSet) -> bool {
 
 // The distance of each state, layer by layer from the forbidden states outward: the next layer is what is left and steps into this one. Where that
 // would be many thin layers, the sweep begins again by the rows transposed, which look at each state once.
-pub fn all_distances(rows: &[u64], n: usize, forbidden: StateSet) -> [u16; MAX_STATES]
-    requires { HoldsTable rows.now n empty forbidden.words }
-    ensures { result ≡ tabulate max_states (distance (table_on n empty forbidden.words [] rows.now)) }
+pub fn all_distances(steps: Steps, n: usize, forbidden: StateSet) -> [u16; MAX_STATES]
+    requires { HoldsTable steps.words.now n empty forbidden.words }
+    ensures { result ≡ tabulate max_states (distance (table_on n empty forbidden.words [] steps.entry.words.now)) }
 {
     let mut distances = [UNREACHABLE; MAX_STATES];
     let mut found = forbidden;
     let mut layer = forbidden;
     let mut d = 0;
+    // kept: d beside the loop, as in sweep_transposed
     while !layer.is_empty() {
         let rest = StateSet::first_states(n).difference(found);
         if transposing_pays(d, layer, rest) {
-            return sweep_transposed(rows, n, forbidden);
+            return sweep_transposed(steps, n, forbidden);
         }
         mark(&mut distances, layer, d);
-        layer = stepping_into(rows, rest, layer);
+        layer = stepping_into(steps, rest, layer);
         found = found.union(layer);
         d += 1;
     }
@@ -145,35 +118,15 @@ pub fn all_distances(rows: &[u64], n: usize, forbidden: StateSet) -> [u16; MAX_S
 
 // ---- the call
 
-// The distances of the first n states, at the front of the buffer.
-fn put_distances(distances: &[u16; MAX_STATES], n: usize, out: &mut [u16])
-    requires { (n ≤ max_states) × (n ≤ length out.old) }
-    ensures { out.new ≡ overwrite (tabulate n (λ s. get_or distances.now s 0)) out.old }
-{
-    for s in 0..n {
-        out[s] = distances[s];
-    }
-}
-
-// What the call distances answers: that they are written, or why it is refused.
-#[derive(Clone, Copy)]
-pub enum DistancesAnswer {
-    Written,
-    Refused(u8),
-}
-
 // The distance of each state to the nearest forbidden one, UNREACHABLE where none can be reached; places past n stay.
-pub fn distances(store: &[u64], n: usize, g: usize, out: &mut [u16]) -> DistancesAnswer
+pub fn distances(store: &[u64], n: usize, g: usize, out: &mut [u16]) -> Result<(), Refusal>
     ensures { CalledDistances store.now n g out.old result out.new }
 {
-    let refused = refusal(store, n, g);
-    if refused != 0 {
-        return DistancesAnswer::Refused(refused);
-    }
+    accept(store, n, g)?;
     if out.len() < n {
-        return DistancesAnswer::Refused(DISTANCES_SHORT);
+        return Err(Refusal::DistancesShort);
     }
-    let known = all_distances(&store[ROWS_AT..], n, forbidden(store, n));
-    put_distances(&known, n, out);
-    DistancesAnswer::Written
+    let known = all_distances(Steps::of(store), n, forbidden(store, n));
+    out[..n].copy_from_slice(&known[..n]);
+    Ok(())
 }

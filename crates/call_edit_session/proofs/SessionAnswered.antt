@@ -5,38 +5,40 @@
 --   refuse-states                            where no ground holds that the calls share, that of the states decides
 --   accepted_open                            no ground of opening holds, so the store holds a table
 --   accepted                                 no ground holds, so the store holds a table, and both numbers are states of it
+--   in_range                                 so their step has its word in the store
 --   has_step_is, from_initial-is             the step's test; what the initial states reach
 --   reached-opened, reached-target           what the code works out over the words of a store
 --   after-added, after-removed, after-unreached        the set after an edit
 --   added-nothing, added_changes, removed-nothing, removed_changes     whether an edit changes nothing, by the step's test
 --   open_refused, open_answered              what opening answers
 --   edit-refused, edit-nothing, edit_changes     what an edit answers
---   grounds_of, called_of                    the same of a change of a step
-use Prim.Native.Nat.{ℕ, ◌<◌}
+use Rattle.std.specs.Prelude.{Ok, Err}
+use Prim.Native.Nat.{ℕ, ◌≤◌, ◌<◌}
 use native.Mathlib.Omega.{arith}
-use mathlib.Core.Path.{◌≡◌, refl, sym, ap, ◌∙◌, subst}
+use mathlib.Core.Path.{◌≡◌, refl, sym, ap, ◌∙◌, subst, subst₂}
 use mathlib.Core.Bool.{Bool, true, false, not, cond}
 use mathlib.Core.List.{List, [], ◌∷◌}
 use borrow.Author.Tests.{leb-false, lt-leb}
 use lib.Dec.{leb}
-use Rattle.basics.specs.Refusals.{Ground, refuse, Answered, refused, answered, answer, unless_refused}
-use Rattle.model.specs.Sets.{Set, member, empty, single, union, first_states}
-use Rattle.model.specs.Stores.{set_at, table_of, shared_grounds}
+use lib.ListN.{length}
+use Rattle.basics.specs.Refusals.{Ground, refuse, answered, answer, unless_refused}
+use Rattle.model.specs.Sets.{max_states, Set, member, single, union, first_states}
+use Rattle.model.specs.Stores.{store_words, set_at, table_of, shared_grounds}
 use Rattle.model.specs.Promises.{IsLeast}
 use Rattle.basics.proofs.BoundLaws.{or_false}
 use Rattle.model.proofs.SetsMembers.{in_first_states, single_in, in_subset, In}
 use Rattle.basics.proofs.RefusalLaws.{refuse-append, refuse-past, refuse_clear, answer-refused, answer-none}
 use Rattle.model.proofs.StoresAccepted.{Store, accepted_store, well_formed}
+use Rattle.core_refusals.specs.declared.Refusal.{Refusal}
+use Rattle.core_refusals.specs.Refusals.{number}
+use Rattle.core_refusals.proofs.RefusalNumbers.{number_some, answer_refused, answer_given}
+use Rattle.core_state_set.specs.declared.StateSet.{StateSet}
 use Rattle.core_rows.specs.Rows.{rows_of, row_in}
 use Rattle.core_rows.proofs.RowsLent.{row_of}
 use Rattle.core_reach.specs.Reached.{reach_by, reachable}
 use Rattle.core_reach.proofs.ReachWalks.{reaching}
-use Rattle.call_edit_session.specs.declared.Change.{Change}
-use Rattle.call_edit_session.specs.declared.Change.TheVariants.{Add, Remove}
-use Rattle.call_edit_session.specs.declared.Session.{Session}
-use Rattle.call_edit_session.specs.declared.Status.TheVariants.{Accepted, Refused}
 use Rattle.call_edit_session.specs.Edits.{Edit, add, remove, source, target, has_step, changes_nothing, edited, opened, reachable_after, open_answer, no_states, state_ground, edit_grounds, edit_answer, edit_buffer}
-use Rattle.call_edit_session.specs.SessionAnswers.{session_with, session_of, CalledOpen, edit_of, CalledEdit}
+use Rattle.call_edit_session.specs.SessionAnswers.{CalledOpen, CalledEdit}
 use Rattle.call_edit_session.proofs.RowsEdited.{edited_store}
 
 -- ---- refusals
@@ -47,38 +49,45 @@ both_states {n} {a} {b} h k = rw (lt-leb n a h, lt-leb n b k)
 pub no_states_lem : {n a b : ℕ} → no_states n a b ≡ false → (a < n) × (b < n)
 no_states_lem {n} {a} {b} q = let neither = or_false (leb n a) (leb n b) q in (leb-false n a neither.0, leb-false n b neither.1)
 
-pub refuse-shared : (store : List ℕ) (n g a b : ℕ) {k : ℕ} → k ≡ refuse (shared_grounds store n g) → (k ≡ 0 → ⊥) → k ≡ refuse (edit_grounds store n g a b)
+pub refuse-shared : (store : List ℕ) (n g a b : ℕ) (r : Refusal) → number r ≡ refuse (shared_grounds store n g) → number r ≡ refuse (edit_grounds store n g a b)
 unfolding edit_grounds
-refuse-shared store n g a b = refuse-append (shared_grounds store n g) (state_ground n a b ∷ [])
+refuse-shared store n g a b r e = refuse-append (shared_grounds store n g) (state_ground n a b ∷ []) e (number_some r)
 
-pub behind_shared : (store : List ℕ) (n g a b : ℕ) {j k : ℕ} → j ≡ refuse (shared_grounds store n g) → j ≡ 0 → k ≡ refuse (state_ground n a b ∷ [])
+pub behind_shared : (store : List ℕ) (n g a b : ℕ) {k : ℕ} → 0 ≡ refuse (shared_grounds store n g) → k ≡ refuse (state_ground n a b ∷ [])
     → k ≡ refuse (edit_grounds store n g a b)
 unfolding edit_grounds
-behind_shared store n g a b = refuse-past (shared_grounds store n g) (state_ground n a b ∷ []) refl
+behind_shared store n g a b z = refuse-past (shared_grounds store n g) (state_ground n a b ∷ []) refl z refl
 
 pub refuse-states : (store : List ℕ) (n g a b : ℕ) → refuse (shared_grounds store n g) ≡ 0 → refuse (edit_grounds store n g a b) ≡ cond (no_states n a b) 27 0
 unfolding refuse
-refuse-states store n g a b e = sym (behind_shared store n g a b (sym e) refl refl)
+refuse-states store n g a b e = sym (behind_shared store n g a b (sym e) refl)
 
-pub accepted_open : (store : List ℕ) (n g : ℕ) {k : ℕ} → k ≡ refuse (shared_grounds store n g) → k ≡ 0 → Store store n g
-accepted_open store n g e z = (accepted_store store n g [] (sym e ∙ z)).0
+pub accepted_open : (store : List ℕ) (n g : ℕ) → 0 ≡ refuse (shared_grounds store n g) → Store store n g
+accepted_open store n g z = (accepted_store store n g [] (sym z)).0
 
-pub accepted : (store : List ℕ) (n g a b : ℕ) {k : ℕ} → k ≡ refuse (edit_grounds store n g a b) → k ≡ 0 → Store store n g × (a < n) × (b < n)
+pub accepted : (store : List ℕ) (n g a b : ℕ) → 0 ≡ refuse (edit_grounds store n g a b) → Store store n g × (a < n) × (b < n)
 unfolding edit_grounds
-accepted store n g a b e z =
-    let parts = accepted_store store n g (state_ground n a b ∷ []) (sym e ∙ z) in
+accepted store n g a b z =
+    let parts = accepted_store store n g (state_ground n a b ∷ []) (sym z) in
     let states = no_states_lem (refuse_clear (state_ground n a b ∷ []) [] refl parts.1).0.0 in
     (parts.0, states.0, states.1)
 
+-- so both numbers are low enough, and the store long enough, for the step's word
+pub in_range : (store : List ℕ) (n g a b : ℕ) → 0 ≡ refuse (edit_grounds store n g a b)
+    → (a < max_states) × (b < max_states) × (store_words ≤ length store)
+in_range store n g a b z =
+    let held = accepted store n g a b z in
+    (omega (arith, held.1, held.0.small), omega (arith, held.2, held.0.small), held.0.long)
+
 -- ---- what the code works out over the words of a store
 
-pub has_step_is : (store : List ℕ) (a b : ℕ) {X : Set} {t : Bool} → t ≡ member X b → X ≡ row_in (rows_of store) a → t ≡ has_step store a b
+pub has_step_is : (store : List ℕ) (a b : ℕ) {R : List ℕ} {X : Set} {t : Bool} → R ≡ rows_of store → X ≡ row_in R a → t ≡ member X b → t ≡ has_step store a b
 unfolding has_step
-has_step_is store a b e q = e ∙ ap (λ (X : Set). member X b) (q ∙ row_of store a)
+has_step_is store a b r q e = e ∙ ap (λ (X : Set). member X b) (q ∙ ap (λ (xs : List ℕ). row_in xs a) r ∙ row_of store a)
 
-pub from_initial-is : (store : List ℕ) {S Y : Set} → S ≡ set_at store 0 → IsLeast (reach_by (rows_of store) S) Y
+pub from_initial-is : (store : List ℕ) {R : List ℕ} {S Y : Set} → R ≡ rows_of store → S ≡ set_at store 0 → IsLeast (reach_by R S) Y
     → IsLeast (reach_by (rows_of store) (set_at store 0)) Y
-from_initial-is store {Y = Y} q y = subst (λ (X : Set). IsLeast (reach_by (rows_of store) X) Y) q y
+from_initial-is store {Y = Y} r q y = subst₂ (λ (xs : List ℕ) (X : Set). IsLeast (reach_by xs X) Y) r q y
 
 module _ (store : List ℕ) (n g : ℕ) (held : Store store n g) where
   pub reached-opened : {Y : Set} → IsLeast (reach_by (rows_of store) (set_at store 0)) Y → Y ≡ opened (table_of store n g)
@@ -96,11 +105,12 @@ module _ (store : List ℕ) (n g : ℕ) (held : Store store n g) where
       reaching.reached-is store n g (single b) Y (well_formed store n g held) (in_subset inside) (subst (λ (Z : Set). IsLeast (reach_by (rows_of store) Z) Y) e y)
 
 module _ (store : List ℕ) (n g a b : ℕ) (X : Set) (held : Store store n g) (ha : a < n) (hb : b < n) {after : List ℕ} where
-  pub after-added : after ≡ edited store (add a b) → member X a ≡ true → {S Y Z : Set} → S ≡ single b → IsLeast (reach_by (rows_of after) S) Y → Z ≡ union X Y
+  pub after-added : after ≡ edited store (add a b) → member X a ≡ true → {R : List ℕ} {S Y Z : Set} → R ≡ rows_of after → S ≡ single b
+      → IsLeast (reach_by R S) Y → Z ≡ union X Y
       → Z ≡ reachable_after (table_of (edited store (add a b)) n g) X (add a b)
   unfolding reachable_after
-  after-added q m {S} {Y} p y z =
-      let least = subst (λ (xs : List ℕ). IsLeast (reach_by (rows_of xs) S) Y) q y in
+  after-added q m {S = S} {Y = Y} r p y z =
+      let least = subst (λ (xs : List ℕ). IsLeast (reach_by xs S) Y) (r ∙ ap rows_of q) y in
       rw m (z ∙ ap (union X) (reached-target (edited store (add a b)) n g (edited_store store n g (add a b) held ha hb) hb p least))
 
   pub after-removed : after ≡ edited store (remove a b) → {Y : Set} → IsLeast (reach_by (rows_of after) (set_at after 0)) Y
@@ -133,24 +143,14 @@ module _ (store : List ℕ) (a b : ℕ) {t : Bool} (e : t ≡ has_step store a b
 
 -- ---- answers
 
-module _ (r : Session) (D : Set) {x : Answered Set} where
-  -- a refused call, with the set D beside it
-  refused_beside : {k : ℕ} → x ≡ refused k → r.status ≡ Refused k → r.reachable.words ≡ D
-      → (session_of r ≡ x) × (r.reachable.words ≡ unless_refused D (λ Y. Y) x)
-  refused_beside e s d = (ap (λ v. session_with v r.reachable.words) s ∙ sym e, d ∙ sym (ap (unless_refused D (λ Y. Y)) e))
-
-  answered_beside : {X : Set} → x ≡ answered X → r.status ≡ Accepted → r.reachable.words ≡ X
-      → (session_of r ≡ x) × (r.reachable.words ≡ unless_refused D (λ Y. Y) x)
-  answered_beside e s d = (ap (λ v. session_with v r.reachable.words) s ∙ ap answered d ∙ sym e, d ∙ sym (ap (unless_refused D (λ Y. Y)) e))
-
-module _ (store : List ℕ) (n g : ℕ) (r : Session) {k : ℕ} (e : k ≡ refuse (shared_grounds store n g)) where
-  pub open_refused : (k ≡ 0 → ⊥) → r.status ≡ Refused k → r.reachable.words ≡ empty → CalledOpen store n g r
+module _ (store : List ℕ) (n g : ℕ) where
+  pub open_refused : (r : Refusal) → number r ≡ refuse (shared_grounds store n g) → CalledOpen store n g (Err r)
   unfolding open_answer
-  open_refused f = refused_beside r empty (answer-refused (shared_grounds store n g) _ e f)
+  open_refused r e = answer_refused (λ (X : StateSet). X.words) (shared_grounds store n g) _ r e
 
-  pub open_answered : k ≡ 0 → r.status ≡ Accepted → r.reachable.words ≡ opened (table_of store n g) → CalledOpen store n g r
+  pub open_answered : (X : StateSet) → 0 ≡ refuse (shared_grounds store n g) → X.words ≡ opened (table_of store n g) → CalledOpen store n g (Ok X)
   unfolding open_answer
-  open_answered z = answered_beside r empty (answer-none (shared_grounds store n g) _ refl (sym e ∙ z))
+  open_answered X z q = answer_given (λ (X : StateSet). X.words) (shared_grounds store n g) _ X refl z q
 
 module _ (store : List ℕ) (n g : ℕ) (d : Edit) where
   abbrev pub grounds : List Ground
@@ -171,34 +171,21 @@ module _ (store : List ℕ) (n g : ℕ) (d : Edit) where
   unfolding edit_buffer
   buffer-answered z = ap (unless_refused store (λ xs. xs)) (given _ z)
 
-  module _ (X : Set) (r : Session) (after : List ℕ) {k : ℕ} (e : k ≡ refuse grounds) where
-    pub edit-refused : (k ≡ 0 → ⊥) → r.status ≡ Refused k → r.reachable.words ≡ X → after ≡ store → CalledEdit store n g X d r after
+  module _ (X : Set) (after : List ℕ) where
+    pub edit-refused : (r : Refusal) → number r ≡ refuse grounds → after ≡ store → CalledEdit store n g X d (Err r) after
     unfolding edit_answer
-    edit-refused f s x b =
-        let both = refused_beside r X (answer-refused grounds _ e f) s x in
-        (both.0, both.1, b ∙ sym (buffer-refused (λ q. f (e ∙ q))))
+    edit-refused r e b =
+        (answer_refused (λ (Y : StateSet). Y.words) grounds _ r e, b ∙ sym (buffer-refused (λ q. number_some r (e ∙ q))))
 
-    module _ (z : k ≡ 0) (s : r.status ≡ Accepted) where
-      edit-answered : r.reachable.words ≡ cond (changes_nothing store d) X (reachable_after (table_of (edited store d) n g) X d) → after ≡ store_after → CalledEdit store n g X d r after
+    module _ (Y : StateSet) (z : 0 ≡ refuse grounds) where
+      edit-answered : Y.words ≡ cond (changes_nothing store d) X (reachable_after (table_of (edited store d) n g) X d) → after ≡ store_after
+          → CalledEdit store n g X d (Ok Y) after
       unfolding edit_answer
-      edit-answered x b =
-          let both = answered_beside r X (given _ (sym e ∙ z)) s x in
-          (both.0, both.1, b ∙ sym (buffer-answered (sym e ∙ z)))
+      edit-answered x b = (ap answered x ∙ sym (given _ (sym z)), b ∙ sym (buffer-answered (sym z)))
 
-      pub edit-nothing : changes_nothing store d ≡ true → r.reachable.words ≡ X → after ≡ store → CalledEdit store n g X d r after
+      pub edit-nothing : changes_nothing store d ≡ true → Y.words ≡ X → after ≡ store → CalledEdit store n g X d (Ok Y) after
       edit-nothing c x b = edit-answered (rw c x) (rw c b)
 
-      pub edit_changes : changes_nothing store d ≡ false → r.reachable.words ≡ reachable_after (table_of (edited store d) n g) X d → after ≡ edited store d
-          → CalledEdit store n g X d r after
+      pub edit_changes : changes_nothing store d ≡ false → Y.words ≡ reachable_after (table_of (edited store d) n g) X d → after ≡ edited store d
+          → CalledEdit store n g X d (Ok Y) after
       edit_changes c x b = edit-answered (rw c x) (rw c b)
-
--- ---- a change of a step, by the code's name for it
-
-module _ (store : List ℕ) (n g a b : ℕ) where
-  pub grounds_of : (change : Change) {k : ℕ} → k ≡ refuse (edit_grounds store n g a b) → k ≡ refuse (grounds store n g (edit_of change a b))
-  grounds_of Add e = e
-  grounds_of Remove e = e
-
-  pub called_of : (X : Set) (r : Session) (after : List ℕ) {change : Change} (kind : Change) → change ≡ kind → CalledEdit store n g X (edit_of kind a b) r after
-      → CalledEdit store n g X (edit_of change a b) r after
-  called_of X r after kind q c = subst (λ (k : Change). CalledEdit store n g X (edit_of k a b) r after) (sym q) c

@@ -12,9 +12,8 @@ use Rattle.model.specs.Sets.{Set, member, single, union}
 use Rattle.model.specs.Stores.{table_of}
 use Rattle.model.proofs.StoresTables.{row_is}
 use Rattle.core_reach.specs.Reached.{reachable}
-use Rattle.call_edit_session.specs.declared.Session.{Session}
 use Rattle.call_edit_session.specs.Edits.{Edit, add, remove, source, target, adds, has_step, edited, opened, reachable_after}
-use Rattle.call_edit_session.specs.SessionAnswers.{session_of, CalledEdit}
+use Rattle.call_edit_session.specs.SessionAnswers.{Session, session_of, CalledEdit}
 use Rattle.call_edit_session.proofs.SessionAnswered.{accepted, grounds}
 use Rattle.call_edit_session.proofs.SessionEdits.{of_edit, nothing_has, changes_has}
 
@@ -30,12 +29,12 @@ module _ (store : List ℕ) (n g : ℕ) (X : Set) (e : Edit) (r : Session) (afte
 
   there-is : refuse (grounds store n g e) ≡ 0 → there ≡ has_step store (source e) (target e)
   unfolding has_step
-  there-is z = ap (λ (Z : Set). member Z (target e)) (row_is store n g (source e) (accepted store n g (source e) (target e) refl z).1)
+  there-is z = ap (λ (Z : Set). member Z (target e)) (row_is store n g (source e) (accepted store n g (source e) (target e) (sym z)).1)
 
   of_answered : (P : Set → List ℕ → Type 0) → (there ≡ adds e → P X store)
       → (there ≡ not (adds e) → P (reachable_after (table_of (edited store e) n g) X e) (edited store e)) → P Y after
   of_answered P same changed =
-      subst (P Y) (sym call.2)
+      subst (P Y) (sym call.1)
       (of_edit store n g X e (λ v xs. v ≡ answered Y → P Y xs)
       (λ f p. absurd (answered_not_refused (sym p)))
       (λ z m p. subst (λ (Z : Set). P Z store) (answered-is p) (same (there-is z ∙ nothing_has store e m)))

@@ -183,4 +183,4 @@ pub edit-leaves : (store : List ℕ) (n g : ℕ) (X : Set) (e : Edit) → no_sta
     → (unless_refused X (λ Y. Y) (edit_answer store n g X e) ≡ X) × (edit_buffer store n g e ≡ store)
 edit-leaves store n g X e q =
     of_edit store n g X e (λ a after. (unless_refused X (λ Y. Y) a ≡ X) × (after ≡ store)) (λ f. (refl, refl)) (λ z m. (refl, refl))
-    (λ z m. let states = accepted store n g (source e) (target e) refl z in absurd (clash q (both_states states.1 states.2)))
+    (λ z m. let states = accepted store n g (source e) (target e) (sym z) in absurd (clash q (both_states states.1 states.2)))

@@ -40,10 +40,10 @@ module _ (store other : List ℕ) (long : store_words ≤ length store) (long' :
 
   module _ (n g : ℕ) (e : Edit) (z : refuse (grounds store n g e) ≡ 0) where
     states : Store store n g × (source e < n) × (target e < n)
-    states = accepted store n g (source e) (target e) refl z
+    states = accepted store n g (source e) (target e) (sym z)
 
     states' : Store other n g × (source e < n) × (target e < n)
-    states' = accepted other n g (source e) (target e) refl (sym (refusal-same n g e) ∙ z)
+    states' = accepted other n g (source e) (target e) (sym z ∙ refusal-same n g e)
 
     low : source e < max_states
     low = omega (arith, states.1, states.0.small)

@@ -25,9 +25,8 @@ use Rattle.basics.proofs.BoundLaws.{or_false, clash, decided, by_cond}
 use Rattle.model.proofs.SetsMembers.{in_subset, in_union}
 use Rattle.basics.proofs.RefusalLaws.{clear_refuse, answer-refused, answered_not_refused, answered_clear, answered-is, answered_value, refused-is}
 use Rattle.model.proofs.StoresAccepted.{Store, accepted_store, store_accepted, well_formed}
-use Rattle.call_edit_session.specs.declared.Session.{Session}
 use Rattle.call_edit_session.specs.Edits.{Edit, add, remove, source, target, changes_nothing, edited, opened, reachable_after, open_answer, no_states, edit_answer}
-use Rattle.call_edit_session.specs.SessionAnswers.{session_of, CalledOpen, CalledEdit}
+use Rattle.call_edit_session.specs.SessionAnswers.{Session, session_of, held_after, CalledOpen, CalledEdit}
 use Rattle.call_edit_session.specs.SessionPromises.{in_row, names, step_after, counted, Ran, SessionIs, SessionPromises}
 use Rattle.call_edit_session.proofs.RowsEdited.{Outside, set_step_word, clear_step_word, edited_store, step_added}
 use Rattle.call_edit_session.proofs.SessionReached.{reachable-within, target-same}
@@ -45,15 +44,15 @@ outside-row s i e =
 
 module _ (n g : ℕ) where
   call_keeps : (store : List ℕ) (X : Set) (e : Edit) (r : Session) (after : List ℕ) → CalledEdit store n g X e r after
-      → Store store n g → X ≡ opened (table_of store n g) → no_states n (source e) (target e) ≡ false → Kept n g store e r.reachable.words after
+      → Store store n g → X ≡ opened (table_of store n g) → no_states n (source e) (target e) ≡ false → Kept n g store e (held_after X r) after
   call_keeps store X e r after c held x q =
-      subst₂ (Kept n g store e) (sym c.1) (sym c.2) (edit-keeps store n g X e held x q)
+      subst₂ (Kept n g store e) (sym (ap (unless_refused X (λ Y. Y)) c.0)) (sym c.1) (edit-keeps store n g X e held x q)
 
   call_leaves : (store : List ℕ) (X : Set) (e : Edit) (r : Session) (after : List ℕ) → CalledEdit store n g X e r after
-      → no_states n (source e) (target e) ≡ true → (r.reachable.words ≡ X) × (after ≡ store)
+      → no_states n (source e) (target e) ≡ true → (held_after X r ≡ X) × (after ≡ store)
   call_leaves store X e r after c q =
       let left = edit-leaves store n g X e q in
-      (c.1 ∙ left.0, c.2 ∙ left.1)
+      (ap (unless_refused X (λ Y. Y)) c.0 ∙ left.0, c.1 ∙ left.1)
 
   run-keeps : (es : List Edit) (store : List ℕ) (X : Set) (after : List ℕ) (Y : Set) → Ran n g store X es after Y
       → Store store n g → X ≡ opened (table_of store n g) → SessionIs n g store (counted n es) after Y
@@ -74,12 +73,12 @@ module _ (n g : ℕ) where
       (λ q.
       let left = call_leaves store X e r next c.2 q in
       subst (λ (xs : List ℕ). SessionIs n g xs (counted n es) after Y) left.1
-      (run-keeps es next r.reachable.words after Y c.3
+      (run-keeps es next (held_after X r) after Y c.3
       (subst (λ (xs : List ℕ). Store xs n g) (sym left.1) held)
       (left.0 ∙ x ∙ ap (λ (xs : List ℕ). opened (table_of xs n g)) (sym left.1))))
       (λ q.
       let kept = call_keeps store X e r next c.2 held x q in
-      let rest = run-keeps es next r.reachable.words after Y c.3 kept.held kept.reachable-is in
+      let rest = run-keeps es next (held_after X r) after Y c.3 kept.held kept.reachable-is in
       record {
         reachable-is = rest.reachable-is;
         steps = λ a b ha hb. rest.steps a b ha hb ∙ ap (step_after (counted n es) a b) (kept.steps a b ha hb);
@@ -96,13 +95,13 @@ module _ (store : List ℕ) (n g : ℕ) (r : Session) where
   opened-is : (X : Set) → CalledOpen store n g r → session_of r ≡ answered X → Store store n g × (X ≡ opened (table_of store n g))
   unfolding open_answer
   opened-is X c e =
-      let gives = sym c.0 ∙ e in
+      let gives = sym c ∙ e in
       let all = shared_grounds store n g in
       ((accepted_store store n g [] (clear_refuse all (answered_clear all _ gives))).0, answered_value all _ gives)
 
-  open_no : (k : ℕ) → CalledOpen store n g r → session_of r ≡ refused k → (k ≡ refuse (shared_grounds store n g)) × (r.reachable.words ≡ empty)
+  open_no : (k : ℕ) → CalledOpen store n g r → session_of r ≡ refused k → (k ≡ refuse (shared_grounds store n g)) × (held_after empty r ≡ empty)
   unfolding open_answer
-  open_no k c e = let gives = sym c.0 ∙ e in (refused-is (shared_grounds store n g) _ gives, c.1 ∙ ap (unless_refused empty (λ X. X)) gives)
+  open_no k c e = (refused-is (shared_grounds store n g) _ (sym c ∙ e), ap (unless_refused empty (λ X. X)) e)
 
 -- the word of a step is the only one that changes
 word_same : (store : List ℕ) (n g : ℕ) (e : Edit) → Bounded (2 ^ 64) store → Store store n g → source e < n → target e < n
@@ -116,18 +115,18 @@ word_same store n g (remove a b) fits held ha hb i ne =
 
 module _ (store : List ℕ) (n g : ℕ) (X : Set) (e : Edit) (r : Session) (after : List ℕ) where
   edit_no : (k : ℕ) → CalledEdit store n g X e r after → session_of r ≡ refused k
-      → (k ≡ refuse (grounds store n g e)) × (r.reachable.words ≡ X) × (after ≡ store)
+      → (k ≡ refuse (grounds store n g e)) × (held_after X r ≡ X) × (after ≡ store)
   unfolding edit_answer
   edit_no k c q =
       let gives = sym c.0 ∙ q in (
         refused-is (grounds store n g e) _ gives,
-        c.1 ∙ ap (unless_refused X (λ Y. Y)) gives,
-        c.2
+        ap (unless_refused X (λ Y. Y)) q,
+        c.1
             ∙ of_edit store n g X e (λ a xs. a ≡ refused k → xs ≡ store) (λ f p. refl) (λ z m p. refl) (λ z m p. absurd (answered_not_refused p)) gives,
       )
 
   edit_where : CalledEdit store n g X e r after → AcceptedStore store n g
-      → session_of r ≡ cond (no_states n (source e) (target e)) (refused 27) (answered r.reachable.words)
+      → session_of r ≡ cond (no_states n (source e) (target e)) (refused 27) (answered (held_after X r))
   unfolding edit_answer
   edit_where c a =
       let number = refuse-states store n g (source e) (target e) a in
@@ -136,24 +135,24 @@ module _ (store : List ℕ) (n g : ℕ) (X : Set) (e : Edit) (r : Session) (afte
       rw q (c.0 ∙ answer-refused (grounds store n g e) _ (sym (rw q at number)) (λ z. omega arith)))
       (λ (q : no_states n (source e) (target e) ≡ false).
       let gives = given store n g e _ (rw q at number) in
-      rw q (c.0 ∙ gives ∙ ap answered (sym (c.1 ∙ ap (unless_refused X (λ Y. Y)) gives))))
+      rw q (c.0 ∙ gives ∙ ap answered (sym (ap (unless_refused X (λ Y. Y)) (c.0 ∙ gives)))))
       (decided (no_states n (source e) (target e)))
 
   word_kept : CalledEdit store n g X e r after → Bounded (2 ^ 64) store
       → (i : ℕ) → (i ≡ row_at (source e) + target e / 64 → ⊥) → get_or after i 0 ≡ get_or store i 0
   word_kept c fits i ne =
-      ap (λ (xs : List ℕ). get_or xs i 0) c.2
+      ap (λ (xs : List ℕ). get_or xs i 0) c.1
       ∙ of_edit store n g X e (λ a xs. get_or xs i 0 ≡ get_or store i 0) (λ f. refl) (λ z m. refl)
       (λ z m.
-      let states = accepted store n g (source e) (target e) refl z in
+      let states = accepted store n g (source e) (target e) (sym z) in
       word_same store n g e fits states.0 states.1 states.2 i ne)
 
 set-kept : (store : List ℕ) (n g : ℕ) (X : Set) (a b : ℕ) (r : Session) (after : List ℕ) → CalledEdit store n g X (add a b) r after
-    → subset X r.reachable.words ≡ true
+    → subset X (held_after X r) ≡ true
 unfolding reachable_after
 set-kept store n g X a b r after c =
     let all : subset X X ≡ true = in_subset (λ s h. h) in
-    ap (subset X) c.1
+    ap (λ v. subset X (unless_refused X (λ Y. Y) v)) c.0
     ∙ of_edit store n g X (add a b) (λ v xs. subset X (unless_refused X (λ Y. Y) v) ≡ true) (λ f. all) (λ z m. all)
     (λ z m. by_cond (λ (Y : Set). subset X Y ≡ true) (member X a) _ _ (λ q. in_subset (λ s h. in_union (inl h))) (λ q. all))
 
@@ -164,7 +163,7 @@ set-within store n g X a b r after Y c e new =
     of_edit store n g X (remove a b) (λ v xs. v ≡ answered Y → subset Y (first_states n) ≡ true)
     (λ f q. absurd (answered_not_refused (sym q))) (λ z m q. absurd (clash m new))
     (λ z m q.
-    let states = accepted store n g a b refl z in
+    let states = accepted store n g a b (sym z) in
     let ok = well_formed (edited store (remove a b)) n g (edited_store store n g (remove a b) states.0 states.1 states.2) in
     subst (λ (Z : Set). subset Z (first_states n) ≡ true) (answered-is q)
     (in_subset (reachable-within (table_of (edited store (remove a b)) n g) _ ok ok.initial)))
@@ -185,7 +184,7 @@ promises =
       keeps = set-kept;
       drops = set-within;
       target_reaches = λ store n g a b z.
-          let states = accepted store n g a b refl z in
+          let states = accepted store n g a b (sym z) in
           target-same (step_added store n g a b states.0 states.1 states.2) (well_formed store n g states.0)
           (well_formed (edited store (add a b)) n g (edited_store store n g (add a b) states.0 states.1 states.2));
       first-words = first-words;

@@ -14,9 +14,8 @@ use Rattle.model.specs.Sets.{WORDS, Set, member, empty, single, union, subset, f
 use Rattle.model.specs.Stores.{store_words, row_at, table_of, shared_grounds, AcceptedStore}
 use Rattle.model.specs.RoundTrip.{Bounded}
 use Rattle.core_reach.specs.Reached.{reachable}
-use Rattle.call_edit_session.specs.declared.Session.{Session}
 use Rattle.call_edit_session.specs.Edits.{Edit, add, remove, source, target, adds, changes_nothing, edited, opened, open_answer, no_states, edit_grounds, edit_answer, edit_buffer}
-use Rattle.call_edit_session.specs.SessionAnswers.{session_of, CalledOpen, CalledEdit}
+use Rattle.call_edit_session.specs.SessionAnswers.{Session, session_of, held_after, CalledOpen, CalledEdit}
 
 unfoldable pub in_row : ℕ → ℕ → Bool
 in_row s i = leb (row_at s) i && ltb i (row_at s + WORDS)
@@ -38,7 +37,7 @@ counted n (e ∷ es) = cond (no_states n (source e) (target e)) (counted n es) (
 abbrev pub Ran : ℕ → ℕ → List ℕ → Set → List Edit → List ℕ → Set → Type 0
 Ran n g store X [] after Y = (after ≡ store) × (Y ≡ X)
 Ran n g store X (e ∷ es) after Y =
-    (r : Session) × (next : List ℕ) × CalledEdit store n g X e r next × Ran n g next r.reachable.words es after Y
+    (r : Session) × (next : List ℕ) × CalledEdit store n g X e r next × Ran n g next (held_after X r) es after Y
 
 pub record SessionIs (n g : ℕ) (store : List ℕ) (es : List Edit) (after : List ℕ) (Y : Set) : Type 0 where
   -- the set is the one worked out afresh from the table as edited
@@ -63,14 +62,14 @@ pub record SessionPromises : Type 0 where
   -- a refused call gives the number of the first ground that holds; an opening the empty set, an edit the set that it was handed, and the store
   -- is as it was
   pub open_refusal : (store : List ℕ) (n g : ℕ) (r : Session) (k : ℕ) → CalledOpen store n g r → session_of r ≡ refused k
-      → (k ≡ refuse (shared_grounds store n g)) × (r.reachable.words ≡ empty)
+      → (k ≡ refuse (shared_grounds store n g)) × (held_after empty r ≡ empty)
   pub edit-refusal : (store : List ℕ) (n g : ℕ) (X : Set) (e : Edit) (r : Session) (after : List ℕ) (k : ℕ)
       → CalledEdit store n g X e r after → session_of r ≡ refused k
-      → (k ≡ refuse (edit_grounds store n g (source e) (target e))) × (r.reachable.words ≡ X) × (after ≡ store)
+      → (k ≡ refuse (edit_grounds store n g (source e) (target e))) × (held_after X r ≡ X) × (after ≡ store)
   -- where opening would be accepted, an edit is refused exactly if either state number is n or more, with 27; so every edit of a table without states
   pub refused_where : (store : List ℕ) (n g : ℕ) (X : Set) (e : Edit) (r : Session) (after : List ℕ)
       → CalledEdit store n g X e r after → AcceptedStore store n g
-      → session_of r ≡ cond (no_states n (source e) (target e)) (refused 27) (answered r.reachable.words)
+      → session_of r ≡ cond (no_states n (source e) (target e)) (refused 27) (answered (held_after X r))
   -- one word at most changes: that of the step
   pub one_word : (store : List ℕ) (n g : ℕ) (X : Set) (e : Edit) (r : Session) (after : List ℕ)
       → CalledEdit store n g X e r after → Bounded (2 ^ 64) store
@@ -91,7 +90,7 @@ pub record SessionPromises : Type 0 where
       → Y ≡ opened (table_of after n g)
   -- an addition keeps what was handed in, states from n up among it; a removal that takes a step out gives states of the table only
   pub keeps : (store : List ℕ) (n g : ℕ) (X : Set) (a b : ℕ) (r : Session) (after : List ℕ)
-      → CalledEdit store n g X (add a b) r after → subset X r.reachable.words ≡ true
+      → CalledEdit store n g X (add a b) r after → subset X (held_after X r) ≡ true
   pub drops : (store : List ℕ) (n g : ℕ) (X : Set) (a b : ℕ) (r : Session) (after : List ℕ) (Y : Set)
       → CalledEdit store n g X (remove a b) r after → session_of r ≡ answered Y → changes_nothing store (remove a b) ≡ false
       → subset Y (first_states n) ≡ true

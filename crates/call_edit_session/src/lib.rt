@@ -4,33 +4,32 @@
 //   has_step                     whether a step exists
 //   set_step, clear_step         its bit set, or cleared, in the store
 //   from_initial                 what the initial states reach
-//   edit_refusal                 the first of the grounds 10, 14, 15, 17 and 27 that holds, or 0
-//   Status, Session              what a call answers
-//   edit                         a step added or removed
+//   accept_edit                  refuses by the first of the grounds 10, 14, 15, 17 and 27 that holds
 //   open, add_step, remove_step  the calls
 #![tactic(auto)]
 
 ghost use Rattle.std.specs.Prelude.{◌≡◌, ◌≤◌, ◌<◌, length};
 ghost use Rattle.model.specs.Sets.{max_states};
 ghost use Rattle.basics.specs.Refusals.{refuse};
+ghost use Rattle.core_refusals.specs.Refusals.{number_of};
 ghost use Rattle.model.specs.Stores.{store_words, set_at};
 ghost use Rattle.model.specs.Promises.{IsLeast};
 ghost use Rattle.core_rows.specs.Rows.{rows_of};
 ghost use Rattle.core_reach.specs.Reached.{reach_by};
 ghost use Rattle.call_edit_session.specs.Edits.{add, remove, has_step, edited, edit_grounds};
-ghost use Rattle.call_edit_session.specs.SessionAnswers.{CalledOpen, edit_of, CalledEdit};
+ghost use Rattle.call_edit_session.specs.SessionAnswers.{CalledOpen, CalledEdit};
 
 use core_reach::reached;
-use core_refusals::STEP_STATE;
-use core_rows::row_at;
+use core_refusals::Refusal;
+use core_rows::Steps;
 use core_state_set::{StateSet, WORD_BITS, WORDS};
-use core_table::{INITIAL_AT, ROWS_AT, refusal, set_at};
+use core_table::{INITIAL_AT, ROWS_AT, accept, set_at};
 
 fn has_step(store: &[u64], from: usize, to: usize) -> bool
     requires { (from < max_states) × (store_words ≤ length store.now) }
     ensures { result ≡ has_step store.now from to }
 {
-    row_at(&store[ROWS_AT..], from).contains(to)
+    Steps::of(store).row(from).contains(to)
 }
 
 // The bit of the step, in its one word.
@@ -53,121 +52,28 @@ fn from_initial(store: &[u64]) -> StateSet
     requires { store_words ≤ length store.now }
     ensures { IsLeast (reach_by (rows_of store.now) (set_at store.now 0)) result.words }
 {
-    reached(&store[ROWS_AT..], set_at(store, INITIAL_AT))
+    reached(Steps::of(store), set_at(store, INITIAL_AT))
 }
 
-// Why an edit is refused, or 0.
-fn edit_refusal(store: &[u64], n: usize, g: usize, from: usize, to: usize) -> u8
-    ensures { result ≡ refuse (edit_grounds store.now n g from to) }
+// Whether an edit is accepted.
+fn accept_edit(store: &[u64], n: usize, g: usize, from: usize, to: usize) -> Result<(), Refusal>
+    ensures { number_of result ≡ refuse (edit_grounds store.now n g from to) }
 {
-    let shared = refusal(store, n, g);
-    if shared != 0 {
-        return shared;
+    accept(store, n, g)?;
+    if n <= from || n <= to {
+        return Err(Refusal::StepState);
     }
-    if n <= from {
-        return STEP_STATE;
-    }
-    if n <= to {
-        return STEP_STATE;
-    }
-    0
+    Ok(())
 }
 
-#[derive(Clone, Copy)]
-pub enum Status {
-    Accepted,
-    Refused(u8),
-}
-
-// What a call answers. Where it is refused the set is the one that was handed in, and of an opening the empty one.
-#[derive(Clone, Copy)]
-pub struct Session {
-    pub reachable: StateSet,
-    pub status: Status,
-}
-
-pub fn open(store: &[u64], n: usize, g: usize) -> Session
+pub fn open(store: &[u64], n: usize, g: usize) -> Result<StateSet, Refusal>
     ensures { CalledOpen store.now n g result }
 {
-    let refused = refusal(store, n, g);
-    if refused != 0 {
-        return Session {
-            reachable: StateSet::empty(),
-            status: Status::Refused(refused),
-        };
-    }
-    let reachable = from_initial(store);
-    Session {
-        reachable,
-        status: Status::Accepted,
-    }
+    accept(store, n, g)?;
+    Ok(from_initial(store))
 }
 
-// What is done to a step.
-#[derive(Clone, Copy)]
-enum Change {
-    Add,
-    Remove,
-}
-
-// A step added or removed. Nothing is pruned at states of the set that was handed in: it need not have the steps out of them.
-fn edit(
-    store: &mut [u64],
-    n: usize,
-    g: usize,
-    reachable: StateSet,
-    change: Change,
-    from: usize,
-    to: usize,
-) -> Session
-    ensures { CalledEdit store.old n g reachable.words (edit_of change from to) result store.new }
-{
-    let refused = edit_refusal(store, n, g, from, to);
-    if refused != 0 {
-        return Session {
-            reachable,
-            status: Status::Refused(refused),
-        };
-    }
-    let exists = has_step(store, from, to);
-    match change {
-        Change::Add => {
-            if exists {
-                return Session {
-                    reachable,
-                    status: Status::Accepted,
-                };
-            }
-            set_step(store, from, to);
-            if !reachable.contains(from) {
-                return Session {
-                    reachable,
-                    status: Status::Accepted,
-                };
-            }
-            let found = reached(&store[ROWS_AT..], StateSet::single(to));
-            Session {
-                reachable: reachable.union(found),
-                status: Status::Accepted,
-            }
-        }
-        Change::Remove => {
-            if !exists {
-                return Session {
-                    reachable,
-                    status: Status::Accepted,
-                };
-            }
-            clear_step(store, from, to);
-            let found = from_initial(store);
-            Session {
-                reachable: found,
-                status: Status::Accepted,
-            }
-        }
-    }
-}
-
+// From a state outside the set nothing is looked at: the set need not have the states that it leads to.
 pub fn add_step(
     store: &mut [u64],
     n: usize,
@@ -175,10 +81,19 @@ pub fn add_step(
     reachable: StateSet,
     from: usize,
     to: usize,
-) -> Session
+) -> Result<StateSet, Refusal>
     ensures { CalledEdit store.old n g reachable.words (add from to) result store.new }
 {
-    edit(store, n, g, reachable, Change::Add, from, to)
+    accept_edit(store, n, g, from, to)?;
+    if has_step(store, from, to) {
+        return Ok(reachable);
+    }
+    set_step(store, from, to);
+    if !reachable.contains(from) {
+        return Ok(reachable);
+    }
+    let found = reached(Steps::of(store), StateSet::single(to));
+    Ok(reachable.union(found))
 }
 
 pub fn remove_step(
@@ -188,8 +103,14 @@ pub fn remove_step(
     reachable: StateSet,
     from: usize,
     to: usize,
-) -> Session
+) -> Result<StateSet, Refusal>
     ensures { CalledEdit store.old n g reachable.words (remove from to) result store.new }
 {
-    edit(store, n, g, reachable, Change::Remove, from, to)
+    accept_edit(store, n, g, from, to)?;
+    if !has_step(store, from, to) {
+        return Ok(reachable);
+    }
+    clear_step(store, from, to);
+    let found = from_initial(store);
+    Ok(found)
 }

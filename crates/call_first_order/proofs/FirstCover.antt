@@ -1,6 +1,7 @@
 -- The cover for the list of the first round, and the order of that round.
 --
 --   Meeting, meeting-*       `first_cover_of`: the cover of a state for the groups added so far
+--   accepted                 what a call that is answered knows of its store
 --   order_refused, order_listed      the answer of `first_order`
 use Prim.Native.Nat.{ℕ, ◌-◌, ◌*◌, ◌≤◌, ◌<◌}
 use native.Mathlib.Nat.{le_refl}
@@ -8,22 +9,26 @@ use native.Mathlib.Omega.{arith}
 use mathlib.Core.Path.{◌≡◌, refl, sym, ap, ap₂, ◌∙◌}
 use mathlib.Core.Bool.{cond}
 use mathlib.Core.List.{List, [], ◌∷◌, ◌++◌, append_assoc, append-nil}
-use lib.ListN.{length, replicate}
+use lib.ListN.{length}
 use Rattle.basics.specs.Bounds.{tabulate}
 use Rattle.model.specs.Sets.{WORDS, max_states, Set, member, meet, first_states}
 use Rattle.model.specs.Tables.{cover_of, not_forbidden}
 use Rattle.model.specs.Rounds.{round_of, first_round}
-use Rattle.basics.specs.Refusals.{refuse, Answered, answered, unless_refused}
+use Rattle.basics.specs.Refusals.{refuse, Answered, answered}
 use Rattle.model.specs.Stores.{set_at, table_of, shared_grounds}
-use Rattle.model.specs.Calls.{overwrite}
-use Rattle.basics.proofs.RefusalLaws.{answer-refused, answer-none}
+use Rattle.basics.proofs.RefusalLaws.{answer-none}
 use Rattle.model.proofs.CoverLaws.{not_forbidden-within}
 use Rattle.core_rows.specs.Rows.{rows_of, groups_of, groups_in}
 use Rattle.core_rows.proofs.RowsLent.{store_rows, groups_of_lem}
 use Rattle.core_fixpoints.specs.Steps.{covers}
 use Rattle.core_fixpoints.specs.Order.{forward_order, order_by, padded}
 use Rattle.core_fixpoints.proofs.TableOrder.{order_is}
-use Rattle.call_first_order.specs.declared.Expansion.TheVariants.{Listed, Refused as ExpansionRefused}
+use Rattle.std.specs.Prelude.{Ok, Err}
+use Rattle.core_refusals.specs.declared.Refusal.{Refusal}
+use Rattle.core_refusals.specs.Refusals.{number}
+use Rattle.core_refusals.proofs.RefusalNumbers.{answer_refused}
+use Rattle.model.proofs.StoresAccepted.{Store, accepted_store}
+use Rattle.call_first_order.specs.declared.FirstOrder.{FirstOrder}
 use Rattle.call_first_order.specs.OrderAnswers.{OrderAnswer, order_answer, CalledFirstOrder}
 use Rattle.core_rounds.proofs.Adding.{groups_last}
 
@@ -65,18 +70,18 @@ module _ (groups : List ℕ) (g n s : ℕ) where
 -- ---- the answer
 
 module _ (store : List ℕ) (n g : ℕ) where
-  pub order_refused : {k : ℕ} → k ≡ refuse (shared_grounds store n g) → (k ≡ 0 → ⊥)
-      → CalledFirstOrder store n g (record { expansion = ExpansionRefused k; states = replicate max_states 0 })
-  unfolding order_answer padded overwrite
-  order_refused {k} e f =
-      let gives = answer-refused (shared_grounds store n g) _ e f in
-      (sym gives, sym (ap (unless_refused (padded []) (λ (a : OrderAnswer). a.states)) gives))
+  pub order_refused : (r : Refusal) → number r ≡ refuse (shared_grounds store n g) → CalledFirstOrder store n g (Err r)
+  unfolding order_answer
+  order_refused = answer_refused (λ (o : FirstOrder). record { count = o.count; states = o.states }) (shared_grounds store n g) _
 
-  module _ (none : refuse (shared_grounds store n g) ≡ 0) (few : n ≤ max_states) where
+  pub accepted : 0 ≡ refuse (shared_grounds store n g) → Store store n g
+  accepted e = (accepted_store store n g [] (sym e)).0
+
+  module _ (none : 0 ≡ refuse (shared_grounds store n g)) (few : n ≤ max_states) where
     pub order_listed : {Z initial : Set} {cover : List Set} {order : List ℕ} {count : ℕ} → Z ≡ not_forbidden n (table_of store n 0).forbidden
         → cover ≡ covers n (Z ∷ groups_in (groups_of store) g) → initial ≡ set_at store 0
         → order ≡ padded (order_by (rows_of store) cover initial Z) → count ≡ length (order_by (rows_of store) cover initial Z)
-        → CalledFirstOrder store n g (record { expansion = Listed count; states = order })
+        → CalledFirstOrder store n g (Ok (record { count = count; states = order }))
     unfolding order_answer first_round round_of table_of
     order_listed {Z} {initial} {cover} z c i o m =
         let t = table_of store n g in
@@ -86,7 +91,5 @@ module _ (store : List ℕ) (n g : ℕ) where
         ∙ ap (λ (X : Set). order_by (rows_of store) (covers n (X ∷ t.groups)) (set_at store 0) X) z
         ∙ order_is t (rows_of store) (store_rows store n g) few (Z0 ∷ t.groups) Z0 (not_forbidden-within n (table_of store n 0).forbidden) in
         let listed : ℕ → List ℕ → Answered OrderAnswer = λ k xs. answered (record { count = k; states = xs }) in
-        let gives =
         ap₂ listed (m ∙ ap length same) (o ∙ ap padded same)
-        ∙ sym (answer-none (shared_grounds store n g) _ refl none) in
-        (gives, ap (unless_refused (padded []) (λ (a : OrderAnswer). a.states)) gives)
+        ∙ sym (answer-none (shared_grounds store n g) _ refl (sym none))

@@ -4,7 +4,6 @@ use mathlib.Core.Path.{◌≡◌, refl, sym, ap, ◌∙◌, subst}
 use mathlib.Core.List.{List, []}
 use lib.ListN.{length, take, drop, replicate}
 use lib.Seq.{take_at}
-use Rattle.basics.specs.Refusals.{unless_refused}
 use Rattle.model.specs.Sets.{max_states}
 use Rattle.model.specs.Tables.{Table}
 use Rattle.model.specs.Rounds.{first_round}
@@ -44,11 +43,9 @@ promises =
           least-is (table_on n initial forbidden groups rows) rows (on_rows n initial forbidden groups rows) L Z (subset_in within) e;
       first_order = λ store n g r a c e.
           let t = table_of store n g in
-          let is = answered_value (shared_grounds store n g) (listed t) (sym c.0 ∙ e) in
+          let is = answered_value (shared_grounds store n g) (listed t) (sym c ∙ e) in
           subst (InOrder t (first_round t).list (first_round t).Z)
           (sym (ap (λ (a : OrderAnswer). take a.count a.states) is ∙ padded_front (first_order_of t))) (in_order t (first_round t).list (first_round t).Z);
-      refusal = λ store n g r k c e.
-          let given = sym c.0 ∙ e in
-          (refused-is (shared_grounds store n g) (listed (table_of store n g)) given, c.1 ∙ ap (unless_refused (padded []) (λ (a : OrderAnswer). a.states)) given);
+      refusal = λ store n g r k c e. refused-is (shared_grounds store n g) (listed (table_of store n g)) (sym c ∙ e);
       first-words = λ store other long long' e n g. same_call store other long long' e listed n g [] refl;
     }

@@ -1,5 +1,6 @@
 -- The promises of `Loads`, of every call of generate.
-use Rattle.std.proofs.Common.{◌≡◌, ℕ, ◌+◌, ◌-◌, ◌*◌, ◌%◌, ◌<◌, false, eqb, List, [], ◌∷◌, length, get_or, drop, sym, refl, ap, ◌∙◌, subst, not-suc-le-zero, mod-lt, arith, le-ltb, eqb-true}
+use Rattle.std.proofs.Common.{◌≡◌, ℕ, ◌+◌, ◌-◌, ◌*◌, ◌%◌, ◌<◌, false, eqb, List, [], ◌∷◌, length, get_or, drop, Result, sym, refl, ap, ◌∙◌, subst, not-suc-le-zero, mod-lt, arith, le-ltb, eqb-true}
+use Rattle.core_refusals.specs.declared.Refusal.{Refusal}
 use Rattle.model.specs.Sets.{max_states, empty, single}
 use Rattle.basics.specs.Refusals.{refuse, Answered, refused, answered, unless_refused}
 use Rattle.model.specs.Stores.{store_words, resting_at, set_at, dialogue_of, layout, beyond}
@@ -13,7 +14,6 @@ use Rattle.model.proofs.StoresTables.{Holds, Laid, length-layout, overwrite-hold
 use Rattle.model.proofs.CallLaws.{write-answer}
 use Rattle.model.proofs.StoresAccepted.{Store, store_accepted}
 use Rattle.call_generate.specs.Load.{long_lag, numbers, remainders, successors, load_from, load, generate_grounds, generate_answer, generate_buffer}
-use Rattle.call_generate.specs.declared.Generated.{Generated}
 use Rattle.call_generate.specs.GenerateAnswers.{generated_of, CalledGenerate}
 use Rattle.call_generate.specs.Loads.{Accepts, Loads}
 use Rattle.call_generate.proofs.StoresGenerated.{laid}
@@ -55,7 +55,7 @@ module _ (store : List ℕ) (n g : ℕ) (s : Store store n g) where
 
 -- ---- the call
 
-module _ (seed n f : ℕ) (before : List ℕ) (r : Generated) (after : List ℕ) (called : CalledGenerate seed n f before r after) where
+module _ (seed n f : ℕ) (before : List ℕ) (r : Result (Unit {0}) Refusal) (after : List ℕ) (called : CalledGenerate seed n f before r after) where
   abbrev left : Answered (Unit {0}) → List ℕ
   left = unless_refused before (λ done. overwrite (layout (load seed n f)) before)
 
@@ -72,7 +72,7 @@ module _ (seed n f : ℕ) (before : List ℕ) (r : Generated) (after : List ℕ)
     unfolding generate_answer
     held =
         let grounds = generate_grounds n f (length before) in
-        accepted-load n f (length before) refl (clear_refuse grounds (answered_clear grounds tt (sym called.0 ∙ e)))
+        accepted-load n f (length before) (sym (clear_refuse grounds (answered_clear grounds tt (sym called.0 ∙ e))))
 
     holds : Holds after (load seed n f)
     holds = subst (λ (store : List ℕ). Holds store (load seed n f)) (sym (left_is e)) (overwrite-holds (load seed n f) load_laid before)

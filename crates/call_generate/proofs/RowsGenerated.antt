@@ -4,8 +4,9 @@
 --   remainders_wide              a set of WORDS words
 --   Reducing xs n i old row      the first i numbers of xs, each modulo n, stand in a row that was old: a loop that puts them there
 --   reducing_none, -more, -all   before its first turn; a turn; when it is done
+--   numbers_inside               the numbers that state s takes are there
 --   row_put                      the numbers that state s takes, so put where its row was lent
-use Rattle.std.proofs.Common.{◌≡◌, ℕ, ◌+◌, ◌-◌, ◌*◌, ◌/◌, ◌%◌, ◌^◌, ◌<◌, ◌≤◌, Bool, ◌&&◌, eqb, List, length, get_or, take, drop, set, sym, refl, ap, ◌∙◌, ap₂, mod-lt, le_antisymm, add-one, arith, length-set, take-append-drop, get_or-take, drop-set-lt, lt-ltb}
+use Rattle.std.proofs.Common.{◌≡◌, ℕ, ◌+◌, ◌-◌, ◌*◌, ◌/◌, ◌%◌, ◌^◌, ◌<◌, ◌≤◌, Bool, ◌&&◌, eqb, List, length, get_or, take, drop, set, sym, refl, ap, ◌∙◌, ap₂, mod-lt, le_antisymm, add-one, arith, length-set, take-append-drop, get_or-take, drop-set-lt, lt-ltb, mul-le-mul_right, suc-mul}
 use native.Mathlib.Nat.{add-sub_cancel_left}
 use borrow.Rule.Slice.PartMut.{put_mid}
 use lib.Bits.{bit_or}
@@ -80,6 +81,9 @@ module _ (xs : List ℕ) (n : ℕ) where
         ∙ rw (so.front, le_antisymm h l, so.rest, p, put_drop 0 X old WORDS (omega (arith, x_long)) room, remainders_wide xs n)
 
 -- ---- the row of a state
+
+pub numbers_inside : (n f s : ℕ) {long : ℕ} → long_lag + n * f ≤ long → s < n → long_lag + s * f + f ≤ long
+numbers_inside n f s h l = omega (arith, mul-le-mul_right f l, suc-mul s f)
 
 pub row_put : (xs : List ℕ) (n f s : ℕ) (store rest : List ℕ) {from : ℕ} → from ≡ long_lag + s * f
     → rest ≡ overwrite (remainders (take (from + f - from) (drop from xs)) n) (lent (row_at s) store)

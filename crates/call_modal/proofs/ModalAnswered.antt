@@ -4,9 +4,10 @@
 --   certain-rows                                     the certain rows, by the part of the store that is lent
 --   refused-answer                                   where it is refused
 --   safe-answer, unsafe-answer, depends-answer       where it is not
+use Rattle.std.specs.Prelude.{Option, Some, None, Ok, Err}
 use Prim.Native.Nat.{ℕ, ◌≤◌}
 use mathlib.Core.Path.{◌≡◌, refl, sym, ap, ap₂, ◌∙◌, subst}
-use mathlib.Core.Bool.{Bool, true, false}
+use mathlib.Core.Bool.{Bool, true, false, cond}
 use mathlib.Core.List.{List, []}
 use borrow.Author.Tests.{eq-eqb}
 use lib.Dec.{eqb}
@@ -14,23 +15,35 @@ use lib.ListN.{length}
 use Rattle.model.specs.Sets.{max_states, Set, empty, size}
 use Rattle.model.specs.Tables.{Table}
 use Rattle.model.specs.Paths.{shortest, has_path, smallest_path}
-use Rattle.basics.specs.Refusals.{refuse, Answered, answered, unless_refused}
+use Rattle.basics.specs.Refusals.{Ground, refuse, Answered, answered, unless_refused}
 use Rattle.model.specs.Stores.{set_at, dialogue_of, table_of}
 use Rattle.model.specs.Calls.{overwrite, Decision}
-use Rattle.basics.proofs.RefusalLaws.{answer-refused, answer-none}
+use Rattle.basics.proofs.RefusalLaws.{answer-none}
 use Rattle.model.specs.WellFormed.{WellFormed}
+use Rattle.core_refusals.specs.declared.Refusal.{Refusal}
+use Rattle.core_refusals.specs.Refusals.{number}
+use Rattle.core_refusals.proofs.RefusalNumbers.{answer_refused}
+use Rattle.core_state_set.specs.declared.StateSet.{StateSet}
 use Rattle.core_rows.specs.Rows.{rows_words, rows_of, rows_in, forbidden_by, table_on}
 use Rattle.core_rows.proofs.RowsLent.{rows_of_lem}
 use Rattle.call_paths.specs.Search.{HoldsTable}
 use Rattle.call_paths.specs.PathAnswers.{found_in, path_written, steps_in}
 use Rattle.call_paths.proofs.Groups.{found_in-groups, path_written-groups}
 use Rattle.call_modal.specs.Modal.{certain_row, possible_row, table_with, modal_forbidden, modal_table, certain_table, possible_table, release_check, modal_grounds, ModalAnswer, modal_of, modal_answer, modal_written, modal_buffer}
-use Rattle.call_modal.specs.declared.Checked.{Checked}
 use Rattle.call_modal.specs.declared.ModalVerdict.{ModalVerdict}
-use Rattle.call_modal.specs.declared.ModalVerdict.TheVariants.{Safe, Unsafe, Depends, Refused}
-use Rattle.call_modal.specs.ModalAnswers.{ChecksOut, modal_decided_with, CalledModal}
+use Rattle.call_modal.specs.declared.ModalVerdict.TheVariants.{Safe, Unsafe, Depends}
+use Rattle.call_modal.specs.ModalAnswers.{ChecksOut, ModalDecision, modal_answer_in, modal_decided_of, CalledModal}
 use Rattle.call_modal.proofs.ModalGrounds.{ModalHeld, accepted}
 use Rattle.call_modal.proofs.Choosing.{certain_inside, modal_formed, says-safe, says-unsafe}
+
+-- what a choice of Some or None tells of its test
+picked : (b : Bool) {X Y : Set} → Some X ≡ cond b (Some Y) None → (b ≡ true) × (X ≡ Y)
+picked true e = (refl, cc)
+picked false e = absurd (cc)
+
+not_picked : (b : Bool) (Y : Set) → ◌≡◌ {A = Option Set} None (cond b (Some Y) None) → b ≡ false
+not_picked true Y e = absurd (cc)
+not_picked false Y e = refl
 
 module _ (c p : Decision) where
   pub safe_of : eqb p.verdict 0 ≡ true → modal_of c p ≡ record { verdict = 0; invariant = p.invariant; size = p.size; steps = 0 }
@@ -70,10 +83,17 @@ module _ (store : List ℕ) (n g : ℕ) (possible : List ℕ) (ok : ModalHeld st
         record { long = l; small = ok.held.small; formed = record { initial = v.initial; forbidden = v.forbidden; rows = v.rows } }
 
     -- what a check told
-    told : {r : Checked} {b : Bool} → ChecksOut (table_with store n g F (rows_in rows n)) r → r.safe ≡ b
-        → (eqb (release_check (modal_table store n g possible row)).verdict 0 ≡ b)
-        × (r.invariant.words ≡ (release_check (modal_table store n g possible row)).invariant)
-    told {r} c q = let d = subst (λ (t : Table). ChecksOut t r) same-table c in (sym d.0 ∙ q, d.1)
+    told : (r : Option StateSet) → ChecksOut (table_with store n g F (rows_in rows n)) r → ChecksOut (modal_table store n g possible row) r
+    told r c = subst (λ (t : Table). ChecksOut t r) same-table c
+
+    told-safe : {X : StateSet} → ChecksOut (table_with store n g F (rows_in rows n)) (Some X)
+        → (eqb (release_check (modal_table store n g possible row)).verdict 0 ≡ true)
+        × (X.words ≡ (release_check (modal_table store n g possible row)).invariant)
+    told-safe {X} c = picked _ (told (Some X) c)
+
+    told_none : ChecksOut (table_with store n g F (rows_in rows n)) None
+        → eqb (release_check (modal_table store n g possible row)).verdict 0 ≡ false
+    told_none c = not_picked _ _ (told None c)
 
     -- groups play no part in a path
     found_with : found_in (table_on n (set_at store 0) F [] rows) ≡ found_in (modal_table store n g possible row)
@@ -101,9 +121,9 @@ pub forbidden-is : (store : List ℕ) (n : ℕ) (possible : List ℕ) → forbid
 unfolding modal_forbidden rows_in
 forbidden-is store n possible = refl
 
-pub certain-rows : (store : List ℕ) (n : ℕ) → rows_in (rows_of store) n ≡ certain_row store n
+pub certain-rows : (store : List ℕ) (n : ℕ) {R : List ℕ} → R ≡ rows_of store → rows_in R n ≡ certain_row store n
 unfolding table_of
-certain-rows store n = rows_of_lem store n 0
+certain-rows store n r = ap (λ (xs : List ℕ). rows_in xs n) r ∙ rows_of_lem store n 0
 
 module _ (store : List ℕ) (n g : ℕ) (possible path : List ℕ) where
   abbrev certain_t : Table
@@ -115,79 +135,78 @@ module _ (store : List ℕ) (n g : ℕ) (possible path : List ℕ) where
   abbrev both_checks : ModalAnswer
   both_checks = modal_of (release_check certain_t) (release_check possible_t)
 
-  -- the verdict v, the invariant X beside it, and what is left in the buffer
-  abbrev Gives : ModalVerdict → Set → List ℕ → Type 0
-  Gives v X after = CalledModal store n g possible path (record { verdict = v; invariant = record { words = X } }) after
+  abbrev grounds : List Ground
+  grounds = modal_grounds store n g possible (length path)
+
+  -- the verdict v, and what is left in the buffer
+  abbrev Gives : ModalVerdict → List ℕ → Type 0
+  Gives v after = CalledModal store n g possible path (Ok v) after
 
   abbrev left : Answered ModalAnswer → List ℕ
   left = unless_refused path (λ (a : ModalAnswer). modal_written certain_t possible_t a.verdict path)
 
-  -- the invariant and the buffer follow from the numbers
-  gives : (v : ModalVerdict) (X : Set) → modal_decided_with v X ≡ modal_answer store n g possible (length path)
-      → X ≡ unless_refused empty (λ (a : ModalAnswer). a.invariant) (modal_decided_with v X) → Gives v X (left (modal_decided_with v X))
+  -- the buffer follows from the numbers
+  gives : (r : ModalDecision) → modal_decided_of r ≡ modal_answer store n g possible (length path)
+      → CalledModal store n g possible path r (left (modal_decided_of r))
   unfolding modal_buffer
-  gives v X q x = (q, x ∙ ap (unless_refused empty (λ (a : ModalAnswer). a.invariant)) q, ap left q)
+  gives r q = (q, ap left q)
 
-  -- k is the ground on which the call is refused, or 0
-  module _ {k : ℕ} (e : k ≡ refuse (modal_grounds store n g possible (length path))) where
-    pub refused-answer : {X : Set} → (k ≡ 0 → ⊥) → X ≡ empty → Gives (Refused k) X path
-    unfolding modal_answer
-    refused-answer f x = gives (Refused k) _ (sym (answer-refused (modal_grounds store n g possible (length path)) _ e f)) x
+  pub refused-answer : (r : Refusal) → number r ≡ refuse grounds → CalledModal store n g possible path (Err r) path
+  unfolding modal_answer
+  refused-answer r e = gives (Err r) (answer_refused modal_answer_in grounds _ r e)
 
-    module _ (z : k ≡ 0) where
-      held : ModalHeld store n g possible
-      held = (accepted store n g possible (length path) (sym e ∙ z)).0
+  module _ (z : 0 ≡ refuse grounds) where
+    held : ModalHeld store n g possible
+    held = (accepted store n g possible (length path) (sym z)).0
 
-      decided-answer : {a : ModalAnswer} → both_checks ≡ a → answered a ≡ modal_answer store n g possible (length path)
-      unfolding modal_answer modal_grounds
-      decided-answer q = ap answered (sym q) ∙ sym (answer-none (modal_grounds store n g possible (length path)) _ refl (sym e ∙ z))
+    decided-answer : {a : ModalAnswer} → both_checks ≡ a → answered a ≡ modal_answer store n g possible (length path)
+    unfolding modal_answer modal_grounds
+    decided-answer q = ap answered (sym q) ∙ sym (answer-none grounds _ refl (sym z))
 
-      -- the forbidden states that the code has worked out
-      module _ {F : Set} (f : F ≡ modal_forbidden store n possible) where
-        module _ {r : Checked} (c : ChecksOut (table_with store n g F (rows_in possible n)) r) where
-          pub safe-answer : {m : ℕ} → r.safe ≡ true → m ≡ size r.invariant.words → Gives (Safe m) r.invariant.words path
-          unfolding modal_written
-          safe-answer {m} q h =
-              let t = told store n g possible held f possible (possible-rows possible n) c q in
-              let says = says-safe possible_t (possible-formed store n g possible held) (small_for store n g possible held (possible_row possible n)) t.0 in
-              gives (Safe m) r.invariant.words
-              (ap₂ (λ (k : ℕ) (X : Set). modal_decided_with (Safe k) X) (h ∙ ap size t.1 ∙ sym says.3) t.1
-              ∙ decided-answer (safe_of (release_check certain_t) (release_check possible_t) t.0))
-              refl
+    -- the forbidden states that the code has worked out
+    module _ {F : Set} (f : F ≡ modal_forbidden store n possible) where
+      pub safe-answer : {X : StateSet} {m : ℕ} → ChecksOut (table_with store n g F (rows_in possible n)) (Some X) → m ≡ size X.words
+          → Gives (Safe X m) path
+      unfolding modal_written
+      safe-answer {X} {m} c h =
+          let t = told-safe store n g possible held f possible (possible-rows possible n) c in
+          let says = says-safe possible_t (possible-formed store n g possible held) (small_for store n g possible held (possible_row possible n)) t.0 in
+          gives (Ok (Safe X m))
+          (ap₂ (λ (k : ℕ) (Y : Set). answered (modal_answer_in (Safe (record { words = Y }) k))) (h ∙ ap size t.1 ∙ sym says.3) t.1
+          ∙ decided-answer (safe_of (release_check certain_t) (release_check possible_t) t.0))
 
-          -- where the possible steps are not safe
-          module _ (q : r.safe ≡ false) {u : Checked} (v : ChecksOut (table_with store n g F (rows_in (rows_of store) n)) u) where
-            not_safe : eqb (release_check possible_t).verdict 0 ≡ false
-            not_safe = (told store n g possible held f possible (possible-rows possible n) c q).0
+      -- where the possible steps are not safe
+      module _ (c : ChecksOut (table_with store n g F (rows_in possible n)) None) {R : List ℕ} (r : R ≡ rows_of store) where
+        not_safe : eqb (release_check possible_t).verdict 0 ≡ false
+        not_safe = told_none store n g possible held f possible (possible-rows possible n) c
 
-            pub unsafe-answer : {d : ℕ} {X : Set} {after : List ℕ} → u.safe ≡ false → X ≡ empty
-                → d ≡ steps_in (found_in (table_on n (set_at store 0) F [] (rows_of store))) → after ≡ path_written (table_on n (set_at store 0) F [] (rows_of store)) path
-                → Gives (Unsafe d) X after
-            unfolding modal_written
-            unsafe-answer {d} {X} p x e w =
-                let t = told store n g possible held f (rows_of store) (certain-rows store n) v p in
-                let says = says-unsafe certain_t (certain-formed store n g possible held) (small_for store n g possible held (certain_row store n)) t.0 in
-                let at = found store n g possible held f (rows_of store) (certain-rows store n) path says.1 e w in
-                let all =
-                gives (Unsafe d) X
-                (ap₂ (λ (k : ℕ) (Y : Set). modal_decided_with (Unsafe k) Y) (at.0 ∙ sym says.2) x
-                ∙ decided-answer (unsafe_of (release_check certain_t) (release_check possible_t) not_safe (eq-eqb (release_check certain_t).verdict 1 says.0)))
-                refl in
-                (all.0, all.1, at.1 ∙ all.2)
+        pub unsafe-answer : {d : ℕ} {after : List ℕ} → ChecksOut (table_with store n g F (rows_in R n)) None
+            → d ≡ steps_in (found_in (table_on n (set_at store 0) F [] R)) → after ≡ path_written (table_on n (set_at store 0) F [] R) path
+            → Gives (Unsafe d) after
+        unfolding modal_written
+        unsafe-answer {d} v e w =
+            let t = told_none store n g possible held f R (certain-rows store n r) v in
+            let says = says-unsafe certain_t (certain-formed store n g possible held) (small_for store n g possible held (certain_row store n)) t in
+            let at = found store n g possible held f R (certain-rows store n r) path says.1 e w in
+            let all =
+            gives (Ok (Unsafe d))
+            (ap (λ (k : ℕ). answered (modal_answer_in (Unsafe k))) (at.0 ∙ sym says.2)
+            ∙ decided-answer (unsafe_of (release_check certain_t) (release_check possible_t) not_safe (eq-eqb (release_check certain_t).verdict 1 says.0))) in
+            (all.0, at.1 ∙ all.1)
 
-            pub depends-answer : {d m : ℕ} {after : List ℕ} → u.safe ≡ true → m ≡ size u.invariant.words
-                → d ≡ steps_in (found_in (table_on n (set_at store 0) F [] possible)) → after ≡ path_written (table_on n (set_at store 0) F [] possible) path
-                → Gives (Depends m d) u.invariant.words after
-            unfolding modal_written
-            depends-answer {d} {m} p h e w =
-                let t = told store n g possible held f (rows_of store) (certain-rows store n) v p in
-                let says = says-safe certain_t (certain-formed store n g possible held) (small_for store n g possible held (certain_row store n)) t.0 in
-                let path-says = says-unsafe possible_t (possible-formed store n g possible held) (small_for store n g possible held (possible_row possible n)) not_safe in
-                let at = found store n g possible held f possible (possible-rows possible n) path path-says.1 e w in
-                let all =
-                gives (Depends m d) u.invariant.words
-                (ap₂ (λ (k : ℕ) (X : Set). modal_decided_with (Depends k d) X) (h ∙ ap size t.1 ∙ sym says.3) t.1
-                ∙ ap (λ (k : ℕ). modal_decided_with (Depends (release_check certain_t).size k) (release_check certain_t).invariant) (at.0 ∙ sym path-says.2)
-                ∙ decided-answer (depends_of (release_check certain_t) (release_check possible_t) not_safe (rw says.0)))
-                refl in
-                (all.0, all.1, at.1 ∙ all.2)
+        pub depends-answer : {X : StateSet} {d m : ℕ} {after : List ℕ} → ChecksOut (table_with store n g F (rows_in R n)) (Some X) → m ≡ size X.words
+            → d ≡ steps_in (found_in (table_on n (set_at store 0) F [] possible)) → after ≡ path_written (table_on n (set_at store 0) F [] possible) path
+            → Gives (Depends X m d) after
+        unfolding modal_written
+        depends-answer {X} {d} {m} v h e w =
+            let t = told-safe store n g possible held f R (certain-rows store n r) v in
+            let says = says-safe certain_t (certain-formed store n g possible held) (small_for store n g possible held (certain_row store n)) t.0 in
+            let path-says = says-unsafe possible_t (possible-formed store n g possible held) (small_for store n g possible held (possible_row possible n)) not_safe in
+            let at = found store n g possible held f possible (possible-rows possible n) path path-says.1 e w in
+            let all =
+            gives (Ok (Depends X m d))
+            (ap₂ (λ (k : ℕ) (Y : Set). answered (modal_answer_in (Depends (record { words = Y }) k d))) (h ∙ ap size t.1 ∙ sym says.3) t.1
+            ∙ ap (λ (k : ℕ). answered (modal_answer_in (Depends (record { words = (release_check certain_t).invariant }) (release_check certain_t).size k)))
+            (at.0 ∙ sym path-says.2)
+            ∙ decided-answer (depends_of (release_check certain_t) (release_check possible_t) not_safe (rw says.0))) in
+            (all.0, at.1 ∙ all.1)

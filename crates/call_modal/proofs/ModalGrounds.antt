@@ -3,7 +3,7 @@
 --   rows-beyond, rows_used                        `is_malformed`: ground 17 of the second buffer
 --   impossible_start, -hit, -pass, -end            `any_impossible`: a loop that looks for a certain step that is not possible; impossible-is: by its step
 --   ModalHeld                                     no ground before 21 holds
---   short-possible, refuse-shared, behind_shared  `refusal_of`: the grounds in their order
+--   short-possible, refuse-shared, behind_shared  `accept_possible`: the grounds in their order
 --   accepted                                      what a call that is answered knows; accepting: and back
 use Prim.Native.Nat.{ℕ, ◌+◌, ◌*◌, ◌-◌, ◌≤◌, ◌<◌}
 use native.Mathlib.Nat.{zero-add}
@@ -24,6 +24,9 @@ use Rattle.basics.proofs.BoundLaws.{or_false, or_none, or_right, not_true, is_fa
 use Rattle.basics.proofs.RefusalLaws.{Clear, refuse-first, refuse_or, refuse-append, refuse-past, clear_refuse, refuse_clear}
 use Rattle.model.proofs.SetsMembers.{subset_in}
 use Rattle.model.proofs.StoresAccepted.{Store, accepted_store}
+use Rattle.core_refusals.specs.declared.Refusal.{Refusal}
+use Rattle.core_refusals.specs.Refusals.{number}
+use Rattle.core_refusals.proofs.RefusalNumbers.{number_some}
 use Rattle.core_rows.specs.Rows.{rows_of, row_in}
 use Rattle.core_rows.proofs.RowsLent.{row_of}
 use Rattle.call_modal.specs.Modal.{possible_words, malformed_rows, certain_impossible, modal_grounds}
@@ -37,9 +40,9 @@ module _ (possible : List ℕ) (n : ℕ) where
   at_0 : from_0 ≡ any n (λ s. beyond n (set_at possible (WORDS * s)))
   at_0 = any_cong _ _ n (λ s h. ap (λ (i : ℕ). beyond n (set_at possible i)) (zero-add (WORDS * s)))
 
-  pub rows-beyond : {b : Bool} → b ≡ from_0 → b ≡ true → true ≡ malformed_rows possible n
+  pub rows-beyond : {b : Bool} → b ≡ from_0 → b ≡ true → b ≡ malformed_rows possible n
   unfolding malformed_rows
-  rows-beyond e t = rw (sym at_0 ∙ sym e ∙ t)
+  rows-beyond e t = t ∙ rw (sym at_0 ∙ sym e ∙ t)
 
   pub rows_used : n ≤ max_states → {b c : Bool} → b ≡ from_0 → b ≡ false → c ≡ non_zero possible (WORDS * n) (WORDS * n + WORDS * (max_states - n))
       → c ≡ malformed_rows possible n
@@ -55,9 +58,9 @@ module _ (store possible : List ℕ) where
   unfolding certain_impossible
   impossible_start = any_start _
 
-  module _ (s : ℕ) {X Y : Set} {b : Bool} (x : X ≡ row_in (rows_of store) s) (y : Y ≡ row_in possible s) (e : b ≡ subset X Y) where
+  module _ (s : ℕ) {R : List ℕ} {X Y : Set} {b : Bool} (r : R ≡ rows_of store) (x : X ≡ row_in R s) (y : Y ≡ row_in possible s) (e : b ≡ subset X Y) where
     told : b ≡ subset (set_at store (row_at s)) (set_at possible (WORDS * s))
-    told = e ∙ ap₂ subset (x ∙ row_of store s) y
+    told = e ∙ ap₂ subset (x ∙ ap (λ (xs : List ℕ). row_in xs s) r ∙ row_of store s) y
 
     pub impossible_hit : (n : ℕ) → s < n → b ≡ false → certain_impossible store n possible ≡ true
     unfolding certain_impossible
@@ -114,13 +117,13 @@ module _ (store : List ℕ) (n g : ℕ) (possible : List ℕ) (room : ℕ) where
   unfolding modal_grounds
   short-possible h = refuse-first 0 _ (or_right (ltb (length store) store_words) _ (lt-ltb (length possible) possible_words h))
 
-  pub refuse-shared : possible_words ≤ length possible → {k : ℕ} → k ≡ refuse (shared_grounds store n g) → (k ≡ 0 → ⊥)
-      → k ≡ refuse (modal_grounds store n g possible room)
-  refuse-shared l e f = refuse-append (shared_grounds store n g) late e f ∙ sym (apart l)
+  pub refuse-shared : possible_words ≤ length possible → (r : Refusal) → number r ≡ refuse (shared_grounds store n g)
+      → number r ≡ refuse (modal_grounds store n g possible room)
+  refuse-shared l r e = refuse-append (shared_grounds store n g) late e (number_some r) ∙ sym (apart l)
 
-  pub behind_shared : possible_words ≤ length possible → {j k : ℕ} → j ≡ refuse (shared_grounds store n g) → j ≡ 0 → k ≡ refuse late
+  pub behind_shared : possible_words ≤ length possible → {k : ℕ} → 0 ≡ refuse (shared_grounds store n g) → k ≡ refuse late
       → k ≡ refuse (modal_grounds store n g possible room)
-  behind_shared l p z e = refuse-past (shared_grounds store n g) late refl p z e ∙ sym (apart l)
+  behind_shared l z e = refuse-past (shared_grounds store n g) late refl z refl e ∙ sym (apart l)
 
   pub accepting : Clear (shared_grounds store n g) → possible_words ≤ length possible → malformed_rows possible n ≡ false → certain_impossible store n possible ≡ false
       → max_states ≤ room → Clear (modal_grounds store n g possible room)

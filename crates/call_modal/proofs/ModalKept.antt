@@ -23,8 +23,7 @@ use Rattle.model.proofs.StoresAccepted.{accepted_store}
 use Rattle.model.proofs.Drafts.{draft}
 use Rattle.core_table.proofs.StoresGrounds.{non_zero_hit}
 use Rattle.call_modal.specs.Modal.{possible_words, certain_table, possible_table, malformed_rows, certain_impossible, release_check, modal_grounds, ModalAnswer, modal_of, modal_answer, modal_written, modal_buffer}
-use Rattle.call_modal.specs.declared.ModalDecision.{ModalDecision}
-use Rattle.call_modal.specs.ModalAnswers.{modal_decided_of, CalledModal}
+use Rattle.call_modal.specs.ModalAnswers.{ModalDecision, modal_decided_of, CalledModal}
 use Rattle.call_modal.specs.ModalPromises.{OfChoices, ComesWith, AsDecide, ModalPromises}
 use Rattle.call_modal.proofs.ModalGrounds.{impossible-is, ModalHeld, behind_shared, accepting, accepted}
 use Rattle.call_modal.proofs.ModalFirstWords.{first-words}
@@ -46,7 +45,7 @@ module _ (store : List ℕ) (n g : ℕ) (possible : List ℕ) where
     unfolding modal_answer modal_buffer
     of_call Q h =
         let given = sym call.0 ∙ e in
-        subst (Q a) (sym (call.2 ∙ ap (unless_refused before (left before)) given))
+        subst (Q a) (sym (call.1 ∙ ap (unless_refused before (left before)) given))
         (subst (λ (b : ModalAnswer). Q b (left before b)) (sym (answered_value (modal_grounds store n g possible (length before)) _ given)) h)
 
     call_held : ModalHeld store n g possible × (max_states ≤ length before)
@@ -94,7 +93,7 @@ module _ (store possible before : List ℕ) (e : refuse (shared_grounds store 0 
 
     draft_17 : modal_answer store 0 0 possible (length before) ≡ refused 17
     unfolding modal_answer
-    draft_17 = answer-refused (modal_grounds store 0 0 possible (length before)) _ (behind_shared store 0 0 possible (length before) long (sym e) refl (refuse-first 0 _ draft-malformed)) (λ z. omega arith)
+    draft_17 = answer-refused (modal_grounds store 0 0 possible (length before)) _ (behind_shared store 0 0 possible (length before) long (sym e) (refuse-first 0 _ draft-malformed)) (λ z. omega arith)
 
 -- ---- all of it
 
@@ -119,8 +118,8 @@ modal_promises =
       refusal = λ store n g possible before r after k call e.
           let given = sym call.0 ∙ e in (
             refused-is (modal_grounds store n g possible (length before)) _ given,
-            call.1 ∙ ap (unless_refused empty (λ (b : ModalAnswer). b.invariant)) given,
-            call.2 ∙ ap (unless_refused before (left store n g possible before)) given,
+            ap (unless_refused empty (λ (b : ModalAnswer). b.invariant)) e,
+            call.1 ∙ ap (unless_refused before (left store n g possible before)) given,
           );
       draft = λ store possible before e long roomy zero. draft-safe store possible before e long roomy zero;
       draft_17 = λ store possible before e long i h f. draft_17 store possible before e long i h f;

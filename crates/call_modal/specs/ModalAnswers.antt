@@ -1,40 +1,44 @@
 -- The answer of decide_modal in the specification's numbers, and what the functions below the call return.
 --
---   ends_safe, ChecksOut     an ending that is safe; what a release check of a table gave: whether it is safe, and its invariant
---   modal_decided_with, modal_decided_of   the numbers of each case of the answer
+--   words_in, ChecksOut     the words of a set, if there is one; what a release check of a table gave: its invariant, where it is safe
+--   ModalDecision           what the call gives
+--   modal_answer_in, modal_decided_of   the numbers of each case of a verdict; the answer
+--   invariant_given         the set that comes with it, empty where it is refused or unsafe
 --   CalledModal             a call of decide_modal and what it gave: its contract
-use Rattle.std.specs.Prelude.{ℕ, ◌≡◌, Bool, true, false, List, eqb, length}
-use Rattle.basics.specs.Refusals.{Answered, refused, answered, unless_refused}
+use Rattle.std.specs.Prelude.{ℕ, ◌≡◌, cond, List, Option, Some, None, Result, eqb, length}
+use Rattle.basics.specs.Refusals.{Answered, unless_refused}
 use Rattle.model.specs.Sets.{Set, empty}
 use Rattle.model.specs.Tables.{Table}
-use Rattle.core_rounds.specs.declared.Ending.{Ending}
-use Rattle.core_rounds.specs.declared.Ending.TheVariants.{Safe as EndsSafe, Unsafe as EndsUnsafe, Undecided as EndsUndecided}
+use Rattle.core_refusals.specs.declared.Refusal.{Refusal}
+use Rattle.core_refusals.specs.Refusals.{answer_of}
+use Rattle.core_state_set.specs.declared.StateSet.{StateSet}
 use Rattle.call_modal.specs.Modal.{release_check, ModalAnswer, modal_answer, modal_buffer}
-use Rattle.call_modal.specs.declared.Checked.{Checked}
 use Rattle.call_modal.specs.declared.ModalVerdict.{ModalVerdict}
-use Rattle.call_modal.specs.declared.ModalVerdict.TheVariants.{Safe, Unsafe, Depends, Refused}
-use Rattle.call_modal.specs.declared.ModalDecision.{ModalDecision}
+use Rattle.call_modal.specs.declared.ModalVerdict.TheVariants.{Safe, Unsafe, Depends}
 
-abbrev pub ends_safe : Ending → Bool
-ends_safe (EndsSafe i) = true
-ends_safe (EndsUnsafe i) = false
-ends_safe (EndsUndecided i) = false
+abbrev pub words_in : Option StateSet → Option Set
+words_in (Some X) = Some X.words
+words_in None = None
 
-abbrev pub ChecksOut : Table → Checked → Type 0
-ChecksOut t r = (r.safe ≡ eqb (release_check t).verdict 0) × (r.invariant.words ≡ (release_check t).invariant)
+abbrev pub ChecksOut : Table → Option StateSet → Type 0
+ChecksOut t r = words_in r ≡ cond (eqb (release_check t).verdict 0) (Some (release_check t).invariant) None
 
-abbrev pub modal_decided_with : ModalVerdict → Set → Answered ModalAnswer
-modal_decided_with (Safe k) X = answered (record { verdict = 0; invariant = X; size = k; steps = 0 })
-modal_decided_with (Unsafe d) X = answered (record { verdict = 1; invariant = X; size = 0; steps = d })
-modal_decided_with (Depends k d) X = answered (record { verdict = 3; invariant = X; size = k; steps = d })
-modal_decided_with (Refused k) X = refused k
+abbrev pub modal_answer_in : ModalVerdict → ModalAnswer
+modal_answer_in (Safe X k) = record { verdict = 0; invariant = X.words; size = k; steps = 0 }
+modal_answer_in (Unsafe d) = record { verdict = 1; invariant = empty; size = 0; steps = d }
+modal_answer_in (Depends X k d) = record { verdict = 3; invariant = X.words; size = k; steps = d }
+
+abbrev pub ModalDecision : Type 0
+ModalDecision = Result ModalVerdict Refusal
 
 abbrev pub modal_decided_of : ModalDecision → Answered ModalAnswer
-modal_decided_of r = modal_decided_with r.verdict r.invariant.words
+modal_decided_of = answer_of modal_answer_in
 
--- Its answer, the set that stands beside the verdict (empty where the call is refused), and the path buffer before and after.
+abbrev pub invariant_given : ModalDecision → Set
+invariant_given r = unless_refused empty (λ a. a.invariant) (modal_decided_of r)
+
+-- Its answer, and the path buffer before and after.
 abbrev pub CalledModal : List ℕ → ℕ → ℕ → List ℕ → List ℕ → ModalDecision → List ℕ → Type 0
 CalledModal store n g possible before r after =
     (modal_decided_of r ≡ modal_answer store n g possible (length before))
-    × (r.invariant.words ≡ unless_refused empty (λ a. a.invariant) (modal_answer store n g possible (length before)))
     × (after ≡ modal_buffer store n g possible before)

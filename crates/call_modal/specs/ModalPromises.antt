@@ -18,8 +18,7 @@ use Rattle.model.specs.Stores.{store_words, row_at, set_at, shared_grounds, Acce
 use Rattle.model.specs.Calls.{overwrite, release, Decision, decide_answer, decide_buffer}
 use Rattle.model.specs.Promises.{IsInvariant, IsSmallest}
 use Rattle.call_modal.specs.Modal.{possible_words, certain_row, possible_row, modal_table, certain_table, possible_table, certain_impossible, release_check, modal_grounds, ModalAnswer, modal_answer, modal_buffer}
-use Rattle.call_modal.specs.declared.ModalDecision.{ModalDecision}
-use Rattle.call_modal.specs.ModalAnswers.{modal_decided_of, CalledModal}
+use Rattle.call_modal.specs.ModalAnswers.{ModalDecision, modal_decided_of, invariant_given, CalledModal}
 
 pub record Choice (store : List ℕ) (n : ℕ) (possible : List ℕ) (row : ℕ → Set) : Type 0 where
   pub has_certain : (s : ℕ) → subset (certain_row store n s) (row s) ≡ true
@@ -101,7 +100,7 @@ pub record ModalPromises : Type 0 where
   -- of every call that is refused: the number of the first ground that holds; the set beside it is empty, and the buffer is as it was
   pub refusal : (store : List ℕ) (n g : ℕ) (possible before : List ℕ) (r : ModalDecision) (after : List ℕ) (k : ℕ)
       → CalledModal store n g possible before r after → modal_decided_of r ≡ refused k
-      → (k ≡ refuse (modal_grounds store n g possible (length before))) × (r.invariant.words ≡ empty) × (after ≡ before)
+      → (k ≡ refuse (modal_grounds store n g possible (length before))) × (invariant_given r ≡ empty) × (after ≡ before)
   -- a table without states is safe where the words of possible steps are all 0, and is refused with 17 where one is not
   pub draft : (store possible before : List ℕ) → refuse (shared_grounds store 0 0) ≡ 0 → possible_words ≤ length possible → max_states ≤ length before
       → ((i : ℕ) → i < possible_words → get_or possible i 0 ≡ 0)

@@ -10,6 +10,7 @@ use mathlib.Core.Path.{◌≡◌, sym, ◌∙◌}
 use mathlib.Core.Logic.{inl, inr, ⊎_elim}
 use mathlib.Core.Bool.{true, false}
 use mathlib.Core.List.{List}
+use Rattle.std.specs.Prelude.{Option}
 use borrow.Author.Tests.{ltb-true, lt-ltb, leb-true, le-leb}
 use Rattle.model.specs.Sets.{max_states, Set, empty, meets, first_states}
 use Rattle.model.specs.Tables.{Table}
@@ -27,7 +28,6 @@ use Rattle.core_reach.proofs.ReachLayers.{before, before_grows}
 use Rattle.call_paths.specs.Search.{met_within, first_layer, steps_within}
 use Rattle.call_paths.specs.PathAnswers.{found_in}
 use Rattle.call_paths.specs.Within.{is_within}
-use Rattle.call_paths.specs.declared.PathFound.{PathFound}
 use Rattle.call_paths.proofs.Nearness.{met_path, within-shortest}
 
 abbrev pub outward : List ℕ → Table → ℕ → Set
@@ -105,6 +105,6 @@ module _ {t : Table} (ok : WellFormed t) (rows : List ℕ) (r : HasRows t rows) 
     unfolding found_in
     found_within k =
         let is = within-shortest ok small k in
-        by_cond (λ (f : PathFound). steps_within f k ≡ is_within t k) (has_path t) _ _
+        by_cond (λ (f : Option ℕ). steps_within f k ≡ is_within t k) (has_path t) _ _
         (λ e. same_test _ _ (λ l. is.1 (e, leb-true _ k l)) (λ y. le-leb _ k (is.0 y).1))
         (λ e. sym (is_false _ (λ y. clash (is.0 y).0 e)))

@@ -23,8 +23,7 @@ use Rattle.core_rows.specs.Rows.{rows_of, rows_in, groups_of, groups_in, table_o
 use Rattle.core_rows.proofs.RowsLent.{rows_long, table_on_lem}
 use Rattle.call_paths.specs.Search.{HoldsTable}
 use Rattle.call_paths.specs.PathAnswers.{found_in, path_written}
-use Rattle.call_paths.specs.declared.PathFound.{PathFound}
-use Rattle.call_paths.specs.declared.PathFound.TheVariants.{Steps, Nothing}
+use Rattle.std.specs.Prelude.{Option, Some, None}
 
 module _ (n : ℕ) (I J F : Set) (G H : List Set) (rows : List ℕ) where
   pub reaching_alike : (k : ℕ) → reaching (table_on n I F G rows) k ≡ reaching (table_on n J F H rows) k
@@ -53,7 +52,7 @@ module _ (n : ℕ) (I F : Set) (G : List Set) (rows : List ℕ) where
 
   pub found_in-groups : found_in t ≡ found_in grouped
   unfolding found_in has_path table_on
-  found_in-groups = ap (λ (d : ℕ). cond (ltb d n) (Steps d) Nothing) shortest-groups
+  found_in-groups = ap (λ (d : ℕ). cond (ltb d n) (Some d) None) shortest-groups
 
   pub path_written-groups : (path : List ℕ) → path_written t path ≡ path_written grouped path
   unfolding path_written has_path smallest_path table_on
@@ -88,7 +87,7 @@ module _ (store : List ℕ) (n g : ℕ) where
       unfolding table_of
       holds-table s = holds-states s (subst (λ (X : Set). X ⊆ first_states n) (sym i) (well_formed store n g s).initial)
 
-      pub store_path : (path : List ℕ) {found : PathFound} {after : List ℕ}
+      pub store_path : (path : List ℕ) {found : Option ℕ} {after : List ℕ}
           → (found ≡ found_in (table_on n I F [] (rows_of store))) × (after ≡ path_written (table_on n I F [] (rows_of store)) path)
           → (found ≡ found_in (table_of store n g)) × (after ≡ path_written (table_of store n g) path)
       store_path path found = (

@@ -8,6 +8,7 @@
 --   walk_by-is                      and walk_by through them is the model's walk
 use Prim.Native.Nat.{ℕ, zero, suc, ◌+◌, ◌-◌, ◌≤◌, ◌<◌}
 use native.Mathlib.Nat.{not-suc-le-zero}
+use native.Mathlib.Numerals.{add-one}
 use native.Mathlib.Omega.{arith}
 use mathlib.Core.Path.{◌≡◌, refl, sym, ap, ap₂, ◌∙◌}
 use mathlib.Core.Logic.{⊎_elim}
@@ -32,11 +33,11 @@ use Rattle.call_paths.proofs.Duality.{outward, out_within, out_step, crossing}
 -- ---- row by row
 
 module _ (rows : List ℕ) (layers : List Set) where
-  pub narrowed_turn : (i : ℕ) {A B Y : Set} → 0 < i → Y ≡ stepping_into rows A B → A ≡ get_or layers (i - 1) [] → B ≡ get_or layers i []
+  pub narrowed_turn : (i : ℕ) {A B Y : Set} → 0 < i → Y ≡ stepping_into rows A B → A ≡ get_or layers (i - 1) [] → B ≡ get_or layers (i - 1 + 1) []
       → narrowed_back rows (i - 1) (set layers (i - 1) Y) ≡ narrowed_back rows i layers
   unfolding narrowed_back
   narrowed_turn zero l p q r = absurd (not-suc-le-zero l)
-  narrowed_turn (suc i) l p q r = let e : suc i - 1 ≡ i = omega arith in rw (p, q, r, e)
+  narrowed_turn (suc i) l p q r = let e : suc i - 1 ≡ i = omega arith in rw (p, q, r, e, add-one)
 
   pub narrowed-end : (i : ℕ) → i ≤ 0 → narrowed_back rows i layers ≡ layers
   unfolding narrowed_back

@@ -3,9 +3,10 @@
 --   Outward                      after k turns: the layers so far (core_reach, ReachLayers), of which none before the last holds a state of F
 --   outward_start, outward_turn  where it starts; a turn
 --   outward_hit, outward_end     the first layer with a state of F is the last; there is none where the last brings nothing new
+--   outward_full                 nor after as many turns as a set has states
 --   PutDown                      a row for each layer before the last, as far as there is room
 --   put_start, put_turn, put_hit     where it starts; a turn; the states of F in the last layer
-use Prim.Native.Nat.{ℕ, suc, ◌+◌, ◌<◌}
+use Prim.Native.Nat.{ℕ, suc, ◌+◌, ◌≤◌, ◌<◌}
 use native.Mathlib.Nat.{not-suc-le-zero}
 use native.Mathlib.Numerals.{add-one}
 use native.Mathlib.Omega.{arith}
@@ -18,13 +19,13 @@ use lib.ListN.{length, get_or, set, length-set}
 use lib.Seq.{get_or-set_same, get_or-set_other}
 use Rattle.model.specs.Sets.{max_states, Set, empty, union, meet, difference, subset, meets}
 use Rattle.model.specs.Rounds.{iterate}
-use Rattle.basics.proofs.BoundLaws.{is_false, clash, below_suc, first-is, first-none}
+use Rattle.basics.proofs.BoundLaws.{is_false, clash, decided, below_suc, first-is, first-none}
 use Rattle.model.proofs.SetsMembers.{Proper, set_of_proper, empty_in, in_difference, difference_in, ◌⊆◌, subset_in, same_set, in_meets, meets_in}
 use Rattle.core_rows.specs.Rows.{row_in, successors_by}
 use Rattle.core_reach.specs.Reached.{reach_by}
 use Rattle.core_reach.proofs.ReachLayers.{before, before_mono, Layered, layered_start, layered_turn, layered_below, layered_still}
 use Rattle.call_paths.specs.Search.{layer_of, met_within, first_layer, LayersUpTo}
-use Rattle.call_paths.specs.declared.PathFound.TheVariants.{Steps, Nothing}
+use Rattle.std.specs.Prelude.{Some, None}
 
 pub record Outward (rows : List ℕ) (X F : Set) (k : ℕ) (found layer : Set) : Type 0 where
   pub layered : Layered (row_in rows) X k found layer
@@ -48,11 +49,16 @@ module _ (rows : List ℕ) (X F : Set) where
     unfolding met_within reach_by successors_by
     unmet m i = is_false _ (λ e. let w = meets_in e in clash (in_meets (i w.0 w.1) w.2) so.clear)
 
-    pub outward_end : subset layer empty ≡ true → Nothing ≡ first_layer rows X F
+    pub outward_end : subset layer empty ≡ true → None ≡ first_layer rows X F
     unfolding first_layer
     outward_end none = let d = first-none _ max_states (λ j l. unmet j (layered_still _ X so.layered none (suc j))) in rw d
 
-    pub outward_hit : meets layer F ≡ true → Steps k ≡ first_layer rows X F
+    -- a layer with a state has one more found than the one before it, so there are fewer layers than states
+    pub outward_full : max_states ≤ k → None ≡ first_layer rows X F
+    outward_full l =
+        ⊎_elim outward_end (λ some. absurd (omega (arith, layered_below _ X so.layered some))) (decided (subset layer empty))
+
+    pub outward_hit : meets layer F ≡ true → Some k ≡ first_layer rows X F
     unfolding first_layer met_within reach_by successors_by
     outward_hit e =
         let w = meets_in e in
@@ -100,6 +106,6 @@ module _ (rows : List ℕ) (X F : Set) where
           }
 
       pub put_hit : {last : Set} {layers' : List Set} → last ≡ meet layer F → layers' ≡ set layers k last
-          → LayersUpTo rows X F room (Steps k) layers'
+          → LayersUpTo rows X F room (Some k) layers'
       put_hit {last} l q =
           rw q (length-set layers k last ∙ put.long, kept last, (λ r. written last r ∙ l ∙ ap (λ (Y : Set). meet Y F) layer_is))

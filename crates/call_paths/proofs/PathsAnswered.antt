@@ -23,14 +23,14 @@ use Rattle.model.specs.Calls.{overwrite, path_found, shortest_grounds, shortest_
 use Rattle.model.proofs.StoresAccepted.{Store, accepted_store, store_accepted}
 use Rattle.call_paths.specs.PathAnswers.{found_in, path_written, shortest_of, CalledShortest}
 use Rattle.call_paths.specs.Within.{is_within, within_answer, CalledWithin}
-use Rattle.call_paths.specs.declared.PathFound.{PathFound}
-use Rattle.call_paths.specs.declared.PathFound.TheVariants.{Steps, Nothing}
-use Rattle.call_paths.specs.declared.Shortest.{Shortest}
-use Rattle.call_paths.specs.declared.Shortest.TheVariants.{Path as PathOf, NoPath, Refused as RefusedPath}
-use Rattle.call_paths.specs.declared.WithinAnswer.TheVariants.{Refused as RefusedWithin}
+use Rattle.std.specs.Prelude.{Option, Some, None, Ok, Err}
+use Rattle.core_refusals.specs.declared.Refusal.{Refusal}
+use Rattle.core_refusals.specs.declared.Refusal.TheVariants.{PathShort}
+use Rattle.core_refusals.specs.Refusals.{number}
+use Rattle.core_refusals.proofs.RefusalNumbers.{number_some, answer_refused, answer_given}
 
-pub accepted : {store : List ℕ} {n g k : ℕ} → k ≡ refuse (shared_grounds store n g) → k ≡ 0 → Store store n g
-accepted {store} {n} {g} e z = (accepted_store store n g [] (sym e ∙ z)).0
+pub accepted : {store : List ℕ} {n g : ℕ} → 0 ≡ refuse (shared_grounds store n g) → Store store n g
+accepted {store} {n} {g} e = (accepted_store store n g [] (sym e)).0
 
 -- ---- a call with a ground of its own and a buffer
 
@@ -59,43 +59,38 @@ module _ {A : Type 0} (store : List ℕ) (n g : ℕ) (own : Ground) (value : A) 
 
 -- ---- shortest path
 
--- what the call answers for what find_path found
-abbrev pub within_of : PathFound → Shortest
-within_of (Steps d) = PathOf d
-within_of Nothing = NoPath
-
 -- with a path and without
 cases : (t : Table) (path : List ℕ) (b : Bool)
-    → (shortest_of (within_of (cond b (Steps (shortest t)) Nothing)) ≡ answered (path_found t b))
+    → (shortest_of (Ok (cond b (Some (shortest t)) None)) ≡ answered (path_found t b))
     × (cond b (overwrite (smallest_path t) path) path ≡ cond (eqb (path_found t b).found 1) (overwrite (smallest_path t) path) path)
 cases t path true = (refl, refl)
 cases t path false = (refl, refl)
 
 module _ (store : List ℕ) (n g : ℕ) (path : List ℕ) where
-  pub shortest-refused : {k : ℕ} → k ≡ refuse (shared_grounds store n g) → (k ≡ 0 → ⊥) → CalledShortest store n g path (RefusedPath k) path
+  pub shortest-refused : (r : Refusal) → number r ≡ refuse (shared_grounds store n g) → CalledShortest store n g path (Err r) path
   unfolding shortest_grounds shortest_answer shortest_buffer
-  shortest-refused = call_refused store n g _ _ path _
+  shortest-refused r e = call_refused store n g _ _ path _ e (number_some r)
 
   module _ (s : Store store n g) where
-    pub shortest-short : length path < max_states → CalledShortest store n g path (RefusedPath 21) path
+    pub shortest-short : length path < max_states → CalledShortest store n g path (Err PathShort) path
     unfolding shortest_grounds shortest_answer shortest_buffer
     shortest-short l = call_short store n g _ _ path _ s (lt-ltb (length path) max_states l) (λ e. omega arith)
 
-    pub shortest-found : {r found : PathFound} {path' : List ℕ} → max_states ≤ length path → r ≡ found
-        → (r ≡ found_in (table_of store n g)) × (path' ≡ path_written (table_of store n g) path) → CalledShortest store n g path (within_of found) path'
+    pub shortest-found : {found : Option ℕ} {path' : List ℕ} → max_states ≤ length path
+        → (found ≡ found_in (table_of store n g)) × (path' ≡ path_written (table_of store n g) path) → CalledShortest store n g path (Ok found) path'
     unfolding shortest_grounds shortest_answer shortest_buffer found_in path_written
-    shortest-found l q p =
+    shortest-found l p =
         let told = cases (table_of store n g) path (has_path (table_of store n g)) in
         let gives = call_answered store n g _ _ path _ s refl (le-ltb (length path) max_states l) in
-        (ap (λ (f : PathFound). shortest_of (within_of f)) (sym q ∙ p.0) ∙ told.0 ∙ gives.0, p.1 ∙ told.1 ∙ gives.1)
+        (ap (λ (f : Option ℕ). shortest_of (Ok f)) p.0 ∙ told.0 ∙ gives.0, p.1 ∙ told.1 ∙ gives.1)
 
 -- ---- within
 
-module _ (store : List ℕ) (n g k : ℕ) {j : ℕ} (e : j ≡ refuse (shared_grounds store n g)) where
-  pub within-refused : (j ≡ 0 → ⊥) → CalledWithin store n g k (RefusedWithin j)
+module _ (store : List ℕ) (n g k : ℕ) where
+  pub within-refused : (r : Refusal) → number r ≡ refuse (shared_grounds store n g) → CalledWithin store n g k (Err r)
   unfolding within_answer
-  within-refused f = sym (answer-refused (shared_grounds store n g) _ e f)
+  within-refused = answer_refused (λ yes. yes) (shared_grounds store n g) _
 
-  pub within-answered : {b : Bool} → j ≡ 0 → b ≡ is_within (table_of store n g) k → answered b ≡ within_answer store n g k
+  pub within-answered : {b : Bool} → 0 ≡ refuse (shared_grounds store n g) → b ≡ is_within (table_of store n g) k → CalledWithin store n g k (Ok b)
   unfolding within_answer
-  within-answered z b = ap answered b ∙ sym (answer-none (shared_grounds store n g) _ refl (sym e ∙ z))
+  within-answered = answer_given (λ yes. yes) (shared_grounds store n g) _ _ refl

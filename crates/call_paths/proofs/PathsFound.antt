@@ -6,7 +6,7 @@
 use Prim.Native.Nat.{ℕ, ◌+◌, ◌-◌, ◌≤◌, ◌<◌}
 use native.Mathlib.Nat.{zero-add}
 use native.Mathlib.Omega.{arith}
-use mathlib.Core.Path.{◌≡◌, sym, ap, ◌∙◌}
+use mathlib.Core.Path.{◌≡◌, ap, ◌∙◌}
 use mathlib.Core.Logic.{inl}
 use mathlib.Core.Bool.{true, false}
 use mathlib.Core.List.{List, []}
@@ -24,41 +24,37 @@ use Rattle.core_rows.specs.Rows.{table_on}
 use Rattle.core_rows.proofs.RowsLent.{on_rows}
 use Rattle.call_paths.specs.Search.{HoldsTable, first_layer, LayersUpTo, narrowed_back, smallest_in, walk_by, Writable}
 use Rattle.call_paths.specs.PathAnswers.{found_in, path_written}
-use Rattle.call_paths.specs.declared.PathFound.{PathFound}
-use Rattle.call_paths.specs.declared.PathFound.TheVariants.{Steps, Nothing}
+use Rattle.std.specs.Prelude.{Option, Some, None}
 use Rattle.call_paths.proofs.Duality.{shortest_below, first_found}
 use Rattle.call_paths.proofs.Narrowing.{narrowed-is, walk_by-is}
 
 -- what was found tells whether there is a path, and how many steps it has
-found_none : (t : Table) → Nothing ≡ found_in t → has_path t ≡ false
+found_none : (t : Table) → None ≡ found_in t → has_path t ≡ false
 unfolding found_in
-found_none t = by_cond (λ (f : PathFound). Nothing ≡ f → has_path t ≡ false) (has_path t) _ _ (λ e q. cc) (λ e q. e)
+found_none t = by_cond (λ (f : Option ℕ). None ≡ f → has_path t ≡ false) (has_path t) _ _ (λ e q. cc) (λ e q. e)
 
-found-steps : (t : Table) {d : ℕ} → Steps d ≡ found_in t → (has_path t ≡ true) × (d ≡ shortest t)
+found-steps : (t : Table) {d : ℕ} → Some d ≡ found_in t → (has_path t ≡ true) × (d ≡ shortest t)
 unfolding found_in
 found-steps t {d} =
-    by_cond (λ (f : PathFound). Steps d ≡ f → (has_path t ≡ true) × (d ≡ shortest t)) (has_path t) _ _ (λ e q. (e, cc)) (λ e q. (cc, cc))
+    by_cond (λ (f : Option ℕ). Some d ≡ f → (has_path t ≡ true) × (d ≡ shortest t)) (has_path t) _ _ (λ e q. (e, cc)) (λ e q. (cc, cc))
 
 module _ {rows : List ℕ} {n : ℕ} {I F : Set} (held : HoldsTable rows n I F) where
   abbrev t : Table
   t = table_on n I F [] rows
 
-  found-is : {found : PathFound} → found ≡ first_layer rows I F → found ≡ found_in t
+  found-is : {found : Option ℕ} → found ≡ first_layer rows I F → found ≡ found_in t
   unfolding table_on
   found-is e = e ∙ first_found held.formed rows (on_rows n I F [] rows) held.small
 
-  pub find_none : (path : List ℕ) → Nothing ≡ first_layer rows I F → (Nothing ≡ found_in t) × (path ≡ path_written t path)
+  pub find_none : (path : List ℕ) → None ≡ first_layer rows I F → (None ≡ found_in t) × (path ≡ path_written t path)
   unfolding path_written
   find_none path e = (found-is e, rw (found_none t (found-is e)))
 
   -- what find_path has where there is one: the layers up to d, and what is kept of them
-  module _ {d : ℕ} (layers kept : List Set) {found : PathFound} (f : (found ≡ first_layer rows I F) × LayersUpTo rows I F max_states found layers)
-      (q : found ≡ Steps d) (k : kept ≡ narrowed_back rows d layers) where
-    steps-is : Steps d ≡ found_in t
-    steps-is = found-is (sym q ∙ f.0)
-
-    put : LayersUpTo rows I F max_states (Steps d) layers
-    put = rw q at f.1
+  module _ {d : ℕ} (layers kept : List Set) (f : (Some d ≡ first_layer rows I F) × LayersUpTo rows I F max_states (Some d) layers)
+      (k : kept ≡ narrowed_back rows d layers) where
+    steps-is : Some d ≡ found_in t
+    steps-is = found-is f.0
 
     some : (has_path t ≡ true) × (d ≡ shortest t)
     some = found-steps t steps-is
@@ -75,8 +71,8 @@ module _ {rows : List ℕ} {n : ℕ} {I F : Set} (held : HoldsTable rows n I F) 
         let r = on_rows n I F [] rows in
         rw k
         (walk_by-is t rows r ok d near (narrowed_back rows d layers)
-        (narrowed-is t rows r ok d near find_short d layers (omega arith) put.0 (λ i l. put.1 i l (omega (arith, find_short)))
-        (λ i a b. let last : i ≡ d = omega arith in let none : d - d ≡ 0 = omega arith in rw (last, none) (put.2 find_short)))
+        (narrowed-is t rows r ok d near find_short d layers (omega arith) f.1.0 (λ i l. f.1.1 i l (omega (arith, find_short)))
+        (λ i a b. let last : i ≡ d = omega arith in let none : d - d ≡ 0 = omega arith in rw (last, none) (f.1.2 find_short)))
         d 0 (omega arith) (λ s h. in_union (inl h)) near
         ∙ ap (λ (e : ℕ). walk t e I) some.1)
 
@@ -92,7 +88,7 @@ module _ {rows : List ℕ} {n : ℕ} {I F : Set} (held : HoldsTable rows n I F) 
         }
 
     pub find_some : (path : List ℕ) {path' : List ℕ} {s : ℕ} → s ≡ smallest_in kept 0 I → max_states ≤ length path
-        → path' ≡ sets path 0 (walk_by rows kept 0 d s) → (Steps d ≡ found_in t) × (path' ≡ path_written t path)
+        → path' ≡ sets path 0 (walk_by rows kept 0 d s) → (Some d ≡ found_in t) × (path' ≡ path_written t path)
     unfolding path_written overwrite
     find_some path e l p =
         let xs = smallest_path t in

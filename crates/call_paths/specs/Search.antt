@@ -13,15 +13,13 @@
 --   walk_by rows layers at d s      the walk of d steps from s, which is in layer `at`, to the smallest successor in the next layer each time: where those
 --                                  are the layers of the shortest paths, the model's walk (proofs/PathsFound.antt)
 --   Writable                       a walk that can be written: each state of it is one, and the buffer has room for all from `at` on
-use Rattle.std.specs.Prelude.{ℕ, zero, suc, ◌+◌, ◌≤◌, ◌<◌, ◌≡◌, Bool, false, cond, ◌&&◌, List, [], ◌∷◌, leb, ltb, length, get_or, set as replaced}
+use Rattle.std.specs.Prelude.{ℕ, zero, suc, ◌+◌, ◌≤◌, ◌<◌, ◌≡◌, Bool, false, cond, ◌&&◌, List, [], ◌∷◌, leb, ltb, length, get_or, set as replaced, Option, Some, None}
 use Rattle.basics.specs.Bounds.{first}
 use Rattle.model.specs.Sets.{max_states, Set, member, set_of, empty, meet, difference, meets, smallest}
 use Rattle.model.specs.Rounds.{iterate}
 use Rattle.model.specs.WellFormed.{WellFormed}
 use Rattle.core_rows.specs.Rows.{rows_words, row_in, table_on}
 use Rattle.core_reach.specs.Reached.{reach_by}
-use Rattle.call_paths.specs.declared.PathFound.{PathFound}
-use Rattle.call_paths.specs.declared.PathFound.TheVariants.{Steps, Nothing}
 
 pub record HoldsTable (rows : List ℕ) (n : ℕ) (initial forbidden : Set) : Type 0 where
   pub long : rows_words ≤ length rows
@@ -35,19 +33,19 @@ layer_of rows X k = let found = iterate (reach_by rows X) empty in difference (f
 unfoldable pub met_within : List ℕ → Set → Set → ℕ → Bool
 met_within rows X F k = meets (iterate (reach_by rows X) empty (suc k)) F
 
-unfoldable pub first_layer : List ℕ → Set → Set → PathFound
-first_layer rows X F = let d = first max_states (met_within rows X F) in cond (ltb d max_states) (Steps d) Nothing
+unfoldable pub first_layer : List ℕ → Set → Set → Option ℕ
+first_layer rows X F = let d = first max_states (met_within rows X F) in cond (ltb d max_states) (Some d) None
 
-abbrev pub steps_within : PathFound → ℕ → Bool
-steps_within (Steps d) k = leb d k
-steps_within Nothing k = false
+abbrev pub steps_within : Option ℕ → ℕ → Bool
+steps_within (Some d) k = leb d k
+steps_within None k = false
 
-abbrev pub LayersUpTo : List ℕ → Set → Set → ℕ → PathFound → List Set → Type 0
-LayersUpTo rows X F room (Steps d) layers =
+abbrev pub LayersUpTo : List ℕ → Set → Set → ℕ → Option ℕ → List Set → Type 0
+LayersUpTo rows X F room (Some d) layers =
     (length layers ≡ room)
     × ((i : ℕ) → i < d → i < room → get_or layers i [] ≡ layer_of rows X i)
     × (d < room → get_or layers d [] ≡ meet (layer_of rows X d) F)
-LayersUpTo rows X F room Nothing layers = Unit {0}
+LayersUpTo rows X F room None layers = Unit {0}
 
 unfoldable pub stepping_into : List ℕ → Set → Set → Set
 stepping_into rows X Y = set_of (λ s. member X s && meets (row_in rows s) Y)

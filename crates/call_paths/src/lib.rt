@@ -4,7 +4,7 @@
 //   first_layer                       outward from a set, layer by layer: how many steps lead to a forbidden state; put_row: a layer in its row
 //   narrow_back                       the layers back from the last, with what leads on alone
 //   smallest_in_layer, write_path     a state of the path; the path, state by state
-//   find_path                         whether there is a path, and the path at the front of a buffer; steps_of: its steps
+//   find_path                         the steps of the path, if there is one, and the path at the front of a buffer
 //   is_within                         whether what was found is at most k steps away
 //   shortest_path, within             the calls
 //
@@ -15,39 +15,32 @@
 ghost use Rattle.std.specs.Prelude.{◌≡◌, ◌≤◌, ◌<◌, length, set as replaced, []};
 ghost use Rattle.std.proofs.lemmas.List.Edits.{sets as replacedFrom};
 ghost use Rattle.model.specs.Sets.{max_states};
-ghost use Rattle.core_rows.specs.Rows.{rows_words, table_on};
+ghost use Rattle.core_rows.specs.Rows.{table_on};
 ghost use Rattle.call_paths.specs.Search.{HoldsTable, first_layer, steps_within, LayersUpTo, stepping_into, narrowed_back, smallest_in, walk_by, Writable};
-ghost use Rattle.call_paths.specs.PathAnswers.{found_in, path_written, steps_in, CalledShortest};
+ghost use Rattle.call_paths.specs.PathAnswers.{found_in, path_written, CalledShortest};
 ghost use Rattle.call_paths.specs.Within.{CalledWithin};
 
 use core_reach::newly_reached;
-use core_refusals::PATH_SHORT;
-use core_rows::{Rows, forbidden, meet_hold, row_at, row_of};
+use core_refusals::Refusal;
+use core_rows::{Rows, Steps, forbidden, row_of};
 use core_state_set::{MAX_STATES, StateSet, WORDS};
-use core_table::{INITIAL_AT, ROWS_AT, refusal, set_at};
+use core_table::{INITIAL_AT, accept, set_at};
 
 // The states of x that step to a state of y: those that are not in hold of all other states.
-pub fn stepping_into(rows: &[u64], x: StateSet, y: StateSet) -> StateSet
-    requires { rows_words ≤ length rows.now }
-    ensures { result.words ≡ stepping_into rows.now x.words y.words }
+pub fn stepping_into(steps: Steps, x: StateSet, y: StateSet) -> StateSet
+    ensures { result.words ≡ stepping_into steps.entry.words.now x.words y.words }
 {
     let others = StateSet::first_states(MAX_STATES).difference(y);
-    x.difference(meet_hold(rows, x, others))
+    x.difference(steps.meet_hold(x, others))
 }
 
 // ---- the shortest path
-
-// The steps of a shortest path, if there is one.
-#[derive(Clone, Copy)]
-pub enum PathFound {
-    Steps(usize),
-    Nothing,
-}
 
 // x in row i, if there is one.
 fn put_row(layers: &mut [[u64; WORDS]], i: usize, x: StateSet)
     ensures { layers.new ≡ replaced layers.old i x.words }
 {
+    // kept: no get_mut, after which the rows are not known: the proof stopped at `returns-in-Some`
     if i < layers.len() {
         let words = x.words;
         layers[i] = words;
@@ -55,43 +48,42 @@ fn put_row(layers: &mut [[u64; WORDS]], i: usize, x: StateSet)
 }
 
 // Outward from `from`, layer by layer: layer i is the states that i steps lead to and no fewer, and is put down in row i, as far as there are rows. The
-// search ends with the first layer that holds a forbidden state, of which only those states are put down, or when a layer brings no new state.
+// search ends with the first layer that holds a forbidden state, of which only those states are put down, or when a layer brings no new state. The
+// answer is the number of that layer, if there is one.
 fn first_layer(
-    rows: &[u64],
+    steps: Steps,
     from: StateSet,
     forbidden: StateSet,
     layers: &mut [[u64; WORDS]],
-) -> PathFound
-    requires { rows_words ≤ length rows.now }
-    ensures { (result ≡ first_layer rows.now from.words forbidden.words)
-        × LayersUpTo rows.now from.words forbidden.words (length layers.old) result layers.new }
+) -> Option<usize>
+    ensures { (result ≡ first_layer steps.entry.words.now from.words forbidden.words)
+        × LayersUpTo steps.entry.words.now from.words forbidden.words (length layers.old) result layers.new }
 {
     let mut found = from;
     let mut layer = from;
-    let mut steps = 0;
-    while !layer.is_empty() {
-        if layer.meets(forbidden) {
-            put_row(layers, steps, layer.meet(forbidden));
-            return PathFound::Steps(steps);
+    for d in 0..MAX_STATES {
+        if layer.is_empty() {
+            return None;
         }
-        put_row(layers, steps, layer);
-        layer = newly_reached(rows, layer, found);
+        if layer.meets(forbidden) {
+            put_row(layers, d, layer.meet(forbidden));
+            return Some(d);
+        }
+        put_row(layers, d, layer);
+        layer = newly_reached(steps, layer, found);
         found = found.union(layer);
-        steps += 1;
     }
-    PathFound::Nothing
+    None
 }
 
 // Back from layer d: of each layer are kept the states that step to a state kept of the next.
-fn narrow_back(rows: &[u64], layers: &mut Rows, d: usize)
-    requires { (d < max_states) × (rows_words ≤ length rows.now) }
-    ensures { layers.new ≡ narrowed_back rows.now d layers.old }
+fn narrow_back(steps: Steps, layers: &mut Rows, d: usize)
+    requires { d < max_states }
+    ensures { layers.new ≡ narrowed_back steps.entry.words.now d layers.old }
 {
-    let mut i = d;
-    while 0 < i {
-        let next = row_of(layers, i);
-        i -= 1;
-        let words = stepping_into(rows, row_of(layers, i), next).words;
+    for i in (0..d).rev() {
+        let next = row_of(layers, i + 1);
+        let words = stepping_into(steps, row_of(layers, i), next).words;
         layers[i] = words;
     }
 }
@@ -106,120 +98,78 @@ fn smallest_in_layer(layers: &Rows, i: usize, x: StateSet) -> usize
 
 // State s at `at` in the buffer, and then the path of d steps from it: the smallest of its successors in the next layer, with one step fewer. It is
 // handed a state and not a set, which each of up to MAX_STATES calls would keep on the stack.
-fn write_path(rows: &[u64], layers: &Rows, s: usize, d: usize, path: &mut [u16], at: usize)
-    requires { Writable rows.now layers.now s d (length path.old) at }
-    ensures { path.new ≡ replacedFrom path.old at (walk_by rows.now layers.now at d s) }
+fn write_path(steps: Steps, layers: &Rows, s: usize, d: usize, path: &mut [u16], at: usize)
+    requires { Writable steps.words.now layers.now s d (length path.old) at }
+    ensures { path.new ≡ replacedFrom path.old at (walk_by steps.entry.words.now layers.now at d s) }
 {
     path[at] = s as u16;
     if 0 < d {
-        let next = smallest_in_layer(layers, at + 1, row_at(rows, s));
-        write_path(rows, layers, next, d - 1, path, at + 1);
+        let next = smallest_in_layer(layers, at + 1, steps.row(s));
+        write_path(steps, layers, next, d - 1, path, at + 1);
     }
 }
 
-// The path that the specification names, at the front of the buffer.
+// The path that the specification names, at the front of the buffer; the answer is its steps, if there is one.
 pub fn find_path(
-    rows: &[u64],
+    steps: Steps,
     n: usize,
     initial: StateSet,
     forbidden: StateSet,
     path: &mut [u16],
-) -> PathFound
-    requires { HoldsTable rows.now n initial.words forbidden.words × (max_states ≤ length path.old) }
-    ensures { (result ≡ found_in (table_on n initial.words forbidden.words [] rows.now))
-        × (path.new ≡ path_written (table_on n initial.words forbidden.words [] rows.now) path.old) }
+) -> Option<usize>
+    requires { HoldsTable steps.words.now n initial.words forbidden.words × (max_states ≤ length path.old) }
+    ensures { (result ≡ found_in (table_on n initial.words forbidden.words [] steps.entry.words.now))
+        × (path.new ≡ path_written (table_on n initial.words forbidden.words [] steps.entry.words.now) path.old) }
 {
-    let none = [0; WORDS];
-    let mut layers = [none; MAX_STATES];
-    match first_layer(rows, initial, forbidden, &mut layers) {
-        PathFound::Steps(d) => {
-            narrow_back(rows, &mut layers, d);
-            let first = smallest_in_layer(&layers, 0, initial);
-            write_path(rows, &layers, first, d, path, 0);
-            PathFound::Steps(d)
-        }
-        PathFound::Nothing => PathFound::Nothing,
-    }
+    let mut layers = [[0; WORDS]; MAX_STATES];
+    let d = first_layer(steps, initial, forbidden, &mut layers)?;
+    narrow_back(steps, &mut layers, d);
+    let first = smallest_in_layer(&layers, 0, initial);
+    write_path(steps, &layers, first, d, path, 0);
+    Some(d)
 }
 
-// The steps of the path that was found, or 0.
-pub fn steps_of(found: PathFound) -> usize
-    ensures { result ≡ steps_in found }
-{
-    match found {
-        PathFound::Steps(steps) => steps,
-        PathFound::Nothing => 0,
-    }
-}
-
-// What the call shortest path answers: d, none, or why it is refused.
-#[derive(Clone, Copy)]
-pub enum Shortest {
-    Path { steps: usize },
-    NoPath,
-    Refused(u8),
-}
-
-pub fn shortest_path(store: &[u64], n: usize, g: usize, path: &mut [u16]) -> Shortest
+// The steps of a shortest path, if there is one.
+pub fn shortest_path(
+    store: &[u64],
+    n: usize,
+    g: usize,
+    path: &mut [u16],
+) -> Result<Option<usize>, Refusal>
     ensures { CalledShortest store.now n g path.old result path.new }
 {
-    let refused = refusal(store, n, g);
-    if refused != 0 {
-        return Shortest::Refused(refused);
-    }
+    accept(store, n, g)?;
     if path.len() < MAX_STATES {
-        return Shortest::Refused(PATH_SHORT);
+        return Err(Refusal::PathShort);
     }
-    match find_path(
-        &store[ROWS_AT..],
+    Ok(find_path(
+        Steps::of(store),
         n,
         set_at(store, INITIAL_AT),
         forbidden(store, n),
         path,
-    ) {
-        PathFound::Steps(steps) => Shortest::Path { steps },
-        PathFound::Nothing => Shortest::NoPath,
-    }
+    ))
 }
 
 // ---- within
 
-// What the call within answers: yes, no, or why it is refused.
-#[derive(Clone, Copy)]
-pub enum WithinAnswer {
-    Yes,
-    No,
-    Refused(u8),
-}
-
 // What was found is at most k steps away.
-fn is_within(found: PathFound, k: usize) -> bool
+fn is_within(found: Option<usize>, k: usize) -> bool
     ensures { result ≡ steps_within found k }
 {
-    match found {
-        PathFound::Steps(d) => d <= k,
-        PathFound::Nothing => false,
-    }
+    found.map_or(false, |d| d <= k)
 }
 
 // Is there a path of at most k steps? The layers of the search are not kept.
-pub fn within(store: &[u64], n: usize, g: usize, k: usize) -> WithinAnswer
+pub fn within(store: &[u64], n: usize, g: usize, k: usize) -> Result<bool, Refusal>
     ensures { CalledWithin store.now n g k result }
 {
-    let refused = refusal(store, n, g);
-    if refused != 0 {
-        return WithinAnswer::Refused(refused);
-    }
-    let mut none: [[u64; WORDS]; 0] = [];
+    accept(store, n, g)?;
     let found = first_layer(
-        &store[ROWS_AT..],
+        Steps::of(store),
         set_at(store, INITIAL_AT),
         forbidden(store, n),
-        &mut none,
+        &mut [],
     );
-    if is_within(found, k) {
-        WithinAnswer::Yes
-    } else {
-        WithinAnswer::No
-    }
+    Ok(is_within(found, k))
 }

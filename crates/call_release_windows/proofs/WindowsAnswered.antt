@@ -1,6 +1,7 @@
 -- Laws of the call next open minute: its answer in each case.
 --
---   Sound, sound              what no ground leaves: a time and days within their limits, windows in their range; sound_answer: of a call that is answered
+--   Sound, sound              what no ground leaves: a time and days within their limits, windows in their range; sound_answer: of a call
+--                             that is answered
 --   refuses                   a ground holds
 --   opened, never_opens       else the first open minute, or never
 --   opens, shuts              the same of a call that is answered
@@ -11,12 +12,15 @@ use mathlib.Core.List.{List, []}
 use borrow.Author.Tests.{lt-ltb, le-ltb, ltb-false}
 use lib.Dec.{ltb}
 use lib.ListN.{length}
+use Rattle.std.specs.Prelude.{Some, None, Ok, Err}
 use Rattle.basics.specs.Refusals.{refuse, answered}
 use Rattle.basics.proofs.BoundLaws.{or_false}
-use Rattle.basics.proofs.RefusalLaws.{Clear, refuse_clear, answer-refused, answer-none, answered_clear, answered_value}
+use Rattle.basics.proofs.RefusalLaws.{Clear, refuse_clear, answered_clear, answered_value}
+use Rattle.core_refusals.specs.declared.Refusal.{Refusal}
+use Rattle.core_refusals.specs.Refusals.{number}
+use Rattle.core_refusals.proofs.RefusalNumbers.{answer_refused, answer_given}
 use Rattle.call_release_windows.specs.Windows.{outside, some}
-use Rattle.call_release_windows.specs.WindowAnswers.{Opening, minute, never, max_time, max_windows, max_days, span, grounds, waiting, next_open_answer, CalledNextOpen}
-use Rattle.call_release_windows.specs.declared.NextOpen.TheVariants.{Minute, Never, Refused}
+use Rattle.call_release_windows.specs.WindowAnswers.{Opening, minute, never, minute_of, max_time, max_windows, max_days, span, grounds, waiting, next_open_answer, CalledNextOpen}
 
 pub record Sound (time : ℕ) (windows days : List ℕ) : Type 0 where
   pub no_later : time ≤ max_time
@@ -30,22 +34,23 @@ module _ (time : ℕ) (windows days : List ℕ) where
       let counts = or_false (ltb max_windows (length windows)) (ltb max_days (length days)) c.1.0 in
       record { no_later = ltb-false max_time time c.0; few_days = ltb-false max_days (length days) counts.1; in_range = c.1.1.0 }
 
-  pub sound : refuse (grounds time windows days) ≡ 0 → Sound time windows days
-  unfolding grounds
-  sound e = clear_sound (refuse_clear (grounds time windows days) [] refl e).0
+  module _ (z : 0 ≡ refuse (grounds time windows days)) where
+    pub sound : Sound time windows days
+    unfolding grounds
+    sound = clear_sound (refuse_clear (grounds time windows days) [] refl (sym z)).0
 
-  pub refuses : {k : ℕ} → k ≡ refuse (grounds time windows days) → (k ≡ 0 → ⊥) → CalledNextOpen time windows days (Refused k)
+    module _ {wait : ℕ} (q : wait ≡ waiting time windows days) where
+      pub opened : wait < span → CalledNextOpen time windows days (Ok (Some (time + wait)))
+      unfolding next_open_answer grounds
+      opened l = answer_given minute_of (grounds time windows days) _ (Some (time + wait)) refl z (rw (← q, lt-ltb wait span l))
+
+      pub never_opens : span ≤ wait → CalledNextOpen time windows days (Ok None)
+      unfolding next_open_answer grounds
+      never_opens l = answer_given minute_of (grounds time windows days) _ None refl z (rw (← q, le-ltb wait span l))
+
+  pub refuses : (r : Refusal) → number r ≡ refuse (grounds time windows days) → CalledNextOpen time windows days (Err r)
   unfolding next_open_answer
-  refuses e f = sym (answer-refused (grounds time windows days) _ e f)
-
-  module _ {k wait : ℕ} (e : k ≡ refuse (grounds time windows days)) (z : k ≡ 0) (q : wait ≡ waiting time windows days) where
-    pub opened : wait < span → CalledNextOpen time windows days (Minute (time + wait))
-    unfolding next_open_answer grounds
-    opened l = rw (← q, lt-ltb wait span l, answer-none (grounds time windows days) _ refl (sym e ∙ z))
-
-    pub never_opens : span ≤ wait → CalledNextOpen time windows days Never
-    unfolding next_open_answer grounds
-    never_opens l = rw (← q, le-ltb wait span l, answer-none (grounds time windows days) _ refl (sym e ∙ z))
+  refuses r e = answer_refused minute_of (grounds time windows days) _ r e
 
   module _ {a : Opening} (e : next_open_answer time windows days ≡ answered a) where
     pub sound_answer : Sound time windows days

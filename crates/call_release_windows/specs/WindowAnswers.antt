@@ -6,14 +6,14 @@
 --   grounds                           31, 30, 29, in this order
 --   waiting                           the minutes from the time to the first open one, or `span` if none of that many is open
 --   next_open_answer                    the first open minute at or after the time, or never
---   opening_of                         what each case of the code's answer says
+--   opening_of                         what the code's answer says
 --   CalledNextOpen                    a call and what it gave, as the contract of next_open has it
-use Rattle.std.specs.Prelude.{ℕ, ◌+◌, ◌-◌, ◌^◌, ◌≡◌, cond, ◌||◌, List, [], ◌∷◌, ltb, length}
+use Rattle.std.specs.Prelude.{ℕ, ◌+◌, ◌-◌, ◌^◌, ◌≡◌, cond, ◌||◌, List, [], ◌∷◌, Option, Some, None, Result, ltb, length}
 use Rattle.basics.specs.Bounds.{first}
-use Rattle.basics.specs.Refusals.{Ground, Answered, refused, answered, answer}
+use Rattle.basics.specs.Refusals.{Ground, Answered, answer}
+use Rattle.core_refusals.specs.declared.Refusal.{Refusal}
+use Rattle.core_refusals.specs.Refusals.{answer_of}
 use Rattle.call_release_windows.specs.Windows.{outside, some, is_open}
-use Rattle.call_release_windows.specs.declared.NextOpen.{NextOpen}
-use Rattle.call_release_windows.specs.declared.NextOpen.TheVariants.{Minute, Never, Refused}
 
 abbrev pub max_time : ℕ
 max_time = 2 ^ 31 - 1
@@ -48,10 +48,12 @@ next_open_answer time windows days =
 
 -- ---- the code's answer
 
-abbrev pub opening_of : NextOpen → Answered Opening
-opening_of (Minute m) = answered (minute m)
-opening_of Never = answered never
-opening_of (Refused k) = refused k
+abbrev pub minute_of : Option ℕ → Opening
+minute_of (Some m) = minute m
+minute_of None = never
 
-abbrev pub CalledNextOpen : ℕ → List ℕ → List ℕ → NextOpen → Type 0
+abbrev pub opening_of : Result (Option ℕ) Refusal → Answered Opening
+opening_of = answer_of minute_of
+
+abbrev pub CalledNextOpen : ℕ → List ℕ → List ℕ → Result (Option ℕ) Refusal → Type 0
 CalledNextOpen time windows days r = opening_of r ≡ next_open_answer time windows days

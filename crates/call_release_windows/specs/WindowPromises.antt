@@ -3,12 +3,12 @@
 --   Held w k m       window w holds minute m in week k (its occurrence in that week), where week 0 is the one before minute 0
 --   FirstOpen        a minute is the first open one at or after a time, and less than 65 weeks later
 --   WindowPromises   all of it, of every minute and of every call
-use Rattle.std.specs.Prelude.{ℕ, ◌+◌, ◌*◌, ◌/◌, ◌^◌, ◌≤◌, ◌<◌, ◌≡◌, ◌↔◌, true, false}
+use Rattle.std.specs.Prelude.{ℕ, ◌+◌, ◌*◌, ◌/◌, ◌^◌, ◌≤◌, ◌<◌, ◌≡◌, ◌↔◌, true, false, Option, Result}
 use mathlib.Core.List.{List, [], Memᴰ}
 use Rattle.basics.specs.Refusals.{refuse, refused, answered}
+use Rattle.core_refusals.specs.declared.Refusal.{Refusal}
 use Rattle.call_release_windows.specs.Windows.{day, week, start_of, length_of, outside, some, is_open}
 use Rattle.call_release_windows.specs.WindowAnswers.{span, Opening, minute, never, grounds, opening_of, CalledNextOpen}
-use Rattle.call_release_windows.specs.declared.NextOpen.{NextOpen}
 
 -- Week k begins at minute week·k − week, so that a week is added on either side.
 pub record Held (w k m : ℕ) : Type 0 where
@@ -30,13 +30,13 @@ pub record WindowPromises : Type 0 where
       → (is_open windows days m ≡ true)
       ↔ (((w : ℕ) × (k : ℕ) × Memᴰ w windows × Held w k m) × (Memᴰ (m / day) days → ⊥))
   -- of every call that is answered: with at least one window there is an open minute, and the answer is the first, which fits 32 bits
-  pub with_window : (time : ℕ) (windows days : List ℕ) (r : NextOpen) (a : Opening)
+  pub with_window : (time : ℕ) (windows days : List ℕ) (r : Result (Option ℕ) Refusal) (a : Opening)
       → CalledNextOpen time windows days r → opening_of r ≡ answered a → (windows ≡ [] → ⊥)
       → (m : ℕ) × (a ≡ minute m) × FirstOpen time windows days m × (m < 2 ^ 32)
   -- with none it is never, and no minute at all is open
-  pub without : (time : ℕ) (days : List ℕ) (r : NextOpen) (a : Opening)
+  pub without : (time : ℕ) (days : List ℕ) (r : Result (Option ℕ) Refusal) (a : Opening)
       → CalledNextOpen time [] days r → opening_of r ≡ answered a
       → (a ≡ never) × ((m : ℕ) → is_open [] days m ≡ false)
   -- of every call that is refused: the number is that of the first ground that holds
-  pub refusal : (time : ℕ) (windows days : List ℕ) (r : NextOpen) (k : ℕ)
+  pub refusal : (time : ℕ) (windows days : List ℕ) (r : Result (Option ℕ) Refusal) (k : ℕ)
       → CalledNextOpen time windows days r → opening_of r ≡ refused k → k ≡ refuse (grounds time windows days)

@@ -2,7 +2,7 @@
 // is whole minutes since a Saturday, 00:00, and weeks begin on Saturday.
 //
 //   start_of, length_of          a window is one 64-bit number: its start in the low 32 bits, its length in the high
-//   refusal                      the grounds on which a call is refused
+//   accept_call                  refuses by the first of the grounds 31, 30 and 29 that holds
 //   wait_for, least_wait         the minutes until a window, or one of the windows, is open
 //   is_closed                    a day is one of the closed days
 //   minutes_to_open              the minutes until a window is open on a day that is not closed: jumps from midnight to midnight over closed
@@ -13,10 +13,11 @@
 ghost use Rattle.std.specs.Prelude.{◌≡◌, ◌+◌, ◌^◌, ◌≤◌, ◌<◌, false, eqb};
 ghost use Rattle.basics.specs.Bounds.{first};
 ghost use Rattle.basics.specs.Refusals.{refuse};
+ghost use Rattle.core_refusals.specs.Refusals.{number_of};
 ghost use Rattle.call_release_windows.specs.Windows.{week, start_of, length_of, outside, some, in_window, in_some};
 ghost use Rattle.call_release_windows.specs.WindowAnswers.{max_time, grounds, waiting, CalledNextOpen};
 
-use core_refusals::{TIME, TOO_MANY, WINDOW_RANGE};
+use core_refusals::Refusal;
 
 pub const MAX_TIME: usize = 2147483647;
 
@@ -31,13 +32,6 @@ const WEEK: usize = 10080;
 const SPAN: usize = 655200;
 // A window's length stands above its start.
 const LENGTH_UNIT: u64 = 4294967296;
-
-#[derive(Clone, Copy)]
-pub enum NextOpen {
-    Minute(u32),
-    Never,
-    Refused(u8),
-}
 
 fn start_of(window: u64) -> usize
     ensures { result ≡ start_of window }
@@ -66,25 +60,25 @@ fn any_outside(windows: &[u64]) -> bool
     ensures { result ≡ some outside windows.now }
 {
     let mut found = false;
-    for i in 0..windows.len() {
-        found |= is_outside(windows[i]);
+    for window in windows {
+        found |= is_outside(*window);
     }
     found
 }
 
-fn refusal(time: usize, windows: &[u64], closed: &[u32]) -> u8
-    ensures { result ≡ refuse (grounds time windows.now closed.now) }
+fn accept_call(time: usize, windows: &[u64], closed: &[u32]) -> Result<(), Refusal>
+    ensures { number_of result ≡ refuse (grounds time windows.now closed.now) }
 {
     if MAX_TIME < time {
-        return TIME;
+        return Err(Refusal::Time);
     }
     if (MAX_WINDOWS < windows.len()) | (MAX_DAYS < closed.len()) {
-        return TOO_MANY;
+        return Err(Refusal::TooMany);
     }
     if any_outside(windows) {
-        return WINDOW_RANGE;
+        return Err(Refusal::WindowRange);
     }
-    0
+    Ok(())
 }
 
 // ---- the search
@@ -108,8 +102,8 @@ fn least_wait(windows: &[u64], minute: usize) -> usize
     ensures { result ≡ first week (λ k. in_some windows.now (minute + k)) }
 {
     let mut least = WEEK;
-    for i in 0..windows.len() {
-        least = wait_for(windows[i], minute, least);
+    for window in windows {
+        least = wait_for(*window, minute, least);
     }
     least
 }
@@ -119,8 +113,8 @@ fn is_closed(closed: &[u32], day: u32) -> bool
     ensures { result ≡ some (eqb day) closed.now }
 {
     let mut found = false;
-    for i in 0..closed.len() {
-        found |= day == closed[i];
+    for closed_day in closed {
+        found |= day == *closed_day;
     }
     found
 }
@@ -148,17 +142,15 @@ fn minutes_to_open(time: usize, windows: &[u64], closed: &[u32]) -> usize
 
 // ---- the call
 
-pub fn next_open(time: usize, windows: &[u64], closed: &[u32]) -> NextOpen
+// The first open minute, if there is one.
+pub fn next_open(time: usize, windows: &[u64], closed: &[u32]) -> Result<Option<u32>, Refusal>
     ensures { CalledNextOpen time windows.now closed.now result }
 {
-    let refused = refusal(time, windows, closed);
-    if refused != 0 {
-        return NextOpen::Refused(refused);
-    }
+    accept_call(time, windows, closed)?;
     let wait = minutes_to_open(time, windows, closed);
     if wait < SPAN {
-        NextOpen::Minute((time + wait) as u32)
+        Ok(Some((time + wait) as u32))
     } else {
-        NextOpen::Never
+        Ok(None)
     }
 }

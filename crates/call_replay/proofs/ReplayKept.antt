@@ -82,9 +82,9 @@ promises =
       empty_log = λ store n g r w c e. nothing-followed store n g w (sym c ∙ e);
       refusal = λ store n g log r k c e. refused-is (replay_grounds store n g (length log)) _ (sym c ∙ e);
       odd = λ store n g log r c e h.
-          c ∙ answer-refused (replay_grounds store n g (length log)) _ (behind_shared store n g (length log) (sym e) refl (refuse-first 0 _ (ap not (ne_eqb (length log % entry_bytes) 0 h)))) (λ z. omega arith);
+          c ∙ answer-refused (replay_grounds store n g (length log)) _ (behind_shared store n g (length log) (sym e) (refuse-first 0 _ (ap not (ne_eqb (length log % entry_bytes) 0 h)))) (λ z. omega arith);
       long = λ store n g log r c e h l.
-          c ∙ answer-refused (replay_grounds store n g (length log)) _ (behind_shared store n g (length log) (sym e) refl (refuse-first 1 _ (ap not (eq-eqb (length log % entry_bytes) 0 h), lt-ltb max_log (length log) l))) (λ z. omega arith);
+          c ∙ answer-refused (replay_grounds store n g (length log)) _ (behind_shared store n g (length log) (sym e) (refuse-first 1 _ (ap not (eq-eqb (length log % entry_bytes) 0 h), lt-ltb max_log (length log) l))) (λ z. omega arith);
       first-words = λ store other long long' same n g log.
           same_call store other long long' same (λ t. walk_through t log) n g (log_grounds (length log)) refl;
     }

@@ -1,16 +1,19 @@
 -- What the call answers.
 --
---   replayed_of       each case of the answer, in the specification's numbers
+--   Replayed         what the call gives; replayed_of: what it says
 --   CalledReplay     a call and its answer: the contract of `replay`
-use Rattle.std.specs.Prelude.{ℕ, ◌≡◌, List}
-use Rattle.basics.specs.Refusals.{Answered, refused, answered}
+use Rattle.std.specs.Prelude.{ℕ, ◌≡◌, List, Result}
+use Rattle.basics.specs.Refusals.{Answered}
+use Rattle.core_refusals.specs.declared.Refusal.{Refusal}
+use Rattle.core_refusals.specs.Refusals.{answer_of}
 use Rattle.call_replay.specs.Logs.{Replay, replay_answer}
-use Rattle.call_replay.specs.declared.Replayed.{Replayed}
-use Rattle.call_replay.specs.declared.Replayed.TheVariants.{Walk, Refused}
+use Rattle.call_replay.specs.declared.Walk.{Walk}
+
+abbrev pub Replayed : Type 0
+Replayed = Result Walk Refusal
 
 abbrev pub replayed_of : Replayed → Answered Replay
-replayed_of (Walk k states percent remainder) = answered (record { followed = k; seen = states; percent = percent; remainder = remainder })
-replayed_of (Refused k) = refused k
+replayed_of = answer_of (λ w. record { followed = w.followed; seen = w.seen; percent = w.percent; remainder = w.remainder })
 
 abbrev pub CalledReplay : List ℕ → ℕ → ℕ → List ℕ → Replayed → Type 0
 CalledReplay store n g log r = replayed_of r ≡ replay_answer store n g log

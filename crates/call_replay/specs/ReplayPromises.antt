@@ -7,7 +7,7 @@
 --   CoverageIs         the coverage, by division with remainder
 --   WalkIs             all of it, and what can be reached
 --   ReplayPromises     of every call that is answered, of every one that is refused, beside a check that says safe, and of two stores
-use Rattle.std.specs.Prelude.{ℕ, ◌+◌, ◌*◌, ◌%◌, ◌≤◌, ◌<◌, ◌≡◌, ◌↔◌, Bool, true, false, ◌&&◌, List, [], ◌∷◌, length, get_or, take}
+use Rattle.std.specs.Prelude.{ℕ, ◌+◌, ◌*◌, ◌%◌, ◌≤◌, ◌<◌, ◌≡◌, ◌↔◌, Bool, true, false, ◌&&◌, List, [], ◌∷◌, length, get_or, take, Result}
 use Rattle.basics.specs.Bounds.{tabulate}
 use Rattle.basics.specs.Refusals.{refuse, refused, answered}
 use Rattle.model.specs.Sets.{member, size}
@@ -15,11 +15,11 @@ use Rattle.model.specs.Tables.{Table}
 use Rattle.model.specs.Stores.{store_words, table_of, shared_grounds}
 use Rattle.model.specs.Calls.{Decision as Answer}
 use Rattle.core_reach.specs.Reached.{reachable, walks, ReachableIs}
-use Rattle.call_decide.specs.declared.Decision.{Decision}
+use Rattle.core_refusals.specs.declared.Refusal.{Refusal}
+use Rattle.call_decide.specs.declared.Verdict.{Verdict}
 use Rattle.call_decide.specs.DecideAnswers.{decided_of, CalledDecide}
 use Rattle.call_replay.specs.Logs.{entry_bytes, max_log, entry_count, entry, seen, reachable_count, replay_grounds, Replay, replay_answer}
-use Rattle.call_replay.specs.ReplayAnswers.{replayed_of, CalledReplay}
-use Rattle.call_replay.specs.declared.Replayed.{Replayed}
+use Rattle.call_replay.specs.ReplayAnswers.{Replayed, replayed_of, CalledReplay}
 
 unfoldable pub entries : List ℕ → List ℕ
 entries log = tabulate (entry_count log) (entry log)
@@ -62,7 +62,7 @@ pub record ReplayPromises : Type 0 where
   pub walk : (store : List ℕ) (n g : ℕ) (log : List ℕ) (r : Replayed) (w : Replay)
       → CalledReplay store n g log r → replayed_of r ≡ answered w → WalkIs (table_of store n g) log w
   -- where a check of the table is answered and says safe, at any allowance, no followed entry is forbidden
-  pub safe : (store : List ℕ) (n g allowance : ℕ) (before : List ℕ) (d : Decision) (after : List ℕ) (a : Answer) (log : List ℕ) (r : Replayed) (w : Replay)
+  pub safe : (store : List ℕ) (n g allowance : ℕ) (before : List ℕ) (d : Result Verdict Refusal) (after : List ℕ) (a : Answer) (log : List ℕ) (r : Replayed) (w : Replay)
       → CalledDecide store n g allowance before d after → decided_of d ≡ answered a → a.verdict ≡ 0
       → CalledReplay store n g log r → replayed_of r ≡ answered w
       → (i : ℕ) → i < w.followed → member (table_of store n g).forbidden (entry log i) ≡ false

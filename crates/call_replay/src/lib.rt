@@ -3,32 +3,28 @@
 //   entry_at, holds_at     one entry of a log; whether a set of the store holds a state
 //   Walked, follow         the log followed from the initial states on: how many entries, and the states that they hold
 //   Covered, coverage      whole percent and remainder of the states that can be reached
-//   replay_refusal         the first of the grounds 10, 14, 15, 17, 25 and 26 that holds, or 0
-//   Replayed, replay       the call
+//   accept_log             refuses by the first of the grounds 10, 14, 15, 17, 25 and 26 that holds
+//   Walk, replay           the call
 #![tactic(auto)]
 
 ghost use Rattle.std.specs.Prelude.{◌≡◌, ◌+◌, ◌*◌, ◌≤◌, ◌<◌, length};
 ghost use Rattle.model.specs.Sets.{WORDS, max_states, member};
 ghost use Rattle.basics.specs.Refusals.{refuse};
+ghost use Rattle.core_refusals.specs.Refusals.{number_of};
 ghost use Rattle.model.specs.Stores.{store_words, set_at, table_of};
 ghost use Rattle.call_replay.specs.Logs.{entry_bytes, entry, followed, seen, percent_of, remainder_of, replay_grounds};
 ghost use Rattle.call_replay.specs.ReplayAnswers.{CalledReplay};
 
 use core_reach::reached;
-use core_refusals::{LOG_LONG, LOG_ODD};
+use core_refusals::Refusal;
+use core_rows::Steps;
 use core_state_set::{StateSet, WORD_BITS, WORDS};
-use core_table::{INITIAL_AT, ROWS_AT, refusal, set_at};
+use core_table::{INITIAL_AT, ROWS_AT, accept, set_at};
 
 // The bytes of an entry, and the most that a log may have.
 pub const ENTRY_BYTES: usize = 2;
 
 pub const MAX_LOG: usize = 32768;
-
-fn wide(b: u8) -> usize
-    ensures { (result ≡ b) × (result < 256) }
-{
-    b as usize
-}
 
 // Entry i of a log: a 16-bit number, low byte first.
 fn entry_at(log: &[u8], i: usize) -> usize
@@ -36,8 +32,8 @@ fn entry_at(log: &[u8], i: usize) -> usize
     ensures { result ≡ entry log.now i }
 {
     let at = ENTRY_BYTES * i;
-    let low = wide(log[at]);
-    let high = wide(log[at + 1]);
+    let low = usize::from(log[at]);
+    let high = usize::from(log[at + 1]);
     low + 256 * high
 }
 
@@ -109,50 +105,41 @@ fn coverage(states: usize, reached: usize) -> Covered
     }
 }
 
-// Why a log of so many bytes is refused, or 0.
-fn replay_refusal(store: &[u64], n: usize, g: usize, bytes: usize) -> u8
-    ensures { result ≡ refuse (replay_grounds store.now n g bytes) }
+// Whether a log of so many bytes is accepted.
+fn accept_log(store: &[u64], n: usize, g: usize, bytes: usize) -> Result<(), Refusal>
+    ensures { number_of result ≡ refuse (replay_grounds store.now n g bytes) }
 {
-    let shared = refusal(store, n, g);
-    if shared != 0 {
-        return shared;
-    }
+    accept(store, n, g)?;
     if bytes % ENTRY_BYTES != 0 {
-        return LOG_ODD;
+        return Err(Refusal::LogOdd);
     }
     if MAX_LOG < bytes {
-        return LOG_LONG;
+        return Err(Refusal::LogLong);
     }
-    0
+    Ok(())
 }
 
-// What the call answers: the entries followed, the different states among them, and the coverage; or why it is refused.
-#[derive(Clone, Copy)]
-pub enum Replayed {
-    Walk {
-        followed: usize,
-        seen: usize,
-        percent: usize,
-        remainder: usize,
-    },
-    Refused(u8),
+// What the call answers: the entries followed, the different states among them, and the coverage.
+#[derive(Clone, Copy, Debug, PartialEq, Eq)]
+pub struct Walk {
+    pub followed: usize,
+    pub seen: usize,
+    pub percent: usize,
+    pub remainder: usize,
 }
 
-pub fn replay(store: &[u64], n: usize, g: usize, log: &[u8]) -> Replayed
+pub fn replay(store: &[u64], n: usize, g: usize, log: &[u8]) -> Result<Walk, Refusal>
     ensures { CalledReplay store.now n g log.now result }
 {
-    let refused = replay_refusal(store, n, g, log.len());
-    if refused != 0 {
-        return Replayed::Refused(refused);
-    }
+    accept_log(store, n, g, log.len())?;
     let walked = follow(store, log);
     let seen = walked.seen.count();
-    let reached = reached(&store[ROWS_AT..], set_at(store, INITIAL_AT)).count();
+    let reached = reached(Steps::of(store), set_at(store, INITIAL_AT)).count();
     let covered = coverage(seen, reached);
-    Replayed::Walk {
+    Ok(Walk {
         followed: walked.followed,
         seen,
         percent: covered.percent,
         remainder: covered.remainder,
-    }
+    })
 }

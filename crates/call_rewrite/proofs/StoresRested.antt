@@ -32,10 +32,13 @@ use Rattle.theorems_rewriting.specs.Rewriting.{dead_ends, rewritten, OldFile, ol
 use Rattle.theorems_rewriting.proofs.Rewritten.{rewritten-held, dialogue_is}
 use Rattle.call_rewrite.specs.RewriteAnswers.{rested_store}
 
-pub rested_by : (store after : List ℕ) (n : ℕ) {X Y Z : Set} → X ≡ first_states n → Y ≡ empty → Z ≡ meet_hold (rows_of store) X Y
-    → after ≡ overwrite_from resting_at Z store → after ≡ rested_store store n
+pub rested_by : (store after : List ℕ) (n : ℕ) {R : List ℕ} {X Y Z : Set} → R ≡ rows_of store → X ≡ first_states n → Y ≡ empty
+    → Z ≡ meet_hold R X Y → after ≡ overwrite_from resting_at Z store → after ≡ rested_store store n
 unfolding rested_store
-rested_by store after n x y z put = put ∙ ap (λ (W : Set). overwrite_from resting_at W store) (z ∙ ap₂ (meet_hold (rows_of store)) x y)
+rested_by store after n {X = X} {Y = Y} r x y z put =
+    put
+    ∙ ap (λ (W : Set). overwrite_from resting_at W store)
+    (z ∙ ap (λ (xs : List ℕ). meet_hold xs X Y) r ∙ ap₂ (meet_hold (rows_of store)) x y)
 
 -- ---- an old file
 

@@ -3,7 +3,7 @@
 --   rested_store store n                             a store with the dead ends of its n states resting, and no other
 --   rewrite_grounds, rewrite_answer, rewrite_buffer    the grounds in order, the answer, which is the new file's length, and the output at exit
 --   CalledRewrite                                   a call and what it gave: its contract
-use Rattle.std.specs.Prelude.{ℕ, ◌≡◌, List, [], ◌∷◌, ◌++◌, ltb, length}
+use Rattle.std.specs.Prelude.{ℕ, ◌≡◌, List, [], ◌∷◌, ◌++◌, Result, ltb, length}
 use Rattle.basics.specs.Refusals.{Ground, Answered, answer, unless_refused}
 use Rattle.model.specs.Sets.{first_states, empty}
 use Rattle.model.specs.Stores.{store_words, resting_at}
@@ -11,7 +11,7 @@ use Rattle.model.specs.Contents.{old_form}
 use Rattle.model.specs.Calls.{overwrite, read_grounds_as}
 use Rattle.core_rows.specs.Rows.{rows_of, meet_hold}
 use Rattle.core_table.specs.Writing.{overwrite_from}
-use Rattle.file_writing.specs.declared.Written.{Written}
+use Rattle.core_refusals.specs.declared.Refusal.{Refusal}
 use Rattle.file_writing.specs.WriteAnswers.{written_of}
 use Rattle.theorems_rewriting.specs.Rewriting.{new_file}
 
@@ -30,7 +30,7 @@ unfoldable pub rewrite_buffer : List ℕ → List ℕ → List ℕ
 rewrite_buffer input output = unless_refused output (λ l. overwrite (new_file input) output) (rewrite_answer input (length output))
 
 -- The output before the call and after it.
-abbrev pub CalledRewrite : List ℕ → List ℕ → Written → List ℕ → Type 0
+abbrev pub CalledRewrite : List ℕ → List ℕ → Result ℕ Refusal → List ℕ → Type 0
 CalledRewrite input before r after =
     (written_of r ≡ rewrite_answer input (length before))
     × (after ≡ rewrite_buffer input before)

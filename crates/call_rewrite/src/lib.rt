@@ -9,36 +9,29 @@ ghost use Rattle.std.specs.Prelude.{◌≡◌, ◌≤◌, length};
 ghost use Rattle.model.specs.Stores.{store_words};
 ghost use Rattle.call_rewrite.specs.RewriteAnswers.{rested_store, CalledRewrite};
 
-use core_rows::meet_hold;
+use core_refusals::Refusal;
+use core_rows::Steps;
 use core_state_set::StateSet;
-use core_table::{RESTING_AT, ROWS_AT, STORE_WORDS, put_set};
-use file_reading::{TableRead, read_old};
-use file_writing::{Written, write};
+use core_table::{RESTING_AT, STORE_WORDS, put_set};
+use file_reading::read_old;
+use file_writing::write;
 
 // The site of both files.
 const SITE: usize = 0;
 
-pub fn rewrite(input: &[u8], output: &mut [u8]) -> Written
+pub fn rewrite(input: &[u8], output: &mut [u8]) -> Result<usize, Refusal>
     ensures { CalledRewrite input.now output.old result output.new }
 {
     let mut store = [0u64; STORE_WORDS];
-    match read_old(input, SITE, &mut store) {
-        TableRead::Table { n, g } => {
-            rest_dead_ends(&mut store, n);
-            write(&store, n, g, SITE, output)
-        }
-        TableRead::Refused(refusal) => Written::Refused(refusal),
-    }
+    let size = read_old(input, SITE, &mut store)?;
+    rest_dead_ends(&mut store, size.n);
+    write(&store, size.n, size.g, SITE, output)
 }
 
 fn rest_dead_ends(store: &mut [u64], n: usize)
     requires { store_words ≤ length store.old }
     ensures { store.new ≡ rested_store store.old n }
 {
-    let dead = meet_hold(
-        &store[ROWS_AT..],
-        StateSet::first_states(n),
-        StateSet::empty(),
-    );
+    let dead = Steps::of(store).meet_hold(StateSet::first_states(n), StateSet::empty());
     put_set(store, RESTING_AT, dead);
 }

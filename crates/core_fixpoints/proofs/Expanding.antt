@@ -1,121 +1,67 @@
 -- The loops that expand states.
 --
---   Recording, record-*       the bits of a word: with the states left written behind it, the array holds them all
---   WordsRecording, words-*   the words of a set: the array holds the states of those passed
+--   Recording, record-*       the states of a set: with those that are left written behind it, the array holds them all
 --   skip_known                the states of a closed set bring nothing that is not in it
 --   Passing, passing-*        the passes of `forward`
-use Prim.Native.Nat.{ℕ, suc, ◌+◌, ◌-◌, ◌*◌, ◌^◌, ◌≤◌, ◌<◌, zero-le}
+use Prim.Native.Nat.{ℕ, suc, ◌+◌, ◌-◌, ◌≤◌, ◌<◌, zero-le}
 use native.Mathlib.Nat.{zero-add, add-zero}
 use native.Mathlib.Numerals.{add-one}
 use native.Mathlib.Omega.{arith}
 use mathlib.Core.Path.{◌≡◌, refl, sym, ap, ap₂, ◌∙◌, subst}
 use mathlib.Core.Bool.{true, false}
-use mathlib.Core.List.{List, [], ◌∷◌, ◌++◌}
-use lib.Bits.{bit_and}
-use lib.Count.{count_trailing_zeros}
-use lib.ListN.{length, get_or, set, drop, replicate, length-append, length-replicate}
+use mathlib.Core.List.{List, [], ◌++◌}
+use lib.ListN.{length, get_or, set, drop, replicate, length-replicate}
 use lib.Seq.{sets, sets-eq}
-use Rattle.model.specs.Sets.{WORDS, max_states, Set, member, empty, union, meet, difference, subset, members, size, first_states}
+use Rattle.model.specs.Sets.{max_states, Set, empty, union, meet, difference, subset, members, size, first_states}
 use Rattle.basics.specs.Bounds.{concat}
 use Rattle.model.specs.Calls.{overwrite}
 use Rattle.model.specs.Promises.{IsLeast}
 use Rattle.model.proofs.SetsMembers.{Proper, set_of_proper, empty_in, in_difference, difference_in, ◌⊆◌, subset_in, in_subset, subset_not, ⊆-of-eq, same_set, in_image, image_in, union_assoc, union-empty}
-use Rattle.model.proofs.SetsCounted.{filter_le, size_bound, size_pos, size-most}
+use Rattle.model.proofs.SetsCounted.{size_bound, size_pos, size-most}
 use Rattle.model.proofs.Fixpoints.{iterate_has}
 use Rattle.model.proofs.SetsImages.{image_mono, image-none, image-union}
-use Rattle.core_state_set.specs.WordSets.{word_set, words_below}
-use Rattle.core_state_set.proofs.SetsByWord.{word_lowest, word_least, word_rest, word_none, words-none, words_in, words-all}
+use Rattle.core_state_set.specs.WordSets.{Takes}
+use Rattle.std.specs.Prelude.{Some}
 use Rattle.core_rows.specs.Rows.{successors_by}
 use Rattle.core_fixpoints.specs.Steps.{cover_by, forward_by, IsCover}
 use Rattle.core_fixpoints.specs.Order.{pass_at, order_of, first_pass_by, later_pass_by, order_by, padded}
 use Rattle.core_fixpoints.proofs.Bridge.{cover_by-within, cover_by-closed, forward_by_proper, forward-least}
-use Rattle.core_fixpoints.proofs.SetsListed.{members-none, members-words, members_peel, size_apart}
+use Rattle.core_fixpoints.proofs.SetsListed.{members-none, size_apart}
 use Rattle.model.proofs.ListsInParts.{sets-append}
 use Rattle.core_fixpoints.proofs.Passes.{step_empty, step_union, frontier_new, order_next, order_long, pass_steps, pass_before, pass_still, iterate_done, order_still}
 
--- ---- the bits of a word
+-- ---- the states of a set
 
-pub record Recording (goal : List ℕ) (total w rest : ℕ) (order : List ℕ) (count : ℕ) : Type 0 where
-  pub whole : sets order count (members (word_set w rest)) ≡ goal
-  pub number : count + size (word_set w rest) ≡ total
+-- with the states that are left written behind them, the array holds them all
+pub record Recording (goal : List ℕ) (total : ℕ) (left : Set) (order : List ℕ) (count : ℕ) : Type 0 where
+  pub whole : sets order count (members left) ≡ goal
+  pub number : count + size left ≡ total
 
-module _ {goal : List ℕ} {total w rest : ℕ} {order : List ℕ} {count : ℕ} (so : Recording goal total w rest order count) where
-  module _ (h : w < WORDS) (fits : rest < 2 ^ 64) (some : rest ≡ 0 → ⊥) where
-    abbrev lowest : ℕ
-    lowest = 64 * w + count_trailing_zeros 64 rest
+pub record_start : {X left : Set} (order : List ℕ) (count : ℕ) → left ≡ X → Recording (sets order count (members X)) (count + size X) left order count
+record_start order count e = record { whole = ap (λ (Y : Set). sets order count (members Y)) e; number = ap (λ (Y : Set). count + size Y) e }
 
-    peel : members (word_set w rest) ≡ lowest ∷ members (word_set w (bit_and rest (rest - 1)))
-    peel =
-        members_peel (word_set w rest) lowest (word_lowest w rest h fits some) (λ s i. word_least w rest h fits some i)
-        ∙ ap (λ (X : Set). lowest ∷ members X) (sym (word_rest w rest h fits some))
-
-    fewer : size (word_set w rest) ≡ suc (size (word_set w (bit_and rest (rest - 1))))
+module _ {goal : List ℕ} {total : ℕ} {left : Set} {order : List ℕ} {count : ℕ} (so : Recording goal total left order count) where
+  module _ {s : ℕ} {rest : Set} (taken : Takes left (Some s) rest) where
+    fewer : size left ≡ suc (size rest)
     unfolding size
-    fewer = ap length peel
+    fewer = ap length taken.2
 
     pub record_room : count < total
     record_room = omega (arith, fewer, so.number)
 
-    pub record_turn : {order' : List ℕ} {count' : ℕ} → count' ≡ count + 1 → order' ≡ set order count lowest
-        → Recording goal total w (bit_and rest (rest - 1)) order' count'
+    pub record_turn : {order' : List ℕ} {count' : ℕ} → count' ≡ count + 1 → order' ≡ set order count s → Recording goal total rest order' count'
     record_turn {order'} {count'} c e =
         record {
           whole =
-              ap₂ (λ (xs : List ℕ) (k : ℕ). sets xs k (members (word_set w (bit_and rest (rest - 1))))) e (c ∙ add-one count)
-              ∙ ap (sets order count) (sym peel)
-              ∙ so.whole;
+              ap₂ (λ (xs : List ℕ) (k : ℕ). sets xs k (members rest)) e (c ∙ add-one count) ∙ ap (sets order count) (sym taken.2) ∙ so.whole;
           number = omega (arith, c, fewer, so.number);
         }
 
-  pub record_end : rest ≡ 0 → (order ≡ goal) × (count ≡ total)
+  pub record_end : left ≡ empty → (order ≡ goal) × (count ≡ total)
   unfolding size
   record_end z =
-      let none : members (word_set w rest) ≡ [] = members-none {X = word_set w rest} (λ s i. empty_in (⊆-of-eq (ap (word_set w) z ∙ word_none w) s i)) in
+      let none : members left ≡ [] = members-none {X = left} (λ s i. empty_in (⊆-of-eq z s i)) in
       (ap (sets order count) (sym none) ∙ so.whole, sym (add-zero count) ∙ ap (λ (xs : List ℕ). count + length xs) (sym none) ∙ so.number)
-
--- ---- the words of a set
-
-size-part : (w : ℕ) (X : Set) → size (words_below w X) ≤ size X
-unfolding size members
-size-part w X = filter_le (member (words_below w X)) (member X) (λ k e. (words_in w X (record { is = e })).1.is) max_states
-
-pub record WordsRecording (X : Set) (order₀ : List ℕ) (count₀ w : ℕ) (order : List ℕ) (count : ℕ) : Type 0 where
-  pub is : order ≡ sets order₀ count₀ (members (words_below w X))
-  pub number : count ≡ count₀ + size (words_below w X)
-
-module _ (X : Set) (order₀ : List ℕ) (count₀ : ℕ) where
-  pub recording_start : WordsRecording X order₀ count₀ 0 order₀ count₀
-  unfolding size
-  recording_start =
-      let none : members (words_below 0 X) ≡ [] = members-none {X = words_below 0 X} (λ s i. empty_in (⊆-of-eq (words-none X) s i)) in
-      record { is = ap (sets order₀ count₀) (sym none); number = sym (add-zero count₀) ∙ ap (λ (xs : List ℕ). count₀ + length xs) (sym none) }
-
-  module _ {w : ℕ} {order : List ℕ} {count : ℕ} (so : WordsRecording X order₀ count₀ w order count) where
-    module _ (h : w < WORDS) where
-      larger : size (words_below (w + 1) X) ≡ size (words_below w X) + size (word_set w (get_or X w 0))
-      unfolding size
-      larger = ap length (members-words w X h) ∙ length-append (members (words_below w X)) (members (word_set w (get_or X w 0)))
-
-      pub recording_room : count₀ + size X ≤ max_states → count + size (word_set w (get_or X w 0)) ≤ max_states
-      recording_room l = omega (arith, so.number, larger, size-part (w + 1) X)
-
-      pub recording_turn : {order' : List ℕ} {count' : ℕ} → order' ≡ sets order count (members (word_set w (get_or X w 0)))
-          → count' ≡ count + size (word_set w (get_or X w 0)) → WordsRecording X order₀ count₀ (w + 1) order' count'
-      unfolding size
-      recording_turn e c =
-          record {
-            is =
-                e
-                ∙ ap₂ (λ (xs : List ℕ) (k : ℕ). sets xs k (members (word_set w (get_or X w 0)))) so.is so.number
-                ∙ sym (sets-append order₀ count₀ (members (words_below w X)) (members (word_set w (get_or X w 0))))
-                ∙ ap (sets order₀ count₀) (sym (members-words w X h));
-            number = omega (arith, c, so.number, larger);
-          }
-
-    pub recording_end : Proper X → WORDS ≤ w → (order ≡ sets order₀ count₀ (members X)) × (count ≡ count₀ + size X)
-    recording_end p h =
-        let all = words-all w X p h in
-        (so.is ∙ ap (λ (Y : Set). sets order₀ count₀ (members Y)) all, so.number ∙ ap (λ (Y : Set). count₀ + size Y) all)
 
 -- ---- the passes
 

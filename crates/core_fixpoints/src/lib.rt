@@ -1,7 +1,7 @@
 // R and S of a round (the specification, "Rounds"): the two fixpoints, over the rows of a table and the cover in an array.
 //
 //   cover_of                            the cover of a set
-//   expand, expand_word, expand_set, joining, forward
+//   expand, expand_set, joining, forward
 //                                       R, pass by pass: each expands the states that joined by the one before
 //   steps_by_word, held_word_within, meet_hold_within
 //                                       the states that stay in a smaller set
@@ -11,14 +11,13 @@
 ghost use Rattle.std.specs.Prelude.{◌≡◌, ◌+◌, ◌≤◌, ◌<◌, length, get_or, set as replaced};
 ghost use Rattle.std.proofs.lemmas.List.Edits.{sets as replacedFrom};
 ghost use Rattle.model.specs.Sets.{WORDS, max_states, union, meet, difference, members, size};
-ghost use Rattle.core_state_set.specs.WordSets.{word_set};
 ghost use Rattle.model.specs.Promises.{IsLeast, IsGreatest};
-ghost use Rattle.core_rows.specs.Rows.{rows_words, row_in, successors_by, meet_hold};
+ghost use Rattle.core_rows.specs.Rows.{row_in, successors_by, meet_hold};
 ghost use Rattle.core_fixpoints.specs.Steps.{steps_by_word, cover_by, forward_by, backward_by, IsCover, Leads};
 ghost use Rattle.core_fixpoints.specs.Order.{order_by, padded};
 
-use core_rows::{Rows, held_word, join_successors, row_at, row_of, union_of};
-use core_state_set::{MAX_STATES, StateSet, WORD_BITS, WORDS};
+use core_rows::{Rows, Steps, row_of, union_of};
+use core_state_set::{MAX_STATES, StateSet, WORDS};
 
 // ---- the cover
 
@@ -49,51 +48,32 @@ struct Expanded {
 }
 
 // State s is expanded: it is recorded, and its successors are joined. In `forward` nothing else does either.
-fn expand(rows: &[u64], s: usize, order: &mut Order, done: Expanded) -> Expanded
-    requires { (s < max_states) × (done.count < max_states) × (rows_words ≤ length rows.now) }
+fn expand(steps: Steps, s: usize, order: &mut Order, done: Expanded) -> Expanded
+    requires { (s < max_states) × (done.count < max_states) }
     ensures { (result.count ≡ done.count + 1)
-        × (result.found.words ≡ union done.found.words (row_in rows.now s))
+        × (result.found.words ≡ union done.found.words (row_in steps.entry.words.now s))
         × (order.new ≡ replaced order.old done.count s) }
 {
-    let count = done.count;
-    let found = done.found;
-    order[count] = s as u16;
+    order[done.count] = s as u16;
     Expanded {
-        count: count + 1,
-        found: found.union(row_at(rows, s)),
+        count: done.count + 1,
+        found: done.found.union(steps.row(s)),
     }
-}
-
-// The states that `bits` has in word w are expanded, rising.
-fn expand_word(rows: &[u64], w: usize, bits: u64, order: &mut Order, done: Expanded) -> Expanded
-    requires { (w < WORDS) × (done.count + size (word_set w bits) ≤ max_states) × (rows_words ≤ length rows.now) }
-    ensures { (result.count ≡ done.count + size (word_set w bits))
-        × (result.found.words ≡ union done.found.words (successors_by rows.now (word_set w bits)))
-        × (order.new ≡ replacedFrom order.old done.count (members (word_set w bits))) }
-{
-    let mut so_far = done;
-    let mut rest = bits;
-    while rest != 0 {
-        let s = WORD_BITS * w + u64::trailing_zeros(rest) as usize;
-        so_far = expand(rows, s, order, so_far);
-        rest &= rest - 1;
-    }
-    so_far
 }
 
 // A pass: the states of x are expanded, rising, as numbers `count` and up; `found` has their successors.
-fn expand_set(rows: &[u64], x: StateSet, order: &mut Order, count: usize) -> Expanded
-    requires { (count + size x.words ≤ max_states) × (rows_words ≤ length rows.now) }
+fn expand_set(steps: Steps, x: StateSet, order: &mut Order, count: usize) -> Expanded
+    requires { count + size x.words ≤ max_states }
     ensures { (result.count ≡ count + size x.words)
-        × (result.found.words ≡ successors_by rows.now x.words)
+        × (result.found.words ≡ successors_by steps.entry.words.now x.words)
         × (order.new ≡ replacedFrom order.old count (members x.words)) }
 {
     let mut so_far = Expanded {
         count,
         found: StateSet::empty(),
     };
-    for w in 0..WORDS {
-        so_far = expand_word(rows, w, x.words[w], order, so_far);
+    for s in x.states() {
+        so_far = expand(steps, s, order, so_far);
     }
     so_far
 }
@@ -116,12 +96,12 @@ pub struct Reached {
 }
 
 // The least x with x = cover(z meet (initial union post(x))). Each pass expands only the states that joined by the one before.
-pub fn forward(rows: &[u64], cover: &Rows, initial: StateSet, z: StateSet) -> Reached
-    requires { (rows_words ≤ length rows.now) × IsCover cover.now }
-    ensures { IsLeast (forward_by rows.now cover.now initial.words z.words) result.r.words
-        × (result.order ≡ padded (order_by rows.now cover.now initial.words z.words))
-        × (result.count ≡ length (order_by rows.now cover.now initial.words z.words))
-        × (result.entered.words ≡ union initial.words (successors_by rows.now result.r.words)) }
+pub fn forward(steps: Steps, cover: &Rows, initial: StateSet, z: StateSet) -> Reached
+    requires { IsCover cover.now }
+    ensures { IsLeast (forward_by steps.entry.words.now cover.now initial.words z.words) result.r.words
+        × (result.order ≡ padded (order_by steps.entry.words.now cover.now initial.words z.words))
+        × (result.count ≡ length (order_by steps.entry.words.now cover.now initial.words z.words))
+        × (result.entered.words ≡ union initial.words (successors_by steps.entry.words.now result.r.words)) }
 {
     let mut order = [0; MAX_STATES];
     let mut count = 0;
@@ -129,11 +109,10 @@ pub fn forward(rows: &[u64], cover: &Rows, initial: StateSet, z: StateSet) -> Re
     let mut frontier = cover_of(cover, z.meet(initial));
     let mut r = frontier;
     while !frontier.is_empty() {
-        let done = expand_set(rows, frontier, &mut order, count);
+        let done = expand_set(steps, frontier, &mut order, count);
         count = done.count;
-        let found = done.found;
-        entered = entered.union(found);
-        frontier = joining(cover, z, found, r);
+        entered = entered.union(done.found);
+        frontier = joining(cover, z, done.found, r);
         r = r.union(frontier);
     }
     Reached {
@@ -157,54 +136,52 @@ pub struct Remaining {
 pub type WordSteps = [[u64; WORDS]; WORDS];
 
 // What the states of x step to, word by word.
-pub fn steps_by_word(rows: &[u64], x: StateSet) -> WordSteps
-    requires { rows_words ≤ length rows.now }
-    ensures { result ≡ steps_by_word rows.now x.words }
+pub fn steps_by_word(steps: Steps, x: StateSet) -> WordSteps
+    ensures { result ≡ steps_by_word steps.entry.words.now x.words }
 {
-    let none = [0; WORDS];
-    let mut steps = [none; WORDS];
+    let mut by_word = [[0; WORDS]; WORDS];
     for w in 0..WORDS {
-        let words = join_successors(rows, w, x.words[w], StateSet::empty()).words;
-        steps[w] = words;
+        // kept: the proof does not cover a field that is an array stored straight
+        let words = steps.successors(x.in_word(w)).words;
+        by_word[w] = words;
     }
-    steps
+    by_word
 }
 
 // Word w of x meet hold(y), where every step from x leads into `before`. A state of x is out if it steps to one that `before` has more than y: where
 // no step from the word leads there, no row is looked at.
 fn held_word_within(
-    rows: &[u64],
-    steps: &WordSteps,
+    steps: Steps,
+    by_word: &WordSteps,
     x: StateSet,
     w: usize,
     before: StateSet,
     y: StateSet,
 ) -> u64
-    requires { (w < WORDS) × (rows_words ≤ length rows.now) × Leads rows.now steps.now x.words before.words }
-    ensures { result ≡ get_or (meet_hold rows.now x.words y.words) w 0 }
+    requires { (w < WORDS) × Leads steps.words.now by_word.now x.words before.words }
+    ensures { result ≡ get_or (meet_hold steps.entry.words.now x.words y.words) w 0 }
 {
-    let words = steps[w];
-    let found = StateSet { words };
+    let found = StateSet { words: by_word[w] };
     if found.meets(before.difference(y)) {
-        return held_word(rows, x, w, y);
+        return steps.held_word(x, w, y);
     }
     x.words[w]
 }
 
 // x meet hold(y), where every step from x leads into `before`.
 fn meet_hold_within(
-    rows: &[u64],
-    steps: &WordSteps,
+    steps: Steps,
+    by_word: &WordSteps,
     x: StateSet,
     before: StateSet,
     y: StateSet,
 ) -> StateSet
-    requires { (rows_words ≤ length rows.now) × Leads rows.now steps.now x.words before.words }
-    ensures { result.words ≡ meet_hold rows.now x.words y.words }
+    requires { Leads steps.words.now by_word.now x.words before.words }
+    ensures { result.words ≡ meet_hold steps.entry.words.now x.words y.words }
 {
     let mut words = [0; WORDS];
     for w in 0..WORDS {
-        words[w] = held_word_within(rows, steps, x, w, before, y);
+        words[w] = held_word_within(steps, by_word, x, w, before, y);
     }
     StateSet { words }
 }
@@ -212,22 +189,22 @@ fn meet_hold_within(
 // The greatest x with x = cover(r meet hold(x)), where r is its own cover, and every step from it leads into `entered`. A state of r that steps
 // out of x once stays out, so only those that stay are looked at again, and none where x has not changed.
 pub fn backward(
-    rows: &[u64],
-    steps: &WordSteps,
+    steps: Steps,
+    by_word: &WordSteps,
     cover: &Rows,
     r: StateSet,
     entered: StateSet,
 ) -> Remaining
-    requires { (rows_words ≤ length rows.now) × IsCover cover.now × (cover_by cover.now r.words ≡ r.words)
-        × Leads rows.now steps.now r.words entered.words }
-    ensures { IsGreatest (backward_by rows.now cover.now r.words) result.s.words
-        × (result.next.words ≡ meet_hold rows.now result.s.words result.s.words) }
+    requires { IsCover cover.now × (cover_by cover.now r.words ≡ r.words)
+        × Leads steps.words.now by_word.now r.words entered.words }
+    ensures { IsGreatest (backward_by steps.entry.words.now cover.now r.words) result.s.words
+        × (result.next.words ≡ meet_hold steps.entry.words.now result.s.words result.s.words) }
 {
     let mut before = entered;
     let mut s = r;
     let mut staying = r;
     loop {
-        let kept = meet_hold_within(rows, steps, staying, before, s);
+        let kept = meet_hold_within(steps, by_word, staying, before, s);
         let smaller = cover_of(cover, kept);
         if smaller.equals(s) {
             return Remaining { s, next: kept };

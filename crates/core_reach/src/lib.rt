@@ -4,32 +4,30 @@
 //   reached            all states that a set reaches, itself included
 #![tactic(auto)]
 
-ghost use Rattle.std.specs.Prelude.{◌≡◌, ◌≤◌, length};
+ghost use Rattle.std.specs.Prelude.{◌≡◌};
 ghost use Rattle.model.specs.Sets.{difference};
 ghost use Rattle.model.specs.Promises.{IsLeast};
-ghost use Rattle.core_rows.specs.Rows.{rows_words, successors_by};
+ghost use Rattle.core_rows.specs.Rows.{successors_by};
 ghost use Rattle.core_reach.specs.Reached.{reach_by};
 
-use core_rows::successors;
+use core_rows::Steps;
 use core_state_set::StateSet;
 
 // The successors of the states of the layer that are not among those found.
-pub fn newly_reached(rows: &[u64], layer: StateSet, found: StateSet) -> StateSet
-    requires { rows_words ≤ length rows.now }
-    ensures { result.words ≡ difference (successors_by rows.now layer.words) found.words }
+pub fn newly_reached(steps: Steps, layer: StateSet, found: StateSet) -> StateSet
+    ensures { result.words ≡ difference (successors_by steps.entry.words.now layer.words) found.words }
 {
-    successors(rows, layer).difference(found)
+    steps.successors(layer).difference(found)
 }
 
 // The least x with x = from union post(x).
-pub fn reached(rows: &[u64], from: StateSet) -> StateSet
-    requires { rows_words ≤ length rows.now }
-    ensures { IsLeast (reach_by rows.now from.words) result.words }
+pub fn reached(steps: Steps, from: StateSet) -> StateSet
+    ensures { IsLeast (reach_by steps.entry.words.now from.words) result.words }
 {
     let mut found = from;
     let mut layer = from;
     while !layer.is_empty() {
-        layer = newly_reached(rows, layer, found);
+        layer = newly_reached(steps, layer, found);
         found = found.union(layer);
     }
     found

@@ -1,16 +1,17 @@
 -- Laws of `Put`: texts put into a buffer one after the other are one text put there.
 --
---   put_none, put_byte      nothing put; one byte stored
+--   put_none, put_copied    nothing put; a text copied
 --   put_then                two texts, the second from where the first ends
 --   put_most                a longer bound on the text
 --   put_front               a text put at the front of a buffer that has room for it overwrites the front and nothing else
-use Prim.Native.Nat.{ℕ, ◌+◌, ◌≤◌}
-use native.Mathlib.Nat.{add-zero, zero-add}
+use Prim.Native.Nat.{ℕ, ◌+◌, ◌-◌, ◌≤◌}
+use native.Mathlib.Nat.{le_refl, add-zero, zero-add}
 use native.Mathlib.Omega.{arith}
-use mathlib.Core.Path.{refl, sym, ap, ◌∙◌}
-use mathlib.Core.List.{List, [], ◌∷◌, ◌++◌}
-use lib.ListN.{length, drop, set, length-append, length-set}
-use lib.Seq.{sets-eq, length-take-le}
+use mathlib.Core.Path.{◌≡◌, refl, sym, ap, ap₂, ◌∙◌}
+use mathlib.Core.List.{List, [], ◌++◌, append_assoc}
+use borrow.Rule.Slice.PartMut.{put_mid, Post-is}
+use lib.ListN.{length, take, drop, length-append}
+use lib.Seq.{sets, sets-eq, length-sets, length-take-le}
 use Rattle.model.specs.Calls.{overwrite}
 use Rattle.core_report.specs.Put.{Front, Put}
 use Rattle.model.proofs.ListsInParts.{sets-append}
@@ -18,8 +19,15 @@ use Rattle.model.proofs.ListsInParts.{sets-append}
 pub put_none : (at : ℕ) (l : List ℕ) → Put 0 [] at l at l
 put_none at l = record { short = omega arith; ends = sym (add-zero at); long = refl; bytes = refl }
 
-pub put_byte : (x at : ℕ) (l : List ℕ) → Put 1 (x ∷ []) at l (at + 1) (set l at x)
-put_byte x at l = record { short = omega arith; ends = refl; long = length-set l at x; bytes = refl }
+-- a text copied over as much of the buffer from `at` on
+pub put_copied : (xs l ys : List ℕ) (at : ℕ) → at + length xs ≤ length l → ys ≡ xs
+    → Put (length xs) xs at l (at + length xs) (put_mid at (at + length xs - at) l ys)
+put_copied xs l ys at h e =
+    let copied : put_mid at (at + length xs - at) l ys ≡ sets l at xs =
+    ap₂ (λ zs ws. take at l ++ (zs ++ ws)) e (Post-is at (at + length xs) l (omega arith))
+    ∙ sym (append_assoc (take at l) xs (drop (at + length xs) l))
+    ∙ sym (sets-eq xs l at h) in
+    record { short = le_refl (length xs); ends = refl; long = ap length copied ∙ length-sets l at xs; bytes = copied }
 
 pub put_then : {j k at m e : ℕ} {xs ys a b c : List ℕ} → Put j xs at a m b → Put k ys m b e c → Put (j + k) (xs ++ ys) at a e c
 put_then {j} {k} {at} {m} {e} {xs} {ys} {a} {b} {c} p q =

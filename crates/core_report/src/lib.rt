@@ -145,8 +145,8 @@ fn put_path(path: &[u16], at: usize, out: &mut [u8]) -> usize
     ensures { Put (spaced_bytes * length path.now) (spaced path.now) at out.old result out.new }
 {
     let mut end = at;
-    for i in 0..path.len() {
-        end = put_spaced(path[i] as usize, end, out);
+    for s in path {
+        end = put_spaced(*s as usize, end, out);
     }
     end
 }
@@ -191,10 +191,7 @@ fn put(text: &[u8], at: usize, out: &mut [u8]) -> usize
     requires { at + length text.now ≤ length out.old }
     ensures { Put (length text.now) text.now at out.old result out.new }
 {
-    let mut end = at;
-    for i in 0..text.len() {
-        out[end] = text[i];
-        end += 1;
-    }
+    let end = at + text.len();
+    out[at..end].copy_from_slice(text);
     end
 }

@@ -2,27 +2,25 @@
 --
 --   not_forbidden-is              all states without the forbidden ones
 --   covers-none, covers-add      the cover for no set; after a set is added
---   narrowed-all                 once every word of the set is passed, the cover is the one after the set is added
 --   groups_last                  the last of some groups
---   group_added, Z_added         the set that is added next, where a group is left and where none is
+--   Added                        the invariant of the loop that adds the groups: the cover is that of those that are no longer left
+--   added_none, group_added, added-all    at its start, after the last group left, and at its end
 use Prim.Native.Nat.{ℕ, suc, ◌-◌, ◌*◌, ◌≤◌, ◌<◌}
 use native.Mathlib.Omega.{arith}
-use mathlib.Core.Path.{◌≡◌, sym, ap, ◌∙◌}
-use mathlib.Core.List.{List, [], ◌∷◌, ◌++◌}
-use borrow.Author.Tests.{ne_eqb}
+use mathlib.Core.Path.{◌≡◌, sym, ap, ◌∙◌, subst}
+use mathlib.Core.List.{List, [], ◌∷◌, ◌++◌, append_assoc, append-nil}
 use lib.ListN.{replicate}
 use Rattle.basics.specs.Bounds.{tabulate}
 use Rattle.model.specs.Sets.{WORDS, max_states, Set, member, meet, difference, states, first_states}
 use Rattle.model.specs.Tables.{cover_of, not_forbidden}
 use Rattle.model.specs.Stores.{set_at}
 use Rattle.basics.proofs.BoundLaws.{is_false, clash, tabulate_const}
-use Rattle.model.proofs.SetsMembers.{Proper, set_of_proper, in_difference, difference_in, same_set}
+use Rattle.model.proofs.SetsMembers.{set_of_proper, in_difference, difference_in, same_set}
 use Rattle.model.proofs.CoverLaws.{in_not_forbidden, not_forbidden_in, not_forbidden-within}
-use Rattle.core_state_set.specs.WordSets.{words_below}
-use Rattle.core_rows.specs.Rows.{groups_in, map_at}
-use Rattle.core_rows.proofs.RowsMapped.{map_at-tabulate, map-all}
+use Rattle.core_rows.specs.Rows.{groups_in}
+use Rattle.core_rows.proofs.RowsMapped.{map_at-tabulate}
 use Rattle.core_fixpoints.specs.Steps.{covers}
-use Rattle.core_rounds.specs.Adding.{narrowed, next_added}
+use Rattle.core_rounds.specs.Adding.{narrowed}
 
 pub not_forbidden-is : (n : ℕ) (F : Set) → difference (first_states n) F ≡ not_forbidden n F
 unfolding difference not_forbidden states
@@ -41,22 +39,33 @@ pub covers-none : (n : ℕ) {all : Set} → all ≡ first_states n → replicate
 unfolding covers cover_of
 covers-none n e = ap (replicate max_states) e ∙ tabulate_const max_states (first_states n)
 
-pub narrowed-all : (before : List Set) (w : ℕ) {X Y : Set} {cover : List Set} → Proper X → WORDS ≤ w
-    → cover ≡ map_at (words_below w X) (λ row. meet row X) [] before → X ≡ Y → cover ≡ narrowed before Y
-unfolding narrowed
-narrowed-all before w p h e is = e ∙ map-all _ _ _ _ w p h ∙ ap (narrowed before) is
-
--- ---- the sets that are added
+-- ---- the groups
 
 pub groups_last : (groups : List ℕ) (j : ℕ) → 0 < j → groups_in groups j ≡ groups_in groups (j - 1) ++ (set_at groups (WORDS * (j - 1)) ∷ [])
 unfolding groups_in tabulate
 groups_last groups j some = let k : suc (j - 1) ≡ j = omega arith in ap (groups_in groups) (sym k)
 
-module _ (groups : List ℕ) (Z : Set) (j : ℕ) where
-  pub group_added : 0 < j → Z ∷ groups_in groups j ≡ (Z ∷ groups_in groups (j - 1)) ++ (next_added groups j Z ∷ [])
-  unfolding next_added
-  group_added some = rw (ne_eqb j 0 (λ z. omega arith)) (ap (λ (L : List Set). Z ∷ L) (groups_last groups j some))
+-- `all` are to be added, and those `left` still are: the cover is that of the others
+pub record Added (n : ℕ) (all left cover : List Set) : Type 0 where
+  pub list : List Set
+  pub whole : left ++ list ≡ all
+  pub cover-is : cover ≡ covers n list
 
-  pub Z_added : j ≤ 0 → Z ∷ groups_in groups j ≡ next_added groups j Z ∷ []
-  unfolding next_added groups_in tabulate
-  Z_added none = let z : j ≡ 0 = omega arith in rw z
+pub added_none : {n : ℕ} {all cover : List Set} → cover ≡ covers n [] → Added n all all cover
+added_none {all = all} c = record { list = []; whole = append-nil all; cover-is = c }
+
+module _ {n : ℕ} (groups : List ℕ) {j : ℕ} {all before : List Set} (so : Added n all (groups_in groups j) before) where
+  pub group_added : {cover : List Set} → 0 < j → cover ≡ narrowed before (set_at groups (WORDS * (j - 1))) → Added n all (groups_in groups (j - 1)) cover
+  group_added some e =
+      let X = set_at groups (WORDS * (j - 1)) in
+      record {
+        list = X ∷ so.list;
+        whole =
+            sym (append_assoc (groups_in groups (j - 1)) (X ∷ []) so.list) ∙ ap (λ (P : List Set). P ++ so.list) (sym (groups_last groups j some)) ∙ so.whole;
+        cover-is = e ∙ ap (λ (C : List Set). narrowed C X) so.cover-is ∙ covers-add n so.list X;
+      }
+
+  pub added-all : j ≤ 0 → before ≡ covers n all
+  unfolding groups_in tabulate
+  added-all none =
+      let z : j ≡ 0 = omega arith in so.cover-is ∙ ap (covers n) (subst (λ (k : ℕ). groups_in groups k ++ so.list ≡ all) z so.whole)

@@ -1,41 +1,34 @@
 // The rounds (the specification, "Rounds").
 //
 //   not_forbidden                       Z of the first round
-//   next_added                          the set that is added to the list next
+//   narrow                              the cover, a row for each state, once a set is added to the list
 //   conclude                            what a round comes to
-//   run                                 the rounds, and the cover: a row of words for each state, narrowed as a set is added to the list
+//   run                                 the rounds
 #![tactic(auto)]
 
 ghost use Rattle.std.specs.Prelude.{◌≡◌, ◌≤◌, length};
 ghost use Rattle.model.specs.Tables.{not_forbidden};
 ghost use Rattle.model.specs.Rounds.{run as run·model};
 ghost use Rattle.model.specs.Stores.{max_groups};
-ghost use Rattle.core_rows.specs.Rows.{rows_words, groups_words, groups_in, table_on};
+ghost use Rattle.core_rows.specs.Rows.{groups_words, groups_in, table_on};
 ghost use Rattle.core_fixpoints.specs.Steps.{Prepared};
-ghost use Rattle.core_rounds.specs.Adding.{next_added};
-ghost use Rattle.core_rounds.specs.RunAnswers.{Concludes, outcome_of, invariant_of};
+ghost use Rattle.core_rounds.specs.Adding.{narrowed};
+ghost use Rattle.core_rounds.specs.RunAnswers.{Concludes, outcome_of};
 
 use core_fixpoints::{WordSteps, backward, forward, steps_by_word};
-use core_rows::{Rows, row_of};
-use core_state_set::{MAX_STATES, StateSet, WORD_BITS, WORDS};
+use core_rows::{Rows, Steps, row_of};
+use core_state_set::{MAX_STATES, StateSet, WORDS};
 use core_table::set_at;
 
 // As many refinements as there can be states.
 pub const MAX_ALLOWANCE: usize = MAX_STATES;
 
-// How the rounds end, with the count of refinements.
+// How the rounds end, with the count of refinements, and R where that is safe.
 #[derive(Clone, Copy)]
 pub enum Ending {
-    Safe(usize),
-    Unsafe(usize),
-    Undecided(usize),
-}
-
-// The ending, with R beside it where that is safe and the empty set where it is not.
-#[derive(Clone, Copy)]
-pub struct Ended {
-    pub ending: Ending,
-    pub invariant: StateSet,
+    Safe { count: usize, invariant: StateSet },
+    Unsafe { count: usize },
+    Undecided { count: usize },
 }
 
 // Z of the first round: the states of the table that are not forbidden.
@@ -45,132 +38,80 @@ pub fn not_forbidden(n: usize, forbidden: StateSet) -> StateSet
     StateSet::first_states(n).difference(forbidden)
 }
 
-// The set that is added to the list next: the last of the j groups that are still to be added, or z where there is none.
-fn next_added(groups: &[u64], j: usize, z: StateSet) -> StateSet
-    requires { (j ≤ max_groups) × (groups_words ≤ length groups.now) }
-    ensures { result.words ≡ next_added groups.now j z.words }
+// The cover once z is added to the list: that of each state of z is met with it.
+fn narrow(cover: &mut Rows, z: StateSet)
+    ensures { cover.new ≡ narrowed cover.old z.words }
 {
-    if j == 0 {
-        return z;
+    for s in z.states() {
+        // kept: `cover[s] = row_of(cover, s).meet(z).words` stops at the borrow checker, a call's field stored
+        let words = row_of(cover, s).meet(z).words;
+        cover[s] = words;
     }
-    set_at(groups, WORDS * (j - 1))
 }
 
-// What a round comes to: safe (step 2), unsafe (step 4), or neither.
+// What a round comes to: safe with R (step 2), unsafe (step 4), or neither, with the next Z.
 #[derive(Clone, Copy)]
 pub enum Conclusion {
-    Safe,
+    Safe(StateSet),
     Unsafe,
-    Open,
-}
-
-// The conclusion, with R beside it where that is safe, the next Z where it is open, and the empty set where it is unsafe.
-#[derive(Clone, Copy)]
-pub struct Concluded {
-    pub conclusion: Conclusion,
-    pub set: StateSet,
+    Open(StateSet),
 }
 
 // Steps 1 to 4 of a round, and the Z of step 6.
 fn conclude(
-    rows: &[u64],
-    steps: &WordSteps,
+    steps: Steps,
+    by_word: &WordSteps,
     cover: &Rows,
     initial: StateSet,
     z: StateSet,
-) -> Concluded
-    requires { (rows_words ≤ length rows.now) × Prepared rows.now steps.now cover.now }
-    ensures { Concludes rows.now cover.now initial.words z.words result }
+) -> Conclusion
+    requires { Prepared steps.words.now by_word.now cover.now }
+    ensures { Concludes steps.entry.words.now cover.now initial.words z.words result }
 {
-    let reached = forward(rows, cover, initial, z);
+    let reached = forward(steps, cover, initial, z);
     let r = reached.r;
     let entered = reached.entered;
     if entered.is_subset(z) {
-        return Concluded {
-            conclusion: Conclusion::Safe,
-            set: r,
-        };
+        return Conclusion::Safe(r);
     }
-    let held = backward(rows, steps, cover, r, entered);
-    let s = held.s;
-    let next = held.next;
-    if !initial.is_subset(s) {
-        return Concluded {
-            conclusion: Conclusion::Unsafe,
-            set: StateSet::empty(),
-        };
+    let held = backward(steps, by_word, cover, r, entered);
+    if !initial.is_subset(held.s) {
+        return Conclusion::Unsafe;
     }
-    Concluded {
-        conclusion: Conclusion::Open,
-        set: next,
-    }
+    Conclusion::Open(held.next)
 }
 
-// The rounds, from 0 on, till one of them says safe or unsafe or the allowance is used. The cover is an array of arrays by value, whose rows are
-// stored here alone. Each turn of the outer loop adds a set to the list and meets the cover of each of its states with it: first the groups, from
-// the last to the first, then Z0 and the Z of each later round, with which that round begins.
+// The rounds, from 0 on, till one of them says safe or unsafe or the allowance is used. The cover is that of the
+// list, to which the groups are added first, from the last to the first, and then, as each round begins, its Z.
 pub fn run(
-    rows: &[u64],
+    steps: Steps,
     groups: &[u64],
     g: usize,
     n: usize,
     initial: StateSet,
     forbidden: StateSet,
     allowance: usize,
-) -> Ended
-    requires { (g ≤ max_groups) × (groups_words ≤ length groups.now) × (rows_words ≤ length rows.now) }
-    ensures { (outcome_of result
-        ≡ run·model (table_on n initial.words forbidden.words (groups_in groups.now g) rows.now) allowance)
-        × (result.invariant.words ≡ invariant_of (outcome_of result)) }
+) -> Ending
+    requires { (g ≤ max_groups) × (groups_words ≤ length groups.now) }
+    ensures { outcome_of result
+        ≡ run·model (table_on n initial.words forbidden.words (groups_in groups.now g) steps.entry.words.now) allowance }
 {
     let all = StateSet::first_states(n);
-    let steps = steps_by_word(rows, all);
+    let by_word = steps_by_word(steps, all);
+    // kept: tried `[all.words; MAX_STATES]`; the borrow checker stops at an element that is a field
     let row = all.words;
     let mut cover = [row; MAX_STATES];
+    for j in (0..g).rev() {
+        narrow(&mut cover, set_at(groups, WORDS * j));
+    }
     let mut z = not_forbidden(n, forbidden);
-    let mut j = g;
-    let mut i = 0;
-    loop {
-        let added = next_added(groups, j, z);
-        for w in 0..WORDS {
-            let mut rest = added.words[w];
-            while rest != 0 {
-                let s = WORD_BITS * w + u64::trailing_zeros(rest) as usize;
-                let words = row_of(&cover, s).meet(added).words;
-                cover[s] = words;
-                rest &= rest - 1;
-            }
-        }
-        if 0 < j {
-            j -= 1;
-            continue;
-        }
-        let round = conclude(rows, &steps, &cover, initial, z);
-        let conclusion = round.conclusion;
-        let set = round.set;
-        match conclusion {
-            Conclusion::Safe => {
-                return Ended {
-                    ending: Ending::Safe(i),
-                    invariant: set,
-                };
-            }
-            Conclusion::Unsafe => {
-                return Ended {
-                    ending: Ending::Unsafe(i),
-                    invariant: set,
-                };
-            }
-            Conclusion::Open => {
-                if i == allowance {
-                    return Ended {
-                        ending: Ending::Undecided(i),
-                        invariant: StateSet::empty(),
-                    };
-                }
-                z = set;
-                i += 1;
-            }
+    for count in 0..=allowance {
+        narrow(&mut cover, z);
+        match conclude(steps, &by_word, &cover, initial, z) {
+            Conclusion::Safe(invariant) => return Ending::Safe { count, invariant },
+            Conclusion::Unsafe => return Ending::Unsafe { count },
+            Conclusion::Open(next) => z = next,
         }
     }
+    Ending::Undecided { count: allowance }
 }

@@ -1,27 +1,23 @@
--- Laws of map_at, for loops that change the element at each state of a set, word by word and bit by bit.
+-- Laws of map_at, for loops that change the element at each state of a set.
 --
 --   length-map_at, get_or-map_at             it by its length and its elements
 --   map_at-tabulate                       of a list f 0, f 1, ..
 --   map_at-none, map_at_peel               no state, no change; a state's element changed first, then those at the rest
 --   map_at_parts                          one set after the other, where they have no state in common
---   Mapping, mapping_bound, -turn, -end  the loop over the bits of a word: its invariant, the state that is next, a turn of it, and what it leaves
---   map_start, map_word, map-all         the loop over the words: the elements at the states in the words passed are changed
-use Prim.Native.Nat.{ℕ, ◌+◌, ◌-◌, ◌*◌, ◌^◌, ◌≤◌, ◌<◌}
-use native.Mathlib.Omega.{arith}
+--   mapping_turn, mapping_end             the loop over the states: a turn of it, and what it leaves
+use Prim.Native.Nat.{ℕ, ◌-◌, ◌<◌}
 use mathlib.Core.Path.{◌≡◌, sym, ap, ap₂, ◌∙◌, subst}
 use mathlib.Core.Logic.{inl, inr, ⊎_elim}
 use mathlib.Core.Bool.{Bool, false, cond}
 use mathlib.Core.List.{List}
-use lib.Bits.{bit_and}
-use lib.Count.{count_trailing_zeros}
 use lib.ListN.{length, get_or, set, length-set}
 use lib.Seq.{ext_get_or, get_or-set_same, get_or-set_other}
 use Rattle.basics.specs.Bounds.{tabulate}
-use Rattle.model.specs.Sets.{WORDS, max_states, Set, member, single, union, difference, empty}
+use Rattle.model.specs.Sets.{Set, member, single, union, difference, empty}
 use Rattle.basics.proofs.BoundLaws.{is_false, same_test, length-tabulate, get_or-tabulate, tabulate_cong}
-use Rattle.model.proofs.SetsMembers.{Proper, In, in_bound, in_or_out, empty_in, in_single, single_in, in_union, union_in, in_difference, difference_in}
-use Rattle.core_state_set.specs.WordSets.{word_set, words_below}
-use Rattle.core_state_set.proofs.SetsByWord.{word_lowest, word_rest, word_less, word_none, words-none, words_more, words_apart, words-all}
+use Rattle.model.proofs.SetsMembers.{In, in_bound, in_or_out, empty_in, in_single, single_in, in_union, union_in, in_difference, difference_in}
+use Rattle.std.specs.Prelude.{Some}
+use Rattle.core_state_set.specs.WordSets.{Takes}
 use Rattle.core_rows.specs.Rows.{map_at}
 
 module _ {A : Type 0} (f : A → A) (z : A) where
@@ -96,45 +92,13 @@ module _ {A : Type 0} (f : A → A) (z : A) where
           rw (out, same))
           (in_or_out X i)
 
--- ---- the bits of a word
+-- ---- a loop over the states of a set: what is changed so far, with the changes at the states that are left, is the goal
 
--- `now` with the changes at the states of `rest` made is the goal
-pub record Mapping {A : Type 0} (f : A → A) (z : A) (goal : List A) (w rest : ℕ) (now : List A) : Type 0 where
-  pub fits : rest < 2 ^ 64
-  pub whole : map_at (word_set w rest) f z now ≡ goal
+module _ {A : Type 0} (f : A → A) (z : A) where
+  pub mapping_turn : (left : Set) (now : List A) {rest : Set} {s : ℕ} {goal : List A} {new : A} → Takes left (Some s) rest → new ≡ f (get_or now s z)
+      → map_at left f z now ≡ goal → map_at rest f z (set now s new) ≡ goal
+  mapping_turn left now {s = s} taken p so =
+      ap₂ (λ (Y : Set) (new : A). map_at Y f z (set now s new)) taken.1 p ∙ map_at_peel f z left s now (record { is = taken.0 }) ∙ so
 
-module _ {A : Type 0} (f : A → A) (z : A) (goal : List A) {w rest : ℕ} {now : List A} (so : Mapping f z goal w rest now) where
-  pub mapping_bound : w < WORDS → (rest ≡ 0 → ⊥) → 64 * w + count_trailing_zeros 64 rest < max_states
-  mapping_bound h some = in_bound (word_lowest w rest h so.fits some)
-
-  pub mapping_turn : {new : A} → w < WORDS → (rest ≡ 0 → ⊥) → new ≡ f (get_or now (64 * w + count_trailing_zeros 64 rest) z)
-      → Mapping f z goal w (bit_and rest (rest - 1)) (set now (64 * w + count_trailing_zeros 64 rest) new)
-  mapping_turn h some p =
-      let x = 64 * w + count_trailing_zeros 64 rest in
-      record {
-        fits = omega (arith, word_less rest some, so.fits);
-        whole =
-            ap₂ (λ (Y : Set) (new : A). map_at Y f z (set now x new)) (word_rest w rest h so.fits some) p
-            ∙ map_at_peel f z (word_set w rest) x now (word_lowest w rest h so.fits some)
-            ∙ so.whole;
-      }
-
-  pub mapping_end : rest ≡ 0 → now ≡ goal
-  mapping_end e = sym (map_at-none f z now) ∙ ap (λ (Y : Set). map_at Y f z now) (sym (ap (word_set w) e ∙ word_none w)) ∙ so.whole
-
--- ---- the words
-
-module _ {A : Type 0} (f : A → A) (z : A) (X : Set) (xs : List A) where
-  pub map_start : xs ≡ map_at (words_below 0 X) f z xs
-  map_start = sym (ap (λ (Y : Set). map_at Y f z xs) (words-none X) ∙ map_at-none f z xs)
-
-  pub map_word : {xs' xs'' : List A} (w : ℕ) → w < WORDS → xs' ≡ map_at (words_below w X) f z xs
-      → xs'' ≡ map_at (word_set w (get_or X w 0)) f z xs' → xs'' ≡ map_at (words_below (w + 1) X) f z xs
-  map_word w h e q =
-      q
-      ∙ ap (map_at (word_set w (get_or X w 0)) f z) e
-      ∙ map_at_parts f z _ _ (λ s. words_apart w X _) xs
-      ∙ ap (λ (Y : Set). map_at Y f z xs) (sym (words_more w X h))
-
-  pub map-all : (w : ℕ) → Proper X → WORDS ≤ w → map_at (words_below w X) f z xs ≡ map_at X f z xs
-  map-all w p h = ap (λ (Y : Set). map_at Y f z xs) (words-all w X p h)
+  pub mapping_end : (now : List A) {left : Set} {goal : List A} → left ≡ empty → map_at left f z now ≡ goal → now ≡ goal
+  mapping_end now e so = sym (map_at-none f z now) ∙ ap (λ (Y : Set). map_at Y f z now) (sym e) ∙ so

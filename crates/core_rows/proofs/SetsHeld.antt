@@ -2,14 +2,15 @@
 --
 --   lowest_place, lowest_bit       the lowest bit of a number that is not 0: its place, and that it is one
 --   Gathering                      the invariant: with what passes of the bits that are left, what is gathered is what passes of all
---   gather_start, gather_take, gather_skip     before the first bit; one more, which passes or does not
+--   gather_start, gather_taken, gather_skipped     before the first bit; one more, which passes or does not
 --   gather_end                     when no bit is left: the word of the states of a set that are in hold
 use Prim.Native.Nat.{ℕ, ◌+◌, ◌-◌, ◌*◌, ◌%◌, ◌^◌, ◌<◌}
 use native.Mathlib.Omega.{arith}
-use mathlib.Core.Path.{◌≡◌, refl, sym, ap, ap₂, ◌∙◌}
+use mathlib.Core.Path.{◌≡◌, refl, sym, ap, ap₂, ◌∙◌, subst}
 use mathlib.Core.Logic.{⊎_elim}
 use mathlib.Core.Bool.{Bool, true, false, not, ◌&&◌, ◌||◌}
 use mathlib.Core.List.{List}
+use Rattle.std.specs.Prelude.{Some}
 use borrow.Author.Tests.{eqb-true}
 use lib.Dec.{eqb}
 use lib.Bits.{bit_and, bit_or, or_lt}
@@ -24,6 +25,7 @@ use Rattle.model.proofs.SetsMembers.{Proper, set_of_proper, member_at}
 use Rattle.core_state_set.proofs.SetsBits.{bit_of_or, bit_zero, bit_power, bit_lowest, one_shl, trailing_first, first_bit}
 use Rattle.core_state_set.proofs.SetsWords.{word_is}
 use Rattle.core_state_set.proofs.SetsByWord.{word_less}
+use Rattle.core_rows.specs.Ones.{gives_lowest}
 use Rattle.core_rows.specs.Rows.{row_in, meet_hold}
 
 module _ (rest : ℕ) (fits : rest < 2 ^ 64) (some : rest ≡ 0 → ⊥) where
@@ -70,7 +72,7 @@ module _ {p : ℕ → Bool} {bits rest kept : ℕ} (so : Gathering p bits rest k
               ∙ so.is i;
         }
 
-    pub gather_take : {kept' : ℕ} → p t ≡ true → kept' ≡ bit_or kept (1 * 2 ^ t % 2 ^ 64) → Gathering p bits (bit_and rest (rest - 1)) kept'
+    gather_take : {kept' : ℕ} → p t ≡ true → kept' ≡ bit_or kept (1 * 2 ^ t % 2 ^ 64) → Gathering p bits (bit_and rest (rest - 1)) kept'
     gather_take m e =
         let place = lowest_place rest so.fits some in
         let joined = e ∙ ap (bit_or kept) (one_shl t place) in
@@ -81,10 +83,20 @@ module _ {p : ℕ → Bool} {bits rest kept : ℕ} (so : Gathering p bits rest k
         ∙ ap (λ (b : Bool). bit kept i || b)
         (bit_power t i ∙ ⊎_elim (λ q. rw (ap p (eqb-true i t q) ∙ m) (rw q)) (λ q. rw q) (decided (eqb i t))))
 
-    pub gather_skip : {kept' : ℕ} → p t ≡ false → kept' ≡ kept → Gathering p bits (bit_and rest (rest - 1)) kept'
+    gather_skip : {kept' : ℕ} → p t ≡ false → kept' ≡ kept → Gathering p bits (bit_and rest (rest - 1)) kept'
     gather_skip m e =
         gather_turn (rw e so.small)
         (λ i. ap (λ (x : ℕ). bit x i) e ∙ or_zero (bit kept i) (⊎_elim (λ q. rw (ap p (eqb-true i t q) ∙ m) (rw q)) (λ q. rw q) (decided (eqb i t))))
+
+  module _ {i rest' kept' : ℕ} (s : gives_lowest rest (Some i) rest') where
+    next_is : Gathering p bits (bit_and rest (rest - 1)) kept' → Gathering p bits rest' kept'
+    next_is = subst (λ (r : ℕ). Gathering p bits r kept') (sym s.3)
+
+    pub gather_taken : p i ≡ true → kept' ≡ bit_or kept (1 * 2 ^ i % 2 ^ 64) → Gathering p bits rest' kept'
+    gather_taken m e = next_is (gather_take s.1 (ap p (sym s.2) ∙ m) (e ∙ ap (λ (k : ℕ). bit_or kept (1 * 2 ^ k % 2 ^ 64)) s.2))
+
+    pub gather_skipped : p i ≡ false → kept' ≡ kept → Gathering p bits rest' kept'
+    gather_skipped m e = next_is (gather_skip s.1 (ap p (sym s.2) ∙ m) e)
 
 -- word w of the states of X that are in hold(Y)
 pub gather_end : (rows : List ℕ) (X Y : Set) (w : ℕ) {rest kept : ℕ} → w < WORDS → Gathering (λ i. subset (row_in rows (64 * w + i)) Y) (get_or X w 0) rest kept → rest ≡ 0

@@ -1,113 +1,162 @@
 // The rows of a table (the specification, "Post, hold and covers"): what its states step to, and which of them step
 // into a set alone.
 //
-//   row_at                       the set in a row
-//   join_successors, successors  what the states of a word step to, joined to a set; post: all successors of the states of a set
-//   held_word, meet_hold         x meet hold(y), the states of a set whose every successor is in another: a word of it; all of it
+//   Ones                         the places of a word's ones
+//   Relation                     rows of either kind below, a set for each state
+//     join_rows                    the rows of the states of a set, joined
+//   Steps                        rows that are long enough: what the states step to
+//     of, row                      those of a store; the set in a row
+//     successors                   post: all successors of the states of a set
+//     held_word, meet_hold         x meet hold(y), the states of a set whose every successor is in another: a word of it; all of it
 //   forbidden_by, forbidden      the forbidden states of a store with given rows, and with its own
 //   Rows, row_of, union_of       a row of words for each state, the set in one row, the union of the rows of a set's states
 //
-// What works on a table is lent its parts: the rows (`&store[ROWS_AT..]`, or possible steps as they are lent), the
-// groups (`&store[GROUPS_AT..]`), and sets by value. Functions ask for rows, or for a store, that are long enough.
+// What works on a table is lent its parts: the steps (of the store, or possible steps as they are lent), the groups
+// (`&store[GROUPS_AT..]`), and sets by value. Functions ask for a store that is long enough.
 #![tactic(auto)]
 
-ghost use Rattle.std.specs.Prelude.{◌≡◌, ◌≤◌, ◌<◌, length, get_or, []};
-ghost use Rattle.model.specs.Sets.{WORDS, max_states, union, subset, image};
+ghost use Rattle.std.specs.Prelude.{◌≡◌, ℕ, ◌≤◌, ◌<◌, length, get_or, []};
+ghost use Rattle.model.specs.Sets.{WORDS, max_states, Set, subset, image};
 ghost use Rattle.model.specs.Tables.{hangs as hangs·model};
-ghost use Rattle.core_state_set.specs.WordSets.{word_set};
 ghost use Rattle.model.specs.Stores.{store_words, table_of};
-ghost use Rattle.core_rows.specs.Rows.{rows_words, row_in, rows_in, forbidden_by, successors_by, meet_hold};
+ghost use Rattle.core_rows.specs.Rows.{rows_words, rows_of, row_in, rows_in, forbidden_by, successors_by, meet_hold};
 
 use core_state_set::{MAX_STATES, StateSet, WORD_BITS, WORDS};
 use core_table::{MARKED_AT, RESTING_AT, ROWS_AT, set_at};
 
-// The successors of state s.
-pub fn row_at(rows: &[u64], s: usize) -> StateSet
-    requires { (s < max_states) × (rows_words ≤ length rows.now) }
-    ensures { result.words ≡ row_in rows.now s }
-{
-    set_at(rows, WORDS * s)
-}
+// The places of a word's ones, rising: an iterator, which has the ones that are left.
+#[derive(Clone, Copy)]
+pub struct Ones(pub u64);
 
-// The successors of the states that `bits` has in word w, joined to `found`.
-pub fn join_successors(rows: &[u64], w: usize, bits: u64, found: StateSet) -> StateSet
-    requires { (w < WORDS) × (rows_words ≤ length rows.now) }
-    ensures { result.words ≡ union found.words (successors_by rows.now (word_set w bits)) }
-{
-    let mut joined = found;
-    let mut rest = bits;
-    while rest != 0 {
-        let s = WORD_BITS * w + u64::trailing_zeros(rest) as usize;
-        joined = joined.union(row_at(rows, s));
-        rest &= rest - 1;
+impl Iterator for Ones {
+    ghost use Rattle.std.specs.Iterator.{at_most};
+    ghost use Rattle.core_rows.specs.Ones.{gives_lowest};
+
+    type Item = usize;
+
+    ghost next_gives = { λ old r new. gives_lowest old.0 r new.0 };
+
+    ghost remaining = { λ ones. at_most ones.0 };
+
+    fn next(&mut self) -> Option<usize> {
+        if self.0 == 0 {
+            return None;
+        }
+        let lowest = self.0.trailing_zeros() as usize;
+        self.0 &= self.0 - 1;
+        Some(lowest)
     }
-    joined
 }
 
-// All successors of states in x.
-pub fn successors(rows: &[u64], x: StateSet) -> StateSet
-    requires { rows_words ≤ length rows.now }
-    ensures { result.words ≡ successors_by rows.now x.words }
+// Rows that have a set for each state.
+trait Relation: Copy {
+    ghost row_in: { Self → ℕ → Set };
+
+    fn row_at(self, s: usize) -> StateSet
+        requires { s < max_states }
+        ensures { result.words ≡ row_in self s };
+}
+
+// The rows of the states of x, joined.
+fn join_rows<R: Relation>(rows: R, x: StateSet) -> StateSet
+    ensures { result.words ≡ image max_states (R.row_in rows) x.words }
 {
     let mut found = StateSet::empty();
-    for w in 0..WORDS {
-        found = join_successors(rows, w, x.words[w], found);
+    for s in x.states() {
+        found = found.union(rows.row_at(s));
     }
     found
 }
 
-// Every successor of s is in y.
-fn row_inside(rows: &[u64], s: usize, y: StateSet) -> bool
-    requires { (s < max_states) × (rows_words ≤ length rows.now) }
-    ensures { result ≡ subset (row_in rows.now s) y.words }
-{
-    row_at(rows, s).is_subset(y)
+// The steps of a table, or possible steps: a row of words for each state.
+#[derive(Clone, Copy)]
+pub struct Steps<'a> {
+    pub words: &'a [u64],
+    ghost long: { rows_words ≤ length words.now },
 }
 
-// Word w of x meet hold(y). The states are gathered in a number and not in a set, where each would be one word written and the whole set read again.
-pub fn held_word(rows: &[u64], x: StateSet, w: usize, y: StateSet) -> u64
-    requires { (w < WORDS) × (rows_words ≤ length rows.now) }
-    ensures { result ≡ get_or (meet_hold rows.now x.words y.words) w 0 }
-{
-    let mut kept = 0;
-    let mut rest = x.words[w];
-    while rest != 0 {
-        let i = u64::trailing_zeros(rest) as usize;
-        if row_inside(rows, WORD_BITS * w + i, y) {
-            kept |= 1 << i;
+impl<'a> Steps<'a> {
+    // Those of the table that a store holds.
+    pub fn of(store: &'a [u64]) -> Self
+        requires { store_words ≤ length store.now }
+        ensures { result.words.now ≡ rows_of store.now }
+    {
+        Steps {
+            words: &store[ROWS_AT..],
         }
-        rest &= rest - 1;
     }
-    kept
+
+    // The successors of state s.
+    pub fn row(self, s: usize) -> StateSet
+        requires { s < max_states }
+        ensures { result.words ≡ row_in self.entry.words.now s }
+    {
+        set_at(self.words, WORDS * s)
+    }
+
+    // All successors of states in x.
+    pub fn successors(self, x: StateSet) -> StateSet
+        ensures { result.words ≡ successors_by self.entry.words.now x.words }
+    {
+        join_rows(self, x)
+    }
+
+    // Every successor of s is in y.
+    fn row_inside(self, s: usize, y: StateSet) -> bool
+        requires { s < max_states }
+        ensures { result ≡ subset (row_in self.entry.words.now s) y.words }
+    {
+        self.row(s).is_subset(y)
+    }
+
+    // Word w of x meet hold(y). The states are gathered in a number and not in a set, where each would be one word written and the whole set read again.
+    pub fn held_word(self, x: StateSet, w: usize, y: StateSet) -> u64
+        requires { w < WORDS }
+        ensures { result ≡ get_or (meet_hold self.entry.words.now x.words y.words) w 0 }
+    {
+        let mut kept = 0;
+        for i in Ones(x.words[w]) {
+            if self.row_inside(WORD_BITS * w + i, y) {
+                kept |= 1 << i;
+            }
+        }
+        kept
+    }
+
+    // x meet hold(y)
+    pub fn meet_hold(self, x: StateSet, y: StateSet) -> StateSet
+        ensures { result.words ≡ meet_hold self.entry.words.now x.words y.words }
+    {
+        let mut words = [0; WORDS];
+        for w in 0..WORDS {
+            words[w] = self.held_word(x, w, y);
+        }
+        StateSet { words }
+    }
+
+    // The states below n without a successor that do not rest: screens with no way out.
+    fn hangs(self, n: usize, resting: StateSet) -> StateSet
+        ensures { result.words ≡ hangs·model n (rows_in self.entry.words.now n) resting.words }
+    {
+        let others = StateSet::first_states(n).difference(resting);
+        self.meet_hold(others, StateSet::empty())
+    }
 }
 
-// x meet hold(y)
-pub fn meet_hold(rows: &[u64], x: StateSet, y: StateSet) -> StateSet
-    requires { rows_words ≤ length rows.now }
-    ensures { result.words ≡ meet_hold rows.now x.words y.words }
-{
-    let mut words = [0; WORDS];
-    for w in 0..WORDS {
-        words[w] = held_word(rows, x, w, y);
-    }
-    StateSet { words }
-}
+impl Relation for Steps<'_> {
+    ghost row_in = { λ steps. row_in steps.words.now };
 
-// The states below n without a successor that do not rest: screens with no way out.
-fn hangs(rows: &[u64], n: usize, resting: StateSet) -> StateSet
-    requires { rows_words ≤ length rows.now }
-    ensures { result.words ≡ hangs·model n (rows_in rows.now n) resting.words }
-{
-    let others = StateSet::first_states(n).difference(resting);
-    meet_hold(rows, others, StateSet::empty())
+    fn row_at(self, s: usize) -> StateSet {
+        self.row(s)
+    }
 }
 
 // The marked states, and those below n that hang by the rows: the one place that works out what is forbidden.
-pub fn forbidden_by(store: &[u64], n: usize, rows: &[u64]) -> StateSet
-    requires { (store_words ≤ length store.now) × (rows_words ≤ length rows.now) }
-    ensures { result.words ≡ forbidden_by store.now n rows.now }
+pub fn forbidden_by(store: &[u64], n: usize, steps: Steps) -> StateSet
+    requires { store_words ≤ length store.now }
+    ensures { result.words ≡ forbidden_by store.now n steps.entry.words.now }
 {
-    let hung = hangs(rows, n, set_at(store, RESTING_AT));
+    let hung = steps.hangs(n, set_at(store, RESTING_AT));
     set_at(store, MARKED_AT).union(hung)
 }
 
@@ -116,7 +165,7 @@ pub fn forbidden(store: &[u64], n: usize) -> StateSet
     requires { store_words ≤ length store.now }
     ensures { result.words ≡ (table_of store.now n 0).forbidden }
 {
-    forbidden_by(store, n, &store[ROWS_AT..])
+    forbidden_by(store, n, Steps::of(store))
 }
 
 // One row of words for each state.
@@ -126,32 +175,20 @@ pub fn row_of(rows: &Rows, s: usize) -> StateSet
     requires { s < max_states }
     ensures { result.words ≡ get_or rows.now s [] }
 {
-    let words = rows[s];
-    StateSet { words }
+    StateSet { words: rows[s] }
 }
 
-// The rows of the states that `bits` has in word w, joined to `found`.
-fn join_rows(rows: &Rows, w: usize, bits: u64, found: StateSet) -> StateSet
-    requires { w < WORDS }
-    ensures { result.words ≡ union found.words (image max_states (λ s. get_or rows.now s []) (word_set w bits)) }
-{
-    let mut joined = found;
-    let mut rest = bits;
-    while rest != 0 {
-        let s = WORD_BITS * w + u64::trailing_zeros(rest) as usize;
-        joined = joined.union(row_of(rows, s));
-        rest &= rest - 1;
+impl Relation for &Rows {
+    ghost row_in = { λ rows s. get_or rows.now s [] };
+
+    fn row_at(self, s: usize) -> StateSet {
+        row_of(self, s)
     }
-    joined
 }
 
 // The union of the rows of the states of x.
 pub fn union_of(rows: &Rows, x: StateSet) -> StateSet
     ensures { result.words ≡ image max_states (λ s. get_or rows.now s []) x.words }
 {
-    let mut found = StateSet::empty();
-    for w in 0..WORDS {
-        found = join_rows(rows, w, x.words[w], found);
-    }
-    found
+    join_rows(rows, x)
 }

@@ -3,3 +3,4 @@ pub mod SetsWords
 pub mod SetsTests
 pub mod SetsOnes
 pub mod SetsByWord
+pub mod SetsStates

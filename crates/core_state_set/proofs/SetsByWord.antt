@@ -38,7 +38,7 @@ word_set_in w x {s} h =
     (eqb-true (s / 64) w both.0, both.1)
 
 module _ (w x : ℕ) (word : w < WORDS) (fits : x < 2 ^ 64) (some : x ≡ 0 → ⊥) where
-  low_lt : count_trailing_zeros 64 x < 64
+  pub low_lt : count_trailing_zeros 64 x < 64
   low_lt = subst (λ (k : ℕ). k < 64) (sym (trailing_first 64 x)) (first_bit 64 x fits some)
 
   pub word_lowest : In (word_set w x) (64 * w + count_trailing_zeros 64 x)
@@ -97,7 +97,7 @@ words_in w X {s} h =
     (ltb-true (s / 64) w both.0, record { is = both.1 })
 
 -- a state by its word and its place there
-word_member : (X : Set) (w s : ℕ) → w < WORDS → s / 64 ≡ w → member X s ≡ bit (get_or X w 0) (s % 64)
+pub word_member : (X : Set) (w s : ℕ) → w < WORDS → s / 64 ≡ w → member X s ≡ bit (get_or X w 0) (s % 64)
 word_member X w s h e =
     let split : s ≡ 64 * w + s % 64 = omega arith in
     ap (member X) split ∙ member_at X w (s % 64) h (omega arith)

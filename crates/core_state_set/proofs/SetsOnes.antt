@@ -41,17 +41,17 @@ module _ (X : Set) where
   unfolding filter
   counting_none = record { within = omega arith; small = omega arith; is = refl }
 
-  pub counting_more : (w n : ℕ) → Proper X → Counting X w n → w < WORDS → Counting X (w + 1) (n + ones (get_or X w 0))
-  counting_more w n x so h =
+  pub counting_more : (w n : ℕ) → Fits w64 (get_or X w 0) → Counting X w n → w < WORDS → Counting X (w + 1) (n + ones (get_or X w 0))
+  counting_more w n f so h =
       let next : 64 * (w + 1) ≡ 64 * w + 64 = omega arith in
       record {
         within = omega arith;
-        small = omega (arith, ones-le 64 (get_or X w 0) (x.fits w h));
+        small = omega (arith, ones-le 64 (get_or X w 0) f.fits);
         is =
             sym
             (ap (λ (m : ℕ). length (filter m (member X))) next
             ∙ ones-filter (member X) (64 * w) (get_or X w 0) 64 (λ i l. sym (member_at X w i h l))
-            ∙ ap₂ (λ (m k : ℕ). m + k) (sym so.is) (ap ones (mod-eq_of_lt (x.fits w h))));
+            ∙ ap₂ (λ (m k : ℕ). m + k) (sym so.is) (ap ones (mod-eq_of_lt f.fits)));
       }
 
   pub counting_all : (w n : ℕ) → Counting X w n → WORDS ≤ w → n ≡ size X
@@ -62,7 +62,7 @@ module _ (X : Set) where
   unfolding ones_in
   counted p zero h = counting_none
   counted p (suc w) h =
-      subst (λ (k : ℕ). Counting X k (ones_in w X + ones (get_or X w 0))) (add-one w) (counting_more w _ p (counted p w (omega arith)) (omega arith))
+      subst (λ (k : ℕ). Counting X k (ones_in w X + ones (get_or X w 0))) (add-one w) (counting_more w _ (record { fits = p.fits w (omega arith) }) (counted p w (omega arith)) (omega arith))
 
   pub size-ones : Proper X → size X ≡ ones_in WORDS X
   size-ones p = sym (counting_all WORDS _ (counted p WORDS (le_refl WORDS)) (le_refl WORDS))

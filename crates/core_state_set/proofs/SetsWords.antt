@@ -1,14 +1,13 @@
--- The words of a set, and the loops that make one word by word.
+-- The words of a set, and what is made word by word.
 --
 --   proper                     a parameter's words are those of a set
 --   member_word, member-past   membership by the shifted word, and past the words
 --   word_is                    the word with the bits that a test gives is the comprehension's; first_word: so of the first n states
 --   Filling Z X w xs           xs is X with its first w words replaced by those of Z: the invariant of each loop that makes a set Z
---   filling_none, filling_at, filling_more, filling_all     before the first turn; the word to come; one turn; after the last
+--   filling_none, filling_more, filling_all     before the first turn; one turn; after the last
 --   Wordwise f op              f acts on words as op does on their bits: or_wise, and_wise, and_not_wise
 --   wordwise_word              so on the words of two sets
---   Combining op X Y w xs      xs is X with its first w words combined with those of Y, by an operation that is wordwise op
---   combining_none, combining_more, combining_all     before the first turn; one turn; after the last, the states that pass op
+--   combined                   a set whose words are made so has the states that pass op
 --   with_bit_lem, with_past        the union with one state; without-bit: the difference with one
 use Prim.Native.Nat.{ℕ, zero, suc, ◌+◌, ◌-◌, ◌*◌, ◌/◌, ◌%◌, ◌^◌, min, ◌≤◌, ◌<◌}
 use native.Mathlib.Nat.{pow-suc, zero-min, mod-eq_of_lt}
@@ -23,7 +22,7 @@ use lib.Bits.{bit_and, bit_or, and_lt, or_lt, or_zero_r, and_mask}
 use lib.Dec.{eqb, ltb}
 use lib.Pow.{pow_pos, pow-lt, ones_sub-lt}
 use lib.ListN.{length, get_or, set, take, drop, length-set, drop_of_length-le}
-use lib.Seq.{take-suc, take_all, length-take-le, drop-cons, set_at, get_or_at, append_snoc, get_or-set_same, get_or-set_other, ext_get_or}
+use lib.Seq.{take-suc, take_all, length-take-le, drop-cons, set_at, append_snoc, get_or-set_same, get_or-set_other, ext_get_or}
 use mir.Syntax.{w64}
 use mir.Val.{Fits}
 use Rattle.model.specs.Sets.{WORDS, max_states, Set, bit, member, number, set_of, single, union, difference, states, first_states}
@@ -99,9 +98,6 @@ module _ (Z X : Set) where
     made : length (take w Z) ≡ w
     made = length-take-le w Z (omega (arith, so.goal))
 
-    pub filling_at : w < WORDS → get_or xs w 0 ≡ get_or X w 0
-    filling_at h = ap (λ t. get_or t w 0) (split h) ∙ get_or_at (take w Z) (get_or X w 0) (drop (suc w) X) 0 w made
-
     pub filling_more : (x : ℕ) → w < WORDS → x ≡ get_or Z w 0 → Filling Z X (w + 1) (set xs w x)
     filling_more x h e =
         rw add-one
@@ -143,33 +139,20 @@ and_not_wise =
 abbrev pub both : (Bool → Bool → Bool) → Set → Set → ℕ → Bool
 both op X Y s = op (member X s) (member Y s)
 
-pub record Combining (op : Bool → Bool → Bool) (X Y : Set) (w : ℕ) (xs : Set) : Type 0 where
-  pub left : Proper X
-  pub right : Proper Y
-  pub filling : Filling (set_of (both op X Y)) X w xs
-
-pub combining_none : (op : Bool → Bool → Bool) (X Y : Set) → Proper X → Proper Y → Combining op X Y 0 X
-combining_none op X Y x y = record { left = x; right = y; filling = filling_none _ X (set_of_proper _).long x.long }
-
 pub wordwise_word : {f : ℕ → ℕ → ℕ} {op : Bool → Bool → Bool} → Wordwise f op → (X Y : Set) → Proper X → Proper Y → (w : ℕ) → w < WORDS
     → f (get_or X w 0) (get_or Y w 0) ≡ get_or (set_of (both op X Y)) w 0
 wordwise_word {f} {op} wise X Y x y w h =
     word_is (both op X Y) w h (f (get_or X w 0) (get_or Y w 0)) (wise.fits _ _ (x.fits w h) (y.fits w h))
     (λ i l. wise.bits _ _ i (y.fits w h) l ∙ ap₂ op (sym (member_at X w i h l)) (sym (member_at Y w i h l)))
 
-pub combining_more : {f : ℕ → ℕ → ℕ} {op : Bool → Bool → Bool} → Wordwise f op → {X Y : Set} {w : ℕ} {xs : Set} → Combining op X Y w xs → w < WORDS
-    → Combining op X Y (w + 1) (set xs w (f (get_or xs w 0) (get_or Y w 0)))
-combining_more {f} {op} wise {X} {Y} {w} {xs} so h =
-    record {
-      left = so.left;
-      right = so.right;
-      filling =
-          filling_more _ X w xs so.filling _ h
-          (ap (λ (z : ℕ). f z (get_or Y w 0)) (filling_at _ X w xs so.filling h) ∙ wordwise_word wise X Y so.left so.right w h);
-    }
-
-pub combining_all : {op : Bool → Bool → Bool} {X Y : Set} {w : ℕ} {xs : Set} → Combining op X Y w xs → WORDS ≤ w → xs ≡ set_of (both op X Y)
-combining_all {op} {X} {Y} {w} {xs} so h = filling_all _ X w xs so.filling h
+-- the words made so are those of the states that pass op
+pub combined : {f : ℕ → ℕ → ℕ} {op : Bool → Bool → Bool} → Wordwise f op → (X Y Z : Set) → Proper X → Proper Y → length Z ≡ WORDS
+    → ((w : ℕ) → w < WORDS → get_or Z w 0 ≡ f (get_or X w 0) (get_or Y w 0)) → Z ≡ set_of (both op X Y)
+combined wise X Y Z x y long made =
+    ext_get_or 0 Z _ (long ∙ sym (set_of_proper _).long)
+    (λ w h.
+    let below : w < WORDS = omega (arith, long) in
+    made w below ∙ wordwise_word wise X Y x y w below)
 
 -- ---- one state more, or fewer
 

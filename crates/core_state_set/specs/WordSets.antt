@@ -2,10 +2,12 @@
 --
 --   ones_in w X        the ones in the first w words of X, summed (in all its words they are the states: `theorems_calls`, States)
 --   word_set w x       the states of word w that x has a bit for
---   words_below w X    the states of X in the words before w
-use Rattle.std.specs.Prelude.{ℕ, zero, suc, ◌+◌, ◌/◌, ◌%◌, ◌&&◌, eqb, ltb, get_or}
+--   words_below w X    the states of X in the words before w; words_above w X: in those after it
+--   left_of w x X      what is left of X where it is gone through up to word w, of which x is left
+--   Takes Y s Z        the least state s is taken from Y, which leaves Z; nothing is taken from no states
+use Rattle.std.specs.Prelude.{ℕ, zero, suc, ◌≡◌, ◌+◌, ◌/◌, ◌%◌, true, ◌&&◌, ◌∷◌, Option, Some, None, eqb, ltb, get_or}
 use Rattle.std.specs.Int.Count.{ones}
-use Rattle.model.specs.Sets.{Set, bit, member, set_of}
+use Rattle.model.specs.Sets.{Set, bit, member, empty, single, union, difference, set_of, members}
 
 unfoldable pub ones_in : ℕ → Set → ℕ
 ones_in zero X = 0
@@ -16,3 +18,13 @@ word_set w x = set_of (λ s. eqb (s / 64) w && bit x (s % 64))
 
 unfoldable pub words_below : ℕ → Set → Set
 words_below w X = set_of (λ s. ltb (s / 64) w && member X s)
+
+unfoldable pub words_above : ℕ → Set → Set
+words_above w X = set_of (λ s. ltb w (s / 64) && member X s)
+
+abbrev pub left_of : ℕ → ℕ → Set → Set
+left_of w x X = union (word_set w x) (words_above w X)
+
+abbrev pub Takes : Set → Option ℕ → Set → Type 0
+Takes Y None Z = (Y ≡ empty) × (Z ≡ empty)
+Takes Y (Some s) Z = (member Y s ≡ true) × (Z ≡ difference Y (single s)) × (members Y ≡ s ∷ members Z)

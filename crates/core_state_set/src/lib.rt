@@ -3,15 +3,19 @@
 //
 //   empty, single, first_states                     no state; one; the states below a number
 //   contains, is_subset, meets, is_empty, equals    tests
-//   union, meet, difference                         word by word
+//   union, meet, difference                         word by word (by_word)
 //   with, without                                   one state more; one fewer
 //   count, smallest                                 the number of states; the least of them
+//   in_word                                         the states of one word
+//   states, States                                  the states, rising, one after the other
 //
 // Each contract is an equality with the model's definition of the same thing.
 #![tactic(auto)]
 
-ghost use Rattle.std.specs.Prelude.{◌≡◌, min, ◌-◌, ◌^◌};
-ghost use Rattle.model.specs.Sets.{member, empty, single, union, meet, difference, subset, same, meets, first_states, size, smallest};
+ghost use Rattle.std.specs.Prelude.{◌≡◌, ℕ, ◌<◌, get_or, min, ◌-◌, ◌^◌};
+ghost use Rattle.std.specs.Iterator.{item_count};
+ghost use Rattle.core_state_set.specs.WordSets.{word_set, left_of, Takes};
+ghost use Rattle.model.specs.Sets.{WORDS as set_words, members, member, empty, single, union, meet, difference, subset, same, meets, first_states, size, smallest};
 
 // The model's WORDS is the same number.
 pub const WORDS: usize = 8;
@@ -21,7 +25,7 @@ pub const WORD_BITS: usize = 64;
 // As many as a set can hold.
 pub const MAX_STATES: usize = WORD_BITS * WORDS;
 
-#[derive(Clone, Copy)]
+#[derive(Clone, Copy, Debug, PartialEq, Eq)]
 pub struct StateSet {
     pub words: [u64; WORDS],
 }
@@ -51,8 +55,8 @@ impl StateSet {
         ensures { result.words ≡ first_states n }
     {
         let mut words = [0; WORDS];
-        for w in 0..WORDS {
-            words[w] = word_below(n, WORD_BITS * w);
+        for (w, word) in words.iter_mut().enumerate() {
+            *word = word_below(n, WORD_BITS * w);
         }
         StateSet { words }
     }
@@ -81,31 +85,34 @@ impl StateSet {
         StateSet::empty().with(s)
     }
 
-    pub fn union(mut self, other: StateSet) -> Self
+    // Each word made by f of the two at its place.
+    // kept: by place and not by `zip`, of which an invariant knows only what its iterators have left
+    fn by_word<F: Fn(u64, u64) -> u64>(mut self, other: StateSet, f: F) -> Self
+        requires { F.IsAlwaysCallable f }
+        ensures { (w : ℕ) → w < WORDS → F.post f (get_or self.words w 0) (get_or other.words w 0) (get_or result.words w 0) }
+    {
+        for (w, x) in self.words.iter_mut().enumerate() {
+            *x = f(*x, other.words[w]);
+        }
+        self
+    }
+
+    pub fn union(self, other: StateSet) -> Self
         ensures { result.words ≡ union self.words other.words }
     {
-        for w in 0..WORDS {
-            self.words[w] |= other.words[w];
-        }
-        self
+        self.by_word(other, |x, y| x | y)
     }
 
-    pub fn meet(mut self, other: StateSet) -> Self
+    pub fn meet(self, other: StateSet) -> Self
         ensures { result.words ≡ meet self.words other.words }
     {
-        for w in 0..WORDS {
-            self.words[w] &= other.words[w];
-        }
-        self
+        self.by_word(other, |x, y| x & y)
     }
 
-    pub fn difference(mut self, other: StateSet) -> Self
+    pub fn difference(self, other: StateSet) -> Self
         ensures { result.words ≡ difference self.words other.words }
     {
-        for w in 0..WORDS {
-            self.words[w] &= !other.words[w];
-        }
-        self
+        self.by_word(other, |x, y| x & !y)
     }
 
     pub fn without(self, s: usize) -> Self
@@ -117,23 +124,14 @@ impl StateSet {
     pub fn equals(self, other: StateSet) -> bool
         ensures { result ≡ same self.words other.words }
     {
-        for w in 0..WORDS {
-            if self.words[w] != other.words[w] {
-                return false;
-            }
-        }
-        true
+        self == other
     }
 
     // The words are joined and tested once: a test of each word would often be mispredicted.
     pub fn is_empty(self) -> bool
         ensures { result ≡ subset self.words empty }
     {
-        let mut all = 0;
-        for w in 0..WORDS {
-            all |= self.words[w];
-        }
-        all == 0
+        self.words.iter().fold(0, |all, word| all | *word) == 0
     }
 
     pub fn is_subset(self, other: StateSet) -> bool
@@ -154,20 +152,71 @@ impl StateSet {
         ensures { result ≡ size self.words }
     {
         let mut states = 0;
-        for w in 0..WORDS {
-            states += u64::count_ones(self.words[w]) as usize;
+        for word in self.words.iter() {
+            states += word.count_ones() as usize;
         }
         states
     }
+
     // The least state, or the number of states that a set can hold where there is none.
     pub fn smallest(self) -> usize
         ensures { result ≡ smallest self.words }
     {
-        for w in 0..WORDS {
-            if self.words[w] != 0 {
-                return WORD_BITS * w + u64::trailing_zeros(self.words[w]) as usize;
+        for (w, word) in self.words.iter().enumerate() {
+            if *word != 0 {
+                return WORD_BITS * w + word.trailing_zeros() as usize;
             }
         }
         MAX_STATES
+    }
+
+    // The states of word w.
+    pub fn in_word(self, w: usize) -> Self
+        requires { w < set_words }
+        ensures { result.words ≡ word_set w (get_or self.words w 0) }
+    {
+        let mut set = StateSet::empty();
+        set.words[w] = self.words[w];
+        set
+    }
+
+    pub fn states(self) -> States
+        ensures { left_of result.w result.rest result.words ≡ self.words }
+    {
+        States {
+            words: self.words,
+            w: 0,
+            rest: self.words[0],
+        }
+    }
+}
+
+// The states of a set, rising: what is left are the ones that `rest` has in word w, and the states in the words after it.
+#[derive(Clone, Copy)]
+pub struct States {
+    pub words: [u64; WORDS],
+    pub w: usize,
+    pub rest: u64,
+    ghost inside: { w < set_words },
+}
+
+impl Iterator for States {
+    type Item = usize;
+
+    ghost next_gives = { λ s out t. Takes (left_of s.w s.rest s.words) out (left_of t.w t.rest t.words) };
+
+    ghost remaining = { item_count (λ s. members (left_of s.w s.rest s.words)) };
+
+    fn next(&mut self) -> Option<usize> {
+        while self.rest == 0 {
+            if WORDS <= self.w + 1 {
+                return None;
+            }
+            self.w += 1;
+            self.rest = self.words[self.w];
+        }
+        let rest = self.rest;
+        self.rest = rest & (rest - 1);
+        Some(WORD_BITS * self.w + u64::trailing_zeros(rest) as usize)
     }
 }

@@ -4,6 +4,7 @@
 --   over_none, over_next, over_all   a loop that writes f 0, f 1, ..: before its first turn; a turn; when it is done
 --   tabulate-list                    the elements of a list are the list
 --   over_list                        a loop that writes the elements of a list has written the list
+--   zero_filled                      a buffer whose front was filled with 0
 --   lent, back                       the rest of a buffer from a place on, which is lent; the buffer, with what came back in its place
 --   lent_back                        a buffer whose rest was lent and written over
 --   overwrite_lent                   so more is written behind what stands at the front
@@ -14,8 +15,9 @@ use native.Mathlib.Omega.{arith}
 use mathlib.Core.Path.{◌≡◌, refl, sym, ap, ap₂, ◌∙◌, subst}
 use mathlib.Core.List.{List, [], ◌∷◌, ◌++◌, append-nil}
 use borrow.Rule.Slice.PartMut.{put_mid}
-use lib.ListN.{length, get_or, set, take, drop, length-set, length-drop, drop_of_length-le}
+use lib.ListN.{replicate, length, get_or, set, take, drop, length-set, length-drop, drop_of_length-le}
 use lib.Seq.{ext_get_or, take_all}
+use Rattle.std.proofs.lemmas.List.{length-replicate, get_or-replicate}
 use Rattle.basics.specs.Bounds.{tabulate, concat}
 use Rattle.model.specs.Calls.{overwrite}
 use Rattle.basics.proofs.BoundLaws.{length-tabulate, get_or-tabulate}
@@ -53,6 +55,19 @@ pub over_list : (xs : List ℕ) {old out : List ℕ} (i m : ℕ) → length xs �
 over_list xs {old} {out} i m long l h so =
     over_all (λ k. tabulate k (λ j. get_or xs j 0)) old out i m l h so
     ∙ ap (λ ys. overwrite ys old) (ap (λ (k : ℕ). tabulate k (λ j. get_or xs j 0)) (sym long) ∙ tabulate-list xs)
+
+-- 0 in the place of the first n elements
+pub zero_filled : (n : ℕ) (old part filling : List ℕ) → length part ≡ n → filling ≡ replicate (length part) 0
+    → filling ++ drop n old ≡ overwrite (tabulate n (λ i. 0)) old
+unfolding overwrite
+zero_filled n old part filling long e =
+    let made = length-tabulate (λ (i : ℕ). 0) n in
+    let zeros : replicate n 0 ≡ tabulate n (λ i. 0) =
+    ext_get_or 0 (replicate n 0) (tabulate n (λ i. 0)) (length-replicate n 0 ∙ sym made)
+    (λ i h.
+    let inside : i < n = subst (λ (k : ℕ). i < k) (length-replicate n 0) h in
+    get_or-replicate n i 0 0 inside ∙ sym (get_or-tabulate (λ (j : ℕ). 0) n i 0 inside)) in
+    ap₂ (λ ys (m : ℕ). ys ++ drop m old) (e ∙ ap (λ (k : ℕ). replicate k 0) long ∙ zeros) (sym made)
 
 -- ---- the rest of a buffer, lent
 

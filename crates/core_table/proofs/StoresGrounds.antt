@@ -8,6 +8,7 @@
 --   joined_words                sets joined have a state where one of their words in the store is not 0
 --   or_none                     words joined are 0 just where each of them is
 --   non_zero_hit                a word other than 0; non_zero_start, -turn, -end: a loop that joins words, to see whether there is one
+--   non_zero_joined             the words of a stretch joined are other than 0 where one of them is
 use Prim.Native.Nat.{ℕ, zero, suc, ◌+◌, ◌*◌, ◌-◌, ◌/◌, ◌^◌, ◌≤◌, ◌<◌}
 use native.Mathlib.Nat.{not-suc-le-zero, le_antisymm}
 use native.Mathlib.Numerals.{add-one}
@@ -19,7 +20,9 @@ use mathlib.Core.List.{List}
 use borrow.Author.Tests.{le-leb, leb-true, eqb-true, eq-eqb, ne_eqb, lt-leb, lt-ltb, le-ltb}
 use lib.Bits.{bit_or, or_add_and, and_le_r}
 use lib.Dec.{eqb, leb}
-use lib.ListN.{length, get_or}
+use lib.ListN.{length, get_or, take, drop, length-drop}
+use lib.Seq.{length-take-le, get_or-take, get_or-drop}
+use Rattle.std.specs.List.{fold}
 use Rattle.basics.specs.Bounds.{any}
 use Rattle.model.specs.Sets.{WORDS, max_states, Set, member, subset, first_states, empty, union}
 use Rattle.model.specs.Stores.{set_at, beyond, non_zero, bad_states}
@@ -27,6 +30,7 @@ use Rattle.model.specs.RoundTrip.{Bounded}
 use Rattle.basics.proofs.BoundLaws.{and_true, and_intro, or_intro, or_true as or_cases, is_false, same_test, lt_or_ge, below_suc, clash, decided, any_intro, any_find, no_any, not_true}
 use Rattle.model.proofs.SetsMembers.{In, ◌⊆◌, in_bound, empty_in, in_first_states, first_states_in, in_union, union_in, union-empty, subset_in, in_subset, subset_not, ⊆-of-eq, same_set, empty_proper}
 use Rattle.model.proofs.StoresTables.{set_at-empty, empty-set_at, set_at_proper, non_zero_zero, zero_non_zero}
+use Rattle.core_state_set.proofs.SetsTests.{joined_least, joined_none}
 use Rattle.core_table.specs.Joining.{union_of}
 
 -- ---- ground 14
@@ -172,3 +176,34 @@ module _ (xs : List ℕ) (from : ℕ) where
 
   pub non_zero_end : (i to joined : ℕ) → i ≤ to → to ≤ i → non_zero xs from i ≡ not (eqb joined 0) → non_zero xs from to ≡ not (eqb joined 0)
   non_zero_end i to joined l h e = subst (λ (k : ℕ). non_zero xs from k ≡ not (eqb joined 0)) (le_antisymm l h) e
+
+-- the words of a stretch, joined
+module _ (xs : List ℕ) (from to : ℕ) (l : from ≤ to) (h : to ≤ length xs) where
+  abbrev part : List ℕ
+  part = take (to - from) (drop from xs)
+
+  part_long : length part ≡ to - from
+  part_long = length-take-le (to - from) (drop from xs) (omega (arith, length-drop from xs))
+
+  part_word : (v : ℕ) → v < to - from → get_or part v 0 ≡ get_or xs (from + v) 0
+  part_word v b = get_or-take (to - from) (drop from xs) v 0 b ∙ get_or-drop from xs v 0
+
+  part_none : fold bit_or 0 part ≡ 0 → (i : ℕ) → from ≤ i → i < to → get_or xs i 0 ≡ 0
+  part_none z i b e =
+      let place : from + (i - from) ≡ i = omega arith in
+      omega (arith, joined_least 0 part (i - from), part_word (i - from) (omega arith), ap (λ (j : ℕ). get_or xs j 0) place)
+
+  pub non_zero_joined : not (eqb (fold bit_or 0 part) 0) ≡ non_zero xs from to
+  non_zero_joined =
+      ⊎_elim
+      (λ (p : non_zero xs from to ≡ true).
+      ap not (is_false (eqb (fold bit_or 0 part) 0) (λ z. clash p (zero_non_zero xs from to (part_none (eqb-true (fold bit_or 0 part) 0 z))))) ∙ sym p)
+      (λ (p : non_zero xs from to ≡ false).
+      ap not
+      (eq-eqb (fold bit_or 0 part) 0
+      (joined_none 0 part refl
+      (λ v b.
+      let inside : v < to - from = omega (arith, part_long) in
+      part_word v inside ∙ non_zero_zero xs from to p (from + v) (omega arith) (omega arith))))
+      ∙ sym p)
+      (decided (non_zero xs from to))

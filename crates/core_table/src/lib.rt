@@ -5,20 +5,21 @@
 //   any_stored_beyond            whether some of the store's sets have a state from n up
 //   any_stored                   whether some of them have a state
 //   non_zero_word                whether some of its words are not 0
-//   refusal                      the first of the grounds 10, 14, 15 and 17 that holds, or 0
+//   accept                       refuses by the first of the grounds 10, 14, 15 and 17 that holds
 //
-// Functions below the calls ask for a store that is long enough; `refusal` asks for nothing.
+// Functions below the calls ask for a store that is long enough; `accept` asks for nothing.
 #![tactic(auto)]
 
 ghost use Rattle.std.specs.Prelude.{◌≡◌, ◌+◌, ◌*◌, ◌≤◌, not, ◌&&◌, eqb, length};
 ghost use Rattle.basics.specs.Bounds.{any};
 ghost use Rattle.model.specs.Sets.{WORDS, max_states};
 ghost use Rattle.basics.specs.Refusals.{refuse};
+ghost use Rattle.core_refusals.specs.Refusals.{number_of};
 ghost use Rattle.model.specs.Stores.{store_words, max_groups, set_at, beyond, non_zero, malformed, shared_grounds};
 ghost use Rattle.core_table.specs.Joining.{union_of};
 ghost use Rattle.core_table.specs.Writing.{overwrite_from, cleared};
 
-use core_refusals::{GROUPS, STATES, STORE_SHORT, STRAY_BIT};
+use core_refusals::Refusal;
 use core_state_set::{MAX_STATES, StateSet, WORDS};
 
 pub const MAX_GROUPS: usize = 64;
@@ -39,13 +40,14 @@ pub const ROWS_AT: usize = (HEAD_SETS + MAX_GROUPS) * WORDS;
 pub const STORE_WORDS: usize = (HEAD_SETS + MAX_GROUPS + MAX_STATES) * WORDS;
 
 // The set whose words begin at `at`.
+// kept: by place, as in put_set: `copy_from_slice` tests for an overlap, and takes 50 instructions for 36
 pub fn set_at(store: &[u64], at: usize) -> StateSet
     requires { at + WORDS ≤ length store.now }
     ensures { result.words ≡ set_at store.now at }
 {
     let mut words = [0; WORDS];
-    for w in 0..WORDS {
-        words[w] = store[at + w];
+    for (w, word) in words.iter_mut().enumerate() {
+        *word = store[at + w];
     }
     StateSet { words }
 }
@@ -55,9 +57,7 @@ pub fn clear(store: &mut [u64])
     requires { store_words ≤ length store.old }
     ensures { store.new ≡ cleared store.old }
 {
-    for i in 0..STORE_WORDS {
-        store[i] = 0;
-    }
+    store[..STORE_WORDS].fill(0);
 }
 
 // A set into the words from `at` on.
@@ -65,8 +65,8 @@ pub fn put_set(store: &mut [u64], at: usize, x: StateSet)
     requires { at + WORDS ≤ length store.old }
     ensures { store.new ≡ overwrite_from at x.words store.old }
 {
-    for w in 0..WORDS {
-        store[at + w] = x.words[w];
+    for (w, word) in x.words.iter().enumerate() {
+        store[at + w] = *word;
     }
 }
 
@@ -116,11 +116,10 @@ pub fn non_zero_word(store: &[u64], from: usize, to: usize) -> bool
     requires { (from ≤ to) × (to ≤ length store.now) }
     ensures { result ≡ non_zero store.now from to }
 {
-    let mut joined = 0;
-    for i in from..to {
-        joined |= store[i];
-    }
-    joined != 0
+    store[from..to]
+        .iter()
+        .fold(0, |joined, word| joined | *word)
+        != 0
 }
 
 // A 1 bit for a state from n up, or a word of an unused group or row not 0.
@@ -153,27 +152,27 @@ fn is_malformed(store: &[u64], n: usize, g: usize) -> bool
 fn is_groups_alone(n: usize, g: usize) -> bool
     ensures { result ≡ (eqb n 0 && not (eqb g 0)) }
 {
-    if n == 0 { g != 0 } else { false }
+    n == 0 && g != 0
 }
 
-// Why a store with n states and g groups is refused, or 0.
-pub fn refusal(store: &[u64], n: usize, g: usize) -> u8
-    ensures { result ≡ refuse (shared_grounds store.now n g) }
+// Whether a store with n states and g groups is accepted.
+pub fn accept(store: &[u64], n: usize, g: usize) -> Result<(), Refusal>
+    ensures { number_of result ≡ refuse (shared_grounds store.now n g) }
 {
     if store.len() < STORE_WORDS {
-        return STORE_SHORT;
+        return Err(Refusal::StoreShort);
     }
     if MAX_STATES < n {
-        return STATES;
+        return Err(Refusal::States);
     }
     if is_groups_alone(n, g) {
-        return STATES;
+        return Err(Refusal::States);
     }
     if MAX_GROUPS < g {
-        return GROUPS;
+        return Err(Refusal::Groups);
     }
     if is_malformed(store, n, g) {
-        return STRAY_BIT;
+        return Err(Refusal::StrayBit);
     }
-    0
+    Ok(())
 }

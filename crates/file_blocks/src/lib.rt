@@ -5,13 +5,12 @@
 //   HEADER                                   the content bytes of n and of the second number, before the sets
 //   MAX_FILE, JOINED_ROOM                    the length of the largest file, and the bytes that its contents take, joined
 //   Form, head_sets, added                   the form of a file; its sets before the groups, how many; what its second number has more than g
-//   wide                                     a byte as a number
 //   le16_at                                  the number whose two bytes stand at a place, low byte first
 //   copy_content                             the content of a block, copied
 //   MODULUS, MAX_SITE, checksum_of           the prime of the checksum; the greatest site number; the checksum of a block for a site (01: its check)
 //   whole_chunks                             the part of its sum that is taken a chunk at a time, LANES bytes side by side
 //   add_lanes, add_bytes                     a row of lanes, or a chunk of bytes, added to a row of lanes
-//   lanes_sum, wide_lane                     the weighted sum that two rows stand for; a lane as a 32-bit number
+//   lanes_sum                                the weighted sum that two rows stand for
 //   set_width, set_count                     the bytes of a set, and how many sets there are
 //   content_length, blocks_for               the bytes of the contents (L), and the blocks that hold so many
 #![tactic(auto)]
@@ -58,7 +57,7 @@ const MODULUS: u32 = 65521;
 pub const MAX_SITE: usize = MODULUS as usize - 1;
 
 // The old form has no resting states.
-#[derive(Clone, Copy)]
+#[derive(Clone, Copy, Debug, PartialEq, Eq)]
 pub enum Form {
     Old,
     New,
@@ -82,17 +81,11 @@ pub fn added(form: Form) -> usize
     }
 }
 
-pub fn wide(b: u8) -> usize
-    ensures { (result ≡ b) × (result < 256) }
-{
-    b as usize
-}
-
 pub fn le16_at(bytes: &[u8], i: usize) -> usize
     requires { i + 1 < length bytes.now }
     ensures { result ≡ le16_at bytes.now i }
 {
-    wide(bytes[i]) + 256 * wide(bytes[i + 1])
+    usize::from(bytes[i]) + 256 * usize::from(bytes[i + 1])
 }
 
 // The content of a block, from byte `from` of some bytes on, to the front of what is lent.
@@ -100,9 +93,7 @@ pub fn copy_content(bytes: &[u8], from: usize, out: &mut [u8])
     requires { (from + content_bytes ≤ length bytes.now) × (content_bytes ≤ length out.old) }
     ensures { out.new ≡ overwrite (take content_bytes (drop from bytes.now)) out.old }
 {
-    for i in 0..CONTENT_BYTES {
-        out[i] = bytes[from + i];
-    }
+    out[..CONTENT_BYTES].copy_from_slice(&bytes[from..from + CONTENT_BYTES]);
 }
 
 // The bytes of a chunk, which are summed side by side. With fewer lanes the compiler writes the loops over them out, and then makes worse vectors.
@@ -111,12 +102,13 @@ const LANES: usize = 64;
 // The whole chunks before the check. They are so few that no lane outgrows 16 bits.
 const CHUNKS: usize = CHECK_AT / LANES;
 
+// kept: one function of both would be generic in what converts into u16, its contract longer than the two.
 fn add_lanes(sums: &[u16; LANES], turns: &mut [u16; LANES])
     requires { Most (byte_most * chunks) sums.now × Most (byte_most * chunks * chunks) turns.old }
     ensures { turns.new ≡ plus turns.old sums.now }
 {
-    for l in 0..LANES {
-        turns[l] += sums[l];
+    for (l, turn) in turns.iter_mut().enumerate() {
+        *turn += sums[l];
     }
 }
 
@@ -124,15 +116,9 @@ fn add_bytes(block: &[u8], from: usize, sums: &mut [u16; LANES])
     requires { (from + lanes ≤ length block.now) × Most (byte_most * chunks) sums.old }
     ensures { (sums.new ≡ plus sums.old (take lanes (drop from block.now))) × Most byte_most (take lanes (drop from block.now)) }
 {
-    for l in 0..LANES {
-        sums[l] += wide(block[from + l]) as u16;
+    for (l, sum) in sums.iter_mut().enumerate() {
+        *sum += u16::from(block[from + l]);
     }
-}
-
-fn wide_lane(x: u16) -> u32
-    ensures { (result ≡ x) × (result ≤ lane_most) }
-{
-    x as u32
 }
 
 // The weighted sum that two rows stand for: a byte of `sums` counts as in the first chunk, and each turn as a chunk more.
@@ -140,8 +126,8 @@ fn lanes_sum(sums: &[u16; LANES], turns: &[u16; LANES]) -> u32
     ensures { (result ≡ lanes_sum 0 sums.now turns.now lanes) × (result ≤ 2 * lanes * lane_most * lanes) }
 {
     let mut sum: u32 = 0;
-    for l in 0..LANES {
-        sum += LANES as u32 * wide_lane(turns[l]) + (l as u32 + 1) * wide_lane(sums[l]);
+    for (l, byte_sum) in sums.iter().enumerate() {
+        sum += LANES as u32 * u32::from(turns[l]) + (l as u32 + 1) * u32::from(*byte_sum);
     }
     sum
 }
@@ -167,8 +153,9 @@ pub fn checksum_of(block: &[u8], site: usize) -> usize
     ensures { result ≡ check_of site block.now }
 {
     let mut sum: u32 = site as u32 + whole_chunks(block);
+    // kept: `block[..CHECK_AT].iter().enumerate().skip(LANES * CHUNKS)` names each byte, and is no plainer.
     for i in LANES * CHUNKS..CHECK_AT {
-        sum += (i as u32 + 1) * (wide(block[i]) as u32);
+        sum += (i as u32 + 1) * u32::from(block[i]);
     }
     (sum % MODULUS) as usize
 }

@@ -1,3 +1,4 @@
+pub mod BytesJoined
 pub mod ContentsWords
 pub mod LastByte
 pub mod StoresRead

@@ -17,7 +17,7 @@ ghost use Rattle.file_contents_reading.specs.Parts.{TableInside, PartInside, par
 
 use core_state_set::{MAX_STATES, StateSet, WORDS};
 use core_table::{GROUPS_AT, HEAD_SETS, MAX_GROUPS, ROWS_AT, put_set};
-use file_blocks::{Form, HEADER, head_sets, set_count, set_width, wide};
+use file_blocks::{Form, HEADER, head_sets, set_count, set_width};
 
 // ---- grounds of the contents
 
@@ -40,7 +40,7 @@ fn is_set_beyond(bytes: &[u8], n: usize, width: usize, k: usize) -> bool
     requires { (header_bytes + width * k + 8 * WORDS ≤ length bytes.now) × (0 < n) × (n ≤ max_states) × (width ≡ set_width n) }
     ensures { result ≡ beyond n (set_number bytes.now n k) }
 {
-    let last = wide(bytes[HEADER + width * k + (width - 1)]);
+    let last = usize::from(bytes[HEADER + width * k + (width - 1)]);
     last >> (n - 8 * (width - 1)) != 0
 }
 
@@ -49,11 +49,10 @@ pub fn non_zero_byte(bytes: &[u8], from: usize, to: usize) -> bool
     requires { (from ≤ to) × (to ≤ length bytes.now) }
     ensures { result ≡ non_zero bytes.now from to }
 {
-    let mut joined = 0;
-    for i in from..to {
-        joined |= bytes[i];
-    }
-    joined != 0
+    bytes[from..to]
+        .iter()
+        .fold(0, |joined, byte| joined | *byte)
+        != 0
 }
 
 // ---- filling
@@ -93,6 +92,7 @@ fn fill_set(words: &mut [u64], bytes: &[u8], at: usize, own: StateSet)
     requires { (at + 8 * WORDS ≤ length bytes.now) × (WORDS ≤ length words.old) }
     ensures { words.new ≡ overwrite (meet (set_in bytes.now (8 * WORDS) at) own.words) words.old }
 {
+    // kept: `words[..WORDS].iter_mut().enumerate()` names one of the three words of a turn, and is no plainer.
     for v in 0..WORDS {
         words[v] = word_in(bytes, at, v) & own.words[v];
     }
@@ -104,8 +104,9 @@ fn word_in(bytes: &[u8], at: usize, v: usize) -> u64
     ensures { result ≡ get_or (set_in bytes.now (8 * WORDS) at) v 0 }
 {
     let mut word: u64 = 0;
+    // kept: from_le_bytes takes an array, into which the eight bytes of the slice would be copied first.
     for b in 0..8 {
-        word |= (wide(bytes[at + (8 * v + b)]) as u64) << (8 * b);
+        word |= u64::from(bytes[at + (8 * v + b)]) << (8 * b);
     }
     word
 }

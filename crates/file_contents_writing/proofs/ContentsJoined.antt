@@ -3,13 +3,12 @@
 --   set-place                            set k of the file stands at its place in the store
 --   sets_more, sets-all, set_room        a loop that joins the sets from their places; each has room behind those before it
 --   contents-written                     the contents written: the header, then the sets from their places
---   le16-written                         two bytes stored
-use Prim.Native.Nat.{ℕ, ◌+◌, ◌*◌, ◌-◌, ◌≤◌, ◌<◌, ◌/◌, ◌%◌}
+use Prim.Native.Nat.{ℕ, ◌+◌, ◌*◌, ◌-◌, ◌≤◌, ◌<◌}
 use native.Mathlib.Nat.{mul-le-mul_left, mul-suc}
 use native.Mathlib.Omega.{arith}
 use mathlib.Core.Path.{◌≡◌, refl, sym, ap, ap₂, ◌∙◌}
-use mathlib.Core.List.{List, [], ◌++◌, ◌∷◌}
-use lib.ListN.{length, get_or, take, drop, set}
+use mathlib.Core.List.{List, [], ◌++◌}
+use lib.ListN.{length, get_or, take, drop}
 use Rattle.model.specs.Sets.{WORDS, Set}
 use Rattle.basics.specs.Bounds.{concat}
 use Rattle.model.specs.Stores.{head_sets, marked_at, resting_at, set_at, dialogue_of}
@@ -17,7 +16,7 @@ use Rattle.model.specs.Blocks.{le16}
 use Rattle.model.specs.Contents.{new_form, added, set_width, set_bytes, sets, contents}
 use Rattle.model.specs.Calls.{overwrite}
 use Rattle.basics.proofs.BoundLaws.{length-tabulate, get_or-tabulate}
-use Rattle.model.proofs.ListsInParts.{concat_cong, overwrite-set}
+use Rattle.model.proofs.ListsInParts.{concat_cong}
 use Rattle.model.proofs.SetsBytes.{length-set_bytes}
 use Rattle.model.proofs.ContentLaws.{heads-each, length-sets, sets-each}
 use Rattle.model.proofs.StoresTables.{dialogue_of-row}
@@ -72,12 +71,3 @@ contents-is store n g e =
 pub contents-written : (store : List ℕ) (n g : ℕ) {more : ℕ} (old : List ℕ) → more ≡ added new_form
     → overwrite ((le16 n ++ le16 (more + g)) ++ concat (head_sets + g + n) (placed_set store (set_width n) g)) old ≡ overwrite (contents new_form (dialogue_of store n g)) old
 contents-written store n g old e = ap (λ xs. overwrite xs old) (contents-is store n g (ap (λ (x : ℕ). x + g) e))
-
--- ---- a number
-
--- the two bytes of a number
-pub le16-written : (old : List ℕ) (x : ℕ) → 2 ≤ length old → set (set old 0 (x % 256)) 1 (x / 256 % 256) ≡ overwrite (le16 x) old
-unfolding overwrite
-le16-written old x h =
-    ap (λ ys. set ys 1 (x / 256 % 256)) (overwrite-set [] old (x % 256) 0 refl (omega arith))
-    ∙ overwrite-set (x % 256 ∷ []) old (x / 256 % 256) 1 refl h

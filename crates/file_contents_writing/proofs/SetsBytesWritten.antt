@@ -1,38 +1,78 @@
 -- The bytes of a set, by words.
 --
---   length-word_bytes             the bytes of a word: how many; bytes-none, bytes-more: a loop that writes them
+--   length-word_bytes             the bytes of a word: how many; bytes-written, le16-written: so many, and two, copied from the library's
 --   words_more                   a loop that writes the words of a set
 --   set_byte, set_more           a byte of a set by its word; the bytes of some whole words, and some of the next one
 --   set_whole, set_rest          so the bytes of a set are written, whether they end with a word or not
 use Prim.Native.Nat.{ℕ, zero, suc, ◌+◌, ◌*◌, ◌-◌, ◌/◌, ◌%◌, ◌^◌, ◌≤◌, ◌<◌}
-use native.Mathlib.Nat.{add-zero, add-suc}
+use native.Mathlib.Nat.{zero-add, add-zero, add-suc, not-suc-le-zero, pow-suc}
 use native.Mathlib.Omega.{arith}
 use mathlib.Core.Path.{◌≡◌, refl, sym, ap, ap₂, ◌∙◌}
 use mathlib.Core.Logic.{⊎_elim}
 use mathlib.Core.List.{List, [], ◌∷◌, ◌++◌, append-nil, append_assoc}
-use lib.ListN.{set, length, get_or}
+use lib.ListN.{length, get_or, take, drop}
+use lib.Seq.{length-take-le, get_or-take, ext_get_or}
+use lib.Pow.{pow-add}
+use mir.Syntax.{w64}
+use Rattle.std.specs.Int.{to_le_bytes, byte_at, bytes_low_first}
 use Rattle.basics.specs.Bounds.{tabulate, concat}
 use Rattle.model.specs.Sets.{WORDS, Set, member, number}
+use Rattle.model.specs.Blocks.{le16}
 use Rattle.model.specs.Contents.{set_bytes}
 use Rattle.model.specs.Calls.{overwrite}
-use Rattle.basics.proofs.BoundLaws.{lt_or_ge, length-tabulate}
+use Rattle.basics.proofs.BoundLaws.{lt_or_ge, length-tabulate, get_or-tabulate}
 use Rattle.model.proofs.ListsInParts.{length-concat}
 use Rattle.model.proofs.SetsBytes.{byte_number}
 use Rattle.file_contents_writing.specs.Placed.{word_bytes, words_bytes}
-use Rattle.core_table.proofs.ListsOverwritten.{Over, over_none, over_next, lent, back, overwrite_lent, parts_more}
+use Rattle.core_table.proofs.ListsOverwritten.{Over, lent, back, overwrite_lent, parts_more}
 
 pub length-word_bytes : (x count : ℕ) → length (word_bytes x count) ≡ count
 unfolding word_bytes
 length-word_bytes x count = length-tabulate _ count
 
-module _ (x : ℕ) (old : List ℕ) where
-  pub bytes-none : Over (word_bytes x 0) old old
-  unfolding word_bytes
-  bytes-none = over_none _ old
+-- byte b of a number, as the library has it
+powers : (b : ℕ) → 256 ^ b ≡ 2 ^ (8 * b)
+powers zero = refl
+powers (suc b) =
+    let next : 8 * suc b ≡ 8 * b + 8 = omega arith in
+    pow-suc 256 b ∙ ap (λ (m : ℕ). m * 256) (powers b) ∙ sym (ap (λ (m : ℕ). 2 ^ m) next ∙ pow-add 2 (8 * b) 8)
 
-  pub bytes-more : (out : List ℕ) (b : ℕ) {y : ℕ} → b < length old → y ≡ x / 2 ^ (8 * b) % 256 → Over (word_bytes x b) old out → Over (word_bytes x (b + 1)) old (set out b y)
-  unfolding word_bytes
-  bytes-more out b = over_next _ old out b
+byte-is : (b x : ℕ) → byte_at b x ≡ x / 2 ^ (8 * b) % 256
+byte-is zero x = omega arith
+byte-is (suc b) x = ap (λ (m : ℕ). x / m % 256) (powers (suc b))
+
+get_or-bytes : (i k x b : ℕ) → b < k → get_or (bytes_low_first i k x) b 0 ≡ byte_at (i + b) x
+get_or-bytes i zero x b h = absurd (not-suc-le-zero h)
+get_or-bytes i (suc k) x zero h = ap (λ (j : ℕ). byte_at j x) (sym (add-zero i))
+get_or-bytes i (suc k) x (suc b) h =
+    let place : suc i + b ≡ i + suc b = omega arith in
+    get_or-bytes (suc i) k x b (omega arith) ∙ ap (λ (j : ℕ). byte_at j x) place
+
+lowest : (x count : ℕ) → count ≤ 8 → take count (to_le_bytes w64 x) ≡ word_bytes x count
+unfolding word_bytes
+lowest x count h =
+    let bytes = to_le_bytes w64 x in
+    let long = length-take-le count bytes h in
+    ext_get_or 0 _ _ (long ∙ sym (length-word_bytes x count))
+    (λ b l.
+    let inside : b < count = omega (arith, long) in
+    get_or-take count bytes b 0 inside
+    ∙ get_or-bytes 0 8 x b (omega arith)
+    ∙ ap (λ (j : ℕ). byte_at j x) (zero-add b)
+    ∙ byte-is b x
+    ∙ sym (get_or-tabulate (λ j. x / 2 ^ (8 * j) % 256) count b 0 inside))
+
+module _ (x : ℕ) (old : List ℕ) where
+  -- copied from all eight of the word
+  pub bytes-written : {count : ℕ} {bytes : List ℕ} → count ≤ 8 → bytes ≡ take count (to_le_bytes w64 x) → bytes ++ drop count old ≡ overwrite (word_bytes x count) old
+  unfolding overwrite
+  bytes-written {count} h e = ap₂ (λ xs (m : ℕ). xs ++ drop m old) (e ∙ lowest x count h) (sym (length-word_bytes x count))
+
+  pub le16-written : {bytes : List ℕ} → bytes ≡ overwrite (word_bytes x 2) old → bytes ≡ overwrite (le16 x) old
+  unfolding word_bytes tabulate
+  le16-written e =
+      let low : x / 1 % 256 ≡ x % 256 = omega arith in
+      e ∙ ap (λ (y : ℕ). overwrite (y ∷ x / 256 % 256 ∷ []) old) low
 
 module _ (X : Set) where
   length-words_bytes : (v : ℕ) → length (words_bytes X v) ≡ 8

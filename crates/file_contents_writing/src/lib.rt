@@ -76,26 +76,23 @@ fn put_words(set: &[u64], count: usize, out: &mut [u8])
     requires { (count ≤ WORDS) × (WORDS ≤ length set.now) × (8 * count ≤ length out.old) }
     ensures { out.new ≡ overwrite (concat count (words_bytes set.now)) out.old }
 {
-    for v in 0..count {
+    for (v, word) in set[..count].iter().enumerate() {
         let at = 8 * v;
-        put_bytes(set[v], 8, &mut out[at..]);
+        put_bytes(*word, 8, &mut out[at..]);
     }
 }
 
-// The lowest `count` bytes of a word, lowest first. The compiler makes one store of eight.
+// The lowest `count` bytes of a word, lowest first.
 fn put_bytes(x: u64, count: usize, out: &mut [u8])
     requires { (count ≤ 8) × (count ≤ length out.old) }
     ensures { out.new ≡ overwrite (word_bytes x count) out.old }
 {
-    for b in 0..count {
-        out[b] = ((x >> (8 * b)) % 256) as u8;
-    }
+    out[..count].copy_from_slice(&x.to_le_bytes()[..count]);
 }
 
 pub fn write_le16(x: usize, out: &mut [u8])
     requires { 2 ≤ length out.old }
     ensures { out.new ≡ overwrite (le16 x) out.old }
 {
-    out[0] = (x % 256) as u8;
-    out[1] = (x / 256 % 256) as u8;
+    put_bytes(x as u64, 2, out);
 }

@@ -8,10 +8,13 @@ use native.Mathlib.Nat.{le_antisymm}
 use native.Mathlib.Omega.{arith}
 use mathlib.Core.Path.{◌≡◌, refl, sym, ap, ◌∙◌, subst}
 use mathlib.Core.List.{List, []}
+use Rattle.std.specs.Prelude.{Result, Ok}
 use lib.ListN.{length, take, drop, take-append-drop}
 use lib.Seq.{drop-drop}
 use Rattle.basics.specs.Bounds.{concat}
 use Rattle.basics.specs.Refusals.{Ground, refuse}
+use Rattle.core_refusals.specs.declared.Refusal.{Refusal}
+use Rattle.core_refusals.specs.Refusals.{number_of}
 use Rattle.model.specs.Blocks.{block_bytes, content_bytes, content_at, part, contents_of, block_grounds}
 use Rattle.model.specs.Calls.{overwrite, blocks_grounds}
 use Rattle.basics.proofs.RefusalLaws.{Clear, clear_refuse, refuse_clear, clear_next, refuse_stop}
@@ -44,20 +47,20 @@ content-part input k h =
     ∙ part_front (part input k) (drop block_bytes rest) content_at content_bytes (omega (arith, length_part input k h))
 
 module _ {input : List ℕ} {site k : ℕ} {old out : List ℕ} (so : Joining input site k old out) where
-  module _ (h : k < length input / block_bytes) {fault : ℕ}
-      (e : fault ≡ refuse (block_grounds site (take (block_bytes * k + block_bytes - block_bytes * k) (drop (block_bytes * k) input)) k)) where
+  module _ (h : k < length input / block_bytes) {number : ℕ}
+      (e : number ≡ refuse (block_grounds site (take (block_bytes * k + block_bytes - block_bytes * k) (drop (block_bytes * k) input)) k)) where
     -- its own bytes are handed on
-    own : fault ≡ refuse (grounds input site k)
+    own : number ≡ refuse (grounds input site k)
     unfolding part
     own =
         let whole : block_bytes * k + block_bytes - block_bytes * k ≡ block_bytes = omega arith in
         e ∙ ap (λ (m : ℕ). refuse (block_grounds site (take m (drop (block_bytes * k) input)) k)) whole
 
-    pub joining_stop : (fault ≡ 0 → ⊥) → Joined input site fault old out
+    pub joining_stop : (number ≡ 0 → ⊥) → {answer : Result (Unit {0}) Refusal} → number_of answer ≡ number → Joined input site answer old out
     unfolding blocks_grounds
-    joining_stop x = record { first_ground = refuse_stop _ (length input / block_bytes) k h so.passed own x; joined = λ z. absurd (x z) }
+    joining_stop x a = record { first_ground = a ∙ refuse_stop _ (length input / block_bytes) k h so.passed own x; joined = λ z. absurd (x (sym a ∙ z)) }
 
-    pub joining_more : (rest : List ℕ) → fault ≡ 0
+    pub joining_more : (rest : List ℕ) → number ≡ 0
         → rest ≡ overwrite (take content_bytes (drop (block_bytes * k + content_at) input)) (lent (content_bytes * k) out)
         → length (back (content_bytes * k) out rest) ≡ length out → Joining input site (k + 1) old (back (content_bytes * k) out rest)
     unfolding block_grounds
@@ -70,10 +73,10 @@ module _ {input : List ℕ} {site k : ℕ} {old out : List ℕ} (so : Joining in
               (f ∙ ap (λ xs. overwrite xs (lent (content_bytes * k) out)) (content-part input k h)) long;
         }
 
-  pub joining_all : length input / block_bytes ≤ k → Joined input site 0 old out
+  pub joining_all : length input / block_bytes ≤ k → Joined input site (Ok tt) old out
   unfolding blocks_grounds contents_of
   joining_all h =
       record {
         first_ground = sym (clear_refuse _ (subst (λ (m : ℕ). Clear (concat m (grounds input site))) (le_antisymm so.within h) so.passed));
-        joined = λ z. parts_all (block_content input) old out k (length input / block_bytes) so.within h so.over;
+        joined = λ _. parts_all (block_content input) old out k (length input / block_bytes) so.within h so.over;
       }

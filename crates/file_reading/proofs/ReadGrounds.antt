@@ -12,6 +12,7 @@
 --   joined-room                       they have room there
 --   reads_joined                      contents that were joined are read as the contents of the input
 --   reads_call, draft-read, file-read the contract of `read_as`; of a draft, and of a file
+use Rattle.std.specs.Prelude.{Result, Ok, Err}
 use Prim.Native.Nat.{ℕ, ◌+◌, ◌*◌, ◌-◌, ◌/◌, ◌%◌, ◌≤◌, ◌<◌}
 use native.Mathlib.Omega.{arith}
 use mathlib.Core.Path.{◌≡◌, refl, sym, ap, ap₂, ◌∙◌, subst, transport}
@@ -36,22 +37,24 @@ use Rattle.model.proofs.Drafts.{draft-layout}
 use Rattle.file_blocks.specs.Forms.{joined_room}
 use Rattle.file_blocks.proofs.ContentsLength.{get_or-joined}
 use Rattle.core_table.specs.Writing.{cleared}
-use Rattle.file_reading.specs.declared.TableRead.TheVariants.{Table, Refused}
-use Rattle.file_reading.specs.declared.TableRead.{TableRead}
+use Rattle.core_refusals.specs.declared.Refusal.{Refusal}
+use Rattle.core_refusals.specs.Refusals.{number}
+use Rattle.core_refusals.proofs.RefusalNumbers.{number_some}
+use Rattle.file_reading.specs.declared.TableSize.{TableSize}
 use Rattle.file_reading.specs.ReadAnswers.{CalledReadAs}
 use Rattle.file_reading.specs.Reading.{bytes_grounds, Reads, ReadsFile, ReadsContents}
 
 -- ---- what a call gives
 
 module _ {d : ℕ → ℕ → Dialogue} {n g : ℕ} {before : List ℕ} where
-  pub reads_refused : (gs : List Ground) {k : ℕ} → k ≡ refuse gs → (k ≡ 0 → ⊥) → Reads gs d n g before (Refused k) before
-  reads_refused gs e f = let no = answer-refused gs _ e f in record { says = sym no; leaves = sym (rw no) }
+  pub reads_refused : (gs : List Ground) {r : Refusal} → number r ≡ refuse gs → Reads gs d n g before (Err r) before
+  reads_refused gs {r} e = let no = answer-refused gs _ e (number_some r) in record { says = sym no; leaves = sym (rw no) }
 
-  pub reads_first : (i : ℕ) (gs : List Ground) → First i gs → (number_at i gs ≡ 0 → ⊥) → Reads gs d n g before (Refused (number_at i gs)) before
-  reads_first i gs f = reads_refused gs (refuse-first i gs f)
+  pub reads_first : (i : ℕ) (gs : List Ground) → First i gs → {r : Refusal} → number r ≡ number_at i gs → Reads gs d n g before (Err r) before
+  reads_first i gs f {r} e = reads_refused gs {r = r} (e ∙ refuse-first i gs f)
 
   pub reads_table : (gs : List Ground) → Clear gs → {m h : ℕ} {after : List ℕ} → m ≡ n → h ≡ g → after ≡ overwrite (layout (d m h)) before
-      → Reads gs d n g before (Table m h) after
+      → Reads gs d n g before (Ok (record { n = m; g = h })) after
   reads_table gs c p q f =
       let yes = answer_clear gs _ c in
       record {
@@ -59,7 +62,7 @@ module _ {d : ℕ → ℕ → Dialogue} {n g : ℕ} {before : List ℕ} where
         leaves = f ∙ ap₂ (λ (a b : ℕ). overwrite (layout (d a b)) before) p q ∙ sym (rw yes);
       }
 
-  module _ (xs ys : List Ground) {r : TableRead} {after : List ℕ} where
+  module _ (xs ys : List Ground) {r : Result TableSize Refusal} {after : List ℕ} where
     pub reads_behind : Clear xs → Reads ys d n g before r after → Reads (xs ++ ys) d n g before r after
     reads_behind c so = record { says = rw (answer_behind xs ys _ c) so.says; leaves = rw (answer_behind xs ys _ c) so.leaves }
 
@@ -97,7 +100,7 @@ module _ (form : Form) {second : ℕ} where
   unfolding bad_second
   second_high e h = or_right (ltb second (added form)) _ (lt-ltb (added form + max_groups) second (omega arith))
 
-pub reads_contents : (form : Form) (bytes : List ℕ) (blocks n second : ℕ) {least : ℕ} {before : List ℕ} {r : TableRead} {after : List ℕ} → least ≡ added form
+pub reads_contents : (form : Form) (bytes : List ℕ) (blocks n second : ℕ) {least : ℕ} {before : List ℕ} {r : Result TableSize Refusal} {after : List ℕ} → least ≡ added form
     → Reads (bytes_grounds form bytes blocks n second (second - least)) (dialogue_in form bytes) n (second - least) before r after
     → ReadsContents form bytes blocks n second before r after
 reads_contents form bytes blocks n second {before = before} {r} {after} e =
@@ -146,7 +149,7 @@ module _ {bytes contents : List ℕ} (s : Same bytes contents) where
       }
 
 pub reads_joined : (form : Form) (input : List ℕ) {bytes : List ℕ} → Same bytes (contents_of input) → {n second : ℕ} → n ≡ le16_at bytes 0 → second ≡ le16_at bytes 2
-    → {before : List ℕ} {r : TableRead} {after : List ℕ} → ReadsContents form bytes (length input / block_bytes) n second before r after
+    → {before : List ℕ} {r : Result TableSize Refusal} {after : List ℕ} → ReadsContents form bytes (length input / block_bytes) n second before r after
     → Reads (content_grounds form input (states_in input) (second_in input)) (dialogue_in form (contents_of input)) (states_in input) (groups_in form input) before r after
 unfolding content_grounds bytes_grounds
 reads_joined form input s e f {before} {r} {after} =
@@ -158,7 +161,7 @@ reads_joined form input s e f {before} {r} {after} =
 -- ---- the call
 
 module _ (form : Form) (input : List ℕ) (site : ℕ) (store : List ℕ) where
-  pub reads_call : {r : TableRead} {after : List ℕ}
+  pub reads_call : {r : Result TableSize Refusal} {after : List ℕ}
       → Reads (read_grounds_as form input site (length store)) (dialogue_in form (contents_of input)) (states_in input) (groups_in form input) store r after
       → CalledReadAs form input site store r after
   unfolding read_answer_as read_buffer_as
@@ -168,14 +171,14 @@ module _ (form : Form) (input : List ℕ) (site : ℕ) (store : List ℕ) where
     clear : Clear (store_ground (length store) ∷ site_ground site ∷ [])
     clear = (le-ltb (length store) store_words fits, (le-ltb max_site site known, tt))
 
-    pub draft-read : length input ≡ 0 → {after : List ℕ} → after ≡ cleared store → CalledReadAs form input site store (Table 0 0) after
+    pub draft-read : length input ≡ 0 → {after : List ℕ} → after ≡ cleared store → CalledReadAs form input site store (Ok (record { n = 0; g = 0 })) after
     unfolding read_grounds_as cleared
     draft-read empty f =
         let none = draft-says form input empty in
-        reads_call {r = Table 0 0}
+        reads_call {r = Ok (record { n = 0; g = 0 })}
         (rw (eq-eqb (length input) 0 empty)
         (reads_table _ clear (sym none.0) (sym none.1) (f ∙ ap (λ xs. overwrite xs store) (sym (draft-layout form (contents_of input))))))
 
-    pub file-read : 0 < length input → {r : TableRead} {after : List ℕ} → ReadsFile form input site store r after → CalledReadAs form input site store r after
+    pub file-read : 0 < length input → {r : Result TableSize Refusal} {after : List ℕ} → ReadsFile form input site store r after → CalledReadAs form input site store r after
     unfolding read_grounds_as
     file-read some {r} so = reads_call {r = r} (rw (ne_eqb (length input) 0 (λ z. omega arith)) (reads_behind (store_ground (length store) ∷ site_ground site ∷ []) (file_grounds form input site) clear so))

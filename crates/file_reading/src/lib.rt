@@ -1,23 +1,21 @@
 // The call `read`: a file is looked at whole, ground after ground in their order, and only then put into the lent store (`file_contents_reading`).
 //
-//   TableRead, read                  n and g of the table that is now in the store, or why the file is refused
+//   TableSize, read                  n and g of the table that is now in the store, or why the file is refused
 //   read_old, read_as                the same of a file of the old form, and of either
 //   read_file, read_contents         the same of an input that has bytes, and of contents: each looks at its own grounds
-//   join_blocks, block_fault         the contents of the blocks joined, each once it is checked; the grounds of one block, on its own 512 bytes
+//   join_blocks, check_block         the contents of the blocks joined, each once it is checked; the grounds of one block, on its own 512 bytes
 #![tactic(auto)]
 
 ghost use Rattle.std.specs.Prelude.{◌≡◌, ◌*◌, ◌/◌, ◌≤◌, ◌<◌, length};
 ghost use Rattle.basics.specs.Refusals.{refuse};
+ghost use Rattle.core_refusals.specs.Refusals.{number_of};
 ghost use Rattle.model.specs.Stores.{store_words};
 ghost use Rattle.model.specs.Blocks.{block_bytes, content_bytes, max_site, block_grounds};
 ghost use Rattle.file_blocks.specs.Forms.{form_of, joined_room};
 ghost use Rattle.file_reading.specs.Reading.{ReadsFile, ReadsContents, Joined};
 ghost use Rattle.file_reading.specs.ReadAnswers.{CalledReadAs, CalledRead, CalledReadOld};
 
-use core_refusals::{
-    BLOCK_CHECK, BLOCK_COUNT, BLOCK_NUMBER, FILLER, GROUPS, INPUT_LENGTH, SITE, STATES,
-    STORE_SHORT, STRAY_BIT,
-};
+use core_refusals::Refusal;
 use core_state_set::MAX_STATES;
 use core_table::{MAX_GROUPS, STORE_WORDS, clear};
 use file_blocks::{
@@ -26,57 +24,54 @@ use file_blocks::{
 };
 use file_contents_reading::{any_content_beyond, fill, non_zero_byte};
 
-#[derive(Clone, Copy)]
-pub enum TableRead {
-    // n and g of the table.
-    Table { n: usize, g: usize },
-    Refused(u8),
+// The states and groups of a table, how many.
+#[derive(Clone, Copy, Debug, PartialEq, Eq)]
+pub struct TableSize {
+    pub n: usize,
+    pub g: usize,
 }
 
-pub fn read(input: &[u8], site: usize, store: &mut [u64]) -> TableRead
+pub fn read(input: &[u8], site: usize, store: &mut [u64]) -> Result<TableSize, Refusal>
     ensures { CalledRead input.now site store.old result store.new }
 {
     read_as(Form::New, input, site, store)
 }
 
-pub fn read_old(input: &[u8], site: usize, store: &mut [u64]) -> TableRead
+pub fn read_old(input: &[u8], site: usize, store: &mut [u64]) -> Result<TableSize, Refusal>
     ensures { CalledReadOld input.now site store.old result store.new }
 {
     read_as(Form::Old, input, site, store)
 }
 
 // An input of no bytes is an untouched draft.
-fn read_as(form: Form, input: &[u8], site: usize, store: &mut [u64]) -> TableRead
+fn read_as(form: Form, input: &[u8], site: usize, store: &mut [u64]) -> Result<TableSize, Refusal>
     ensures { CalledReadAs (form_of form) input.now site store.old result store.new }
 {
     if store.len() < STORE_WORDS {
-        return TableRead::Refused(STORE_SHORT);
+        return Err(Refusal::StoreShort);
     }
     if MAX_SITE < site {
-        return TableRead::Refused(SITE);
+        return Err(Refusal::Site);
     }
     if input.len() == 0 {
         clear(store);
-        return TableRead::Table { n: 0, g: 0 };
+        return Ok(TableSize { n: 0, g: 0 });
     }
     read_file(form, input, site, store)
 }
 
-fn read_file(form: Form, input: &[u8], site: usize, store: &mut [u64]) -> TableRead
+fn read_file(form: Form, input: &[u8], site: usize, store: &mut [u64]) -> Result<TableSize, Refusal>
     requires { (0 < length input.now) × (site ≤ max_site) × (store_words ≤ length store.old) }
     ensures { ReadsFile (form_of form) input.now site store.old result store.new }
 {
     if input.len() % BLOCK != 0 {
-        return TableRead::Refused(INPUT_LENGTH);
+        return Err(Refusal::InputLength);
     }
     if MAX_FILE < input.len() {
-        return TableRead::Refused(INPUT_LENGTH);
+        return Err(Refusal::InputLength);
     }
     let mut joined = [0u8; JOINED_ROOM];
-    let fault = join_blocks(input, site, &mut joined);
-    if fault != 0 {
-        return TableRead::Refused(fault);
-    }
+    join_blocks(input, site, &mut joined)?;
     let n = le16_at(&joined, 0);
     let second = le16_at(&joined, 2);
     read_contents(form, &joined, input.len() / BLOCK, n, second, store)
@@ -90,72 +85,69 @@ fn read_contents(
     n: usize,
     second: usize,
     store: &mut [u64],
-) -> TableRead
+) -> Result<TableSize, Refusal>
     requires { (joined_room ≤ length bytes.now) × (store_words ≤ length store.old) }
     ensures { ReadsContents (form_of form) bytes.now blocks n second store.old result store.new }
 {
     if n == 0 {
-        return TableRead::Refused(STATES);
+        return Err(Refusal::States);
     }
     if MAX_STATES < n {
-        return TableRead::Refused(STATES);
+        return Err(Refusal::States);
     }
     let least = added(form);
     if second < least {
-        return TableRead::Refused(GROUPS);
+        return Err(Refusal::Groups);
     }
     let g = second - least;
     if MAX_GROUPS < g {
-        return TableRead::Refused(GROUPS);
+        return Err(Refusal::Groups);
     }
     let size = content_length(form, n, g);
     if blocks != blocks_for(size) {
-        return TableRead::Refused(BLOCK_COUNT);
+        return Err(Refusal::BlockCount);
     }
     if any_content_beyond(form, bytes, n, g) {
-        return TableRead::Refused(STRAY_BIT);
+        return Err(Refusal::StrayBit);
     }
     if non_zero_byte(bytes, size, CONTENT_BYTES * blocks) {
-        return TableRead::Refused(FILLER);
+        return Err(Refusal::Filler);
     }
     fill(form, bytes, n, g, store);
-    TableRead::Table { n, g }
+    Ok(TableSize { n, g })
 }
 
 // ---- blocks
 
-// What is wrong with the first block that has a fault, or 0: then the contents of all blocks stand one behind the other at the front of
+// Refuses by the first block that has a fault. Where none has one, the contents of all blocks stand one behind the other at the front of
 // what is lent. A block is copied while its bytes are still near.
-fn join_blocks(input: &[u8], site: usize, out: &mut [u8]) -> u8
+fn join_blocks(input: &[u8], site: usize, out: &mut [u8]) -> Result<(), Refusal>
     requires { (site ≤ max_site) × (content_bytes * (length input.now / block_bytes) ≤ length out.old) }
     ensures { Joined input.now site result out.old out.new }
 {
     for k in 0..input.len() / BLOCK {
         let a = BLOCK * k;
         let e = a + BLOCK;
-        let fault = block_fault(&input[a..e], site, k);
-        if fault != 0 {
-            return fault;
-        }
+        check_block(&input[a..e], site, k)?;
         let at = CONTENT_BYTES * k;
         copy_content(input, a + CONTENT_AT, &mut out[at..]);
     }
-    0
+    Ok(())
 }
 
-// What is wrong with block k, or 0.
-fn block_fault(block: &[u8], site: usize, k: usize) -> u8
+// Whether block k is as it should be.
+fn check_block(block: &[u8], site: usize, k: usize) -> Result<(), Refusal>
     requires { (length block.now ≡ block_bytes) × (site ≤ max_site) }
-    ensures { result ≡ refuse (block_grounds site block.now k) }
+    ensures { number_of result ≡ refuse (block_grounds site block.now k) }
 {
     let number = le16_at(block, 0);
     if number != k {
-        return BLOCK_NUMBER;
+        return Err(Refusal::BlockNumber);
     }
     let check = le16_at(block, CHECK_AT);
     let sum = checksum_of(block, site);
     if check != sum {
-        return BLOCK_CHECK;
+        return Err(Refusal::BlockCheck);
     }
-    0
+    Ok(())
 }

@@ -3,6 +3,7 @@
 --   block_front, block_written            a block up to its check, and with it
 --   held                                 where no shared ground holds, the store is long enough and n and g are in bounds
 --   refused-short, refused_site, refused-shared, draft-written, refused-room, written       the contract of `write` in each case
+use Rattle.std.specs.Prelude.{Ok, Err}
 use Prim.Native.Nat.{ℕ, ◌+◌, ◌*◌, ◌≤◌, ◌<◌}
 use native.Mathlib.Omega.{arith}
 use mathlib.Core.Path.{◌≡◌, sym, ap, ◌∙◌}
@@ -25,7 +26,10 @@ use Rattle.model.proofs.ContentLaws.{length-contents}
 use Rattle.model.proofs.FileLaws.{file-draft, file-blocks, length-draft, length-blocks}
 use Rattle.model.proofs.CallLaws.{Writable, write_over, write_behind, write-refused, write-answer, write-buffer}
 use Rattle.model.proofs.StoresAccepted.{Store, accepted_store, store_accepted}
-use Rattle.file_writing.specs.declared.Written.TheVariants.{File, Refused}
+use Rattle.core_refusals.specs.declared.Refusal.{Refusal}
+use Rattle.core_refusals.specs.declared.Refusal.TheVariants.{StoreShort, OutputShort, Site}
+use Rattle.core_refusals.specs.Refusals.{number}
+use Rattle.core_refusals.proofs.RefusalNumbers.{number_some}
 use Rattle.file_writing.specs.WriteAnswers.{CalledWrite}
 use Rattle.file_contents_writing.specs.Placed.{LongEnough}
 
@@ -65,37 +69,37 @@ pub held : (store : List ℕ) (n g k : ℕ) → k ≡ refuse (shared_grounds sto
 held store n g k e z = let s = (accepted_store store n g [] (sym e ∙ z)).0 in record { long = s.long; small = s.small; few = s.few }
 
 module _ (store : List ℕ) (n g site : ℕ) (out : List ℕ) where
-  -- a ground k holds
-  refuses : (k : ℕ) → refuse (write_grounds store n g site (length out)) ≡ k → (k ≡ 0 → ⊥) → CalledWrite store n g site out (Refused k) out
+  -- a ground holds, and r is its refusal
+  refuses : (r : Refusal) → refuse (write_grounds store n g site (length out)) ≡ number r → CalledWrite store n g site out (Err r) out
   unfolding write_buffer
-  refuses k e f = let no = write-refused store n g site (length out) e f in (sym no, rw no)
+  refuses r e = let no = write-refused store n g site (length out) e (number_some r) in (sym no, rw no)
 
   -- none holds, and l bytes are written
   accepted : {l : ℕ} {after : List ℕ} → Writable store n g site (length out) → l ≡ file_length new_form n g → after ≡ overwrite (file_of new_form site (dialogue_of store n g)) out
-      → CalledWrite store n g site out (File l) after
+      → CalledWrite store n g site out (Ok l) after
   accepted w e f =
       (ap answered e ∙ sym (write-answer store n g site (length out) w), f ∙ sym (write-buffer store n g site out w))
 
-  pub refused-short : length store < store_words → CalledWrite store n g site out (Refused 10) out
+  pub refused-short : length store < store_words → CalledWrite store n g site out (Err StoreShort) out
   unfolding write_grounds
-  refused-short h = refuses 10 (sym (refuse-first 0 _ (lt-ltb (length store) store_words h))) (λ x. omega arith)
+  refused-short h = refuses StoreShort (sym (refuse-first 0 _ (lt-ltb (length store) store_words h)))
 
-  pub refused_site : store_words ≤ length store → max_site < site → CalledWrite store n g site out (Refused 24) out
-  refused_site long h = refuses 24 (write_over store n g site (length out) long h) (λ x. omega arith)
+  pub refused_site : store_words ≤ length store → max_site < site → CalledWrite store n g site out (Err Site) out
+  refused_site long h = refuses Site (write_over store n g site (length out) long h)
 
   -- k is the first of the grounds that the calls share, or 0
   module _ (long : store_words ≤ length store) (known : site ≤ max_site) (k : ℕ) (e : k ≡ refuse (shared_grounds store n g)) where
     behind : refuse (write_grounds store n g site (length out)) ≡ refuse (shared_grounds store n g ++ (output_ground n g (length out) ∷ []))
     behind = write_behind store n g site (length out) long known
 
-    pub refused-shared : (k ≡ 0 → ⊥) → CalledWrite store n g site out (Refused k) out
-    refused-shared f = refuses k (behind ∙ sym (refuse-append (shared_grounds store n g) _ e f)) f
+    pub refused-shared : (r : Refusal) → number r ≡ k → CalledWrite store n g site out (Err r) out
+    refused-shared r f = refuses r (behind ∙ sym (f ∙ refuse-append (shared_grounds store n g) _ e (λ z. number_some r (f ∙ z))))
 
     module _ (z : k ≡ 0) where
       table-held : Store store n g
       table-held = (accepted_store store n g [] (sym e ∙ z)).0
 
-      pub draft-written : n ≡ 0 → CalledWrite store n g site out (File 0) out
+      pub draft-written : n ≡ 0 → CalledWrite store n g site out (Ok 0) out
       unfolding overwrite dialogue_of
       draft-written d =
           let none = length-draft new_form n g d in
@@ -106,14 +110,13 @@ module _ (store : List ℕ) (n g site : ℕ) (out : List ℕ) where
         size : file_length new_form n g ≡ block_bytes * blocks
         size = length-blocks new_form n g some ∙ ap (λ (m : ℕ). block_bytes * m) (sym b)
 
-        pub refused-room : length out < block_bytes * blocks → CalledWrite store n g site out (Refused 19) out
+        pub refused-room : length out < block_bytes * blocks → CalledWrite store n g site out (Err OutputShort) out
         refused-room h =
-            refuses 19
+            refuses OutputShort
             (behind ∙ store_accepted store n g _ table-held ∙ sym (refuse-first 0 _ (lt-ltb (length out) (file_length new_form n g) (omega (arith, size)))))
-            (λ x. omega arith)
 
         pub written : (after : List ℕ) → block_bytes * blocks ≤ length out → after ≡ overwrite (concat blocks (block_of site (contents new_form (dialogue_of store n g)))) out
-            → CalledWrite store n g site out (File (block_bytes * blocks)) after
+            → CalledWrite store n g site out (Ok (block_bytes * blocks)) after
         unfolding block_file dialogue_of
         written after h w =
             let t = dialogue_of store n g in

@@ -1,6 +1,6 @@
 // The call `write`: the file of a table, from the store to the lent output.
 //
-//   Written, write                 the file at the front of the output and its length, or why it is refused
+//   write                          the file at the front of the output and its length, or why it is refused
 //   write_file                     the file: the contents joined (`file_contents_writing`), then its blocks
 //   write_blocks, write_block      the first so many blocks; one block: its number, its content, its check
 //
@@ -17,46 +17,42 @@ ghost use Rattle.model.specs.Calls.{overwrite};
 ghost use Rattle.file_writing.specs.WriteAnswers.{CalledWrite};
 ghost use Rattle.file_contents_writing.specs.Placed.{LongEnough};
 
-use core_refusals::{OUTPUT_SHORT, SITE, STORE_SHORT};
-use core_table::{STORE_WORDS, refusal};
+use core_refusals::Refusal;
+use core_table::{STORE_WORDS, accept};
 use file_blocks::{
     BLOCK, CHECK_AT, CONTENT_AT, CONTENT_BYTES, Form, JOINED_ROOM, MAX_SITE, blocks_for,
     checksum_of, content_length, copy_content,
 };
 use file_contents_writing::{join_contents, write_le16};
 
-#[derive(Clone, Copy)]
-pub enum Written {
-    // The length of the file.
-    File(usize),
-    Refused(u8),
-}
-
-// Nothing is written before the last ground of refusal has been tested. A draft is a file of no bytes, for which no output is too short.
-pub fn write(store: &[u64], n: usize, g: usize, site: usize, output: &mut [u8]) -> Written
+// The answer is the length of the file. Nothing is written before the last ground of refusal has been tested. A draft is a file of no bytes, for which no output is too short.
+pub fn write(
+    store: &[u64],
+    n: usize,
+    g: usize,
+    site: usize,
+    output: &mut [u8],
+) -> Result<usize, Refusal>
     ensures { CalledWrite store.now n g site output.old result output.new }
 {
     if store.len() < STORE_WORDS {
-        return Written::Refused(STORE_SHORT);
+        return Err(Refusal::StoreShort);
     }
     if MAX_SITE < site {
-        return Written::Refused(SITE);
+        return Err(Refusal::Site);
     }
-    let refused = refusal(store, n, g);
-    if refused != 0 {
-        return Written::Refused(refused);
-    }
+    accept(store, n, g)?;
     if n == 0 {
-        return Written::File(0);
+        return Ok(0);
     }
     let l = content_length(Form::New, n, g);
     let blocks = blocks_for(l);
     let size = BLOCK * blocks;
     if output.len() < size {
-        return Written::Refused(OUTPUT_SHORT);
+        return Err(Refusal::OutputShort);
     }
     write_file(store, n, g, site, blocks, output);
-    Written::File(size)
+    Ok(size)
 }
 
 // The contents are joined first: so each set is taken apart once, by words, wherever the edges of blocks cut it.

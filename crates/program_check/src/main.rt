@@ -10,9 +10,9 @@ ghost use Rattle.core_report.specs.Put.{text_room, Front};
 ghost use Rattle.call_check.specs.CheckText.{check_text};
 ghost use Rattle.program_input.specs.Reads.{Within, text_of, ForText};
 
-use call_check::{CHECK_TEXT, Checked, check};
+use call_check::{CHECK_TEXT, check};
 use core_report::write_refused;
-use program_input::{Input, Text, input_room, read_input, text_of};
+use program_input::{Input, input_room, read_input, text_of};
 use std::io;
 
 // The site of the files that the program reads.
@@ -23,26 +23,21 @@ fn main(rt: HostRuntime) -> io::Result<()> {
     let read = read_input(&mut rt.stdin(), &mut input);
     let mut out = [0u8; CHECK_TEXT];
     match put_answer(read, &input, &mut out) {
-        Text::Bytes(end) => rt.stdout().write_all(&out[..end]),
-        Text::Nothing => rt
+        Some(end) => rt.stdout().write_all(&out[..end]),
+        None => rt
             .stderr()
             .write_all(b"check: the input could not be read\n"),
     }
 }
 
 // A read that failed prints no verdict: it must not pass for an empty file, which is a draft, nor for a part of a file.
-fn put_answer(read: Input, room: &[u8], out: &mut [u8]) -> Text
+fn put_answer(read: Input, room: &[u8], out: &mut [u8]) -> Option<usize>
     requires within { Within read (length room.now) }
     requires text_room_in_bounds { text_room ≤ length out.old }
     ensures { ForText (λ input end. Front (check_text input 0) out.old end out.new) (text_of read (length room.now)) room.now result }
 {
-    match text_of(read, room.len()) {
-        Text::Bytes(length) => {
-            let end = put_text(&room[..length], out);
-            Text::Bytes(end)
-        }
-        Text::Nothing => Text::Nothing,
-    }
+    let length = text_of(read, room.len())?;
+    Some(put_text(&room[..length], out))
 }
 
 // There is room for any text, and site 0 is one, so that the call is never refused.
@@ -51,9 +46,7 @@ fn put_text(input: &[u8], out: &mut [u8]) -> usize
     ensures { Front (check_text input.now 0) out.old result out.new }
 {
     match check(input, SITE, out) {
-        Checked::Safe { length, n: _ } => length,
-        Checked::Unsafe { length, n: _ } => length,
-        Checked::RefusedFile { length, refusal: _ } => length,
-        Checked::Refused(refusal) => write_refused(refusal, out),
+        Ok(checked) => checked.length,
+        Err(refusal) => write_refused(u8::from(refusal), out),
     }
 }

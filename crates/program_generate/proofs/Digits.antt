@@ -16,7 +16,7 @@ use lib.Dec.{eqb, leb}
 use lib.ListN.{length, get_or}
 use Rattle.basics.specs.Bounds.{all}
 use Rattle.basics.proofs.BoundLaws.{is_false, clash, lt_or_ge, all_at}
-use Rattle.program_generate.specs.declared.Word.TheVariants.{Number, Other}
+use Rattle.std.specs.Prelude.{Some, None}
 use Rattle.program_generate.specs.Words.{is_digit, is_number, value_of, limit, word_of}
 
 -- ---- digits
@@ -39,15 +39,15 @@ module _ (w : List ℕ) where
   digits i = all i (λ k. is_digit (get_or w k 0))
 
   -- what is no number
-  other : is_number w ≡ false → Other ≡ word_of w
+  other : is_number w ≡ false → None ≡ word_of w
   unfolding word_of
   other e = sym (rw e)
 
-  pub no_word : length w ≡ 0 → Other ≡ word_of w
+  pub no_word : length w ≡ 0 → None ≡ word_of w
   unfolding is_number
   no_word e = other (rw (eq-eqb (length w) 0 e))
 
-  pub not_digit : (i : ℕ) → i < length w → (get_or w i 0 < 48) ⊎ (57 < get_or w i 0) → Other ≡ word_of w
+  pub not_digit : (i : ℕ) → i < length w → (get_or w i 0 < 48) ⊎ (57 < get_or w i 0) → None ≡ word_of w
   unfolding is_number
   not_digit i h d =
       let none = is_false (digits (length w)) (λ e. clash (all_at _ (length w) e i h) (no_digit (get_or w i 0) d)) in
@@ -77,7 +77,7 @@ module _ (w : List ℕ) where
           is = is;
         }
 
-    pub reading_all : length w ≤ i → (length w ≡ 0 → ⊥) → Number value ≡ word_of w
+    pub reading_all : length w ≤ i → (length w ≡ 0 → ⊥) → Some value ≡ word_of w
     unfolding is_number word_of
     reading_all h some =
         let all_of : i ≡ length w = le_antisymm so.within h in

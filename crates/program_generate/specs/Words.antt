@@ -4,10 +4,8 @@
 --   value_of w i               the number that the first i digits of w write
 --   limit                     2^32: a seed is below it, and a larger number is taken for it
 --   word_of w                  the number that w writes, or none
-use Rattle.std.specs.Prelude.{ℕ, zero, suc, ◌+◌, ◌*◌, ◌-◌, min, Bool, cond, not, ◌&&◌, List, eqb, leb, length, get_or}
+use Rattle.std.specs.Prelude.{ℕ, zero, suc, ◌+◌, ◌*◌, ◌-◌, min, Bool, cond, not, ◌&&◌, List, Option, Some, None, eqb, leb, length, get_or}
 use Rattle.basics.specs.Bounds.{all}
-use Rattle.program_generate.specs.declared.Word.{Word}
-use Rattle.program_generate.specs.declared.Word.TheVariants.{Number, Other}
 
 unfoldable pub is_digit : ℕ → Bool
 is_digit b = leb 48 b && leb b 57
@@ -23,5 +21,5 @@ abbrev pub limit : ℕ
 limit = 4294967296
 
 -- Every number from the limit up is no seed, no number of states and no fan-out.
-unfoldable pub word_of : List ℕ → Word
-word_of w = cond (is_number w) (Number (min limit (value_of w (length w)))) Other
+unfoldable pub word_of : List ℕ → Option ℕ
+word_of w = cond (is_number w) (Some (min limit (value_of w (length w)))) None

@@ -12,17 +12,18 @@
 // A program has no status of its own: where anything goes wrong it says so on standard error.
 #![tactic(auto)]
 
-ghost use Rattle.std.specs.Prelude.{◌≡◌, ◌≤◌, min, length};
+ghost use Rattle.std.specs.Prelude.{◌≡◌, ◌≤◌, length};
 ghost use Rattle.model.specs.Files.{max_file};
 ghost use Rattle.file_writing.specs.WriteAnswers.{written_of};
 ghost use Rattle.program_generate.specs.Words.{word_of};
 ghost use Rattle.program_generate.specs.LoadFile.{file_made, file_buffer};
 
-use call_generate::{Generated, generate};
+use call_generate::generate;
+use core_refusals::Refusal;
 use core_report::{ROOM, write_refused};
 use core_table::STORE_WORDS;
 use file_blocks::MAX_FILE;
-use file_writing::{Written, write};
+use file_writing::write;
 use std::env::{Env, FillError};
 use std::io;
 use std::io::{Stderr, Stdout};
@@ -38,13 +39,13 @@ fn main(rt: HostRuntime) -> io::Result<()> {
     if is_word(&rt, 4) {
         return usage(stderr);
     }
-    let Word::Number(seed) = argument(&rt, 1) else {
+    let Some(seed) = argument(&rt, 1) else {
         return usage(stderr);
     };
-    let Word::Number(n) = argument(&rt, 2) else {
+    let Some(n) = argument(&rt, 2) else {
         return usage(stderr);
     };
-    let Word::Number(f) = argument(&rt, 3) else {
+    let Some(f) = argument(&rt, 3) else {
         return usage(stderr);
     };
     if LIMIT <= seed {
@@ -52,8 +53,8 @@ fn main(rt: HostRuntime) -> io::Result<()> {
     }
     let mut file = file_room();
     match put_file(seed as u32, n, f, &mut file) {
-        Written::File(length) => write_out(rt.stdout(), stderr, &file, length),
-        Written::Refused(refusal) => say_refused(stderr, refusal),
+        Ok(length) => write_out(rt.stdout(), stderr, &file, length),
+        Err(refusal) => say_refused(stderr, refusal),
     }
 }
 
@@ -63,57 +64,35 @@ fn usage(stderr: Stderr) -> io::Result<()> {
 
 // ---- words
 
-#[derive(Clone, Copy)]
-pub enum Word {
-    Number(usize),
-    Other,
-}
-
 // Whether word i is there. Word 0 is the program's name.
 fn is_word(env: &impl Env, i: usize) -> bool {
     !matches!(env.arg(i, &mut []), Err(FillError::NotPresent))
 }
 
 // A word that is missing, or longer than the buffer, is no number.
-fn argument(env: &impl Env, i: usize) -> Word {
+fn argument(env: &impl Env, i: usize) -> Option<usize> {
     let mut buffer = [0; 4096];
     match env.arg(i, &mut buffer) {
         Ok(length) => number_of(&buffer[..length]),
-        Err(_) => Word::Other,
+        Err(_) => None,
     }
 }
 
 // A number from the limit up is taken for the limit: nothing is cut.
-fn number_of(word: &[u8]) -> Word
+fn number_of(word: &[u8]) -> Option<usize>
     ensures { result ≡ word_of word.now }
 {
-    if word.len() == 0 {
-        return Word::Other;
+    if word.is_empty() {
+        return None;
     }
     let mut value = 0;
-    for i in 0..word.len() {
-        let b = word[i];
-        if b < b'0' {
-            return Word::Other;
+    for b in word {
+        if !b.is_ascii_digit() {
+            return None;
         }
-        if b'9' < b {
-            return Word::Other;
-        }
-        value = least(LIMIT, 10 * value + wide(b - b'0'));
+        value = LIMIT.min(10 * value + usize::from(*b - b'0'));
     }
-    Word::Number(value)
-}
-
-fn wide(b: u8) -> usize
-    ensures { result ≡ b }
-{
-    b as usize
-}
-
-fn least(a: usize, b: usize) -> usize
-    ensures { result ≡ min a b }
-{
-    if a < b { a } else { b }
+    Some(value)
 }
 
 // ---- the file
@@ -125,15 +104,13 @@ fn file_room() -> [u8; MAX_FILE]
 }
 
 // What generate filled, write writes.
-fn put_file(seed: u32, n: usize, f: usize, out: &mut [u8]) -> Written
+fn put_file(seed: u32, n: usize, f: usize, out: &mut [u8]) -> Result<usize, Refusal>
     requires { max_file ≤ length out.old }
     ensures { (written_of result ≡ file_made n f) × (out.new ≡ file_buffer seed n f out.old) }
 {
     let mut store = [0u64; STORE_WORDS];
-    match generate(seed, n, f, &mut store) {
-        Generated::Filled => write(&store, n, 0, SITE, out),
-        Generated::Refused(refusal) => Written::Refused(refusal),
-    }
+    generate(seed, n, f, &mut store)?;
+    write(&store, n, 0, SITE, out)
 }
 
 fn write_out(stdout: Stdout, stderr: Stderr, file: &[u8], length: usize) -> io::Result<()> {
@@ -145,8 +122,8 @@ fn write_out(stdout: Stdout, stderr: Stderr, file: &[u8], length: usize) -> io::
     stderr.write_all(b"generate: the file could not be written\n")
 }
 
-fn say_refused(stderr: Stderr, refusal: u8) -> io::Result<()> {
+fn say_refused(stderr: Stderr, refusal: Refusal) -> io::Result<()> {
     let mut text = [0u8; ROOM];
-    let end = write_refused(refusal, &mut text);
+    let end = write_refused(u8::from(refusal), &mut text);
     stderr.write_all(&text[..end])
 }

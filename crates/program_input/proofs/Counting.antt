@@ -12,8 +12,7 @@ use lib.ListN.{length, take}
 use lib.Seq.{length-take-le}
 use Rattle.program_input.specs.declared.Input.{Input}
 use Rattle.program_input.specs.declared.Input.TheVariants.{Ended, Full, Failed}
-use Rattle.program_input.specs.declared.Text.{Text}
-use Rattle.program_input.specs.declared.Text.TheVariants.{Bytes, Nothing}
+use Rattle.std.specs.Prelude.{Option, Some, None}
 use Rattle.program_input.specs.Reads.{Within, text_of, ForText, some, none}
 
 -- The first n bytes of xs are n bytes.
@@ -23,31 +22,31 @@ IsPrefixLen n xs = (n ≤ length xs) × (n ≡ length (take n xs))
 pub counts : (n : ℕ) (xs : List ℕ) → n ≤ length xs → IsPrefixLen n xs
 counts n xs h = (h, sym (length-take-le n xs h))
 
-bytes-within : (read : Input) (room : ℕ) {k : ℕ} → Within read room → text_of read room ≡ Bytes k → k ≤ room
+bytes-within : (read : Input) (room : ℕ) {k : ℕ} → Within read room → text_of read room ≡ Some k → k ≤ room
 bytes-within (Ended j) room {k} h e = let same : j ≡ k = cc in omega arith
 bytes-within Full room {k} h e = let same : room ≡ k = cc in omega arith
 bytes-within Failed room h e = let z : ◌≡◌ {A = ℕ} 0 1 = cc in absurd (omega arith)
 
-module _ {t : Text} (read : Input) (room : List ℕ) (e : t ≡ text_of read (length room)) where
-  pub text-within : {k : ℕ} → Within read (length room) → t ≡ Bytes k → IsPrefixLen k room
+module _ {t : Option ℕ} (read : Input) (room : List ℕ) (e : t ≡ text_of read (length room)) where
+  pub text-within : {k : ℕ} → Within read (length room) → t ≡ Some k → IsPrefixLen k room
   text-within h b = counts _ room (bytes-within read (length room) h (sym e ∙ b))
 
   module _ (Put : List ℕ → ℕ → Type 0) where
-    pub put_bytes : {k end : ℕ} → t ≡ Bytes k → Put (take k room) end → ForText Put (text_of read (length room)) room (Bytes end)
-    put_bytes {k} {end} b p = subst (λ (x : Text). ForText Put x room (Bytes end)) (sym b ∙ e) (some p)
+    pub put_bytes : {k end : ℕ} → t ≡ Some k → Put (take k room) end → ForText Put (text_of read (length room)) room (Some end)
+    put_bytes {k} {end} b p = subst (λ (x : Option ℕ). ForText Put x room (Some end)) (sym b ∙ e) (some p)
 
-    pub put_nothing : t ≡ Nothing → ForText Put (text_of read (length room)) room Nothing
-    put_nothing b = subst (λ (x : Text). ForText Put x room Nothing) (sym b ∙ e) none
+    pub put_nothing : t ≡ None → ForText Put (text_of read (length room)) room None
+    put_nothing b = subst (λ (x : Option ℕ). ForText Put x room None) (sym b ∙ e) none
 
-abbrev length_of : Text → ℕ
-length_of (Bytes k) = k
-length_of Nothing = 0
+abbrev length_of : Option ℕ → ℕ
+length_of (Some k) = k
+length_of None = 0
 
-abbrev NoText : Text → Type 0
-NoText (Bytes k) = ⊥
-NoText Nothing = Unit {0}
+abbrev NoText : Option ℕ → Type 0
+NoText (Some k) = ⊥
+NoText None = Unit {0}
 
-pub put_ends : {Put : List ℕ → ℕ → Type 0} {t r : Text} {room : List ℕ} {end : ℕ} (Fact : ℕ → Type 0)
-    → ((xs : List ℕ) (k : ℕ) → Put xs k → Fact k) → ForText Put t room r → r ≡ Bytes end → Fact end
+pub put_ends : {Put : List ℕ → ℕ → Type 0} {t r : Option ℕ} {room : List ℕ} {end : ℕ} (Fact : ℕ → Type 0)
+    → ((xs : List ℕ) (k : ℕ) → Put xs k → Fact k) → ForText Put t room r → r ≡ Some end → Fact end
 put_ends Fact f (some p) e = subst Fact (ap length_of e) (f _ _ p)
 put_ends Fact f none e = absurd (subst NoText e tt)

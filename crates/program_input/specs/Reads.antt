@@ -9,28 +9,26 @@
 --
 -- No contract says what C's read returns on which input, nor which bytes it puts into the room. So `Within` is what holds for every run of reads;
 -- that the answer is the one for the reads that were made is tested (tests/programs, tests/input).
-use Rattle.std.specs.Prelude.{ℕ, zero, suc, ◌+◌, ◌<◌, cond, ◌≡◌, List, eqb, ltb, ℤ, pos, negsuc, length, take, Result, Ok, Err}
+use Rattle.std.specs.Prelude.{ℕ, zero, suc, ◌+◌, ◌<◌, cond, ◌≡◌, List, eqb, ltb, ℤ, pos, negsuc, length, take, Option, Some, None, Result, Ok, Err}
+use Rattle.std.specs.declared.ops.ControlFlow.{ControlFlow}
+use Rattle.std.specs.declared.ops.ControlFlow.TheVariants.{Continue, Break}
 use Rattle.program_input.specs.declared.Input.{Input}
 use Rattle.program_input.specs.declared.Input.TheVariants.{Ended, Full, Failed}
-use Rattle.program_input.specs.declared.Reading.{Reading}
-use Rattle.program_input.specs.declared.Reading.TheVariants.{More, Stopped}
-use Rattle.program_input.specs.declared.Text.{Text}
-use Rattle.program_input.specs.declared.Text.TheVariants.{Bytes, Nothing}
 
 abbrev pub number_read : {E : Type 0} → Result ℕ E → ℤ
 number_read (Ok n) = pos n
 number_read (Err e) = negsuc 0
 
 -- Below 0 it failed, 0 is the end of the input, and from 1 up it is a number of bytes, which C's read keeps within the room.
-unfoldable pub after_read : ℕ → ℕ → ℤ → Reading
-after_read there room (negsuc k) = Stopped Failed
-after_read there room (pos zero) = Stopped (Ended there)
+unfoldable pub after_read : ℕ → ℕ → ℤ → ControlFlow Input ℕ
+after_read there room (negsuc k) = Break Failed
+after_read there room (pos zero) = Break (Ended there)
 after_read there room (pos (suc k)) =
     let total = there + suc k in
-    cond (ltb total room) (More total) (cond (eqb total room) (Stopped Full) (Stopped Failed))
+    cond (ltb total room) (Continue total) (cond (eqb total room) (Break Full) (Break Failed))
 
 -- The state is the one that follows from what C's read returned.
-pub record OneRead (there : ℕ) (before : List ℕ) (r : Reading) (after : List ℕ) : Type 0 where
+pub record OneRead (there : ℕ) (before : List ℕ) (r : ControlFlow Input ℕ) (after : List ℕ) : Type 0 where
   pub got : ℤ
   pub state : r ≡ after_read there (length before) got
   pub kept : take there after ≡ take there before
@@ -42,12 +40,12 @@ Within (Ended k) room = k < room
 Within Full room = Unit {0}
 Within Failed room = 0 < room
 
-abbrev pub text_of : Input → ℕ → Text
-text_of (Ended k) room = Bytes k
-text_of Full room = Bytes room
-text_of Failed room = Nothing
+abbrev pub text_of : Input → ℕ → Option ℕ
+text_of (Ended k) room = Some k
+text_of Full room = Some room
+text_of Failed room = None
 
 -- No text is told from every text: neither is answered for the other.
-pub data ForText (Put : List ℕ → ℕ → Type 0) : Text → List ℕ → Text → Type 0 where
-  some : {k end : ℕ} {room : List ℕ} → Put (take k room) end → ForText Put (Bytes k) room (Bytes end)
-  none : {room : List ℕ} → ForText Put Nothing room Nothing
+pub data ForText (Put : List ℕ → ℕ → Type 0) : Option ℕ → List ℕ → Option ℕ → Type 0 where
+  some : {k end : ℕ} {room : List ℕ} → Put (take k room) end → ForText Put (Some k) room (Some end)
+  none : {room : List ℕ} → ForText Put None room None

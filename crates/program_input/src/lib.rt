@@ -1,20 +1,20 @@
 // A file on standard input, as the programs read it.
 //
-//   Text, text_of              which bytes of the room are the input's text
+//   text_of                    which bytes of the room are the input's text, if it has one
 //   Input, read_input          how reading ended, and how many bytes were read
-//   Reading, read_more         one read, and the state of reading after it
-//   number_read                what a read gave as a number, as C's read gives it
-//   after_read                 that state, from that number
+//   read_more                  one read: how many bytes are there after it, and there is room for more; or how reading ended
+//   after_read                 that, from what the read gave
 //   input_room                 where the file is read into
 #![tactic(auto)]
 
-ghost use Rattle.std.specs.Prelude.{◌≡◌, ◌+◌, ◌<◌, ◌^◌, length, IfOk};
+ghost use Rattle.std.specs.Prelude.{◌≡◌, ◌+◌, ◌<◌, length};
 ghost use Rattle.model.specs.Files.{max_file};
 ghost use Rattle.program_input.specs.Reads.{number_read, after_read, OneRead, Within, text_of};
 
 use file_blocks::MAX_FILE;
 use std::io;
 use std::io::Read;
+use std::ops::ControlFlow;
 
 // One byte more than the largest file.
 const INPUT: usize = MAX_FILE + 1;
@@ -28,21 +28,15 @@ pub enum Input {
     Failed,
 }
 
-// The first so many bytes of the room; or no text, which no program takes for one.
-#[derive(Clone, Copy)]
-pub enum Text {
-    Bytes(usize),
-    Nothing,
-}
-
-// What a program goes by, of how reading into so many bytes ended: an input that fills the room is all of it, and a failed one has no text.
-pub fn text_of(input: Input, room: usize) -> Text
+// What a program goes by, of how reading into so many bytes ended: the length of the text, at the front of the room. An input that fills the room
+// is all of it, and a failed one has no text.
+pub fn text_of(input: Input, room: usize) -> Option<usize>
     ensures { result ≡ text_of input room }
 {
     match input {
-        Input::Ended(length) => Text::Bytes(length),
-        Input::Full => Text::Bytes(room),
-        Input::Failed => Text::Nothing,
+        Input::Ended(length) => Some(length),
+        Input::Full => Some(room),
+        Input::Failed => None,
     }
 }
 
@@ -50,66 +44,40 @@ pub fn text_of(input: Input, room: usize) -> Text
 pub fn read_input<R: Read>(reader: &mut R, room: &mut [u8]) -> Input
     ensures { Within result (length room.new) }
 {
-    if room.len() == 0 {
+    if room.is_empty() {
         return Input::Full;
     }
     let mut there = 0;
     loop {
         match read_more(reader, there, room) {
-            Reading::More(length) => there = length,
-            Reading::Stopped(input) => return input,
+            ControlFlow::Continue(length) => there = length,
+            ControlFlow::Break(input) => return input,
         }
     }
 }
 
-// The state of reading: so many bytes are there, and there is room for more; or how reading ended.
-#[derive(Clone, Copy)]
-enum Reading {
-    More(usize),
-    Stopped(Input),
-}
-
 // One read, into the room after what is there.
-fn read_more<R: Read>(reader: &mut R, there: usize, room: &mut [u8]) -> Reading
+fn read_more<R: Read>(reader: &mut R, there: usize, room: &mut [u8]) -> ControlFlow<Input, usize>
     requires { there < length room.old }
     ensures { OneRead there room.old result room.new }
 {
-    let got = number_read(reader.read(&mut room[there..]));
+    let got = reader.read(&mut room[there..]);
     after_read(there, room.len(), got)
 }
 
-// A read that a signal interrupts counts as one that failed.
-fn number_read(read: io::Result<usize>) -> isize
-    requires { IfOk read (λ n. n < 2 ^ 63) }
-    ensures { result ≡ number_read read }
-{
-    match read {
-        Ok(count) => count as isize,
-        Err(_) => -1,
-    }
-}
-
-// Of the number that C's read returns. More bytes than there is room for is an error too: a read promises that it does not
+// A read that a signal interrupts counts as one that failed. More bytes than there is room for is an error too: a read promises that it does not
 // happen, and if it did, nothing that was read could be trusted.
-fn after_read(there: usize, room: usize, got: isize) -> Reading
+fn after_read(there: usize, room: usize, got: io::Result<usize>) -> ControlFlow<Input, usize>
     requires { there < room }
-    ensures { result ≡ after_read there room got }
+    ensures { result ≡ after_read there room (number_read got) }
 {
-    if got < 0 {
-        return Reading::Stopped(Input::Failed);
-    }
-    let more = got as usize;
-    if more == 0 {
-        return Reading::Stopped(Input::Ended(there));
-    }
     let left = room - there;
-    if more < left {
-        return Reading::More(there + more);
-    }
-    if more == left {
-        Reading::Stopped(Input::Full)
-    } else {
-        Reading::Stopped(Input::Failed)
+    match got {
+        Err(_) => ControlFlow::Break(Input::Failed),
+        Ok(0) => ControlFlow::Break(Input::Ended(there)),
+        Ok(more) if more < left => ControlFlow::Continue(there + more),
+        Ok(more) if more == left => ControlFlow::Break(Input::Full),
+        Ok(_) => ControlFlow::Break(Input::Failed),
     }
 }
 

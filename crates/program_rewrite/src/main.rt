@@ -18,8 +18,7 @@ ghost use Rattle.program_rewrite.specs.RewriteText.{rewrite_text};
 use call_rewrite::rewrite;
 use core_report::write_refused;
 use file_blocks::MAX_FILE;
-use file_writing::Written;
-use program_input::{Input, Text, input_room, read_input, text_of};
+use program_input::{Input, input_room, read_input, text_of};
 use std::io;
 
 fn main(rt: HostRuntime) -> io::Result<()> {
@@ -28,13 +27,13 @@ fn main(rt: HostRuntime) -> io::Result<()> {
     let mut out = file_room();
     let stderr = rt.stderr();
     match put_answer(read, &input, &mut out) {
-        Text::Bytes(end) => {
+        Some(end) => {
             if rt.stdout().write_all(&out[..end]).is_err() {
                 return stderr.write_all(b"rewrite: the output could not be written\n");
             }
             Ok(())
         }
-        Text::Nothing => stderr.write_all(b"rewrite: the input could not be read\n"),
+        None => stderr.write_all(b"rewrite: the input could not be read\n"),
     }
 }
 
@@ -45,18 +44,13 @@ fn file_room() -> [u8; MAX_FILE]
 }
 
 // A read that failed writes nothing: it must not pass for an empty file, which is a draft, nor for a part of a file.
-fn put_answer(read: Input, room: &[u8], out: &mut [u8]) -> Text
+fn put_answer(read: Input, room: &[u8], out: &mut [u8]) -> Option<usize>
     requires within { Within read (length room.now) }
     requires max_file_in_bounds { max_file ≤ length out.old }
     ensures { ForText (λ input end. Front (rewrite_text input) out.old end out.new) (text_of read (length room.now)) room.now result }
 {
-    match text_of(read, room.len()) {
-        Text::Bytes(length) => {
-            let end = put_text(&room[..length], out);
-            Text::Bytes(end)
-        }
-        Text::Nothing => Text::Nothing,
-    }
+    let length = text_of(read, room.len())?;
+    Some(put_text(&room[..length], out))
 }
 
 fn put_text(input: &[u8], out: &mut [u8]) -> usize
@@ -64,7 +58,7 @@ fn put_text(input: &[u8], out: &mut [u8]) -> usize
     ensures { Front (rewrite_text input.now) out.old result out.new }
 {
     match rewrite(input, out) {
-        Written::File(length) => length,
-        Written::Refused(refusal) => write_refused(refusal, out),
+        Ok(length) => length,
+        Err(refusal) => write_refused(u8::from(refusal), out),
     }
 }

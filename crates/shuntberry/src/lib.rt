@@ -31,9 +31,8 @@ use file_writing::write;
 use shuntberry_fields::{
     CheckedFields, DecisionFields, FileFields, MinuteFields, ModalFields, ReplayFields,
     SessionFields, SetFields, ShortestFields, TableFields, WithinFields, lay_out_check,
-    lay_out_decision, lay_out_distances, lay_out_file, lay_out_generated, lay_out_minute,
-    lay_out_modal, lay_out_replay, lay_out_session, lay_out_shortest, lay_out_table,
-    lay_out_within,
+    lay_out_decision, lay_out_done, lay_out_file, lay_out_minute, lay_out_modal, lay_out_replay,
+    lay_out_session, lay_out_shortest, lay_out_table, lay_out_within,
 };
 
 // ---- the version
@@ -100,7 +99,7 @@ pub extern "C" fn shuntberry_distances(
     ensures { (result ≡ refusal_number (distances_answer store.now n g (length distances.old)))
         × (distances.new ≡ distances_buffer store.now n g distances.old) }
 {
-    lay_out_distances(call_distances::distances(store, n, g, distances))
+    lay_out_done(call_distances::distances(store, n, g, distances))
 }
 
 // ---- within
@@ -153,7 +152,7 @@ pub extern "C" fn shuntberry_generate(seed: u32, n: usize, fan_out: usize, store
     ensures { (result ≡ refusal_number (generate_answer n fan_out (length store.old)))
         × (store.new ≡ generate_buffer seed n fan_out store.old) }
 {
-    lay_out_generated(generate(seed, n, fan_out, store))
+    lay_out_done(generate(seed, n, fan_out, store))
 }
 
 // ---- replay
@@ -171,7 +170,7 @@ pub extern "C" fn shuntberry_replay(store: &[u64], n: usize, g: usize, log: &[u8
 pub extern "C" fn shuntberry_open(store: &[u64], n: usize, g: usize) -> SessionFields
     ensures { result ≡ session_fields empty (open_answer store.now n g) }
 {
-    lay_out_session(open(store, n, g))
+    lay_out_session(StateSet::empty(), open(store, n, g))
 }
 
 #[unsafe(no_mangle)]
@@ -186,8 +185,8 @@ pub extern "C" fn shuntberry_add_step(
     ensures { (result ≡ session_fields reachable.words (edit_answer store.old n g reachable.words (add from to)))
         × (store.new ≡ edit_buffer store.old n g (add from to)) }
 {
-    let words = reachable.words;
-    lay_out_session(add_step(store, n, g, StateSet { words }, from, to))
+    let handed = StateSet::from(reachable);
+    lay_out_session(handed, add_step(store, n, g, handed, from, to))
 }
 
 #[unsafe(no_mangle)]
@@ -202,8 +201,8 @@ pub extern "C" fn shuntberry_remove_step(
     ensures { (result ≡ session_fields reachable.words (edit_answer store.old n g reachable.words (remove from to)))
         × (store.new ≡ edit_buffer store.old n g (remove from to)) }
 {
-    let words = reachable.words;
-    lay_out_session(remove_step(store, n, g, StateSet { words }, from, to))
+    let handed = StateSet::from(reachable);
+    lay_out_session(handed, remove_step(store, n, g, handed, from, to))
 }
 
 // ---- decide, with possible steps

@@ -45,11 +45,11 @@ pub cases : Cases
 cases =
     record {
       decide-safe = λ X. refl;
-      decide-unsafe = λ X. refl;
-      decide-undecided = λ X. refl;
+      decide-unsafe = refl;
+      decide-undecided = refl;
       path = refl;
       no_path = refl;
       modal_safe = λ X. refl;
-      modal_unsafe = λ X. refl;
+      modal_unsafe = refl;
       modal_depends = λ X. refl;
     }

@@ -8,18 +8,17 @@
 --   Faithful                  every struct, and the number that distances and generate return
 --   Cases                     each case of decide, shortest path and decide modal, whose answers are numbers;
 --                             those of the other calls, and of a refused call, are in Figures
-use Rattle.std.specs.Prelude.{ℕ, zero, suc, ◌≡◌, Bool, cond, eqb}
+use Rattle.std.specs.Prelude.{ℕ, zero, suc, ◌≡◌, Bool, cond, eqb, Ok, Some, None}
 use Rattle.basics.specs.Refusals.{Answered, refused, answered}
-use Rattle.model.specs.Sets.{Set}
+use Rattle.model.specs.Sets.{Set, empty}
 use Rattle.model.specs.Calls.{Decision, Shortest, TableRead}
 use Rattle.call_decide.specs.declared.Verdict.TheVariants.{Safe, Unsafe, Undecided}
-use Rattle.call_decide.specs.DecideAnswers.{decided_with}
-use Rattle.call_paths.specs.declared.Shortest.TheVariants.{Path, NoPath}
+use Rattle.call_decide.specs.DecideAnswers.{decided_of}
 use Rattle.call_paths.specs.PathAnswers.{shortest_of}
 use Rattle.call_replay.specs.Logs.{Replay}
 use Rattle.call_modal.specs.Modal.{ModalAnswer}
 use Rattle.call_modal.specs.declared.ModalVerdict.TheVariants.{Safe as ModalSafe, Unsafe as ModalUnsafe, Depends}
-use Rattle.call_modal.specs.ModalAnswers.{modal_decided_with}
+use Rattle.call_modal.specs.ModalAnswers.{modal_decided_of}
 use Rattle.call_release_windows.specs.WindowAnswers.{Opening, minute, never}
 use Rattle.call_check.specs.CheckText.{FileVerdict, safe, unsafe, refused_file}
 use Rattle.call_check.specs.CheckAnswers.{CheckedFile}
@@ -99,17 +98,17 @@ pub record Faithful : Type 0 where
   pub number : LeftInverse (λ k. given k tt) (refusal_number {A = Unit {0}})
 
 pub record Cases : Type 0 where
-  pub decide-safe : (X : Set) → decision_fields (decided_with (Safe 4 5) X)
+  pub decide-safe : (X : Set) → decision_fields (decided_of (Ok (Safe 4 (record { words = X }) 5)))
       ≡ record { invariant = X; refusal = 0; verdict = 0; count = 4; size = 5; steps = 0; reserved = 0 }
-  pub decide-unsafe : (X : Set) → decision_fields (decided_with (Unsafe 4 5) X)
-      ≡ record { invariant = X; refusal = 0; verdict = 1; count = 4; size = 0; steps = 5; reserved = 0 }
-  pub decide-undecided : (X : Set) → decision_fields (decided_with (Undecided 4) X)
-      ≡ record { invariant = X; refusal = 0; verdict = 2; count = 4; size = 0; steps = 0; reserved = 0 }
-  pub path : shortest_fields (shortest_of (Path 4)) ≡ record { refusal = 0; found = 1; steps = 4 }
-  pub no_path : shortest_fields (shortest_of NoPath) ≡ record { refusal = 0; found = 0; steps = 0 }
-  pub modal_safe : (X : Set) → modal_fields (modal_decided_with (ModalSafe 4) X)
+  pub decide-unsafe : decision_fields (decided_of (Ok (Unsafe 4 5)))
+      ≡ record { invariant = empty; refusal = 0; verdict = 1; count = 4; size = 0; steps = 5; reserved = 0 }
+  pub decide-undecided : decision_fields (decided_of (Ok (Undecided 4)))
+      ≡ record { invariant = empty; refusal = 0; verdict = 2; count = 4; size = 0; steps = 0; reserved = 0 }
+  pub path : shortest_fields (shortest_of (Ok (Some 4))) ≡ record { refusal = 0; found = 1; steps = 4 }
+  pub no_path : shortest_fields (shortest_of (Ok None)) ≡ record { refusal = 0; found = 0; steps = 0 }
+  pub modal_safe : (X : Set) → modal_fields (modal_decided_of (Ok (ModalSafe (record { words = X }) 4)))
       ≡ record { invariant = X; refusal = 0; verdict = 0; size = 4; steps = 0 }
-  pub modal_unsafe : (X : Set) → modal_fields (modal_decided_with (ModalUnsafe 4) X)
-      ≡ record { invariant = X; refusal = 0; verdict = 1; size = 0; steps = 4 }
-  pub modal_depends : (X : Set) → modal_fields (modal_decided_with (Depends 4 5) X)
+  pub modal_unsafe : modal_fields (modal_decided_of (Ok (ModalUnsafe 4)))
+      ≡ record { invariant = empty; refusal = 0; verdict = 1; size = 0; steps = 4 }
+  pub modal_depends : (X : Set) → modal_fields (modal_decided_of (Ok (Depends (record { words = X }) 4 5)))
       ≡ record { invariant = X; refusal = 0; verdict = 3; size = 4; steps = 5 }

@@ -1,23 +1,24 @@
 // What C reads of an answer and of a refusal: the structs of include/shuntberry.h, and the answer of each call laid out in its struct. specs/Fields says the
 // numbers, for an answer and for a refusal; specs/FailsSafe, that no field that answers has a number of an answer where the call is refused.
 //
-//   lay_out_CALL                          the fields of an answer or a refusal; of distances and generate the refusal alone, or 0
+//   lay_out_CALL                          the fields of an answer or a refusal
+//   lay_out_checked                       of check: those of an answer
+//   lay_out_done                          of distances and generate: the refusal alone, or 0
 //   refused_decision, refused_modal       those of a refusal
 #![tactic(auto)]
 
 ghost use Rattle.std.specs.Prelude.{◌≡◌, ◌≤◌};
 ghost use Rattle.basics.specs.Refusals.{refused};
+ghost use Rattle.core_refusals.specs.Refusals.{number, answer_of};
 ghost use Rattle.model.specs.Sets.{max_states};
 ghost use Rattle.model.specs.Files.{max_file};
 ghost use Rattle.model.proofs.RangesOfAnswers.{DecisionRange, ReadRange};
 ghost use Rattle.call_decide.specs.DecideAnswers.{decided_of};
 ghost use Rattle.call_paths.specs.PathAnswers.{shortest_of};
 ghost use Rattle.call_paths.specs.Within.{within_of};
-ghost use Rattle.call_distances.specs.Distances.{distances_of};
 ghost use Rattle.file_reading.specs.ReadAnswers.{read_of};
 ghost use Rattle.file_writing.specs.WriteAnswers.{written_of};
-ghost use Rattle.call_check.specs.CheckAnswers.{checked_of};
-ghost use Rattle.call_generate.specs.GenerateAnswers.{generated_of};
+ghost use Rattle.call_check.specs.CheckAnswers.{verdict_of, checked_of};
 ghost use Rattle.call_replay.specs.ReplayAnswers.{replayed_of};
 ghost use Rattle.call_replay.proofs.ReplayRanges.{ReplayRange};
 ghost use Rattle.call_edit_session.specs.SessionAnswers.{session_of};
@@ -25,20 +26,15 @@ ghost use Rattle.call_modal.specs.ModalAnswers.{modal_decided_of};
 ghost use Rattle.call_modal.proofs.ModalRanges.{ModalRange};
 ghost use Rattle.call_release_windows.specs.WindowAnswers.{opening_of};
 ghost use Rattle.shuntberry_fields.specs.Small.{WhereAnswered};
-ghost use Rattle.shuntberry_fields.specs.Fields.{refusal_number, decision_fields, shortest_fields, within_fields, table_fields, file_fields, replay_fields, session_fields, modal_fields, minute_fields, check_fields};
+ghost use Rattle.shuntberry_fields.specs.Fields.{refusal_number, decision_fields, shortest_fields, within_fields, table_fields, file_fields, replay_fields, session_fields, modal_fields, minute_fields, checked_fields, check_fields};
 
-use call_check::Checked;
-use call_decide::{Decision, Verdict};
-use call_distances::DistancesAnswer;
-use call_edit_session::{Session, Status};
-use call_generate::Generated;
-use call_modal::{ModalDecision, ModalVerdict};
-use call_paths::{Shortest, WithinAnswer};
-use call_release_windows::NextOpen;
-use call_replay::Replayed;
+use call_check::{Checked, FileVerdict};
+use call_decide::Verdict;
+use call_modal::ModalVerdict;
+use call_replay::Walk;
+use core_refusals::Refusal;
 use core_state_set::{StateSet, WORDS};
-use file_reading::TableRead;
-use file_writing::Written;
+use file_reading::TableSize;
 
 // What stands where a refused call has no answer (specs/Fields).
 const NO_VERDICT: u32 = 255;
@@ -63,14 +59,14 @@ pub struct DecisionFields {
     pub reserved: u32,
 }
 
-fn refused_decision(refusal: u8) -> DecisionFields
-    ensures { result ≡ decision_fields (refused refusal) }
+fn refused_decision(refusal: Refusal) -> DecisionFields
+    ensures { result ≡ decision_fields (refused (number refusal)) }
 {
     let none = StateSet::empty();
     let invariant = none.words;
     DecisionFields {
         invariant,
-        refusal: refusal as u32,
+        refusal: u32::from(refusal),
         verdict: NO_VERDICT,
         count: 0,
         size: 0,
@@ -79,24 +75,34 @@ fn refused_decision(refusal: u8) -> DecisionFields
     }
 }
 
-pub fn lay_out_decision(answer: Decision) -> DecisionFields
+// kept: functions, and no From: most ask that the answer's numbers fit in 32 bits, and From asks nothing.
+pub fn lay_out_decision(answer: Result<Verdict, Refusal>) -> DecisionFields
     requires { WhereAnswered DecisionRange (decided_of answer) }
     ensures { result ≡ decision_fields (decided_of answer) }
 {
-    let verdict = answer.verdict;
-    let invariant = answer.invariant.words;
-    match verdict {
-        Verdict::Safe { count, size } => DecisionFields {
-            invariant,
-            refusal: 0,
-            verdict: 0,
-            count: count as u32,
-            size: size as u32,
-            steps: 0,
-            reserved: 0,
-        },
-        Verdict::Unsafe { count, steps } => DecisionFields {
-            invariant,
+    let none = StateSet::empty();
+    let empty = none.words;
+    match answer {
+        Ok(
+            Verdict::Safe {
+                count,
+                invariant,
+                size,
+            },
+        ) => {
+            let words = invariant.words;
+            DecisionFields {
+                invariant: words,
+                refusal: 0,
+                verdict: 0,
+                count: count as u32,
+                size: size as u32,
+                steps: 0,
+                reserved: 0,
+            }
+        }
+        Ok(Verdict::Unsafe { count, steps }) => DecisionFields {
+            invariant: empty,
             refusal: 0,
             verdict: 1,
             count: count as u32,
@@ -104,8 +110,8 @@ pub fn lay_out_decision(answer: Decision) -> DecisionFields
             steps: steps as u32,
             reserved: 0,
         },
-        Verdict::Undecided { count } => DecisionFields {
-            invariant,
+        Ok(Verdict::Undecided { count }) => DecisionFields {
+            invariant: empty,
             refusal: 0,
             verdict: 2,
             count: count as u32,
@@ -113,7 +119,7 @@ pub fn lay_out_decision(answer: Decision) -> DecisionFields
             steps: 0,
             reserved: 0,
         },
-        Verdict::Refused(refusal) => refused_decision(refusal),
+        Err(refusal) => refused_decision(refusal),
     }
 }
 
@@ -131,11 +137,27 @@ pub struct CheckedFields {
     pub reserved: u32,
 }
 
-pub fn lay_out_check(answer: Checked) -> CheckedFields
+pub fn lay_out_check(answer: Result<Checked, Refusal>) -> CheckedFields
     ensures { result ≡ check_fields (checked_of answer) }
 {
     match answer {
-        Checked::Safe { length, n } => CheckedFields {
+        Ok(checked) => lay_out_checked(checked.length, checked.verdict),
+        Err(refusal) => CheckedFields {
+            length: 0,
+            n: NO_TABLE as usize,
+            refusal: u32::from(refusal),
+            file_refusal: 0,
+            verdict: NO_VERDICT,
+            reserved: 0,
+        },
+    }
+}
+
+fn lay_out_checked(length: usize, verdict: FileVerdict) -> CheckedFields
+    ensures { result ≡ checked_fields length (verdict_of verdict) }
+{
+    match verdict {
+        FileVerdict::Safe { n } => CheckedFields {
             length,
             n,
             refusal: 0,
@@ -143,7 +165,7 @@ pub fn lay_out_check(answer: Checked) -> CheckedFields
             verdict: 0,
             reserved: 0,
         },
-        Checked::Unsafe { length, n } => CheckedFields {
+        FileVerdict::Unsafe { n } => CheckedFields {
             length,
             n,
             refusal: 0,
@@ -151,19 +173,11 @@ pub fn lay_out_check(answer: Checked) -> CheckedFields
             verdict: 1,
             reserved: 0,
         },
-        Checked::RefusedFile { length, refusal } => CheckedFields {
+        FileVerdict::Refused(refusal) => CheckedFields {
             length,
             n: NO_TABLE as usize,
             refusal: 0,
-            file_refusal: refusal as u32,
-            verdict: NO_VERDICT,
-            reserved: 0,
-        },
-        Checked::Refused(refusal) => CheckedFields {
-            length: 0,
-            n: NO_TABLE as usize,
-            refusal: refusal as u32,
-            file_refusal: 0,
+            file_refusal: u32::from(refusal),
             verdict: NO_VERDICT,
             reserved: 0,
         },
@@ -180,38 +194,38 @@ pub struct ShortestFields {
     pub steps: u32,
 }
 
-pub fn lay_out_shortest(answer: Shortest) -> ShortestFields
+pub fn lay_out_shortest(answer: Result<Option<usize>, Refusal>) -> ShortestFields
     requires { WhereAnswered (λ a. a.steps ≤ max_states) (shortest_of answer) }
     ensures { result ≡ shortest_fields (shortest_of answer) }
 {
     match answer {
-        Shortest::Path { steps } => ShortestFields {
+        Ok(Some(steps)) => ShortestFields {
             refusal: 0,
             found: 1,
             steps: steps as u32,
         },
-        Shortest::NoPath => ShortestFields {
+        Ok(None) => ShortestFields {
             refusal: 0,
             found: 0,
             steps: 0,
         },
-        Shortest::Refused(refusal) => ShortestFields {
-            refusal: refusal as u32,
+        Err(refusal) => ShortestFields {
+            refusal: u32::from(refusal),
             found: NO_ANSWER,
             steps: 0,
         },
     }
 }
 
-// ---- distances
+// ---- distances and generate
 
 // The refusal, or 0.
-pub fn lay_out_distances(answer: DistancesAnswer) -> u32
-    ensures { result ≡ refusal_number (distances_of answer) }
+pub fn lay_out_done(answer: Result<(), Refusal>) -> u32
+    ensures { result ≡ refusal_number (answer_of (λ done. done) answer) }
 {
     match answer {
-        DistancesAnswer::Written => 0,
-        DistancesAnswer::Refused(refusal) => refusal as u32,
+        Ok(()) => 0,
+        Err(refusal) => u32::from(refusal),
     }
 }
 
@@ -224,20 +238,20 @@ pub struct WithinFields {
     pub within: u32,
 }
 
-pub fn lay_out_within(answer: WithinAnswer) -> WithinFields
+pub fn lay_out_within(answer: Result<bool, Refusal>) -> WithinFields
     ensures { result ≡ within_fields (within_of answer) }
 {
     match answer {
-        WithinAnswer::Yes => WithinFields {
+        Ok(true) => WithinFields {
             refusal: 0,
             within: 1,
         },
-        WithinAnswer::No => WithinFields {
+        Ok(false) => WithinFields {
             refusal: 0,
             within: 0,
         },
-        WithinAnswer::Refused(refusal) => WithinFields {
-            refusal: refusal as u32,
+        Err(refusal) => WithinFields {
+            refusal: u32::from(refusal),
             within: NO_ANSWER,
         },
     }
@@ -253,18 +267,18 @@ pub struct TableFields {
     pub g: u32,
 }
 
-pub fn lay_out_table(answer: TableRead) -> TableFields
+pub fn lay_out_table(answer: Result<TableSize, Refusal>) -> TableFields
     requires { WhereAnswered ReadRange (read_of answer) }
     ensures { result ≡ table_fields (read_of answer) }
 {
     match answer {
-        TableRead::Table { n, g } => TableFields {
+        Ok(size) => TableFields {
             refusal: 0,
-            n: n as u32,
-            g: g as u32,
+            n: size.n as u32,
+            g: size.g as u32,
         },
-        TableRead::Refused(refusal) => TableFields {
-            refusal: refusal as u32,
+        Err(refusal) => TableFields {
+            refusal: u32::from(refusal),
             n: NO_TABLE,
             g: NO_TABLE,
         },
@@ -280,30 +294,19 @@ pub struct FileFields {
     pub length: u32,
 }
 
-pub fn lay_out_file(answer: Written) -> FileFields
+pub fn lay_out_file(answer: Result<usize, Refusal>) -> FileFields
     requires { WhereAnswered (λ l. l ≤ max_file) (written_of answer) }
     ensures { result ≡ file_fields (written_of answer) }
 {
     match answer {
-        Written::File(length) => FileFields {
+        Ok(length) => FileFields {
             refusal: 0,
             length: length as u32,
         },
-        Written::Refused(refusal) => FileFields {
-            refusal: refusal as u32,
+        Err(refusal) => FileFields {
+            refusal: u32::from(refusal),
             length: 0,
         },
-    }
-}
-
-// ---- generate
-
-pub fn lay_out_generated(answer: Generated) -> u32
-    ensures { result ≡ refusal_number (generated_of answer) }
-{
-    match answer {
-        Generated::Filled => 0,
-        Generated::Refused(refusal) => refusal as u32,
     }
 }
 
@@ -319,25 +322,20 @@ pub struct ReplayFields {
     pub remainder: u32,
 }
 
-pub fn lay_out_replay(answer: Replayed) -> ReplayFields
+pub fn lay_out_replay(answer: Result<Walk, Refusal>) -> ReplayFields
     requires { WhereAnswered ReplayRange (replayed_of answer) }
     ensures { result ≡ replay_fields (replayed_of answer) }
 {
     match answer {
-        Replayed::Walk {
-            followed,
-            seen,
-            percent,
-            remainder,
-        } => ReplayFields {
+        Ok(walk) => ReplayFields {
             refusal: 0,
-            followed: followed as u32,
-            seen: seen as u32,
-            percent: percent as u32,
-            remainder: remainder as u32,
+            followed: walk.followed as u32,
+            seen: walk.seen as u32,
+            percent: walk.percent as u32,
+            remainder: walk.remainder as u32,
         },
-        Replayed::Refused(refusal) => ReplayFields {
-            refusal: refusal as u32,
+        Err(refusal) => ReplayFields {
+            refusal: u32::from(refusal),
             followed: 0,
             seen: 0,
             percent: 0,
@@ -355,6 +353,15 @@ pub struct SetFields {
     pub words: [u64; WORDS],
 }
 
+impl From<SetFields> for StateSet {
+    ghost from_gives = { λ fields set. set.words ≡ fields.words };
+
+    fn from(fields: SetFields) -> StateSet {
+        let words = fields.words;
+        StateSet { words }
+    }
+}
+
 #[repr(C)]
 #[derive(Clone, Copy)]
 pub struct SessionFields {
@@ -363,22 +370,27 @@ pub struct SessionFields {
     pub reserved: u32,
 }
 
-pub fn lay_out_session(answer: Session) -> SessionFields
-    ensures { result ≡ session_fields answer.reachable.words (session_of answer) }
+// A refused edit gives the set that was handed in, a refused opening the empty one.
+pub fn lay_out_session(handed: StateSet, answer: Result<StateSet, Refusal>) -> SessionFields
+    ensures { result ≡ session_fields handed.words (session_of answer) }
 {
-    let status = answer.status;
-    let reachable = answer.reachable.words;
-    match status {
-        Status::Accepted => SessionFields {
-            reachable,
-            refusal: 0,
-            reserved: 0,
-        },
-        Status::Refused(refusal) => SessionFields {
-            reachable,
-            refusal: refusal as u32,
-            reserved: 0,
-        },
+    match answer {
+        Ok(states) => {
+            let reachable = states.words;
+            SessionFields {
+                reachable,
+                refusal: 0,
+                reserved: 0,
+            }
+        }
+        Err(refusal) => {
+            let reachable = handed.words;
+            SessionFields {
+                reachable,
+                refusal: u32::from(refusal),
+                reserved: 0,
+            }
+        }
     }
 }
 
@@ -394,49 +406,61 @@ pub struct ModalFields {
     pub steps: u32,
 }
 
-fn refused_modal(refusal: u8) -> ModalFields
-    ensures { result ≡ modal_fields (refused refusal) }
+fn refused_modal(refusal: Refusal) -> ModalFields
+    ensures { result ≡ modal_fields (refused (number refusal)) }
 {
     let none = StateSet::empty();
     let invariant = none.words;
     ModalFields {
         invariant,
-        refusal: refusal as u32,
+        refusal: u32::from(refusal),
         verdict: NO_VERDICT,
         size: 0,
         steps: 0,
     }
 }
 
-pub fn lay_out_modal(answer: ModalDecision) -> ModalFields
+pub fn lay_out_modal(answer: Result<ModalVerdict, Refusal>) -> ModalFields
     requires { WhereAnswered ModalRange (modal_decided_of answer) }
     ensures { result ≡ modal_fields (modal_decided_of answer) }
 {
-    let verdict = answer.verdict;
-    let invariant = answer.invariant.words;
-    match verdict {
-        ModalVerdict::Safe { size } => ModalFields {
-            invariant,
-            refusal: 0,
-            verdict: 0,
-            size: size as u32,
-            steps: 0,
-        },
-        ModalVerdict::Unsafe { steps } => ModalFields {
-            invariant,
+    let none = StateSet::empty();
+    let empty = none.words;
+    match answer {
+        Ok(ModalVerdict::Safe { invariant, size }) => {
+            let words = invariant.words;
+            ModalFields {
+                invariant: words,
+                refusal: 0,
+                verdict: 0,
+                size: size as u32,
+                steps: 0,
+            }
+        }
+        Ok(ModalVerdict::Unsafe { steps }) => ModalFields {
+            invariant: empty,
             refusal: 0,
             verdict: 1,
             size: 0,
             steps: steps as u32,
         },
-        ModalVerdict::Depends { size, steps } => ModalFields {
-            invariant,
-            refusal: 0,
-            verdict: 3,
-            size: size as u32,
-            steps: steps as u32,
-        },
-        ModalVerdict::Refused(refusal) => refused_modal(refusal),
+        Ok(
+            ModalVerdict::Depends {
+                invariant,
+                size,
+                steps,
+            },
+        ) => {
+            let words = invariant.words;
+            ModalFields {
+                invariant: words,
+                refusal: 0,
+                verdict: 3,
+                size: size as u32,
+                steps: steps as u32,
+            }
+        }
+        Err(refusal) => refused_modal(refusal),
     }
 }
 
@@ -450,22 +474,22 @@ pub struct MinuteFields {
     pub minute: u32,
 }
 
-pub fn lay_out_minute(answer: NextOpen) -> MinuteFields
+pub fn lay_out_minute(answer: Result<Option<u32>, Refusal>) -> MinuteFields
     ensures { result ≡ minute_fields (opening_of answer) }
 {
     match answer {
-        NextOpen::Minute(minute) => MinuteFields {
+        Ok(Some(minute)) => MinuteFields {
             refusal: 0,
             never: 0,
             minute,
         },
-        NextOpen::Never => MinuteFields {
+        Ok(None) => MinuteFields {
             refusal: 0,
             never: 1,
             minute: NO_MINUTE,
         },
-        NextOpen::Refused(refusal) => MinuteFields {
-            refusal: refusal as u32,
+        Err(refusal) => MinuteFields {
+            refusal: u32::from(refusal),
             never: NO_ANSWER,
             minute: NO_MINUTE,
         },

@@ -3,7 +3,8 @@
 // at last a digest of decide's answers, whole. tests/expected/programs.py makes the same tables anew and works out what this must print.
 #![tactic(auto)]
 
-use call_decide::{Decision, Verdict, decide};
+use call_decide::{Verdict, decide};
+use core_refusals::Refusal;
 use core_rounds::MAX_ALLOWANCE;
 use core_state_set::{MAX_STATES, StateSet, WORD_BITS, WORDS};
 use core_table::{MARKED_AT, RESTING_AT, ROWS_AT, STORE_WORDS};
@@ -11,7 +12,7 @@ use std::io;
 use std::io::Stdout;
 use test_support::{
     digest, digest_places, digest_words, generate, groups_of, labelled, left_out, line, states_of,
-    unchanged_words, wide,
+    unchanged_words,
 };
 
 const TABLES: usize = 4000;
@@ -177,19 +178,18 @@ fn tally(tallies: &mut [usize], i: usize, counts: bool) {
     }
 }
 
-fn tally_verdict(tallies: &mut [usize], verdict: Verdict, found: usize) {
-    match verdict {
-        Verdict::Safe { count: _, size: _ } => {
+fn tally_answer(tallies: &mut [usize], answer: Result<Verdict, Refusal>, found: usize) {
+    match answer {
+        Ok(Verdict::Safe { .. }) => {
             tally(tallies, SAFE, true);
             tally(tallies, SAME_VERDICT, found == NONE);
         }
-        Verdict::Unsafe { count: _, steps } => {
+        Ok(Verdict::Unsafe { steps, .. }) => {
             tally(tallies, UNSAFE, true);
             tally(tallies, SAME_VERDICT, found != NONE);
             tally(tallies, SAME_LENGTH, found == steps);
         }
-        Verdict::Undecided { count: _ } => {}
-        Verdict::Refused(_) => {}
+        _ => {}
     }
 }
 
@@ -197,15 +197,28 @@ fn digest_numbers(d: usize, verdict: usize, count: usize, size: usize, steps: us
     digest(digest(digest(digest(d, verdict), count), size), steps)
 }
 
-fn digest_verdict(stdout: Stdout, d: usize, verdict: Verdict, path: &[u16]) -> io::Result<usize> {
-    match verdict {
-        Verdict::Safe { count, size } => Ok(digest_numbers(d, 0, count, size, 0)),
-        Verdict::Unsafe { count, steps } => {
+fn digest_answer(
+    stdout: Stdout,
+    d: usize,
+    answer: Result<Verdict, Refusal>,
+    path: &[u16],
+) -> io::Result<usize> {
+    match answer {
+        Ok(Verdict::Safe { count, size, .. }) => Ok(digest_numbers(d, 0, count, size, 0)),
+        Ok(Verdict::Unsafe { count, steps }) => {
             let e = digest_numbers(d, 1, count, 0, steps);
             digest_places(stdout, e, path, steps % MAX_STATES + 1)
         }
-        Verdict::Undecided { count } => Ok(digest_numbers(d, 2, count, 0, 0)),
-        Verdict::Refused(refusal) => Ok(digest_numbers(d, 3, wide(refusal), 0, 0)),
+        Ok(Verdict::Undecided { count }) => Ok(digest_numbers(d, 2, count, 0, 0)),
+        Err(refusal) => Ok(digest_numbers(d, 3, usize::from(u8::from(refusal)), 0, 0)),
+    }
+}
+
+// The invariant, or the empty set where there is none.
+fn invariant_of(answer: Result<Verdict, Refusal>) -> StateSet {
+    match answer {
+        Ok(Verdict::Safe { invariant, .. }) => invariant,
+        _ => StateSet::empty(),
     }
 }
 
@@ -223,22 +236,14 @@ fn put_digest(tallies: &mut [usize], d: usize) {
 fn compare(
     stdout: Stdout,
     tallies: &mut [usize],
-    d: Decision,
+    answer: Result<Verdict, Refusal>,
     path: &[u16],
     found: usize,
 ) -> io::Result<()> {
-    let verdict = d.verdict;
-    let invariant = d.invariant;
-    tally_verdict(tallies, verdict, found);
+    tally_answer(tallies, answer, found);
     let before = at(stdout, tallies, DIGEST)?;
-    put_digest(
-        tallies,
-        digest_set(
-            stdout,
-            digest_verdict(stdout, before, verdict, path)?,
-            invariant,
-        )?,
-    );
+    let d = digest_answer(stdout, before, answer, path)?;
+    put_digest(tallies, digest_set(stdout, d, invariant_of(answer))?);
     Ok(())
 }
 
@@ -251,8 +256,8 @@ fn try_one(
 ) -> io::Result<()> {
     let n = states_of(t);
     generate(stdout, store, t)?;
-    let d = decide(store, n, groups_of(t), MAX_ALLOWANCE, path);
-    compare(stdout, tallies, d, path, search(stdout, store, n)?)
+    let answer = decide(store, n, groups_of(t), MAX_ALLOWANCE, path);
+    compare(stdout, tallies, answer, path, search(stdout, store, n)?)
 }
 
 fn try_table(stdout: Stdout, tallies: &mut [usize], t: usize) -> io::Result<()> {

@@ -3,7 +3,8 @@
 // tests/expected/programs.py works out what this must print, from its text.
 #![tactic(auto)]
 
-use call_decide::{Decision, Verdict, decide};
+use call_decide::{Verdict, decide};
+use core_refusals::Refusal;
 use core_rounds::MAX_ALLOWANCE;
 use core_state_set::MAX_STATES;
 use core_table::{MAX_GROUPS, STORE_WORDS};
@@ -11,22 +12,30 @@ use std::io;
 use std::io::Stdout;
 use test_support::{
     group, initial, labelled, marked, places, print_unchanged, put_corridor, put_table, resting,
-    states, step, text, unchanged_places, wide,
+    states, step, text, unchanged_places,
 };
 
 // The answer, and how many places at the front of the path buffer it accounts for.
-fn print_decision(stdout: Stdout, d: Decision, path: &[u16]) -> io::Result<usize> {
-    let verdict = d.verdict;
-    let invariant = d.invariant;
-    match verdict {
-        Verdict::Safe { count, size } => {
+fn print_answer(
+    stdout: Stdout,
+    answer: Result<Verdict, Refusal>,
+    path: &[u16],
+) -> io::Result<usize> {
+    match answer {
+        Ok(
+            Verdict::Safe {
+                count,
+                invariant,
+                size,
+            },
+        ) => {
             labelled(stdout, b"safe ", count)?;
             labelled(stdout, b" invariant ", size)?;
             text(stdout, b":")?;
             states(stdout, invariant)?;
             Ok(0)
         }
-        Verdict::Unsafe { count, steps } => {
+        Ok(Verdict::Unsafe { count, steps }) => {
             labelled(stdout, b"unsafe ", count)?;
             text(stdout, b" path")?;
             if steps < MAX_STATES {
@@ -36,12 +45,12 @@ fn print_decision(stdout: Stdout, d: Decision, path: &[u16]) -> io::Result<usize
                 Ok(0)
             }
         }
-        Verdict::Undecided { count } => {
+        Ok(Verdict::Undecided { count }) => {
             labelled(stdout, b"undecided ", count)?;
             Ok(0)
         }
-        Verdict::Refused(refusal) => {
-            labelled(stdout, b"refused ", wide(refusal))?;
+        Err(refusal) => {
+            labelled(stdout, b"refused ", usize::from(u8::from(refusal)))?;
             Ok(0)
         }
     }
@@ -60,8 +69,8 @@ fn call(
     text(stdout, name)?;
     labelled(stdout, b" ", allowance)?;
     text(stdout, b": ")?;
-    let d = decide(store, n, g, allowance, path);
-    let written = print_decision(stdout, d, path)?;
+    let answer = decide(store, n, g, allowance, path);
+    let written = print_answer(stdout, answer, path)?;
     print_unchanged(stdout, unchanged_places(path, written, 7))
 }
 

@@ -9,11 +9,12 @@
 
 ghost use Rattle.std.specs.Prelude.{◌*◌, ◌^◌, ◌<◌};
 
+use core_refusals::Refusal;
 use core_state_set::MAX_STATES;
 use core_table::{MAX_GROUPS, STORE_WORDS};
 use file_blocks::MAX_FILE;
-use file_reading::{TableRead, read};
-use file_writing::{Written, write};
+use file_reading::{TableSize, read};
+use file_writing::write;
 use std::io;
 use std::io::Stdout;
 use test_support::{
@@ -25,9 +26,9 @@ use test_support::{
 // ---- one call of write
 
 // The answer, and how many bytes at the front of the output it accounts for.
-fn print_written(stdout: Stdout, w: Written, output: &[u8]) -> io::Result<usize> {
+fn print_written(stdout: Stdout, w: Result<usize, Refusal>, output: &[u8]) -> io::Result<usize> {
     match w {
-        Written::File(length) => {
+        Ok(length) => {
             labelled(stdout, b": file of ", length)?;
             labelled(
                 stdout,
@@ -36,8 +37,8 @@ fn print_written(stdout: Stdout, w: Written, output: &[u8]) -> io::Result<usize>
             )?;
             Ok(length)
         }
-        Written::Refused(refusal) => {
-            labelled(stdout, b": refused ", wide(refusal))?;
+        Err(refusal) => {
+            labelled(stdout, b": refused ", wide(u8::from(refusal)))?;
             Ok(0)
         }
     }
@@ -95,11 +96,11 @@ fn try_write(
 // ---- one call of read
 
 // The answer, and how many words at the front of the store it accounts for.
-fn print_read(stdout: Stdout, r: TableRead, store: &[u64]) -> io::Result<usize> {
+fn print_read(stdout: Stdout, r: Result<TableSize, Refusal>, store: &[u64]) -> io::Result<usize> {
     match r {
-        TableRead::Table { n, g } => {
-            labelled(stdout, b": n ", n)?;
-            labelled(stdout, b" g ", g)?;
+        Ok(size) => {
+            labelled(stdout, b": n ", size.n)?;
+            labelled(stdout, b" g ", size.g)?;
             labelled(
                 stdout,
                 b", digest ",
@@ -107,8 +108,8 @@ fn print_read(stdout: Stdout, r: TableRead, store: &[u64]) -> io::Result<usize> 
             )?;
             Ok(STORE_WORDS)
         }
-        TableRead::Refused(refusal) => {
-            labelled(stdout, b": refused ", wide(refusal))?;
+        Err(refusal) => {
+            labelled(stdout, b": refused ", wide(u8::from(refusal)))?;
             Ok(0)
         }
     }
@@ -204,7 +205,7 @@ fn try_file(
     value2: u8,
 ) -> io::Result<()> {
     let mut file = [0u8; MAX_FILE + 512];
-    write(table, n, g, 0, &mut file);
+    let _ = write(table, n, g, 0, &mut file);
     replace(stdout, &mut file, at, value)?;
     replace(stdout, &mut file, at2, value2)?;
     try_read(stdout, &file, length, words)
@@ -214,7 +215,7 @@ fn try_file(
 
 fn print_e(stdout: Stdout, e: &[u64]) -> io::Result<()> {
     let mut output = [7u8; 512];
-    write(e, 3, 0, 0, &mut output);
+    let _ = write(e, 3, 0, 0, &mut output);
     text(stdout, b"file of E:")?;
     bytes(stdout, &output, 512)?;
     line(stdout)
@@ -650,7 +651,7 @@ fn read_site(
     words: usize,
 ) -> io::Result<()> {
     let mut file = [0u8; 1024];
-    write(e, 3, 0, made, &mut file);
+    let _ = write(e, 3, 0, made, &mut file);
     labelled(stdout, b" made for ", made)?;
     labelled(stdout, b" site ", site)?;
     try_read_at(stdout, &file, length, site, words)
@@ -697,8 +698,8 @@ fn round_trip(stdout: Stdout, d: usize, t: usize) -> io::Result<usize> {
     let mut file = [7u8; 512];
     let mut back = [7u64; STORE_WORDS];
     generate(stdout, &mut store, t)?;
-    write(&store, states_of(t), groups_of(t), t, &mut file);
-    read(&file, t, &mut back);
+    let _ = write(&store, states_of(t), groups_of(t), t, &mut file);
+    let _ = read(&file, t, &mut back);
     digest_words(
         stdout,
         digest_bytes(stdout, d, &file, 512)?,

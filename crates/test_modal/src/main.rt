@@ -3,14 +3,15 @@
 // tests/expected/programs.py works out what this must print: it looks at every choice.
 #![tactic(auto)]
 
-use call_modal::{ModalDecision, ModalVerdict, POSSIBLE_WORDS, decide_modal};
+use call_modal::{ModalVerdict, POSSIBLE_WORDS, decide_modal};
+use core_refusals::Refusal;
 use core_state_set::{MAX_STATES, WORDS};
 use core_table::{MAX_GROUPS, ROWS_AT, STORE_WORDS};
 use std::io;
 use std::io::Stdout;
 use test_support::{
     add, group, labelled, places, print_unchanged, put_corridor, put_table, resting, states, step,
-    text, unchanged_places, wide,
+    text, unchanged_places,
 };
 
 // A path, and how many places it takes.
@@ -24,28 +25,36 @@ fn print_path(stdout: Stdout, steps: usize, path: &[u16]) -> io::Result<usize> {
 }
 
 // The answer, and how many places at the front of the path buffer it accounts for.
-fn print_answer(stdout: Stdout, d: ModalDecision, path: &[u16]) -> io::Result<usize> {
-    let verdict = d.verdict;
-    let invariant = d.invariant;
-    match verdict {
-        ModalVerdict::Safe { size } => {
+fn print_answer(
+    stdout: Stdout,
+    answer: Result<ModalVerdict, Refusal>,
+    path: &[u16],
+) -> io::Result<usize> {
+    match answer {
+        Ok(ModalVerdict::Safe { invariant, size }) => {
             labelled(stdout, b"safe invariant ", size)?;
             text(stdout, b":")?;
             states(stdout, invariant)?;
             Ok(0)
         }
-        ModalVerdict::Unsafe { steps } => {
+        Ok(ModalVerdict::Unsafe { steps }) => {
             text(stdout, b"unsafe")?;
             print_path(stdout, steps, path)
         }
-        ModalVerdict::Depends { size, steps } => {
+        Ok(
+            ModalVerdict::Depends {
+                invariant,
+                size,
+                steps,
+            },
+        ) => {
             labelled(stdout, b"depends invariant ", size)?;
             text(stdout, b":")?;
             states(stdout, invariant)?;
             print_path(stdout, steps, path)
         }
-        ModalVerdict::Refused(refusal) => {
-            labelled(stdout, b"refused ", wide(refusal))?;
+        Err(refusal) => {
+            labelled(stdout, b"refused ", usize::from(u8::from(refusal)))?;
             Ok(0)
         }
     }
@@ -63,8 +72,8 @@ fn call(
 ) -> io::Result<()> {
     text(stdout, name)?;
     text(stdout, b": ")?;
-    let d = decide_modal(store, n, g, possible, path);
-    let written = print_answer(stdout, d, path)?;
+    let answer = decide_modal(store, n, g, possible, path);
+    let written = print_answer(stdout, answer, path)?;
     print_unchanged(stdout, unchanged_places(path, written, 7))
 }
 

@@ -4,55 +4,38 @@
 #![tactic(auto)]
 
 ghost use Rattle.std.specs.Prelude.{◌/◌, ◌<◌};
-ghost use Rattle.model.specs.Sets.{max_states};
 ghost use Rattle.model.specs.Stores.{max_groups};
 
-use call_first_order::{Expansion, first_order};
+use call_first_order::first_order;
 use core_fixpoints::Order;
 use core_state_set::MAX_STATES;
 use core_table::{MAX_GROUPS, STORE_WORDS};
 use std::io;
 use std::io::Stdout;
-use test_support::{group, initial, labelled, line, marked, put_table, resting, step, text, wide};
+use test_support::{group, initial, labelled, line, marked, put_table, resting, step, text};
 
-fn state(x: u16) -> usize {
-    x as usize
-}
-
-// Place i, if it is one of the first `count`; else whether it is 0.
-fn print_place(stdout: Stdout, order: &Order, i: usize, count: usize) -> io::Result<()>
-    requires { i < max_states }
-{
-    if i < count {
-        labelled(stdout, b" ", state(order[i]))?;
-    } else if order[i] != 0 {
-        text(stdout, b" NOT 0")?;
-    }
-    Ok(())
-}
-
+// The first `count` places; and of each other place, whether it is not 0.
 fn print_places(stdout: Stdout, order: &Order, count: usize) -> io::Result<()> {
-    for i in 0..MAX_STATES {
-        print_place(stdout, order, i, count)?;
+    for (i, s) in order.iter().enumerate() {
+        if i < count {
+            labelled(stdout, b" ", usize::from(*s))?;
+        } else if *s != 0 {
+            text(stdout, b" NOT 0")?;
+        }
     }
     Ok(())
 }
 
 fn try_one(stdout: Stdout, name: &[u8], store: &[u64], n: usize, g: usize) -> io::Result<()> {
     text(stdout, name)?;
-    let answer = first_order(store, n, g);
-    let expansion = answer.expansion;
-    let order = answer.states;
-    match expansion {
-        Expansion::Listed(count) => {
-            labelled(stdout, b": expands ", count)?;
+    match first_order(store, n, g) {
+        Ok(found) => {
+            let states = found.states;
+            labelled(stdout, b": expands ", found.count)?;
             text(stdout, b":")?;
-            print_places(stdout, &order, count)?;
+            print_places(stdout, &states, found.count)?;
         }
-        Expansion::Refused(refusal) => {
-            labelled(stdout, b": refused ", wide(refusal))?;
-            print_places(stdout, &order, 0)?;
-        }
+        Err(refusal) => labelled(stdout, b": refused ", usize::from(u8::from(refusal)))?,
     }
     line(stdout)
 }

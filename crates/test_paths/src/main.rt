@@ -3,8 +3,9 @@
 // written by tests/expected/paths.py, a breadth-first search from the initial states made from the specification's text alone.
 #![tactic(auto)]
 
-use call_distances::{DistancesAnswer, distances};
-use call_paths::{Shortest, WithinAnswer, shortest_path, within};
+use call_distances::distances;
+use call_paths::{shortest_path, within};
+use core_refusals::Refusal;
 use core_state_set::MAX_STATES;
 use core_table::{MAX_GROUPS, STORE_WORDS};
 use std::io;
@@ -19,10 +20,18 @@ const BEFORE: u16 = 238;
 
 // ---- one call
 
+fn print_refusal(stdout: Stdout, label: &[u8], refusal: Refusal) -> io::Result<()> {
+    labelled(stdout, label, wide(refusal.into()))
+}
+
 // The answer, and how many places at the front of the path buffer it accounts for.
-fn print_answer(stdout: Stdout, answer: Shortest, path: &[u16]) -> io::Result<usize> {
+fn print_answer(
+    stdout: Stdout,
+    answer: Result<Option<usize>, Refusal>,
+    path: &[u16],
+) -> io::Result<usize> {
     match answer {
-        Shortest::Path { steps } => {
+        Ok(Some(steps)) => {
             text(stdout, b": steps ")?;
             number(stdout, steps)?;
             text(stdout, b", path")?;
@@ -33,13 +42,12 @@ fn print_answer(stdout: Stdout, answer: Shortest, path: &[u16]) -> io::Result<us
             left_out(stdout)?;
             Ok(0)
         }
-        Shortest::NoPath => {
+        Ok(None) => {
             text(stdout, b": none")?;
             Ok(0)
         }
-        Shortest::Refused(refusal) => {
-            text(stdout, b": refused ")?;
-            number(stdout, wide(refusal))?;
+        Err(refusal) => {
+            print_refusal(stdout, b": refused ", refusal)?;
             Ok(0)
         }
     }
@@ -249,26 +257,20 @@ fn malformed(stdout: Stdout) -> io::Result<()> {
 // What the distance buffers hold before a call.
 const NO_DISTANCE: u16 = 777;
 
-fn print_refusal(stdout: Stdout, label: &[u8], refusal: u8) -> io::Result<()> {
-    labelled(stdout, label, wide(refusal))
-}
-
-fn print_distances(stdout: Stdout, answer: DistancesAnswer) -> io::Result<()> {
+fn print_distances(stdout: Stdout, answer: Result<(), Refusal>) -> io::Result<()> {
     match answer {
-        DistancesAnswer::Written => text(stdout, b": distances")?,
-        DistancesAnswer::Refused(refusal) => print_refusal(stdout, b": refused ", refusal)?,
+        Ok(()) => text(stdout, b": distances"),
+        Err(refusal) => print_refusal(stdout, b": refused ", refusal),
     }
-    Ok(())
 }
 
 fn print_within(stdout: Stdout, store: &[u64], n: usize, g: usize, k: usize) -> io::Result<()> {
     labelled(stdout, b", within ", k)?;
     match within(store, n, g, k) {
-        WithinAnswer::Yes => text(stdout, b" yes")?,
-        WithinAnswer::No => text(stdout, b" no")?,
-        WithinAnswer::Refused(refusal) => print_refusal(stdout, b" refused ", refusal)?,
+        Ok(true) => text(stdout, b" yes"),
+        Ok(false) => text(stdout, b" no"),
+        Err(refusal) => print_refusal(stdout, b" refused ", refusal),
     }
-    Ok(())
 }
 
 fn measure(

@@ -12,7 +12,8 @@ use Rattle.model.specs.Contents.{old_form}
 use Rattle.model.specs.Calls.{overwrite, release, Decision, TableRead, states_in, groups_in, read_grounds_as, read_answer, read_buffer, decide_answer, decide_buffer}
 use Rattle.model.proofs.ListsInParts.{length-overwrite, take-overwrite, drop-overwrite}
 use Rattle.model.proofs.CallLaws.{read-numbered}
-use Rattle.file_writing.specs.declared.Written.{Written}
+use Rattle.std.specs.Prelude.{Result}
+use Rattle.core_refusals.specs.declared.Refusal.{Refusal}
 use Rattle.file_writing.specs.WriteAnswers.{written_of}
 use Rattle.call_check.specs.CheckText.{zero_store, zero_path, and_then, check_table, release_check, text_for, verdict_for}
 use Rattle.theorems_rewriting.specs.Rewriting.{OldFile, new_file}
@@ -23,7 +24,7 @@ use Rattle.theorems_calls.specs.RewriteCalls.{old_decision, path_after, Rewrites
 
 -- ---- what rewrite gave
 
-module _ (input before : List ℕ) (w : Written) (after : List ℕ) (called : CalledRewrite input before w after) where
+module _ (input before : List ℕ) (w : Result ℕ Refusal) (after : List ℕ) (called : CalledRewrite input before w after) where
   module _ (l : ℕ) (e : written_of w ≡ answered l) where
     old_file : OldFile input
     unfolding rewrite_answer rewrite_grounds
@@ -101,7 +102,7 @@ rewrite-calls =
           let held = c.1 ∙ ap (λ (f : List ℕ). read_buffer f 0 store) (file_new input file w) in
           let same = rewriting.decisions input store (file_old input file w) long in (
             called.0 ∙ ap (λ (xs : List ℕ). decide_answer xs n g allowance (length path)) held ∙ same.answers allowance (length path) h l,
-            called.2 ∙ ap (λ (xs : List ℕ). decide_buffer xs n g allowance path) held ∙ same.buffers allowance path h l,
+            called.1 ∙ ap (λ (xs : List ℕ). decide_buffer xs n g allowance path) held ∙ same.buffers allowance path h l,
           );
       check = λ input file w.
           let said = ap (λ (f : List ℕ). release_check f 0) (file_new input file w) ∙ checked input (file_old input file w) in

@@ -5,7 +5,7 @@
 --   path_after input a path         a path buffer after that answer
 --   Rewrites                       an old file that rewrite accepted, and the file that it put at the front of the output
 --   RewriteCalls                   the new file has the answers that the old one had; what a call leaves in its output
-use Rattle.std.specs.Prelude.{ℕ, ◌≤◌, ◌≡◌, cond, List, eqb, length, take, drop}
+use Rattle.std.specs.Prelude.{ℕ, ◌≤◌, ◌≡◌, cond, List, Result, eqb, length, take, drop}
 use Rattle.basics.specs.Refusals.{refuse, refused, answered}
 use Rattle.model.specs.Sets.{max_states}
 use Rattle.model.specs.Tables.{Table}
@@ -14,11 +14,11 @@ use Rattle.model.specs.Paths.{smallest_path}
 use Rattle.model.specs.Stores.{store_words}
 use Rattle.model.specs.Contents.{old_form}
 use Rattle.model.specs.Calls.{overwrite, max_allowance, release, Decision as Answer, decision_of, states_in, groups_in}
-use Rattle.call_decide.specs.declared.Decision.{Decision}
+use Rattle.core_refusals.specs.declared.Refusal.{Refusal}
+use Rattle.call_decide.specs.declared.Verdict.{Verdict}
 use Rattle.call_decide.specs.DecideAnswers.{decided_of, CalledDecide}
-use Rattle.file_writing.specs.declared.Written.{Written}
 use Rattle.file_writing.specs.WriteAnswers.{written_of}
-use Rattle.file_reading.specs.declared.TableRead.{TableRead}
+use Rattle.file_reading.specs.declared.TableSize.{TableSize}
 use Rattle.file_reading.specs.ReadAnswers.{read_of, CalledRead}
 use Rattle.core_report.specs.Text.{report_text}
 use Rattle.call_check.specs.CheckText.{zero_path, safe, unsafe, check_text, file_verdict}
@@ -37,7 +37,7 @@ path_after input a path = cond (eqb a.verdict 1) (overwrite (smallest_path (old_
 pub record Rewrites (input file : List ℕ) : Type 0 where
   pub before : List ℕ
   pub after : List ℕ
-  pub written : Written
+  pub written : Result ℕ Refusal
   pub bytes : ℕ
   pub called : CalledRewrite input before written after
   pub answer : written_of written ≡ answered bytes
@@ -45,11 +45,11 @@ pub record Rewrites (input file : List ℕ) : Type 0 where
 
 pub record RewriteCalls : Type 0 where
   -- read accepts the new file, with n and g as they were
-  pub read : (input file : List ℕ) (store : List ℕ) (r : TableRead) (store' : List ℕ)
+  pub read : (input file : List ℕ) (store : List ℕ) (r : Result TableSize Refusal) (store' : List ℕ)
       → Rewrites input file → CalledRead file 0 store r store' → store_words ≤ length store
       → read_of r ≡ answered (record { n = states_in input; g = groups_in old_form input })
   -- decide answers as before: verdict, count, invariant and path
-  pub decide : (input file : List ℕ) (store : List ℕ) (r : TableRead) (store' : List ℕ) (allowance : ℕ) (path : List ℕ) (d : Decision) (path' : List ℕ)
+  pub decide : (input file : List ℕ) (store : List ℕ) (r : Result TableSize Refusal) (store' : List ℕ) (allowance : ℕ) (path : List ℕ) (d : Result Verdict Refusal) (path' : List ℕ)
       → Rewrites input file → CalledRead file 0 store r store' → store_words ≤ length store
       → CalledDecide store' (states_in input) (groups_in old_form input) allowance path d path' → allowance ≤ max_allowance → max_states ≤ length path
       → (decided_of d ≡ answered (old_decision input allowance)) × (path' ≡ path_after input (old_decision input allowance) path)
@@ -60,8 +60,8 @@ pub record RewriteCalls : Type 0 where
       (check_text file 0 ≡ report_text n (groups_in old_form input) a (path_after input a zero_path))
       × (file_verdict file 0 ≡ cond (eqb a.verdict 0) (safe n) (unsafe n))
   -- no byte past the new file is touched
-  pub past : (input before : List ℕ) (w : Written) (after : List ℕ) (l : ℕ) → CalledRewrite input before w after → written_of w ≡ answered l
+  pub past : (input before : List ℕ) (w : Result ℕ Refusal) (after : List ℕ) (l : ℕ) → CalledRewrite input before w after → written_of w ≡ answered l
       → (take l after ≡ new_file input) × (drop l after ≡ drop l before) × (length after ≡ length before)
   -- a refused call gives the number of the first ground that holds, and leaves the output as it was
-  pub refusal : (input before : List ℕ) (w : Written) (after : List ℕ) (k : ℕ) → CalledRewrite input before w after → written_of w ≡ refused k
+  pub refusal : (input before : List ℕ) (w : Result ℕ Refusal) (after : List ℕ) (k : ℕ) → CalledRewrite input before w after → written_of w ≡ refused k
       → (k ≡ refuse (rewrite_grounds input (length before))) × (after ≡ before)

@@ -105,11 +105,10 @@ module _ (store other : List ℕ) (n g h : ℕ) (held : AcceptedStore store n g)
             let same = answers allowance (length before) in
             record {
               answer = c.0 ∙ same ∙ sym d.0;
-              set = ap (λ (X : Set). record { words = X }) (c.1 ∙ ap (unless_refused empty (λ (a : Decision). a.invariant)) same ∙ sym d.1);
-              buffer = c.2 ∙ buffers allowance before ∙ sym d.2;
+              buffer = c.1 ∙ buffers allowance before ∙ sym d.1;
             };
         own_buffers = λ allowance p q r s after-r after-s a b c d e f.
-            subst₂ (SameAnswer a b) (sym c.2) (sym d.2) (own_buffers allowance p q a b (sym c.0 ∙ e) (sym d.0 ∙ f));
+            subst₂ (SameAnswer a b) (sym c.1) (sym d.1) (own_buffers allowance p q a b (sym c.0 ∙ e) (sym d.0 ∙ f));
         answers = answers;
         buffers = buffers;
       }

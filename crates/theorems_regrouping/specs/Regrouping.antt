@@ -4,13 +4,13 @@
 --   Alike t u              two tables alike but for their lists of groups
 --   SameCovers n L M       each of n states has the same cover for the lists L and M
 --   first_list t            list 0 of a table: its groups and Z0
---   SameResults            two calls of decide, by its contract, returned and left the same: answer, the set beside it, and path buffer
+--   SameResults            two calls of decide, by its contract, returned and left the same: answer, with the invariant, and path buffer
 --   SameDecisions          so do any two, at every allowance and in every path buffer, grounds 20 and 21 included; and where each has a path
 --                          buffer of its own and is answered, the answers are the same
 --   Rewriting L M          the list L put another way: in another order, with sets repeated, with a union or an overlap of two of its sets
 --                          added anywhere, any of these undone, one after the other
 --   Regrouping             the promise
-use Rattle.std.specs.Prelude.{ℕ, ◌<◌, ◌≡◌, ◌↔◌}
+use Rattle.std.specs.Prelude.{ℕ, ◌<◌, ◌≡◌, ◌↔◌, Result}
 use mathlib.Core.List.{List, ◌∷◌, ◌++◌, Memᴰ, Permᴰ}
 use Rattle.basics.specs.Refusals.{answered}
 use Rattle.model.specs.Sets.{Set, union, meet}
@@ -18,7 +18,8 @@ use Rattle.model.specs.Tables.{Table, cover_of, not_forbidden}
 use Rattle.model.specs.Stores.{table_of, AcceptedStore}
 use Rattle.model.specs.Calls.{Decision as Answer, decide_answer, decide_buffer}
 use Rattle.model.specs.Promises.{SameAnswer}
-use Rattle.call_decide.specs.declared.Decision.{Decision}
+use Rattle.core_refusals.specs.declared.Refusal.{Refusal}
+use Rattle.call_decide.specs.declared.Verdict.{Verdict}
 use Rattle.call_decide.specs.DecideAnswers.{decided_of, CalledDecide}
 
 pub record Alike (t u : Table) : Type 0 where
@@ -33,17 +34,16 @@ pub record SameCovers (n : ℕ) (L M : List Set) : Type 0 where
 abbrev pub first_list : Table → List Set
 first_list t = not_forbidden t.n t.forbidden ∷ t.groups
 
-pub record SameResults (r s : Decision) (after-r after-s : List ℕ) : Type 0 where
+pub record SameResults (r s : Result Verdict Refusal) (after-r after-s : List ℕ) : Type 0 where
   pub answer : decided_of r ≡ decided_of s
-  pub set : r.invariant ≡ s.invariant
   pub buffer : after-r ≡ after-s
 
 pub record SameDecisions (store other : List ℕ) (n g h : ℕ) : Type 0 where
   -- a call on each store, with the same allowance and the same path buffer
-  pub calls : (allowance : ℕ) (before : List ℕ) (r s : Decision) (after-r after-s : List ℕ)
+  pub calls : (allowance : ℕ) (before : List ℕ) (r s : Result Verdict Refusal) (after-r after-s : List ℕ)
       → CalledDecide store n g allowance before r after-r → CalledDecide other n h allowance before s after-s → SameResults r s after-r after-s
   -- a call on each store, with the same allowance and a path buffer of its own
-  pub own_buffers : (allowance : ℕ) (p q : List ℕ) (r s : Decision) (after-r after-s : List ℕ) (a b : Answer)
+  pub own_buffers : (allowance : ℕ) (p q : List ℕ) (r s : Result Verdict Refusal) (after-r after-s : List ℕ) (a b : Answer)
       → CalledDecide store n g allowance p r after-r → CalledDecide other n h allowance q s after-s
       → decided_of r ≡ answered a → decided_of s ≡ answered b → SameAnswer a b after-r after-s
   -- as the specification fixes them

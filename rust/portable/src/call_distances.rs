@@ -6,17 +6,16 @@
 //   mark                                 one number as the distance of each state of a set
 //   all_distances, sweep_transposed      the distance of each state, layer by layer from the forbidden states outward: by the rows; by the rows transposed
 //   transposing_pays                     when the second of these is quicker
-//   put_distances                        the distances of the first n states, at the front of a buffer
 //   distances                            the call
 //
 // What works on a table is lent its rows, and its sets by value; all_distances and sweep_transposed ask that the table is well formed. The call is lent
 // a store, works out its forbidden states once, and asks for nothing.
 
 use crate::call_paths::stepping_into;
-use crate::core_refusals::DISTANCES_SHORT;
-use crate::core_rows::{Rows, forbidden, row_at, union_of};
+use crate::core_refusals::Refusal;
+use crate::core_rows::{Rows, Steps, forbidden, union_of};
 use crate::core_state_set::{MAX_STATES, StateSet, WORD_BITS, WORDS};
-use crate::core_table::{ROWS_AT, refusal};
+use crate::core_table::accept;
 
 // The distance of a state from which no forbidden state can be reached.
 pub const UNREACHABLE: u16 = 65535;
@@ -28,62 +27,41 @@ const LAYERS_BY_ROWS: u16 = 3;
 // A layer is thin where the rest is this many layers of its size: to transpose the rows takes as long as some tens of looks at each.
 const THIN: usize = 32;
 
-// s joins the predecessors of each of its successors that `bits` has in word w.
-fn join_word(before: &mut Rows, s: usize, w: usize, bits: u64)
-{
-    let mut rest = bits;
-    while rest != 0 {
-        let u = WORD_BITS * w + u64::trailing_zeros(rest) as usize;
-        before[u][s / WORD_BITS] |= 1 << (s % WORD_BITS);
-        rest &= rest - 1;
-    }
-}
-
 // s joins the predecessors of each of its successors.
 fn join_predecessor(before: &mut Rows, s: usize, successors: StateSet)
 {
-    for w in 0..WORDS {
-        join_word(before, s, w, successors.words[w]);
+    for u in successors.states() {
+        before[u][s / WORD_BITS] |= 1 << (s % WORD_BITS);
     }
 }
 
 // Each of the first n states joins the predecessors of its successors.
-fn join_predecessors(before: &mut Rows, rows: &[u64], n: usize)
+fn join_predecessors(before: &mut Rows, steps: Steps, n: usize)
 {
     for s in 0..n {
-        join_predecessor(before, s, row_at(rows, s));
-    }
-}
-
-// d is the distance of each state that `bits` has in word w.
-fn mark_word(distances: &mut [u16; MAX_STATES], w: usize, bits: u64, d: u16)
-{
-    let mut rest = bits;
-    while rest != 0 {
-        let s = WORD_BITS * w + u64::trailing_zeros(rest) as usize;
-        distances[s] = d;
-        rest &= rest - 1;
+        join_predecessor(before, s, steps.row(s));
     }
 }
 
 // d is the distance of each state of the layer.
 fn mark(distances: &mut [u16; MAX_STATES], layer: StateSet, d: u16)
 {
-    for w in 0..WORDS {
-        mark_word(distances, w, layer.words[w], d);
+    for s in layer.states() {
+        distances[s] = d;
     }
 }
 
 // The distance of each state by the rows transposed: the next layer is what steps into this one and is not found yet.
-fn sweep_transposed(rows: &[u64], n: usize, forbidden: StateSet) -> [u16; MAX_STATES]
+// kept: beside all_distances, which may begin again by this: in one loop the closure would give up by None
+fn sweep_transposed(steps: Steps, n: usize, forbidden: StateSet) -> [u16; MAX_STATES]
 {
-    let none = [0; WORDS];
-    let mut before = [none; MAX_STATES];
-    join_predecessors(&mut before, rows, n);
+    let mut before = [[0; WORDS]; MAX_STATES];
+    join_predecessors(&mut before, steps, n);
     let mut distances = [UNREACHABLE; MAX_STATES];
     let mut found = forbidden;
     let mut layer = forbidden;
     let mut d: u16 = 0;
+    // kept: d beside the loop, whose test is of the layer; a range of u16 with a second exit is no plainer
     while !layer.is_empty() {
         mark(&mut distances, layer, d);
         layer = union_of(&before, layer).difference(found);
@@ -101,19 +79,20 @@ fn transposing_pays(d: u16, layer: StateSet, rest: StateSet) -> bool {
 
 // The distance of each state, layer by layer from the forbidden states outward: the next layer is what is left and steps into this one. Where that
 // would be many thin layers, the sweep begins again by the rows transposed, which look at each state once.
-pub fn all_distances(rows: &[u64], n: usize, forbidden: StateSet) -> [u16; MAX_STATES]
+pub fn all_distances(steps: Steps, n: usize, forbidden: StateSet) -> [u16; MAX_STATES]
 {
     let mut distances = [UNREACHABLE; MAX_STATES];
     let mut found = forbidden;
     let mut layer = forbidden;
     let mut d = 0;
+    // kept: d beside the loop, as in sweep_transposed
     while !layer.is_empty() {
         let rest = StateSet::first_states(n).difference(found);
         if transposing_pays(d, layer, rest) {
-            return sweep_transposed(rows, n, forbidden);
+            return sweep_transposed(steps, n, forbidden);
         }
         mark(&mut distances, layer, d);
-        layer = stepping_into(rows, rest, layer);
+        layer = stepping_into(steps, rest, layer);
         found = found.union(layer);
         d += 1;
     }
@@ -122,32 +101,14 @@ pub fn all_distances(rows: &[u64], n: usize, forbidden: StateSet) -> [u16; MAX_S
 
 // ---- the call
 
-// The distances of the first n states, at the front of the buffer.
-fn put_distances(distances: &[u16; MAX_STATES], n: usize, out: &mut [u16])
-{
-    for s in 0..n {
-        out[s] = distances[s];
-    }
-}
-
-// What the call distances answers: that they are written, or why it is refused.
-#[derive(Clone, Copy)]
-pub enum DistancesAnswer {
-    Written,
-    Refused(u8),
-}
-
 // The distance of each state to the nearest forbidden one, UNREACHABLE where none can be reached; places past n stay.
-pub fn distances(store: &[u64], n: usize, g: usize, out: &mut [u16]) -> DistancesAnswer
+pub fn distances(store: &[u64], n: usize, g: usize, out: &mut [u16]) -> Result<(), Refusal>
 {
-    let refused = refusal(store, n, g);
-    if refused != 0 {
-        return DistancesAnswer::Refused(refused);
-    }
+    accept(store, n, g)?;
     if out.len() < n {
-        return DistancesAnswer::Refused(DISTANCES_SHORT);
+        return Err(Refusal::DistancesShort);
     }
-    let known = all_distances(&store[ROWS_AT..], n, forbidden(store, n));
-    put_distances(&known, n, out);
-    DistancesAnswer::Written
+    let known = all_distances(Steps::of(store), n, forbidden(store, n));
+    out[..n].copy_from_slice(&known[..n]);
+    Ok(())
 }

@@ -6,20 +6,18 @@
 //   has_step                     whether a step exists
 //   set_step, clear_step         its bit set, or cleared, in the store
 //   from_initial                 what the initial states reach
-//   edit_refusal                 the first of the grounds 10, 14, 15, 17 and 27 that holds, or 0
-//   Status, Session              what a call answers
-//   edit                         a step added or removed
+//   accept_edit                  refuses by the first of the grounds 10, 14, 15, 17 and 27 that holds
 //   open, add_step, remove_step  the calls
 
 use crate::core_reach::reached;
-use crate::core_refusals::STEP_STATE;
-use crate::core_rows::row_at;
+use crate::core_refusals::Refusal;
+use crate::core_rows::Steps;
 use crate::core_state_set::{StateSet, WORD_BITS, WORDS};
-use crate::core_table::{INITIAL_AT, ROWS_AT, refusal, set_at};
+use crate::core_table::{INITIAL_AT, ROWS_AT, accept, set_at};
 
 fn has_step(store: &[u64], from: usize, to: usize) -> bool
 {
-    row_at(&store[ROWS_AT..], from).contains(to)
+    Steps::of(store).row(from).contains(to)
 }
 
 // The bit of the step, in its one word.
@@ -36,118 +34,26 @@ fn clear_step(store: &mut [u64], from: usize, to: usize)
 // What the initial states reach.
 fn from_initial(store: &[u64]) -> StateSet
 {
-    reached(&store[ROWS_AT..], set_at(store, INITIAL_AT))
+    reached(Steps::of(store), set_at(store, INITIAL_AT))
 }
 
-// Why an edit is refused, or 0.
-fn edit_refusal(store: &[u64], n: usize, g: usize, from: usize, to: usize) -> u8
+// Whether an edit is accepted.
+fn accept_edit(store: &[u64], n: usize, g: usize, from: usize, to: usize) -> Result<(), Refusal>
 {
-    let shared = refusal(store, n, g);
-    if shared != 0 {
-        return shared;
+    accept(store, n, g)?;
+    if n <= from || n <= to {
+        return Err(Refusal::StepState);
     }
-    if n <= from {
-        return STEP_STATE;
-    }
-    if n <= to {
-        return STEP_STATE;
-    }
-    0
+    Ok(())
 }
 
-#[derive(Clone, Copy)]
-pub enum Status {
-    Accepted,
-    Refused(u8),
-}
-
-// What a call answers. Where it is refused the set is the one that was handed in, and of an opening the empty one.
-#[derive(Clone, Copy)]
-pub struct Session {
-    pub reachable: StateSet,
-    pub status: Status,
-}
-
-pub fn open(store: &[u64], n: usize, g: usize) -> Session
+pub fn open(store: &[u64], n: usize, g: usize) -> Result<StateSet, Refusal>
 {
-    let refused = refusal(store, n, g);
-    if refused != 0 {
-        return Session {
-            reachable: StateSet::empty(),
-            status: Status::Refused(refused),
-        };
-    }
-    let reachable = from_initial(store);
-    Session {
-        reachable,
-        status: Status::Accepted,
-    }
+    accept(store, n, g)?;
+    Ok(from_initial(store))
 }
 
-// What is done to a step.
-#[derive(Clone, Copy)]
-enum Change {
-    Add,
-    Remove,
-}
-
-// A step added or removed. Nothing is pruned at states of the set that was handed in: it need not have the steps out of them.
-fn edit(
-    store: &mut [u64],
-    n: usize,
-    g: usize,
-    reachable: StateSet,
-    change: Change,
-    from: usize,
-    to: usize,
-) -> Session
-{
-    let refused = edit_refusal(store, n, g, from, to);
-    if refused != 0 {
-        return Session {
-            reachable,
-            status: Status::Refused(refused),
-        };
-    }
-    let exists = has_step(store, from, to);
-    match change {
-        Change::Add => {
-            if exists {
-                return Session {
-                    reachable,
-                    status: Status::Accepted,
-                };
-            }
-            set_step(store, from, to);
-            if !reachable.contains(from) {
-                return Session {
-                    reachable,
-                    status: Status::Accepted,
-                };
-            }
-            let found = reached(&store[ROWS_AT..], StateSet::single(to));
-            Session {
-                reachable: reachable.union(found),
-                status: Status::Accepted,
-            }
-        }
-        Change::Remove => {
-            if !exists {
-                return Session {
-                    reachable,
-                    status: Status::Accepted,
-                };
-            }
-            clear_step(store, from, to);
-            let found = from_initial(store);
-            Session {
-                reachable: found,
-                status: Status::Accepted,
-            }
-        }
-    }
-}
-
+// From a state outside the set nothing is looked at: the set need not have the states that it leads to.
 pub fn add_step(
     store: &mut [u64],
     n: usize,
@@ -155,9 +61,18 @@ pub fn add_step(
     reachable: StateSet,
     from: usize,
     to: usize,
-) -> Session
+) -> Result<StateSet, Refusal>
 {
-    edit(store, n, g, reachable, Change::Add, from, to)
+    accept_edit(store, n, g, from, to)?;
+    if has_step(store, from, to) {
+        return Ok(reachable);
+    }
+    set_step(store, from, to);
+    if !reachable.contains(from) {
+        return Ok(reachable);
+    }
+    let found = reached(Steps::of(store), StateSet::single(to));
+    Ok(reachable.union(found))
 }
 
 pub fn remove_step(
@@ -167,7 +82,13 @@ pub fn remove_step(
     reachable: StateSet,
     from: usize,
     to: usize,
-) -> Session
+) -> Result<StateSet, Refusal>
 {
-    edit(store, n, g, reachable, Change::Remove, from, to)
+    accept_edit(store, n, g, from, to)?;
+    if !has_step(store, from, to) {
+        return Ok(reachable);
+    }
+    clear_step(store, from, to);
+    let found = from_initial(store);
+    Ok(found)
 }

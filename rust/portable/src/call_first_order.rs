@@ -6,22 +6,16 @@
 //   first_order                         the order in which the first round expands the states of R
 
 use crate::core_fixpoints::{Order, forward};
+use crate::core_refusals::Refusal;
 use crate::core_rounds::not_forbidden;
-use crate::core_rows::forbidden;
+use crate::core_rows::{Steps, forbidden};
 use crate::core_state_set::{MAX_STATES, StateSet, WORDS};
-use crate::core_table::{GROUPS_AT, INITIAL_AT, ROWS_AT, refusal, set_at};
+use crate::core_table::{GROUPS_AT, INITIAL_AT, accept, set_at};
 
-// How many states were expanded, or the number of the ground on which the call is refused.
-#[derive(Clone, Copy)]
-pub enum Expansion {
-    Listed(usize),
-    Refused(u8),
-}
-
-// The answer, with the states beside it where it is not refused.
+// How many states were expanded, and these at the front of an array.
 #[derive(Clone, Copy)]
 pub struct FirstOrder {
-    pub expansion: Expansion,
+    pub count: usize,
     pub states: Order,
 }
 
@@ -35,36 +29,29 @@ fn met_with(older: StateSet, z: StateSet, s: usize) -> StateSet
 fn first_cover_of(groups: &[u64], g: usize, n: usize, z: StateSet, s: usize) -> StateSet
 {
     let mut met = StateSet::first_states(n);
-    let mut left = g;
-    while 0 < left {
-        left -= 1;
-        met = met_with(met, set_at(groups, WORDS * left), s);
+    for j in (0..g).rev() {
+        met = met_with(met, set_at(groups, WORDS * j), s);
     }
     met_with(met, z, s)
 }
 
 // The order in which the first round of a table expands the states of R, for programs and tests.
-pub fn first_order(store: &[u64], n: usize, g: usize) -> FirstOrder
+pub fn first_order(store: &[u64], n: usize, g: usize) -> Result<FirstOrder, Refusal>
 {
-    let refused = refusal(store, n, g);
-    if refused != 0 {
-        return FirstOrder {
-            expansion: Expansion::Refused(refused),
-            states: [0; MAX_STATES],
-        };
-    }
+    accept(store, n, g)?;
     let z = not_forbidden(n, forbidden(store, n));
     let none = [0; WORDS];
     let mut cover = [none; MAX_STATES];
-    for s in 0..MAX_STATES {
+    for (s, row) in cover.iter_mut().enumerate() {
+        // kept: `*row = first_cover_of(..).words` stops at the borrow checker, as a call's field stored straight
         let words = first_cover_of(&store[GROUPS_AT..], g, n, z, s).words;
-        cover[s] = words;
+        *row = words;
     }
-    let reached = forward(&store[ROWS_AT..], &cover, set_at(store, INITIAL_AT), z);
-    let count = reached.count;
+    let reached = forward(Steps::of(store), &cover, set_at(store, INITIAL_AT), z);
+    // kept: tried `states: reached.order`; the borrow checker stops at an array field made part of a literal
     let states = reached.order;
-    FirstOrder {
-        expansion: Expansion::Listed(count),
+    Ok(FirstOrder {
+        count: reached.count,
         states,
-    }
+    })
 }

@@ -2,8 +2,8 @@
 
 // The call `generate`: the table that a seed gives, put into a lent store (the specification, "A load that can be repeated").
 //
-//   Generated, generate          the store is filled, or why the call is refused
-//   refusal                      the first of the grounds 10, 14 and 22 that holds, or 0
+//   generate                     the store is filled, or why the call is refused
+//   accept_load                  refuses by the first of the grounds 10, 14 and 22 that holds
 //   put_numbers                  the first numbers; put_start, put_sums: those before the first sum, and some sums
 //   fill                         the table of some numbers put into the store
 //   put_rows                     the row of each state
@@ -11,7 +11,7 @@
 //
 // n is the number of states and f the fan-out. The call, `generate`, asks for nothing.
 
-use crate::core_refusals::{FAN_OUT, STATES, STORE_SHORT};
+use crate::core_refusals::Refusal;
 use crate::core_state_set::{MAX_STATES, StateSet, WORD_BITS, WORDS};
 use crate::core_table::{INITIAL_AT, MARKED_AT, ROWS_AT, STORE_WORDS, clear, put_set};
 
@@ -27,41 +27,32 @@ const INCREMENT: u32 = 2654435769;
 // The numbers of the largest load, LONG_LAG to start with and one for each of its successors, and what the last turn puts behind them.
 const NUMBERS: usize = LONG_LAG + MAX_STATES * MAX_FAN_OUT + SHORT_LAG;
 
-#[derive(Clone, Copy)]
-pub enum Generated {
-    Filled,
-    Refused(u8),
-}
-
-pub fn generate(seed: u32, n: usize, fan_out: usize, store: &mut [u64]) -> Generated
+pub fn generate(seed: u32, n: usize, fan_out: usize, store: &mut [u64]) -> Result<(), Refusal>
 {
-    let refused = refusal(n, fan_out, store.len());
-    if refused != 0 {
-        return Generated::Refused(refused);
-    }
+    accept_load(n, fan_out, store.len())?;
     let count = LONG_LAG + n * fan_out;
     let mut numbers = [0u32; NUMBERS];
     put_numbers(seed, count, &mut numbers);
     fill(&numbers[..count], n, fan_out, store);
-    Generated::Filled
+    Ok(())
 }
 
-// Why a load is refused where the store has `room` words, or 0.
-fn refusal(n: usize, f: usize, room: usize) -> u8
+// Whether a load is accepted where the store has `room` words.
+fn accept_load(n: usize, f: usize, room: usize) -> Result<(), Refusal>
 {
     if room < STORE_WORDS {
-        return STORE_SHORT;
+        return Err(Refusal::StoreShort);
     }
     if n == 0 {
-        return STATES;
+        return Err(Refusal::States);
     }
     if MAX_STATES < n {
-        return STATES;
+        return Err(Refusal::States);
     }
     if MAX_FAN_OUT < f {
-        return FAN_OUT;
+        return Err(Refusal::FanOut);
     }
-    0
+    Ok(())
 }
 
 // ---- the numbers
@@ -70,6 +61,7 @@ fn refusal(n: usize, f: usize, room: usize) -> u8
 fn put_start(seed: u32, buffer: &mut [u32])
 {
     buffer[0] = seed;
+    // kept: each number is made of one before it in the buffer that is written, so an iterator over it is no plainer.
     for k in 1..LONG_LAG {
         buffer[k] = u32::wrapping_add(buffer[k - 1], INCREMENT);
     }
@@ -78,6 +70,7 @@ fn put_start(seed: u32, buffer: &mut [u32])
 // The SHORT_LAG sums that follow the first `made` numbers. None of them is a term of another, so that the compiler adds four at a time.
 fn put_sums(made: usize, buffer: &mut [u32])
 {
+    // kept: as in put_start.
     for k in made..made + SHORT_LAG {
         buffer[k] = u32::wrapping_add(buffer[k - SHORT_LAG], buffer[k - LONG_LAG]);
     }
@@ -129,18 +122,14 @@ fn remainder(x: u64, n: u64, inverse: u64) -> u64
 fn put_remainders(numbers: &[u32], n: usize, inverse: u64, row: &mut [u64])
 {
     put_set(row, 0, StateSet::empty());
-    for i in 0..numbers.len() {
-        let t = narrow(remainder(wide(numbers[i]), n as u64, inverse));
+    for x in numbers {
+        let t = narrow(remainder(u64::from(*x), n as u64, inverse));
         row[t / WORD_BITS] |= 1 << (t % WORD_BITS);
     }
 }
 
-fn wide(x: u32) -> u64
-{
-    x as u64
-}
-
 // A number of 64 bits as a place, in a function of its own: where a place has 32 bits it is looked at (scripts/portable).
+// kept: `usize::try_from` gives an error, which never comes, to answer for: no plainer.
 fn narrow(x: u64) -> usize
 {
     usize::try_from(x).expect("a number that fits")

@@ -4,44 +4,34 @@
 //
 //   check_on, path_on              a release check, and the path, on given rows
 //   is_malformed, any_impossible     grounds 17 and 28 of the possible steps
-//   refusal_of                     the grounds in order
+//   accept_possible                refuses by the first of the grounds 10, 14, 15, 17, 28 and 21 that holds
 //   decide_modal                   the call
 //
 // The certain rows are those of the store; the possible ones are read where they are lent.
 
-use crate::call_paths::{find_path, steps_of};
-use crate::core_refusals::{NOT_POSSIBLE, PATH_SHORT, STORE_SHORT, STRAY_BIT};
+use crate::call_paths::find_path;
+use crate::core_refusals::Refusal;
 use crate::core_rounds::{Ending, MAX_ALLOWANCE, run};
-use crate::core_rows::{forbidden_by, row_at};
+use crate::core_rows::{Steps, forbidden_by};
 use crate::core_state_set::{MAX_STATES, StateSet, WORDS};
-use crate::core_table::{GROUPS_AT, INITIAL_AT, ROWS_AT, any_stored, any_stored_beyond, refusal, set_at};
+use crate::core_table::{GROUPS_AT, INITIAL_AT, accept, any_stored, any_stored_beyond, set_at};
 
 // The words that the rows of possible steps take.
 pub const POSSIBLE_WORDS: usize = WORDS * MAX_STATES;
 
 // ---- a check, and a path
 
-// Whether a release check says safe, with its invariant, or the empty set.
-#[derive(Clone, Copy)]
-pub struct Checked {
-    pub safe: bool,
-    pub invariant: StateSet,
-}
-
-fn is_safe(ending: Ending) -> bool
+// A release check of the store's table with these forbidden states and rows: the invariant, where it says safe.
+fn check_on(
+    store: &[u64],
+    n: usize,
+    g: usize,
+    forbidden: StateSet,
+    steps: Steps,
+) -> Option<StateSet>
 {
-    match ending {
-        Ending::Safe(_) => true,
-        Ending::Unsafe(_) => false,
-        Ending::Undecided(_) => false,
-    }
-}
-
-// A release check of the store's table with these forbidden states and rows.
-fn check_on(store: &[u64], n: usize, g: usize, forbidden: StateSet, rows: &[u64]) -> Checked
-{
-    let ended = run(
-        rows,
+    let ending = run(
+        steps,
         &store[GROUPS_AT..],
         g,
         n,
@@ -49,18 +39,20 @@ fn check_on(store: &[u64], n: usize, g: usize, forbidden: StateSet, rows: &[u64]
         forbidden,
         MAX_ALLOWANCE,
     );
-    let ending = ended.ending;
-    let invariant = ended.invariant;
-    Checked {
-        safe: is_safe(ending),
-        invariant,
+    match ending {
+        Ending::Safe {
+            count: _,
+            invariant,
+        } => Some(invariant),
+        Ending::Unsafe { count: _ } => None,
+        Ending::Undecided { count: _ } => None,
     }
 }
 
 // The path on those rows at the front of the buffer, and its steps; groups play no part.
-fn path_on(store: &[u64], n: usize, forbidden: StateSet, rows: &[u64], path: &mut [u16]) -> usize
+fn path_on(store: &[u64], n: usize, forbidden: StateSet, steps: Steps, path: &mut [u16]) -> usize
 {
-    steps_of(find_path(rows, n, set_at(store, INITIAL_AT), forbidden, path))
+    find_path(steps, n, set_at(store, INITIAL_AT), forbidden, path).unwrap_or(0)
 }
 
 // ---- refusals
@@ -68,62 +60,63 @@ fn path_on(store: &[u64], n: usize, forbidden: StateSet, rows: &[u64], path: &mu
 // A 1 bit for a state from n up, or a word of an unused row not 0.
 fn is_malformed(possible: &[u64], n: usize) -> bool
 {
-    if any_stored_beyond(possible, 0, n, n) {
-        return true;
-    }
-    any_stored(possible, WORDS * n, MAX_STATES - n)
+    any_stored_beyond(possible, 0, n, n) || any_stored(possible, WORDS * n, MAX_STATES - n)
 }
 
 // A certain step is not possible.
-fn any_impossible(store: &[u64], n: usize, possible: &[u64]) -> bool
+fn any_impossible(store: &[u64], n: usize, possible: Steps) -> bool
 {
+    let certain = Steps::of(store);
     for s in 0..n {
-        if !row_at(&store[ROWS_AT..], s).is_subset(row_at(possible, s)) {
+        if !certain.row(s).is_subset(possible.row(s)) {
             return true;
         }
     }
     false
 }
 
-// Why a call is refused, or 0.
-fn refusal_of(store: &[u64], n: usize, g: usize, possible: &[u64], room: usize) -> u8
+// Whether a call is accepted where the path has so much room.
+fn accept_possible(
+    store: &[u64],
+    n: usize,
+    g: usize,
+    possible: &[u64],
+    room: usize,
+) -> Result<(), Refusal>
 {
     if possible.len() < POSSIBLE_WORDS {
-        return STORE_SHORT;
+        return Err(Refusal::StoreShort);
     }
-    let shared = refusal(store, n, g);
-    if shared != 0 {
-        return shared;
-    }
+    accept(store, n, g)?;
     if is_malformed(possible, n) {
-        return STRAY_BIT;
+        return Err(Refusal::StrayBit);
     }
-    if any_impossible(store, n, possible) {
-        return NOT_POSSIBLE;
+    if any_impossible(store, n, Steps { words: possible }) {
+        return Err(Refusal::NotPossible);
     }
     if room < MAX_STATES {
-        return PATH_SHORT;
+        return Err(Refusal::PathShort);
     }
-    0
+    Ok(())
 }
 
 // ---- the call
 
-// Safe with the number of states of the invariant, unsafe with the steps of the path, depends with both. `Refused` has the number of the
-// ground on which the call is refused.
+// Safe with the invariant and the number of its states, unsafe with the steps of the path, depends with all of these.
 #[derive(Clone, Copy)]
 pub enum ModalVerdict {
-    Safe { size: usize },
-    Unsafe { steps: usize },
-    Depends { size: usize, steps: usize },
-    Refused(u8),
-}
-
-// The verdict, with the invariant beside it, or the empty set where that is unsafe or the call is refused.
-#[derive(Clone, Copy)]
-pub struct ModalDecision {
-    pub verdict: ModalVerdict,
-    pub invariant: StateSet,
+    Safe {
+        invariant: StateSet,
+        size: usize,
+    },
+    Unsafe {
+        steps: usize,
+    },
+    Depends {
+        invariant: StateSet,
+        size: usize,
+        steps: usize,
+    },
 }
 
 // The buffer gets one path at most: it is written once both checks are made.
@@ -133,42 +126,29 @@ pub fn decide_modal(
     g: usize,
     possible: &[u64],
     path: &mut [u16],
-) -> ModalDecision
+) -> Result<ModalVerdict, Refusal>
 {
-    let refused = refusal_of(store, n, g, possible, path.len());
-    if refused != 0 {
-        return ModalDecision {
-            verdict: ModalVerdict::Refused(refused),
-            invariant: StateSet::empty(),
-        };
-    }
+    accept_possible(store, n, g, possible, path.len())?;
+    let possible = Steps { words: possible };
+    let certain = Steps::of(store);
     // a hang has no possible step: the same for every choice
     let forbidden = forbidden_by(store, n, possible);
     let on_possible = check_on(store, n, g, forbidden, possible);
-    if on_possible.safe {
-        let invariant = on_possible.invariant;
-        return ModalDecision {
-            verdict: ModalVerdict::Safe {
-                size: invariant.count(),
-            },
+    if let Some(invariant) = on_possible {
+        return Ok(ModalVerdict::Safe {
             invariant,
-        };
+            size: invariant.count(),
+        });
     }
-    let on_certain = check_on(store, n, g, forbidden, &store[ROWS_AT..]);
-    if !on_certain.safe {
-        return ModalDecision {
-            verdict: ModalVerdict::Unsafe {
-                steps: path_on(store, n, forbidden, &store[ROWS_AT..], path),
-            },
-            invariant: StateSet::empty(),
-        };
-    }
-    let invariant = on_certain.invariant;
-    ModalDecision {
-        verdict: ModalVerdict::Depends {
+    let on_certain = check_on(store, n, g, forbidden, certain);
+    Ok(match on_certain {
+        Some(invariant) => ModalVerdict::Depends {
+            invariant,
             size: invariant.count(),
             steps: path_on(store, n, forbidden, possible, path),
         },
-        invariant,
-    }
+        None => ModalVerdict::Unsafe {
+            steps: path_on(store, n, forbidden, certain, path),
+        },
+    })
 }

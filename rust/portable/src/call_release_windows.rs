@@ -4,14 +4,14 @@
 // is whole minutes since a Saturday, 00:00, and weeks begin on Saturday.
 //
 //   start_of, length_of          a window is one 64-bit number: its start in the low 32 bits, its length in the high
-//   refusal                      the grounds on which a call is refused
+//   accept_call                  refuses by the first of the grounds 31, 30 and 29 that holds
 //   wait_for, least_wait         the minutes until a window, or one of the windows, is open
 //   is_closed                    a day is one of the closed days
 //   minutes_to_open              the minutes until a window is open on a day that is not closed: jumps from midnight to midnight over closed
 //                                days, and over the least wait on any other, so that even the longest search takes some hundred turns
 //   next_open                    the call
 
-use crate::core_refusals::{TIME, TOO_MANY, WINDOW_RANGE};
+use crate::core_refusals::Refusal;
 
 pub const MAX_TIME: usize = 2147483647;
 
@@ -26,13 +26,6 @@ const WEEK: usize = 10080;
 const SPAN: usize = 655200;
 // A window's length stands above its start.
 const LENGTH_UNIT: u64 = 4294967296;
-
-#[derive(Clone, Copy)]
-pub enum NextOpen {
-    Minute(u32),
-    Never,
-    Refused(u8),
-}
 
 fn start_of(window: u64) -> usize
 {
@@ -57,24 +50,24 @@ fn is_outside(window: u64) -> bool
 fn any_outside(windows: &[u64]) -> bool
 {
     let mut found = false;
-    for i in 0..windows.len() {
-        found |= is_outside(windows[i]);
+    for window in windows {
+        found |= is_outside(*window);
     }
     found
 }
 
-fn refusal(time: usize, windows: &[u64], closed: &[u32]) -> u8
+fn accept_call(time: usize, windows: &[u64], closed: &[u32]) -> Result<(), Refusal>
 {
     if MAX_TIME < time {
-        return TIME;
+        return Err(Refusal::Time);
     }
     if (MAX_WINDOWS < windows.len()) | (MAX_DAYS < closed.len()) {
-        return TOO_MANY;
+        return Err(Refusal::TooMany);
     }
     if any_outside(windows) {
-        return WINDOW_RANGE;
+        return Err(Refusal::WindowRange);
     }
-    0
+    Ok(())
 }
 
 // ---- the search
@@ -94,8 +87,8 @@ fn wait_for(window: u64, minute: usize, most: usize) -> usize
 fn least_wait(windows: &[u64], minute: usize) -> usize
 {
     let mut least = WEEK;
-    for i in 0..windows.len() {
-        least = wait_for(windows[i], minute, least);
+    for window in windows {
+        least = wait_for(*window, minute, least);
     }
     least
 }
@@ -104,8 +97,8 @@ fn least_wait(windows: &[u64], minute: usize) -> usize
 fn is_closed(closed: &[u32], day: u32) -> bool
 {
     let mut found = false;
-    for i in 0..closed.len() {
-        found |= day == closed[i];
+    for closed_day in closed {
+        found |= day == *closed_day;
     }
     found
 }
@@ -131,16 +124,14 @@ fn minutes_to_open(time: usize, windows: &[u64], closed: &[u32]) -> usize
 
 // ---- the call
 
-pub fn next_open(time: usize, windows: &[u64], closed: &[u32]) -> NextOpen
+// The first open minute, if there is one.
+pub fn next_open(time: usize, windows: &[u64], closed: &[u32]) -> Result<Option<u32>, Refusal>
 {
-    let refused = refusal(time, windows, closed);
-    if refused != 0 {
-        return NextOpen::Refused(refused);
-    }
+    accept_call(time, windows, closed)?;
     let wait = minutes_to_open(time, windows, closed);
     if wait < SPAN {
-        NextOpen::Minute((time + wait) as u32)
+        Ok(Some((time + wait) as u32))
     } else {
-        NextOpen::Never
+        Ok(None)
     }
 }

@@ -6,33 +6,26 @@
 //   rewrite          the new file at the front of the output and its length, or why the call is refused
 //   rest_dead_ends   the states without a successor put to rest, and no other
 
-use crate::core_rows::meet_hold;
+use crate::core_refusals::Refusal;
+use crate::core_rows::Steps;
 use crate::core_state_set::StateSet;
-use crate::core_table::{RESTING_AT, ROWS_AT, STORE_WORDS, put_set};
-use crate::file_reading::{TableRead, read_old};
-use crate::file_writing::{Written, write};
+use crate::core_table::{RESTING_AT, STORE_WORDS, put_set};
+use crate::file_reading::read_old;
+use crate::file_writing::write;
 
 // The site of both files.
 const SITE: usize = 0;
 
-pub fn rewrite(input: &[u8], output: &mut [u8]) -> Written
+pub fn rewrite(input: &[u8], output: &mut [u8]) -> Result<usize, Refusal>
 {
     let mut store = [0u64; STORE_WORDS];
-    match read_old(input, SITE, &mut store) {
-        TableRead::Table { n, g } => {
-            rest_dead_ends(&mut store, n);
-            write(&store, n, g, SITE, output)
-        }
-        TableRead::Refused(refusal) => Written::Refused(refusal),
-    }
+    let size = read_old(input, SITE, &mut store)?;
+    rest_dead_ends(&mut store, size.n);
+    write(&store, size.n, size.g, SITE, output)
 }
 
 fn rest_dead_ends(store: &mut [u64], n: usize)
 {
-    let dead = meet_hold(
-        &store[ROWS_AT..],
-        StateSet::first_states(n),
-        StateSet::empty(),
-    );
+    let dead = Steps::of(store).meet_hold(StateSet::first_states(n), StateSet::empty());
     put_set(store, RESTING_AT, dead);
 }

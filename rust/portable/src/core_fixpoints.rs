@@ -3,14 +3,14 @@
 // R and S of a round (the specification, "Rounds"): the two fixpoints, over the rows of a table and the cover in an array.
 //
 //   cover_of                            the cover of a set
-//   expand, expand_word, expand_set, joining, forward
+//   expand, expand_set, joining, forward
 //                                       R, pass by pass: each expands the states that joined by the one before
 //   steps_by_word, held_word_within, meet_hold_within
 //                                       the states that stay in a smaller set
 //   backward                            S, by the states that stay in it
 
-use crate::core_rows::{Rows, held_word, join_successors, row_at, row_of, union_of};
-use crate::core_state_set::{MAX_STATES, StateSet, WORD_BITS, WORDS};
+use crate::core_rows::{Rows, Steps, row_of, union_of};
+use crate::core_state_set::{MAX_STATES, StateSet, WORDS};
 
 // ---- the cover
 
@@ -39,39 +39,24 @@ struct Expanded {
 }
 
 // State s is expanded: it is recorded, and its successors are joined. In `forward` nothing else does either.
-fn expand(rows: &[u64], s: usize, order: &mut Order, done: Expanded) -> Expanded
+fn expand(steps: Steps, s: usize, order: &mut Order, done: Expanded) -> Expanded
 {
-    let count = done.count;
-    let found = done.found;
-    order[count] = s as u16;
+    order[done.count] = s as u16;
     Expanded {
-        count: count + 1,
-        found: found.union(row_at(rows, s)),
+        count: done.count + 1,
+        found: done.found.union(steps.row(s)),
     }
-}
-
-// The states that `bits` has in word w are expanded, rising.
-fn expand_word(rows: &[u64], w: usize, bits: u64, order: &mut Order, done: Expanded) -> Expanded
-{
-    let mut so_far = done;
-    let mut rest = bits;
-    while rest != 0 {
-        let s = WORD_BITS * w + u64::trailing_zeros(rest) as usize;
-        so_far = expand(rows, s, order, so_far);
-        rest &= rest - 1;
-    }
-    so_far
 }
 
 // A pass: the states of x are expanded, rising, as numbers `count` and up; `found` has their successors.
-fn expand_set(rows: &[u64], x: StateSet, order: &mut Order, count: usize) -> Expanded
+fn expand_set(steps: Steps, x: StateSet, order: &mut Order, count: usize) -> Expanded
 {
     let mut so_far = Expanded {
         count,
         found: StateSet::empty(),
     };
-    for w in 0..WORDS {
-        so_far = expand_word(rows, w, x.words[w], order, so_far);
+    for s in x.states() {
+        so_far = expand(steps, s, order, so_far);
     }
     so_far
 }
@@ -92,7 +77,7 @@ pub struct Reached {
 }
 
 // The least x with x = cover(z meet (initial union post(x))). Each pass expands only the states that joined by the one before.
-pub fn forward(rows: &[u64], cover: &Rows, initial: StateSet, z: StateSet) -> Reached
+pub fn forward(steps: Steps, cover: &Rows, initial: StateSet, z: StateSet) -> Reached
 {
     let mut order = [0; MAX_STATES];
     let mut count = 0;
@@ -100,11 +85,10 @@ pub fn forward(rows: &[u64], cover: &Rows, initial: StateSet, z: StateSet) -> Re
     let mut frontier = cover_of(cover, z.meet(initial));
     let mut r = frontier;
     while !frontier.is_empty() {
-        let done = expand_set(rows, frontier, &mut order, count);
+        let done = expand_set(steps, frontier, &mut order, count);
         count = done.count;
-        let found = done.found;
-        entered = entered.union(found);
-        frontier = joining(cover, z, found, r);
+        entered = entered.union(done.found);
+        frontier = joining(cover, z, done.found, r);
         r = r.union(frontier);
     }
     Reached {
@@ -128,40 +112,39 @@ pub struct Remaining {
 pub type WordSteps = [[u64; WORDS]; WORDS];
 
 // What the states of x step to, word by word.
-pub fn steps_by_word(rows: &[u64], x: StateSet) -> WordSteps
+pub fn steps_by_word(steps: Steps, x: StateSet) -> WordSteps
 {
-    let none = [0; WORDS];
-    let mut steps = [none; WORDS];
+    let mut by_word = [[0; WORDS]; WORDS];
     for w in 0..WORDS {
-        let words = join_successors(rows, w, x.words[w], StateSet::empty()).words;
-        steps[w] = words;
+        // kept: the proof does not cover a field that is an array stored straight
+        let words = steps.successors(x.in_word(w)).words;
+        by_word[w] = words;
     }
-    steps
+    by_word
 }
 
 // Word w of x meet hold(y), where every step from x leads into `before`. A state of x is out if it steps to one that `before` has more than y: where
 // no step from the word leads there, no row is looked at.
 fn held_word_within(
-    rows: &[u64],
-    steps: &WordSteps,
+    steps: Steps,
+    by_word: &WordSteps,
     x: StateSet,
     w: usize,
     before: StateSet,
     y: StateSet,
 ) -> u64
 {
-    let words = steps[w];
-    let found = StateSet { words };
+    let found = StateSet { words: by_word[w] };
     if found.meets(before.difference(y)) {
-        return held_word(rows, x, w, y);
+        return steps.held_word(x, w, y);
     }
     x.words[w]
 }
 
 // x meet hold(y), where every step from x leads into `before`.
 fn meet_hold_within(
-    rows: &[u64],
-    steps: &WordSteps,
+    steps: Steps,
+    by_word: &WordSteps,
     x: StateSet,
     before: StateSet,
     y: StateSet,
@@ -169,7 +152,7 @@ fn meet_hold_within(
 {
     let mut words = [0; WORDS];
     for w in 0..WORDS {
-        words[w] = held_word_within(rows, steps, x, w, before, y);
+        words[w] = held_word_within(steps, by_word, x, w, before, y);
     }
     StateSet { words }
 }
@@ -177,8 +160,8 @@ fn meet_hold_within(
 // The greatest x with x = cover(r meet hold(x)), where r is its own cover, and every step from it leads into `entered`. A state of r that steps
 // out of x once stays out, so only those that stay are looked at again, and none where x has not changed.
 pub fn backward(
-    rows: &[u64],
-    steps: &WordSteps,
+    steps: Steps,
+    by_word: &WordSteps,
     cover: &Rows,
     r: StateSet,
     entered: StateSet,
@@ -188,7 +171,7 @@ pub fn backward(
     let mut s = r;
     let mut staying = r;
     loop {
-        let kept = meet_hold_within(rows, steps, staying, before, s);
+        let kept = meet_hold_within(steps, by_word, staying, before, s);
         let smaller = cover_of(cover, kept);
         if smaller.equals(s) {
             return Remaining { s, next: kept };

@@ -5,22 +5,22 @@
 //   newly_reached      the next layer: the successors of a layer that are not reached yet
 //   reached            all states that a set reaches, itself included
 
-use crate::core_rows::successors;
+use crate::core_rows::Steps;
 use crate::core_state_set::StateSet;
 
 // The successors of the states of the layer that are not among those found.
-pub fn newly_reached(rows: &[u64], layer: StateSet, found: StateSet) -> StateSet
+pub fn newly_reached(steps: Steps, layer: StateSet, found: StateSet) -> StateSet
 {
-    successors(rows, layer).difference(found)
+    steps.successors(layer).difference(found)
 }
 
 // The least x with x = from union post(x).
-pub fn reached(rows: &[u64], from: StateSet) -> StateSet
+pub fn reached(steps: Steps, from: StateSet) -> StateSet
 {
     let mut found = from;
     let mut layer = from;
     while !layer.is_empty() {
-        layer = newly_reached(rows, layer, found);
+        layer = newly_reached(steps, layer, found);
         found = found.union(layer);
     }
     found

@@ -1,48 +1,43 @@
 // Made by scripts/portable from crates/core_refusals/src/lib.rt, which is proved. Change that one.
 
-// Generated from include/shuntberry.h: do not edit. The numbers of the refusals, by the header's names. The definitions have the numbers
+// Generated from include/shuntberry.h: do not edit. The refusals and their numbers, by the header's names. The definitions have the numbers
 // themselves, as the specification says them: where one differs, each proof falls that it stands in.
 
-pub const STORE_SHORT: u8 = 10;
+// Why a call is refused.
+#[derive(Clone, Copy, Debug, PartialEq, Eq)]
+pub enum Refusal {
+    StoreShort = 10,
+    InputLength = 11,
+    BlockNumber = 12,
+    BlockCheck = 13,
+    States = 14,
+    Groups = 15,
+    BlockCount = 16,
+    StrayBit = 17,
+    Filler = 18,
+    OutputShort = 19,
+    Allowance = 20,
+    PathShort = 21,
+    FanOut = 22,
+    DistancesShort = 23,
+    Site = 24,
+    LogOdd = 25,
+    LogLong = 26,
+    StepState = 27,
+    NotPossible = 28,
+    WindowRange = 29,
+    TooMany = 30,
+    Time = 31,
+}
 
-pub const INPUT_LENGTH: u8 = 11;
+impl From<Refusal> for u8 {
+    fn from(refusal: Refusal) -> u8 {
+        refusal as u8
+    }
+}
 
-pub const BLOCK_NUMBER: u8 = 12;
-
-pub const BLOCK_CHECK: u8 = 13;
-
-pub const STATES: u8 = 14;
-
-pub const GROUPS: u8 = 15;
-
-pub const BLOCK_COUNT: u8 = 16;
-
-pub const STRAY_BIT: u8 = 17;
-
-pub const FILLER: u8 = 18;
-
-pub const OUTPUT_SHORT: u8 = 19;
-
-pub const ALLOWANCE: u8 = 20;
-
-pub const PATH_SHORT: u8 = 21;
-
-pub const FAN_OUT: u8 = 22;
-
-pub const DISTANCES_SHORT: u8 = 23;
-
-pub const SITE: u8 = 24;
-
-pub const LOG_ODD: u8 = 25;
-
-pub const LOG_LONG: u8 = 26;
-
-pub const STEP_STATE: u8 = 27;
-
-pub const NOT_POSSIBLE: u8 = 28;
-
-pub const WINDOW_RANGE: u8 = 29;
-
-pub const TOO_MANY: u8 = 30;
-
-pub const TIME: u8 = 31;
+impl From<Refusal> for u32 {
+    fn from(refusal: Refusal) -> u32 {
+        refusal as u32
+    }
+}

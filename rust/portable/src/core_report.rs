@@ -113,8 +113,8 @@ fn put_member(x: StateSet, s: usize, at: usize, out: &mut [u8]) -> usize
 fn put_path(path: &[u16], at: usize, out: &mut [u8]) -> usize
 {
     let mut end = at;
-    for i in 0..path.len() {
-        end = put_spaced(path[i] as usize, end, out);
+    for s in path {
+        end = put_spaced(*s as usize, end, out);
     }
     end
 }
@@ -149,10 +149,7 @@ fn put_digit(d: usize, at: usize, out: &mut [u8]) -> usize
 
 fn put(text: &[u8], at: usize, out: &mut [u8]) -> usize
 {
-    let mut end = at;
-    for i in 0..text.len() {
-        out[end] = text[i];
-        end += 1;
-    }
+    let end = at + text.len();
+    out[at..end].copy_from_slice(text);
     end
 }

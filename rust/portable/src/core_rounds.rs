@@ -3,31 +3,24 @@
 // The rounds (the specification, "Rounds").
 //
 //   not_forbidden                       Z of the first round
-//   next_added                          the set that is added to the list next
+//   narrow                              the cover, a row for each state, once a set is added to the list
 //   conclude                            what a round comes to
-//   run                                 the rounds, and the cover: a row of words for each state, narrowed as a set is added to the list
+//   run                                 the rounds
 
 use crate::core_fixpoints::{WordSteps, backward, forward, steps_by_word};
-use crate::core_rows::{Rows, row_of};
-use crate::core_state_set::{MAX_STATES, StateSet, WORD_BITS, WORDS};
+use crate::core_rows::{Rows, Steps, row_of};
+use crate::core_state_set::{MAX_STATES, StateSet, WORDS};
 use crate::core_table::set_at;
 
 // As many refinements as there can be states.
 pub const MAX_ALLOWANCE: usize = MAX_STATES;
 
-// How the rounds end, with the count of refinements.
+// How the rounds end, with the count of refinements, and R where that is safe.
 #[derive(Clone, Copy)]
 pub enum Ending {
-    Safe(usize),
-    Unsafe(usize),
-    Undecided(usize),
-}
-
-// The ending, with R beside it where that is safe and the empty set where it is not.
-#[derive(Clone, Copy)]
-pub struct Ended {
-    pub ending: Ending,
-    pub invariant: StateSet,
+    Safe { count: usize, invariant: StateSet },
+    Unsafe { count: usize },
+    Undecided { count: usize },
 }
 
 // Z of the first round: the states of the table that are not forbidden.
@@ -36,124 +29,74 @@ pub fn not_forbidden(n: usize, forbidden: StateSet) -> StateSet
     StateSet::first_states(n).difference(forbidden)
 }
 
-// The set that is added to the list next: the last of the j groups that are still to be added, or z where there is none.
-fn next_added(groups: &[u64], j: usize, z: StateSet) -> StateSet
+// The cover once z is added to the list: that of each state of z is met with it.
+fn narrow(cover: &mut Rows, z: StateSet)
 {
-    if j == 0 {
-        return z;
+    for s in z.states() {
+        // kept: `cover[s] = row_of(cover, s).meet(z).words` stops at the borrow checker, a call's field stored
+        let words = row_of(cover, s).meet(z).words;
+        cover[s] = words;
     }
-    set_at(groups, WORDS * (j - 1))
 }
 
-// What a round comes to: safe (step 2), unsafe (step 4), or neither.
+// What a round comes to: safe with R (step 2), unsafe (step 4), or neither, with the next Z.
 #[derive(Clone, Copy)]
 pub enum Conclusion {
-    Safe,
+    Safe(StateSet),
     Unsafe,
-    Open,
-}
-
-// The conclusion, with R beside it where that is safe, the next Z where it is open, and the empty set where it is unsafe.
-#[derive(Clone, Copy)]
-pub struct Concluded {
-    pub conclusion: Conclusion,
-    pub set: StateSet,
+    Open(StateSet),
 }
 
 // Steps 1 to 4 of a round, and the Z of step 6.
 fn conclude(
-    rows: &[u64],
-    steps: &WordSteps,
+    steps: Steps,
+    by_word: &WordSteps,
     cover: &Rows,
     initial: StateSet,
     z: StateSet,
-) -> Concluded
+) -> Conclusion
 {
-    let reached = forward(rows, cover, initial, z);
+    let reached = forward(steps, cover, initial, z);
     let r = reached.r;
     let entered = reached.entered;
     if entered.is_subset(z) {
-        return Concluded {
-            conclusion: Conclusion::Safe,
-            set: r,
-        };
+        return Conclusion::Safe(r);
     }
-    let held = backward(rows, steps, cover, r, entered);
-    let s = held.s;
-    let next = held.next;
-    if !initial.is_subset(s) {
-        return Concluded {
-            conclusion: Conclusion::Unsafe,
-            set: StateSet::empty(),
-        };
+    let held = backward(steps, by_word, cover, r, entered);
+    if !initial.is_subset(held.s) {
+        return Conclusion::Unsafe;
     }
-    Concluded {
-        conclusion: Conclusion::Open,
-        set: next,
-    }
+    Conclusion::Open(held.next)
 }
 
-// The rounds, from 0 on, till one of them says safe or unsafe or the allowance is used. The cover is an array of arrays by value, whose rows are
-// stored here alone. Each turn of the outer loop adds a set to the list and meets the cover of each of its states with it: first the groups, from
-// the last to the first, then Z0 and the Z of each later round, with which that round begins.
+// The rounds, from 0 on, till one of them says safe or unsafe or the allowance is used. The cover is that of the
+// list, to which the groups are added first, from the last to the first, and then, as each round begins, its Z.
 pub fn run(
-    rows: &[u64],
+    steps: Steps,
     groups: &[u64],
     g: usize,
     n: usize,
     initial: StateSet,
     forbidden: StateSet,
     allowance: usize,
-) -> Ended
+) -> Ending
 {
     let all = StateSet::first_states(n);
-    let steps = steps_by_word(rows, all);
+    let by_word = steps_by_word(steps, all);
+    // kept: tried `[all.words; MAX_STATES]`; the borrow checker stops at an element that is a field
     let row = all.words;
     let mut cover = [row; MAX_STATES];
+    for j in (0..g).rev() {
+        narrow(&mut cover, set_at(groups, WORDS * j));
+    }
     let mut z = not_forbidden(n, forbidden);
-    let mut j = g;
-    let mut i = 0;
-    loop {
-        let added = next_added(groups, j, z);
-        for w in 0..WORDS {
-            let mut rest = added.words[w];
-            while rest != 0 {
-                let s = WORD_BITS * w + u64::trailing_zeros(rest) as usize;
-                let words = row_of(&cover, s).meet(added).words;
-                cover[s] = words;
-                rest &= rest - 1;
-            }
-        }
-        if 0 < j {
-            j -= 1;
-            continue;
-        }
-        let round = conclude(rows, &steps, &cover, initial, z);
-        let conclusion = round.conclusion;
-        let set = round.set;
-        match conclusion {
-            Conclusion::Safe => {
-                return Ended {
-                    ending: Ending::Safe(i),
-                    invariant: set,
-                };
-            }
-            Conclusion::Unsafe => {
-                return Ended {
-                    ending: Ending::Unsafe(i),
-                    invariant: set,
-                };
-            }
-            Conclusion::Open => {
-                if i == allowance {
-                    return Ended {
-                        ending: Ending::Undecided(i),
-                        invariant: StateSet::empty(),
-                    };
-                }
-                z = set;
-                i += 1;
-            }
+    for count in 0..=allowance {
+        narrow(&mut cover, z);
+        match conclude(steps, &by_word, &cover, initial, z) {
+            Conclusion::Safe(invariant) => return Ending::Safe { count, invariant },
+            Conclusion::Unsafe => return Ending::Unsafe { count },
+            Conclusion::Open(next) => z = next,
         }
     }
+    Ending::Undecided { count: allowance }
 }

@@ -5,9 +5,11 @@
 //
 //   empty, single, first_states                     no state; one; the states below a number
 //   contains, is_subset, meets, is_empty, equals    tests
-//   union, meet, difference                         word by word
+//   union, meet, difference                         word by word (by_word)
 //   with, without                                   one state more; one fewer
 //   count, smallest                                 the number of states; the least of them
+//   in_word                                         the states of one word
+//   states, States                                  the states, rising, one after the other
 //
 // Each contract is an equality with the model's definition of the same thing.
 
@@ -19,7 +21,7 @@ pub const WORD_BITS: usize = 64;
 // As many as a set can hold.
 pub const MAX_STATES: usize = WORD_BITS * WORDS;
 
-#[derive(Clone, Copy)]
+#[derive(Clone, Copy, Debug, PartialEq, Eq)]
 pub struct StateSet {
     pub words: [u64; WORDS],
 }
@@ -46,8 +48,8 @@ impl StateSet {
     pub fn first_states(n: usize) -> Self
     {
         let mut words = [0; WORDS];
-        for w in 0..WORDS {
-            words[w] = word_below(n, WORD_BITS * w);
+        for (w, word) in words.iter_mut().enumerate() {
+            *word = word_below(n, WORD_BITS * w);
         }
         StateSet { words }
     }
@@ -73,28 +75,29 @@ impl StateSet {
         StateSet::empty().with(s)
     }
 
-    pub fn union(mut self, other: StateSet) -> Self
+    // Each word made by f of the two at its place.
+    // kept: by place and not by `zip`, of which an invariant knows only what its iterators have left
+    fn by_word<F: Fn(u64, u64) -> u64>(mut self, other: StateSet, f: F) -> Self
     {
-        for w in 0..WORDS {
-            self.words[w] |= other.words[w];
+        for (w, x) in self.words.iter_mut().enumerate() {
+            *x = f(*x, other.words[w]);
         }
         self
     }
 
-    pub fn meet(mut self, other: StateSet) -> Self
+    pub fn union(self, other: StateSet) -> Self
     {
-        for w in 0..WORDS {
-            self.words[w] &= other.words[w];
-        }
-        self
+        self.by_word(other, |x, y| x | y)
     }
 
-    pub fn difference(mut self, other: StateSet) -> Self
+    pub fn meet(self, other: StateSet) -> Self
     {
-        for w in 0..WORDS {
-            self.words[w] &= !other.words[w];
-        }
-        self
+        self.by_word(other, |x, y| x & y)
+    }
+
+    pub fn difference(self, other: StateSet) -> Self
+    {
+        self.by_word(other, |x, y| x & !y)
     }
 
     pub fn without(self, s: usize) -> Self
@@ -104,22 +107,13 @@ impl StateSet {
 
     pub fn equals(self, other: StateSet) -> bool
     {
-        for w in 0..WORDS {
-            if self.words[w] != other.words[w] {
-                return false;
-            }
-        }
-        true
+        self == other
     }
 
     // The words are joined and tested once: a test of each word would often be mispredicted.
     pub fn is_empty(self) -> bool
     {
-        let mut all = 0;
-        for w in 0..WORDS {
-            all |= self.words[w];
-        }
-        all == 0
+        self.words.iter().fold(0, |all, word| all | *word) == 0
     }
 
     pub fn is_subset(self, other: StateSet) -> bool
@@ -137,19 +131,62 @@ impl StateSet {
     pub fn count(self) -> usize
     {
         let mut states = 0;
-        for w in 0..WORDS {
-            states += u64::count_ones(self.words[w]) as usize;
+        for word in self.words.iter() {
+            states += word.count_ones() as usize;
         }
         states
     }
+
     // The least state, or the number of states that a set can hold where there is none.
     pub fn smallest(self) -> usize
     {
-        for w in 0..WORDS {
-            if self.words[w] != 0 {
-                return WORD_BITS * w + u64::trailing_zeros(self.words[w]) as usize;
+        for (w, word) in self.words.iter().enumerate() {
+            if *word != 0 {
+                return WORD_BITS * w + word.trailing_zeros() as usize;
             }
         }
         MAX_STATES
+    }
+
+    // The states of word w.
+    pub fn in_word(self, w: usize) -> Self
+    {
+        let mut set = StateSet::empty();
+        set.words[w] = self.words[w];
+        set
+    }
+
+    pub fn states(self) -> States
+    {
+        States {
+            words: self.words,
+            w: 0,
+            rest: self.words[0],
+        }
+    }
+}
+
+// The states of a set, rising: what is left are the ones that `rest` has in word w, and the states in the words after it.
+#[derive(Clone, Copy)]
+pub struct States {
+    pub words: [u64; WORDS],
+    pub w: usize,
+    pub rest: u64,
+}
+
+impl Iterator for States {
+    type Item = usize;
+
+    fn next(&mut self) -> Option<usize> {
+        while self.rest == 0 {
+            if WORDS <= self.w + 1 {
+                return None;
+            }
+            self.w += 1;
+            self.rest = self.words[self.w];
+        }
+        let rest = self.rest;
+        self.rest = rest & (rest - 1);
+        Some(WORD_BITS * self.w + u64::trailing_zeros(rest) as usize)
     }
 }

@@ -7,11 +7,11 @@
 //   any_stored_beyond            whether some of the store's sets have a state from n up
 //   any_stored                   whether some of them have a state
 //   non_zero_word                whether some of its words are not 0
-//   refusal                      the first of the grounds 10, 14, 15 and 17 that holds, or 0
+//   accept                       refuses by the first of the grounds 10, 14, 15 and 17 that holds
 //
-// Functions below the calls ask for a store that is long enough; `refusal` asks for nothing.
+// Functions below the calls ask for a store that is long enough; `accept` asks for nothing.
 
-use crate::core_refusals::{GROUPS, STATES, STORE_SHORT, STRAY_BIT};
+use crate::core_refusals::Refusal;
 use crate::core_state_set::{MAX_STATES, StateSet, WORDS};
 
 pub const MAX_GROUPS: usize = 64;
@@ -32,11 +32,12 @@ pub const ROWS_AT: usize = (HEAD_SETS + MAX_GROUPS) * WORDS;
 pub const STORE_WORDS: usize = (HEAD_SETS + MAX_GROUPS + MAX_STATES) * WORDS;
 
 // The set whose words begin at `at`.
+// kept: by place, as in put_set: `copy_from_slice` tests for an overlap, and takes 50 instructions for 36
 pub fn set_at(store: &[u64], at: usize) -> StateSet
 {
     let mut words = [0; WORDS];
-    for w in 0..WORDS {
-        words[w] = store[at + w];
+    for (w, word) in words.iter_mut().enumerate() {
+        *word = store[at + w];
     }
     StateSet { words }
 }
@@ -44,16 +45,14 @@ pub fn set_at(store: &[u64], at: usize) -> StateSet
 // The words of a table, those of unused groups and rows among them.
 pub fn clear(store: &mut [u64])
 {
-    for i in 0..STORE_WORDS {
-        store[i] = 0;
-    }
+    store[..STORE_WORDS].fill(0);
 }
 
 // A set into the words from `at` on.
 pub fn put_set(store: &mut [u64], at: usize, x: StateSet)
 {
-    for w in 0..WORDS {
-        store[at + w] = x.words[w];
+    for (w, word) in x.words.iter().enumerate() {
+        store[at + w] = *word;
     }
 }
 
@@ -94,11 +93,10 @@ pub fn any_stored(store: &[u64], at: usize, count: usize) -> bool
 // Some word from `from` on and before `to` is not 0. They are joined and tested once, which the compiler does several at a time.
 pub fn non_zero_word(store: &[u64], from: usize, to: usize) -> bool
 {
-    let mut joined = 0;
-    for i in from..to {
-        joined |= store[i];
-    }
-    joined != 0
+    store[from..to]
+        .iter()
+        .fold(0, |joined, word| joined | *word)
+        != 0
 }
 
 // A 1 bit for a state from n up, or a word of an unused group or row not 0.
@@ -128,26 +126,26 @@ fn is_malformed(store: &[u64], n: usize, g: usize) -> bool
 // Groups but no state.
 fn is_groups_alone(n: usize, g: usize) -> bool
 {
-    if n == 0 { g != 0 } else { false }
+    n == 0 && g != 0
 }
 
-// Why a store with n states and g groups is refused, or 0.
-pub fn refusal(store: &[u64], n: usize, g: usize) -> u8
+// Whether a store with n states and g groups is accepted.
+pub fn accept(store: &[u64], n: usize, g: usize) -> Result<(), Refusal>
 {
     if store.len() < STORE_WORDS {
-        return STORE_SHORT;
+        return Err(Refusal::StoreShort);
     }
     if MAX_STATES < n {
-        return STATES;
+        return Err(Refusal::States);
     }
     if is_groups_alone(n, g) {
-        return STATES;
+        return Err(Refusal::States);
     }
     if MAX_GROUPS < g {
-        return GROUPS;
+        return Err(Refusal::Groups);
     }
     if is_malformed(store, n, g) {
-        return STRAY_BIT;
+        return Err(Refusal::StrayBit);
     }
-    0
+    Ok(())
 }

@@ -9,7 +9,7 @@
 
 use crate::core_state_set::{MAX_STATES, StateSet, WORDS};
 use crate::core_table::{GROUPS_AT, HEAD_SETS, MAX_GROUPS, ROWS_AT, put_set};
-use crate::file_blocks::{Form, HEADER, head_sets, set_count, set_width, wide};
+use crate::file_blocks::{Form, HEADER, head_sets, set_count, set_width};
 
 // ---- grounds of the contents
 
@@ -28,18 +28,17 @@ pub fn any_content_beyond(form: Form, bytes: &[u8], n: usize, g: usize) -> bool
 // Set k of the contents has a state from n up: those are in the last of its bytes.
 fn is_set_beyond(bytes: &[u8], n: usize, width: usize, k: usize) -> bool
 {
-    let last = wide(bytes[HEADER + width * k + (width - 1)]);
+    let last = usize::from(bytes[HEADER + width * k + (width - 1)]);
     last >> (n - 8 * (width - 1)) != 0
 }
 
 // Some byte from `from` on and before `to` is not 0. They are joined and tested once, as the words of a store are.
 pub fn non_zero_byte(bytes: &[u8], from: usize, to: usize) -> bool
 {
-    let mut joined = 0;
-    for i in from..to {
-        joined |= bytes[i];
-    }
-    joined != 0
+    bytes[from..to]
+        .iter()
+        .fold(0, |joined, byte| joined | *byte)
+        != 0
 }
 
 // ---- filling
@@ -73,6 +72,7 @@ fn fill_sets(part: &mut [u64], bytes: &[u8], n: usize, first: usize, count: usiz
 // those that `own` has: so no word is a case of its own, and the compiler makes one load of eight bytes.
 fn fill_set(words: &mut [u64], bytes: &[u8], at: usize, own: StateSet)
 {
+    // kept: `words[..WORDS].iter_mut().enumerate()` names one of the three words of a turn, and is no plainer.
     for v in 0..WORDS {
         words[v] = word_in(bytes, at, v) & own.words[v];
     }
@@ -82,8 +82,9 @@ fn fill_set(words: &mut [u64], bytes: &[u8], at: usize, own: StateSet)
 fn word_in(bytes: &[u8], at: usize, v: usize) -> u64
 {
     let mut word: u64 = 0;
+    // kept: from_le_bytes takes an array, into which the eight bytes of the slice would be copied first.
     for b in 0..8 {
-        word |= (wide(bytes[at + (8 * v + b)]) as u64) << (8 * b);
+        word |= u64::from(bytes[at + (8 * v + b)]) << (8 * b);
     }
     word
 }

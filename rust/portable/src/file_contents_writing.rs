@@ -58,22 +58,19 @@ fn put_set_bytes(set: &[u64], width: usize, out: &mut [u8])
 
 fn put_words(set: &[u64], count: usize, out: &mut [u8])
 {
-    for v in 0..count {
+    for (v, word) in set[..count].iter().enumerate() {
         let at = 8 * v;
-        put_bytes(set[v], 8, &mut out[at..]);
+        put_bytes(*word, 8, &mut out[at..]);
     }
 }
 
-// The lowest `count` bytes of a word, lowest first. The compiler makes one store of eight.
+// The lowest `count` bytes of a word, lowest first.
 fn put_bytes(x: u64, count: usize, out: &mut [u8])
 {
-    for b in 0..count {
-        out[b] = ((x >> (8 * b)) % 256) as u8;
-    }
+    out[..count].copy_from_slice(&x.to_le_bytes()[..count]);
 }
 
 pub fn write_le16(x: usize, out: &mut [u8])
 {
-    out[0] = (x % 256) as u8;
-    out[1] = (x / 256 % 256) as u8;
+    put_bytes(x as u64, 2, out);
 }

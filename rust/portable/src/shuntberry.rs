@@ -17,9 +17,8 @@ use crate::file_writing::write;
 use crate::shuntberry_fields::{
     CheckedFields, DecisionFields, FileFields, MinuteFields, ModalFields, ReplayFields,
     SessionFields, SetFields, ShortestFields, TableFields, WithinFields, lay_out_check,
-    lay_out_decision, lay_out_distances, lay_out_file, lay_out_generated, lay_out_minute,
-    lay_out_modal, lay_out_replay, lay_out_session, lay_out_shortest, lay_out_table,
-    lay_out_within,
+    lay_out_decision, lay_out_done, lay_out_file, lay_out_minute, lay_out_modal, lay_out_replay,
+    lay_out_session, lay_out_shortest, lay_out_table, lay_out_within,
 };
 
 // ---- the version
@@ -72,7 +71,7 @@ pub fn shuntberry_distances(
     distances: &mut [u16],
 ) -> u32
 {
-    lay_out_distances(crate::call_distances::distances(store, n, g, distances))
+    lay_out_done(crate::call_distances::distances(store, n, g, distances))
 }
 
 // ---- within
@@ -111,7 +110,7 @@ pub fn shuntberry_rewrite(input: &[u8], output: &mut [u8]) -> FileFields
 
 pub fn shuntberry_generate(seed: u32, n: usize, fan_out: usize, store: &mut [u64]) -> u32
 {
-    lay_out_generated(generate(seed, n, fan_out, store))
+    lay_out_done(generate(seed, n, fan_out, store))
 }
 
 // ---- replay
@@ -125,7 +124,7 @@ pub fn shuntberry_replay(store: &[u64], n: usize, g: usize, log: &[u8]) -> Repla
 
 pub fn shuntberry_open(store: &[u64], n: usize, g: usize) -> SessionFields
 {
-    lay_out_session(open(store, n, g))
+    lay_out_session(StateSet::empty(), open(store, n, g))
 }
 
 pub fn shuntberry_add_step(
@@ -137,8 +136,8 @@ pub fn shuntberry_add_step(
     to: usize,
 ) -> SessionFields
 {
-    let words = reachable.words;
-    lay_out_session(add_step(store, n, g, StateSet { words }, from, to))
+    let handed = StateSet::from(reachable);
+    lay_out_session(handed, add_step(store, n, g, handed, from, to))
 }
 
 pub fn shuntberry_remove_step(
@@ -150,8 +149,8 @@ pub fn shuntberry_remove_step(
     to: usize,
 ) -> SessionFields
 {
-    let words = reachable.words;
-    lay_out_session(remove_step(store, n, g, StateSet { words }, from, to))
+    let handed = StateSet::from(reachable);
+    lay_out_session(handed, remove_step(store, n, g, handed, from, to))
 }
 
 // ---- decide, with possible steps

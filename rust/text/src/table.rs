@@ -505,12 +505,14 @@ impl Reader {
 
     /// What is said of a line that begins with none of the words that it may.
     fn no_fact(&self, word: &str, words: &[&str]) -> String {
+        if !self.mistakes.shows(self.at) {
+            return String::new(); // it is counted, and not shown
+        }
         let (facts, last) = match self.no_possible {
             None => (&FACTS[..7], FACTS[7]),
             Some(_) => (&FACTS[..6], FACTS[6]),
         };
         let hint = match words {
-            _ if !self.mistakes.shows(self.at) => String::new(),
             [ARROW, ..] => format!("; a step is written step {} {ARROW} STATE..", cut(word)),
             _ => did_you_mean(word, FACTS.into_iter().chain([END])),
         };

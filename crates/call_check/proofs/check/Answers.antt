@@ -11,12 +11,12 @@ returns-then-site-gt-MAX_SITE c = site_refused _ _ _ (search rules)
 pub returns-then-output-lt-CHECK_TEXT : goal.returns-then-output-lt-CHECK_TEXT
 returns-then-output-lt-CHECK_TEXT c = room-refused _ _ _ (search rules) (search rules)
 
-pub returns-in-Table : goal.returns-in-Table
-returns-in-Table c =
+pub returns-in-Ok : goal.returns-in-Ok
+returns-in-Ok c =
     called _ _ _ (search rules) (search rules)
-    (file-read _ _ _ (sym (ap read_of c.in-Table.is) ∙ c.read.ensures.0) c.read.ensures.1 c.check_table.ensures)
+    (file-read _ _ _ (sym (ap read_of c.in-Ok.is) ∙ c.read.ensures.0) c.read.ensures.1 c.check_table.ensures)
 
-pub returns-in-Refused : goal.returns-in-Refused
-returns-in-Refused c =
+pub returns-in-Err : goal.returns-in-Err
+returns-in-Err c =
     called _ _ _ (search rules) (search rules)
-    (file-refused _ _ _ (sym (ap read_of c.in-Refused.is) ∙ c.read.ensures.0) c.write_refused.ensures)
+    (file-refused _ _ _ (sym (ap read_of c.in-Err.is) ∙ c.read.ensures.0) c.refused_file.ensures)

@@ -14,42 +14,6 @@ pub loop-forbidden-init : goal.loop-forbidden-init
 unfolding table_on
 loop-forbidden-init c = swept_start _ (row_in_lem _ _) c.requires.formed (proper (search rules) (λ w. search rules))
 
-pub is_empty-requires : goal.is_empty-requires
-unfolding table_on
-is_empty-requires c = search rules
-
-pub first_states-requires : goal.first_states-requires
-unfolding table_on
-first_states-requires c = search rules
-
-pub difference-rest-requires : goal.difference-rest-requires
-unfolding table_on
-difference-rest-requires c = search rules
-
-pub transposing_pays-requires : goal.transposing_pays-requires
-unfolding table_on
-transposing_pays-requires c = search rules
-
-pub sweep_transposed-requires : goal.sweep_transposed-requires
-unfolding table_on
-sweep_transposed-requires c = search rules
-
-pub returns-then-transposing_pays : goal.returns-then-transposing_pays
-unfolding table_on
-returns-then-transposing_pays c = c.sweep_transposed.ensures
-
-pub mark-requires : goal.mark-requires
-unfolding table_on
-mark-requires c = search rules
-
-pub stepping_into-layer-requires : goal.stepping_into-layer-requires
-unfolding table_on
-stepping_into-layer-requires c = c.requires.long
-
-pub union-found-requires : goal.union-found-requires
-unfolding table_on
-union-found-requires c = search rules
-
 pub loop-forbidden-preserved : goal.loop-forbidden-preserved
 unfolding table_on
 loop-forbidden-preserved c =

@@ -7,7 +7,7 @@ use Rattle.call_distances.proofs.DistanceLayers.{Swept}
 use Rattle.call_distances.proofs.all_distances.Given as goal
 
 abbrev pub invariant-loop-forbidden : goal.invariant-loop-forbidden
-invariant-loop-forbidden l = Swept l.rows (table_on l.n empty l.forbidden.words [] l.rows) l.d l.distances l.found.words l.layer.words
+invariant-loop-forbidden l = Swept l.steps.words.now (table_on l.n empty l.forbidden.words [] l.steps.words.now) l.d l.distances l.found.words l.layer.words
 
 abbrev pub decreases-loop-forbidden : goal.decreases-loop-forbidden
 decreases-loop-forbidden l = suc max_states - l.d

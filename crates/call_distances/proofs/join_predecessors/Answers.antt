@@ -6,11 +6,8 @@ use Rattle.call_distances.specs.Transposing.{predecessor_rows}
 use Rattle.call_distances.proofs.RowsTransposed.{transposed_turn}
 use Rattle.call_distances.proofs.join_predecessors.Goals as goal
 
-pub loop-s-init : goal.loop-s-init
-loop-s-init c = (search rules, c.requires.0)
-
 pub loop-s-preserved : goal.loop-s-preserved
-loop-s-preserved c = (search rules, transposed_turn _ _ (search rules) c.row_at.ensures c.join_predecessor.ensures c.loop-s.invariant.1)
+loop-s-preserved c = transposed_turn _ _ (search rules) c.row.ensures c.join_predecessor.ensures c.loop-s.invariant
 
 pub returns : goal.returns
-returns c = c.loop-s.invariant.1 ∙ ap (predecessor_rows _) (le_antisymm (search rules) (search rules))
+returns c = c.loop-s.invariant ∙ ap (predecessor_rows _) (le_antisymm (search rules) (search rules))

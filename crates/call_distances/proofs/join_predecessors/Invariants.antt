@@ -1,8 +1,7 @@
 -- `join_predecessors`: the rows of the states passed, transposed.
-use Prim.Native.Nat.{◌≤◌}
 use mathlib.Core.Path.{◌≡◌}
 use Rattle.call_distances.specs.Transposing.{predecessor_rows}
 use Rattle.call_distances.proofs.join_predecessors.Given as goal
 
 abbrev pub invariant-loop-s : goal.invariant-loop-s
-invariant-loop-s l = (l.s ≤ l.n) × (l.before ≡ predecessor_rows l.rows l.s)
+invariant-loop-s l = l.before ≡ predecessor_rows l.steps.words.now l.s

@@ -1,15 +1,18 @@
--- `mark`: the states in the words passed are marked.
-use mathlib.Core.Path.{◌∙◌}
-use borrow.Author.Rules.{rules}
-use Rattle.core_state_set.proofs.SetsWords.{proper}
-use Rattle.core_rows.proofs.RowsMapped.{map_start, map_word, map-all}
+-- `mark`: with the states that are left marked, all are.
+use native.Mathlib.Omega.{arith}
+use mathlib.Core.Path.{refl}
+use Rattle.model.proofs.SetsMembers.{in_bound}
+use Rattle.core_rows.proofs.RowsMapped.{mapping_turn, mapping_end}
 use Rattle.call_distances.proofs.mark.Goals as goal
 
-pub loop-w-init : goal.loop-w-init
-loop-w-init c = (search rules, map_start _ _ _ _)
+pub offset_bounds-distances-s : goal.offset_bounds-distances-s
+offset_bounds-distances-s c = record { fits = omega (arith, in_bound (record { is = c.in-Some.ensures.steps.0 })) }
 
-pub loop-w-preserved : goal.loop-w-preserved
-loop-w-preserved c = (search rules, map_word _ _ _ _ _ (search rules) c.loop-w.invariant.1 c.mark_word.ensures)
+pub bounds-distances-s : goal.bounds-distances-s
+bounds-distances-s c = in_bound (record { is = c.in-Some.ensures.steps.0 })
+
+pub loop-s-preserved : goal.loop-s-preserved
+loop-s-preserved c = mapping_turn _ _ _ _ c.in-Some.ensures.steps refl c.loop-s.invariant
 
 pub returns : goal.returns
-returns c = c.loop-w.invariant.1 ∙ map-all _ _ _ _ _ (proper (search rules) (λ w. search rules)) (search rules)
+returns c = mapping_end _ _ _ c.in-None.ensures.steps.0 c.loop-s.invariant

@@ -11,31 +11,11 @@ use Rattle.call_distances.proofs.sweep_transposed.Goals as goal
 
 pub join_predecessors-requires : goal.join_predecessors-requires
 unfolding table_on
-join_predecessors-requires c = let held = c.requires in (transposed_start _, held.small, held.long)
+join_predecessors-requires c = let held = c.requires in (transposed_start _, held.small)
 
 pub loop-before-init : goal.loop-before-init
 unfolding table_on
 loop-before-init c = swept_start _ (row_in_lem _ _) c.requires.formed (proper (search rules) (λ w. search rules))
-
-pub is_empty-requires : goal.is_empty-requires
-unfolding table_on
-is_empty-requires c = search rules
-
-pub mark-requires : goal.mark-requires
-unfolding table_on
-mark-requires c = search rules
-
-pub union_of-requires : goal.union_of-requires
-unfolding table_on
-union_of-requires c = search rules
-
-pub difference-layer-requires : goal.difference-layer-requires
-unfolding table_on
-difference-layer-requires c = search rules
-
-pub union-found-requires : goal.union-found-requires
-unfolding table_on
-union-found-requires c = search rules
 
 pub loop-before-preserved : goal.loop-before-preserved
 unfolding table_on

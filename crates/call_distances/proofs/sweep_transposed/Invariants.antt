@@ -7,7 +7,7 @@ use Rattle.call_distances.proofs.DistanceLayers.{Swept}
 use Rattle.call_distances.proofs.sweep_transposed.Given as goal
 
 abbrev pub invariant-loop-before : goal.invariant-loop-before
-invariant-loop-before l = Swept l.rows (table_on l.n empty l.initial.found.words [] l.rows) l.d l.distances l.found.words l.layer.words
+invariant-loop-before l = Swept l.steps.words.now (table_on l.n empty l.initial.found.words [] l.steps.words.now) l.d l.distances l.found.words l.layer.words
 
 abbrev pub decreases-loop-before : goal.decreases-loop-before
 decreases-loop-before l = suc max_states - l.d

@@ -1,31 +1,34 @@
 -- `generate`: the store is filled where nothing is refused.
 use Rattle.std.proofs.Common.{sym, le_of_eq, arith}
+use Rattle.std.proofs.lemmas.Result.{err_from_is_err_and}
 use Rattle.call_generate.proofs.Numbers.{front_long}
-use Rattle.call_generate.proofs.GenerateAnswered.{accepted-load, refused-load, filled_load}
+use Rattle.call_generate.proofs.GenerateAnswered.{accepted-load, refused_load, filled_load}
 use Rattle.call_generate.proofs.generate.Goals as goal
 
-pub returns-then-refused-ne0 : goal.returns-then-refused-ne0
-returns-then-refused-ne0 c = refused-load _ _ _ _ c.refusal-refused.ensures c.if-refused-ne0.true
+pub returns-in_err-accept_load : goal.returns-in_err-accept_load
+returns-in_err-accept_load c =
+    let p = err_from_is_err_and c.from_residual.result c.from_residual.ensures.1 in
+    rw (p.1, p.2) (refused_load _ _ _ _ _ c.in_err-accept_load.ensures)
 
 pub overflow_mul-count : goal.overflow_mul-count
-overflow_mul-count c = omega (arith, (accepted-load _ _ _ c.refusal-refused.ensures c.if-refused-ne0.false).most)
+overflow_mul-count c = omega (arith, (accepted-load _ _ _ c.in_ok-accept_load.ensures).most)
 
 pub overflow_add-count : goal.overflow_add-count
-overflow_add-count c = omega (arith, (accepted-load _ _ _ c.refusal-refused.ensures c.if-refused-ne0.false).most)
+overflow_add-count c = omega (arith, (accepted-load _ _ _ c.in_ok-accept_load.ensures).most)
 
 pub put_numbers-requires : goal.put_numbers-requires
-put_numbers-requires c = omega (arith, (accepted-load _ _ _ c.refusal-refused.ensures c.if-refused-ne0.false).most)
+put_numbers-requires c = omega (arith, (accepted-load _ _ _ c.in_ok-accept_load.ensures).most)
 
 pub slice_bounds-numbers-end : goal.slice_bounds-numbers-end
-slice_bounds-numbers-end c = omega (arith, (accepted-load _ _ _ c.refusal-refused.ensures c.if-refused-ne0.false).most)
+slice_bounds-numbers-end c = omega (arith, (accepted-load _ _ _ c.in_ok-accept_load.ensures).most)
 
 pub slice_bounds-fill-end : goal.slice_bounds-fill-end
 slice_bounds-fill-end c = sym (front_long _ _ _ c.put_numbers.ensures)
 
 pub fill-requires : goal.fill-requires
 fill-requires c =
-    let held = accepted-load _ _ _ c.refusal-refused.ensures c.if-refused-ne0.false in
+    let held = accepted-load _ _ _ c.in_ok-accept_load.ensures in
     (held.some, held.small, le_of_eq (sym (front_long _ _ _ c.put_numbers.ensures)), held.long)
 
 pub returns : goal.returns
-returns c = filled_load _ _ _ _ c.refusal-refused.ensures c.if-refused-ne0.false _ _ c.put_numbers.ensures c.fill.ensures
+returns c = filled_load _ _ _ _ c.in_ok-accept_load.ensures _ _ c.put_numbers.ensures c.fill.ensures

@@ -10,14 +10,14 @@ loop-s-init c = (search rules, impossible_start _ _)
 pub returns-then-not-is_subset : goal.returns-then-not-is_subset
 returns-then-not-is_subset c =
     sym
-    (impossible_hit _ _ _ c.row_at.ensures c.row_at-in-loop-s.ensures c.is_subset.ensures _
+    (impossible_hit _ _ _ c.of-certain.ensures c.row.ensures c.row-in-loop-s.ensures c.is_subset.ensures _
     c.loop-s-test.true (c.if-not-is_subset.true))
 
 pub loop-s-preserved : goal.loop-s-preserved
 loop-s-preserved c =
     let loop = c.loop-s in (
       search rules,
-      impossible_pass _ _ _ c.row_at.ensures c.row_at-in-loop-s.ensures c.is_subset.ensures (c.if-not-is_subset.false) loop.invariant.1,
+      impossible_pass _ _ _ c.of-certain.ensures c.row.ensures c.row-in-loop-s.ensures c.is_subset.ensures (c.if-not-is_subset.false) loop.invariant.1,
     )
 
 pub returns : goal.returns

@@ -9,19 +9,19 @@ use Rattle.call_paths.proofs.+write_path.Goals as goal
 pub overflow_cast-path : goal.overflow_cast-path
 overflow_cast-path t c = record { fits = omega (arith, writable_first _ _ _ _ _ c.requires) }
 
-pub row_at-requires : goal.row_at-requires
-row_at-requires t c = (writable_first _ _ _ _ _ c.requires, c.requires.long)
+pub row-requires : goal.row-requires
+row-requires t c = writable_first _ _ _ _ _ c.requires
 
 pub write_path-requires : goal.write_path-requires
 write_path-requires t c =
     let some = c.if-d-gt0.true in (
       omega arith,
-      rw length-set (writable_rest _ _ _ _ _ c.requires c.row_at.ensures c.smallest_in_layer-next.ensures some),
+      rw length-set (writable_rest _ _ _ _ _ c.requires c.row.ensures c.smallest_in_layer-next.ensures some),
     )
 
 pub returns-then-d-gt0 : goal.returns-then-d-gt0
 returns-then-d-gt0 t c =
-    c.write_path.ensures ∙ rw (walk_by_step _ _ _ _ _ c.row_at.ensures c.smallest_in_layer-next.ensures c.if-d-gt0.true, add-one)
+    c.write_path.ensures ∙ rw (walk_by_step _ _ _ _ _ c.row.ensures c.smallest_in_layer-next.ensures c.if-d-gt0.true, add-one)
 
 pub returns-else-d-gt0 : goal.returns-else-d-gt0
 returns-else-d-gt0 t c = rw (walk_by_last _ _ _ _ _ c.if-d-gt0.false)

@@ -4,11 +4,11 @@ use borrow.Author.Rules.{rules}
 use Rattle.call_release_windows.proofs.Searches.{sought_turn, sought_end}
 use Rattle.call_release_windows.proofs.any_outside.Goals as goal
 
-pub loop-i-init : goal.loop-i-init
-loop-i-init c = record { within = search rules; rest = refl }
+pub loop-window-init : goal.loop-window-init
+loop-window-init c = record { within = search rules; rest = refl }
 
-pub loop-i-preserved : goal.loop-i-preserved
-loop-i-preserved c = sought_turn c.loop-i.invariant (search rules) c.is_outside-found.ensures
+pub loop-window-preserved : goal.loop-window-preserved
+loop-window-preserved c = sought_turn c.loop-window.invariant (search rules) c.is_outside-found.ensures
 
 pub returns : goal.returns
-returns c = sought_end c.loop-i.invariant (search rules)
+returns c = sought_end c.loop-window.invariant (search rules)

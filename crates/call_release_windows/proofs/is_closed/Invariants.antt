@@ -3,5 +3,5 @@ use lib.Dec.{eqb}
 use Rattle.call_release_windows.proofs.Searches.{Sought}
 use Rattle.call_release_windows.proofs.is_closed.Given as goal
 
-abbrev pub invariant-loop-i : goal.invariant-loop-i
-invariant-loop-i l = Sought (eqb l.day) l.closed l.found l.i
+abbrev pub invariant-loop-closed_day : goal.invariant-loop-closed_day
+invariant-loop-closed_day l = Sought (eqb l.day) l.closed l.found l.closed_day-index

@@ -6,14 +6,14 @@ use Rattle.call_release_windows.proofs.Searches.{mem_at, some-none}
 use Rattle.call_release_windows.proofs.Waits.{nearest_turn, nearest-end}
 use Rattle.call_release_windows.proofs.least_wait.Goals as goal
 
-pub loop-i-init : goal.loop-i-init
-loop-i-init c = record { passed = search rules; rest = refl }
+pub loop-window-init : goal.loop-window-init
+loop-window-init c = record { passed = search rules; rest = refl }
 
 pub wait_for-least-requires : goal.wait_for-least-requires
 wait_for-least-requires c = (search rules, some-none outside _ _ c.requires.1 (mem_at _ _ (search rules)))
 
-pub loop-i-preserved : goal.loop-i-preserved
-loop-i-preserved c = nearest_turn c.loop-i.invariant (search rules) c.wait_for-least.ensures
+pub loop-window-preserved : goal.loop-window-preserved
+loop-window-preserved c = nearest_turn c.loop-window.invariant (search rules) c.wait_for-least.ensures
 
 pub returns : goal.returns
-returns c = nearest-end c.loop-i.invariant (search rules)
+returns c = nearest-end c.loop-window.invariant (search rules)

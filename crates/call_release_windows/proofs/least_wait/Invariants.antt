@@ -2,5 +2,5 @@
 use Rattle.call_release_windows.proofs.Waits.{Nearest}
 use Rattle.call_release_windows.proofs.least_wait.Given as goal
 
-abbrev pub invariant-loop-i : goal.invariant-loop-i
-invariant-loop-i l = Nearest l.windows l.minute l.least l.i
+abbrev pub invariant-loop-window : goal.invariant-loop-window
+invariant-loop-window l = Nearest l.windows l.minute l.least l.window-index

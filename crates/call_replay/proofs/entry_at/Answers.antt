@@ -3,4 +3,4 @@ use Rattle.call_replay.proofs.LogEntries.{entry-bytes}
 use Rattle.call_replay.proofs.entry_at.Goals as goal
 
 pub returns : goal.returns
-returns c = entry-bytes _ _ c.wide-low.ensures.0 c.wide-high.ensures.0
+returns c = entry-bytes _ _ c.from-low.ensures c.from-high.ensures

@@ -7,18 +7,18 @@ use Rattle.core_fixpoints.proofs.Staying.{staying_start, staying_less, staying_t
 use Rattle.core_fixpoints.proofs.backward.Goals as goal
 
 pub loop-smaller-init : goal.loop-smaller-init
-loop-smaller-init c = let pre = c.requires in (staying_start _ _ _ (proper (search rules) (λ w. search rules)) pre.2, pre.3)
+loop-smaller-init c = let pre = c.requires in (staying_start _ _ _ (proper (search rules) (λ w. search rules)) pre.1, pre.2)
 
 pub meet_hold_within-kept-requires : goal.meet_hold_within-kept-requires
-meet_hold_within-kept-requires c = (search rules, c.loop-smaller.invariant.1)
+meet_hold_within-kept-requires c = c.loop-smaller.invariant.1
 
 pub returns-then-equals : goal.returns-then-equals
 returns-then-equals c =
     let so = c.loop-smaller.invariant.0 in
     let e = sym c.equals.ensures ∙ c.if-equals.true in
     let pre = c.requires in (
-      staying_greatest _ _ _ so c.meet_hold_within-kept.ensures c.cover_of-smaller.ensures pre.1 pre.2 e,
-      staying_next _ _ _ so c.meet_hold_within-kept.ensures c.cover_of-smaller.ensures pre.1 pre.2 e,
+      staying_greatest _ _ _ so c.meet_hold_within-kept.ensures c.cover_of-smaller.ensures pre.0 pre.1 e,
+      staying_next _ _ _ so c.meet_hold_within-kept.ensures c.cover_of-smaller.ensures pre.0 pre.1 e,
     )
 
 pub loop-smaller-smaller : goal.loop-smaller-smaller

@@ -5,7 +5,7 @@ use Rattle.core_fixpoints.proofs.Staying.{Staying}
 use Rattle.core_fixpoints.proofs.backward.Given as goal
 
 abbrev pub invariant-loop-smaller : goal.invariant-loop-smaller
-invariant-loop-smaller l = Staying l.rows l.cover l.initial.s.words l.staying.words l.s.words × Leads l.rows l.steps l.staying.words l.before.words
+invariant-loop-smaller l = Staying l.steps.words.now l.cover l.initial.s.words l.staying.words l.s.words × Leads l.steps.words.now l.by_word l.staying.words l.before.words
 
 abbrev pub decreases-loop-smaller : goal.decreases-loop-smaller
 decreases-loop-smaller l = size l.s.words

@@ -4,4 +4,4 @@ use Rattle.model.specs.Sets.{union}
 use Rattle.core_fixpoints.proofs.expand.Goals as goal
 
 pub returns : goal.returns
-returns c = (refl, c.union.ensures ∙ ap (union _) c.row_at.ensures, refl)
+returns c = (refl, c.union.ensures ∙ ap (union _) c.row.ensures, refl)

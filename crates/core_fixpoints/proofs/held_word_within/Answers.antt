@@ -10,4 +10,4 @@ use Rattle.core_fixpoints.proofs.held_word_within.Goals as goal
 pub returns : goal.returns
 returns c =
     let fits : Fits w64 (get_or c.args.x.words c.args.w 0) = search rules in
-    kept_word _ _ _ _ _ _ c.requires.2 c.difference.ensures (search rules) fits (sym c.meets.ensures ∙ c.if-meets.false)
+    kept_word _ _ _ _ _ _ c.requires.1 c.difference.ensures (search rules) fits (sym c.meets.ensures ∙ c.if-meets.false)

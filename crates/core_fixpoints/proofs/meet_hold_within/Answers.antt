@@ -8,7 +8,7 @@ pub loop-w-init : goal.loop-w-init
 loop-w-init c = filling_none _ _ (meet_hold_proper _ _ _).long (search rules)
 
 pub held_word_within-requires : goal.held_word_within-requires
-held_word_within-requires c = (search rules, search rules, search rules)
+held_word_within-requires c = (search rules, search rules)
 
 pub loop-w-preserved : goal.loop-w-preserved
 loop-w-preserved c = filling_more _ _ _ _ c.loop-w.invariant _ (search rules) c.held_word_within.ensures

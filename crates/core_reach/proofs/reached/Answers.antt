@@ -33,7 +33,7 @@ unfolding reach_by successors_by
 loop-layer-smaller c =
     let some : subset c.loop-layer.layer.words empty ≡ false = sym c.is_empty.ensures ∙ c.loop-layer-test.true in
     let turn : let so = c.loop-layer.invariant in
-    Layered (row_in c.args.rows.now) c.args.from.words
+    Layered (row_in c.args.steps.words.now) c.args.from.words
     (suc so.0) c.union-found.result.words c.newly_reached-layer.result.words = layered_turn _ _ c.loop-layer.invariant.1 some c.newly_reached-layer.ensures c.union-found.ensures in
     let so = c.loop-layer.invariant in
     omega (
@@ -49,7 +49,7 @@ unfolding reach_by successors_by
 loop-layer-preserved c =
     let some : subset c.loop-layer.layer.words empty ≡ false = sym c.is_empty.ensures ∙ c.loop-layer-test.true in
     let turn : let so = c.loop-layer.invariant in
-    Layered (row_in c.args.rows.now) c.args.from.words
+    Layered (row_in c.args.steps.words.now) c.args.from.words
     (suc so.0) c.union-found.result.words c.newly_reached-layer.result.words = layered_turn _ _ c.loop-layer.invariant.1 some c.newly_reached-layer.ensures c.union-found.ensures in
     (suc c.loop-layer.invariant.0, turn)
 

@@ -6,7 +6,7 @@ use Rattle.core_reach.proofs.ReachLayers.{Layered}
 use Rattle.core_reach.proofs.reached.Given as goal
 
 abbrev pub invariant-loop-layer : goal.invariant-loop-layer
-invariant-loop-layer l = (k : ℕ) × Layered (row_in l.rows) l.initial.found.words k l.found.words l.layer.words
+invariant-loop-layer l = (k : ℕ) × Layered (row_in l.steps.words.now) l.initial.found.words k l.found.words l.layer.words
 
 abbrev pub decreases-loop-layer : goal.decreases-loop-layer
 decreases-loop-layer l = max_states - size (difference l.found.words l.layer.words)

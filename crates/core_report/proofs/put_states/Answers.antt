@@ -12,15 +12,6 @@ pub loop-s-init : goal.loop-s-init
 unfolding filter spaced
 loop-s-init c = (omega arith, put_none _ _)
 
-pub put_member-end-requires : goal.put_member-end-requires
-put_member-end-requires c = omega arith
-
-pub overflow_step-s : goal.overflow_step-s
-overflow_step-s c = omega arith
-
-pub loop-s-smaller : goal.loop-s-smaller
-loop-s-smaller c = omega arith
-
 pub loop-s-preserved : goal.loop-s-preserved
 loop-s-preserved c = (
   omega arith,

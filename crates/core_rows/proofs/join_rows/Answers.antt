@@ -1,31 +1,18 @@
--- `join_rows`: what is joined, with the image of the bits that are left, is the whole.
+-- `join_rows`: what is found, with the image of the states that are left, is the whole.
 use mathlib.Core.Path.{ap, ◌∙◌}
-use borrow.Author.Rules.{rules}
-use lib.Count.{trailing_le}
 use Rattle.model.specs.Sets.{union}
-use Rattle.core_state_set.proofs.SetsWords.{proper}
-use Rattle.core_state_set.proofs.SetsOnes.{bits_fit, states_fit}
-use Rattle.core_state_set.proofs.SetsByWord.{word_less}
-use Rattle.core_rows.proofs.SetsJoined.{bits_start, bits_bound, bits_turn, bits_end}
+use Rattle.model.proofs.SetsMembers.{in_bound}
+use Rattle.model.proofs.SetsImages.{join_turn, join_end}
+use Rattle.core_rows.proofs.SetsJoined.{joined_to_none}
 use Rattle.core_rows.proofs.join_rows.Goals as goal
 
-pub loop-rest-init : goal.loop-rest-init
-loop-rest-init c = bits_start _ _ (proper (search rules) (λ w. search rules)) (search rules)
+pub row_at-requires : goal.row_at-requires
+row_at-requires g c = in_bound (record { is = c.in-Some.ensures.steps.0 })
 
-pub overflow_cast-s : goal.overflow_cast-s
-overflow_cast-s c = bits_fit _ (trailing_le 64 _)
-
-pub overflow_add-s : goal.overflow_add-s
-overflow_add-s c = states_fit _ _ (search rules) (trailing_le 64 _)
-
-pub row_of-requires : goal.row_of-requires
-row_of-requires c = bits_bound c.loop-rest.invariant (search rules) c.loop-rest-test.true
-
-pub loop-rest-smaller : goal.loop-rest-smaller
-loop-rest-smaller c = word_less _ c.loop-rest-test.true
-
-pub loop-rest-preserved : goal.loop-rest-preserved
-loop-rest-preserved c = bits_turn c.loop-rest.invariant (search rules) c.loop-rest-test.true (c.union-joined.ensures ∙ ap (union _) c.row_of.ensures)
+pub loop-s-preserved : goal.loop-s-preserved
+loop-s-preserved g c =
+    let taken = c.in-Some.ensures.steps in
+    join_turn (g.R.Relation.row_in c.args.rows) _ (record { is = taken.0 }) (c.union-found.ensures ∙ ap (union c.loop-s.found.words) c.row_at.ensures) taken.1 c.loop-s.invariant
 
 pub returns : goal.returns
-returns c = bits_end c.loop-rest.invariant c.loop-rest-test.false
+returns g c = join_end _ _ c.in-None.ensures.steps.0 c.loop-s.invariant ∙ joined_to_none _ _ c.empty-found.ensures

@@ -9,11 +9,5 @@ use Rattle.core_table.proofs.is_beyond.Goals as goal
 pub returns-then-n-ge-MAX_STATES : goal.returns-then-n-ge-MAX_STATES
 returns-then-n-ge-MAX_STATES c = sym (none-beyond _ _ (search rules))
 
-pub first_states-requires : goal.first_states-requires
-first_states-requires c = tt
-
-pub is_subset-requires : goal.is_subset-requires
-is_subset-requires c = tt
-
 pub returns : goal.returns
 returns c = ap not (c.is_subset.ensures ∙ ap (subset _) c.first_states.ensures) ∙ beyond-is _ _

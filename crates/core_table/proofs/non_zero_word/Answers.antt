@@ -1,14 +1,17 @@
--- `non_zero_word`: the words passed, joined, are 0 just where none of them is other than 0.
-use mathlib.Core.Path.{sym}
+-- `non_zero_word`: the words joined are 0 just where each of them is.
 use borrow.Author.Rules.{rules}
-use Rattle.core_table.proofs.StoresGrounds.{non_zero_start, non_zero_turn, non_zero_end}
+use mathlib.Core.Path.{◌≡◌, ap, ◌∙◌}
+use Prim.Native.Nat.{ℕ, ◌-◌}
+use mathlib.Core.Bool.{not}
+use lib.Bits.{bit_or}
+use lib.Dec.{eqb}
+use lib.ListN.{take, drop}
+use Rattle.std.specs.List.{fold}
+use Rattle.std.proofs.iter.runs.Made.{chains}
+use Rattle.core_table.proofs.StoresGrounds.{non_zero_joined}
 use Rattle.core_table.proofs.non_zero_word.Goals as goal
 
-pub loop-i-init : goal.loop-i-init
-loop-i-init c = (search rules, search rules, non_zero_start _ _)
-
-pub loop-i-preserved : goal.loop-i-preserved
-loop-i-preserved c = (search rules, search rules, non_zero_turn _ _ _ c.loop-i.joined (search rules) c.loop-i.invariant.2)
-
 pub returns : goal.returns
-returns c = sym (non_zero_end _ _ _ _ c.loop-i.joined (search rules) (search rules) c.loop-i.invariant.2)
+returns c =
+    let ran : c.fold.result ≡ fold bit_or 0 (take (c.args.to - c.args.from) (drop c.args.from c.args.store.now)) = search (rules, chains) in
+    ap (λ (x : ℕ). not (eqb x 0)) ran ∙ non_zero_joined _ _ _ (search rules) (search rules)

@@ -4,4 +4,4 @@ use Rattle.core_table.proofs.StoresPut.{Putting}
 use Rattle.core_table.proofs.put_set.Given as goal
 
 abbrev pub invariant-loop-w : goal.invariant-loop-w
-invariant-loop-w l = Putting l.at l.x.words WORDS l.w l.initial.store l.store
+invariant-loop-w l = Putting l.at l.word-items WORDS l.w l.initial.store l.store

@@ -9,8 +9,8 @@ use Rattle.file_blocks.proofs.add_bytes.Goals as goal
 pub loop-l-init : goal.loop-l-init
 loop-l-init c = add_none _ _
 
-pub overflow_add-sums : goal.overflow_add-sums
-overflow_add-sums c = record { fits = add-fits c.loop-l.invariant {n = byte_most} c.requires.1 (search rules) (search rules) (omega arith) }
+pub overflow_add-sum : goal.overflow_add-sum
+overflow_add-sum c = record { fits = add-fits c.loop-l.invariant {n = byte_most} c.requires.1 (search rules) (search rules) (omega arith) }
 
 pub loop-l-preserved : goal.loop-l-preserved
 loop-l-preserved c = add-more c.loop-l.invariant (search rules) c.requires.1.long (search rules ∙ sym (get_or-chunk c.args.block.now c.args.from _ (search rules)))

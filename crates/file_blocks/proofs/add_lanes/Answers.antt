@@ -7,8 +7,8 @@ use Rattle.file_blocks.proofs.add_lanes.Goals as goal
 pub loop-l-init : goal.loop-l-init
 loop-l-init c = add_none _ _
 
-pub overflow_add-turns : goal.overflow_add-turns
-overflow_add-turns c = record { fits = add-fits c.loop-l.invariant c.requires.1 (search rules) (c.requires.0.each _ (search rules)) (omega arith) }
+pub overflow_add-turn : goal.overflow_add-turn
+overflow_add-turn c = record { fits = add-fits c.loop-l.invariant c.requires.1 (search rules) (c.requires.0.each _ (search rules)) (omega arith) }
 
 pub loop-l-preserved : goal.loop-l-preserved
 loop-l-preserved c = add-more c.loop-l.invariant (search rules) c.requires.1.long (search rules)

@@ -4,4 +4,4 @@ use Rattle.file_contents_reading.proofs.LastByte.{beyond_last}
 use Rattle.file_contents_reading.proofs.is_set_beyond.Goals as goal
 
 pub returns : goal.returns
-returns c = beyond_last _ _ _ _ _ (search rules) (search rules) (search rules) c.wide-last.ensures.0 c.wide-last.ensures.1
+returns c = beyond_last _ _ _ _ _ (search rules) (search rules) (search rules) (search rules) (search rules)

@@ -1,14 +1,18 @@
--- `non_zero_byte`: the bytes passed, joined, are 0 just where none of them is other than 0.
-use mathlib.Core.Path.{sym}
+-- `non_zero_byte`: the bytes joined are 0 just where each of them is.
+use Prim.Native.Nat.{◌-◌}
+use mathlib.Core.Path.{◌≡◌, ap, ◌∙◌}
+use mathlib.Core.Bool.{not}
 use borrow.Author.Rules.{rules}
-use Rattle.core_table.proofs.StoresGrounds.{non_zero_start, non_zero_turn, non_zero_end}
+use lib.Bits.{bit_or}
+use lib.Dec.{eqb}
+use lib.ListN.{take, drop}
+use Rattle.std.specs.List.{fold}
+use Rattle.std.proofs.iter.runs.Made.{chains}
+use Rattle.file_contents_reading.proofs.BytesJoined.{non_zero_joined}
 use Rattle.file_contents_reading.proofs.non_zero_byte.Goals as goal
 
-pub loop-i-init : goal.loop-i-init
-loop-i-init c = (search rules, search rules, non_zero_start _ _)
-
-pub loop-i-preserved : goal.loop-i-preserved
-loop-i-preserved c = (search rules, search rules, non_zero_turn _ _ _ c.loop-i.joined (search rules) c.loop-i.invariant.2)
-
 pub returns : goal.returns
-returns c = sym (non_zero_end _ _ _ _ c.loop-i.joined (search rules) (search rules) c.loop-i.invariant.2)
+returns c =
+    let args = c.args in
+    let ran : c.fold.result ≡ fold bit_or 0 (take (args.to - args.from) (drop args.from args.bytes.now)) = search (rules, chains) in
+    ap (λ x. not (eqb x 0)) ran ∙ non_zero_joined args.bytes.now args.from args.to (search rules) (search rules)

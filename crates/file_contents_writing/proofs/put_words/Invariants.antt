@@ -6,4 +6,4 @@ use Rattle.core_table.proofs.ListsOverwritten.{Over}
 use Rattle.file_contents_writing.proofs.put_words.Given as goal
 
 abbrev pub invariant-loop-v : goal.invariant-loop-v
-invariant-loop-v l = (l.v ≤ l.count) × Over (concat l.v (words_bytes l.set)) l.initial.out l.out
+invariant-loop-v l = (l.v ≤ l.count) × Over (concat l.v (words_bytes l.fn.set)) l.initial.out l.out

@@ -1,7 +1,6 @@
--- `write_le16`: both bytes.
-use borrow.Author.Rules.{rules}
-use Rattle.file_contents_writing.proofs.ContentsJoined.{le16-written}
+-- `write_le16`: the lowest two bytes.
+use Rattle.file_contents_writing.proofs.SetsBytesWritten.{le16-written}
 use Rattle.file_contents_writing.proofs.write_le16.Goals as goal
 
 pub returns : goal.returns
-returns c = le16-written _ _ (search rules)
+returns c = le16-written _ _ c.put_bytes.ensures

@@ -1,6 +1,5 @@
 -- `read_contents`: the grounds in their order, then the table into the store.
 use Prim.Native.Nat.{ℕ, ◌-◌}
-use native.Mathlib.Omega.{arith}
 use mathlib.Core.Path.{◌≡◌, refl, sym, ap, ◌∙◌}
 use mathlib.Core.Bool.{false, not, ◌||◌}
 use borrow.Author.Rules.{rules}
@@ -19,31 +18,23 @@ use Rattle.file_reading.proofs.read_contents.Goals as goal
 
 pub returns-then-n-eq0 : goal.returns-then-n-eq0
 unfolding bytes_grounds
-returns-then-n-eq0 c = reads_first 0 _ (search (rules, eq-eqb, or_left)) (λ x. omega arith)
+returns-then-n-eq0 c = reads_first 0 _ (search (rules, eq-eqb, or_left)) refl
 
 pub returns-then-n-gt-MAX_STATES : goal.returns-then-n-gt-MAX_STATES
 unfolding bytes_grounds
-returns-then-n-gt-MAX_STATES c = reads_first 0 _ (search (rules, lt-ltb, or_right)) (λ x. omega arith)
-
-pub added-least-requires : goal.added-least-requires
-unfolding bytes_grounds
-added-least-requires c = search rules
+returns-then-n-gt-MAX_STATES c = reads_first 0 _ (search (rules, lt-ltb, or_right)) refl
 
 pub returns-then-second-least : goal.returns-then-second-least
 unfolding bytes_grounds
-returns-then-second-least c = reads_first 1 _ (search (rules, ne_eqb, le-ltb, or_none), second_low _ c.added-least.ensures.0 (search rules)) (λ x. omega arith)
+returns-then-second-least c = reads_first 1 _ (search (rules, ne_eqb, le-ltb, or_none), second_low _ c.added-least.ensures.0 (search rules)) refl
 
 pub returns-then-g-gt-MAX_GROUPS : goal.returns-then-g-gt-MAX_GROUPS
 unfolding bytes_grounds
-returns-then-g-gt-MAX_GROUPS c = reads_first 1 _ (search (rules, ne_eqb, le-ltb, or_none), second_high _ (second_is c.added-least.ensures.0 (search rules)) c.if-g-gt-MAX_GROUPS.true) (λ x. omega arith)
+returns-then-g-gt-MAX_GROUPS c = reads_first 1 _ (search (rules, ne_eqb, le-ltb, or_none), second_high _ (second_is c.added-least.ensures.0 (search rules)) c.if-g-gt-MAX_GROUPS.true) refl
 
 pub content_length-size-requires : goal.content_length-size-requires
 unfolding bytes_grounds
 content_length-size-requires c = search rules
-
-pub blocks_for-requires : goal.blocks_for-requires
-unfolding bytes_grounds
-blocks_for-requires c = search rules
 
 pub returns-then-blocks-blocks_for : goal.returns-then-blocks-blocks_for
 unfolding bytes_grounds
@@ -56,11 +47,7 @@ returns-then-blocks-blocks_for c =
     c.blocks_for.result ≡ blocks_for (content_length (form_of args.form) args.n (args.second - c.added-least.result)) = c.blocks_for.ensures ∙ ap (λ (l : ℕ). blocks_for l) c.content_length-size.ensures.0 in
     let h = header in
     reads_contents _ _ _ _ _ c.added-least.ensures.0
-    (reads_first 2 _ (h.0, (h.1, ap not (ne_eqb _ _ (λ e. c.if-blocks-blocks_for.true (e ∙ sym needed))))) (λ x. omega arith))
-
-pub any_content_beyond-requires : goal.any_content_beyond-requires
-unfolding bytes_grounds
-any_content_beyond-requires c = search rules
+    (reads_first 2 _ (h.0, (h.1, ap not (ne_eqb _ _ (λ e. c.if-blocks-blocks_for.true (e ∙ sym needed))))) refl)
 
 pub returns-then-any_content_beyond : goal.returns-then-any_content_beyond
 unfolding bytes_grounds
@@ -75,11 +62,7 @@ returns-then-any_content_beyond c =
     not (eqb args.blocks (blocks_for (content_length (form_of args.form) args.n (args.second - c.added-least.result)))) ≡ false = ap not (eq-eqb _ _ (c.if-blocks-blocks_for.false ∙ needed)) in
     let h = header in
     reads_contents _ _ _ _ _ c.added-least.ensures.0
-    (reads_first 3 _ (h.0, (h.1, (whole, sym c.any_content_beyond.ensures ∙ c.if-any_content_beyond.true))) (λ x. omega arith))
-
-pub non_zero_byte-requires : goal.non_zero_byte-requires
-unfolding bytes_grounds
-non_zero_byte-requires c = search rules
+    (reads_first 3 _ (h.0, (h.1, (whole, sym c.any_content_beyond.ensures ∙ c.if-any_content_beyond.true))) refl)
 
 pub returns-then-non_zero_byte : goal.returns-then-non_zero_byte
 unfolding bytes_grounds
@@ -94,11 +77,7 @@ returns-then-non_zero_byte c =
     not (eqb args.blocks (blocks_for (content_length (form_of args.form) args.n (args.second - c.added-least.result)))) ≡ false = ap not (eq-eqb _ _ (c.if-blocks-blocks_for.false ∙ needed)) in
     let h = header in
     reads_contents _ _ _ _ _ c.added-least.ensures.0
-    (reads_first 4 _ (h.0, (h.1, (whole, (sym c.any_content_beyond.ensures ∙ c.if-any_content_beyond.false, cc (c.content_length-size.ensures.0, c.non_zero_byte.ensures, c.if-non_zero_byte.true))))) (λ x. omega arith))
-
-pub fill-requires : goal.fill-requires
-unfolding bytes_grounds
-fill-requires c = search rules
+    (reads_first 4 _ (h.0, (h.1, (whole, (sym c.any_content_beyond.ensures ∙ c.if-any_content_beyond.false, cc (c.content_length-size.ensures.0, c.non_zero_byte.ensures, c.if-non_zero_byte.true))))) refl)
 
 pub returns : goal.returns
 unfolding bytes_grounds

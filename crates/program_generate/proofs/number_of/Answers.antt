@@ -1,27 +1,22 @@
 -- `number_of`: the bytes passed are digits, and say the value.
-use mathlib.Core.Logic.{inl, inr}
-use borrow.Author.Rules.{rules}
+use Rattle.std.proofs.Common.{rules, eqb-true, sym}
+use borrow.Author.Tests.{eqb-false}
 use Rattle.program_generate.proofs.Digits.{reading_none, reading_more, reading_all, no_word, not_digit}
 use Rattle.program_generate.proofs.number_of.Goals as goal
 
-pub returns-then-word-eq0 : goal.returns-then-word-eq0
-returns-then-word-eq0 c = no_word _ (search rules)
+pub returns-then-is_empty : goal.returns-then-is_empty
+returns-then-is_empty c = no_word _ (eqb-true _ _ (sym c.if-is_empty.ensures))
 
-pub loop-i-init : goal.loop-i-init
-loop-i-init c = (search rules, reading_none _)
+pub loop-b-init : goal.loop-b-init
+loop-b-init c = reading_none _
 
-pub returns-then-b-lt48 : goal.returns-then-b-lt48
-returns-then-b-lt48 c = not_digit _ c.loop-i.i (search rules) (inl (search rules))
+pub returns-then-not-is_ascii_digit : goal.returns-then-not-is_ascii_digit
+returns-then-not-is_ascii_digit c = not_digit _ c.loop-b.b-index (search rules) c.if-not-is_ascii_digit.ensures.cases
 
-pub returns-then-b-gt57 : goal.returns-then-b-gt57
-returns-then-b-gt57 c = not_digit _ c.loop-i.i (search rules) (inr (search rules))
-
-pub loop-i-preserved : goal.loop-i-preserved
-loop-i-preserved c = (
-  search rules,
-  reading_more _ _ _ c.loop-i.invariant.1 _ _ (search rules) (search rules) (search rules)
-      c.wide.ensures c.least-value.ensures,
-)
+pub loop-b-preserved : goal.loop-b-preserved
+loop-b-preserved c =
+    let digit = c.if-not-is_ascii_digit.ensures.cases in
+    reading_more _ _ _ c.loop-b.invariant _ _ (search rules) digit.0 digit.1 (search rules) c.min-value.ensures
 
 pub returns : goal.returns
-returns c = reading_all _ _ _ c.loop-i.invariant.1 (search rules) (search rules)
+returns c = reading_all _ _ _ c.loop-b.invariant (search rules) (eqb-false _ _ (sym c.if-is_empty.ensures))

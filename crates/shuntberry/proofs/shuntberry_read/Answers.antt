@@ -1,12 +1,7 @@
 -- `shuntberry_read`: the answer of `read`, whose numbers are small, laid out.
-use mathlib.Core.Path.{ap, ◌∙◌}
 use Rattle.model.proofs.RangesOfAnswers.{ReadRange, read_range}
-use Rattle.shuntberry_fields.specs.Fields.{table_fields}
 use Rattle.shuntberry_fields.proofs.FieldsAnswered.{where_answered}
 use Rattle.shuntberry.proofs.shuntberry_read.Goals as goal
 
 pub lay_out_table-requires : goal.lay_out_table-requires
 lay_out_table-requires c = where_answered ReadRange c.read.ensures.0 (λ a e. read_range _ _ _ e)
-
-pub returns : goal.returns
-returns c = let given = c.read.ensures in (c.lay_out_table.ensures ∙ ap table_fields given.0, given.1)

@@ -1,7 +1,7 @@
 -- `shuntberry_rewrite`: the answer of `rewrite`, whose length is small, laid out.
 use Prim.Native.Nat.{ℕ, ◌≤◌}
 use native.Mathlib.Omega.{arith}
-use mathlib.Core.Path.{◌≡◌, ap, ◌∙◌}
+use mathlib.Core.Path.{◌≡◌}
 use mathlib.Core.List.{List}
 use lib.ListN.{replicate}
 use Rattle.basics.specs.Refusals.{answered}
@@ -14,7 +14,6 @@ use Rattle.model.proofs.CallLaws.{read_none}
 use Rattle.model.proofs.RoundTrips.{taken}
 use Rattle.call_rewrite.specs.RewriteAnswers.{rewrite_answer}
 use Rattle.call_rewrite.proofs.RewriteAnswered.{new_long, answered_old}
-use Rattle.shuntberry_fields.specs.Fields.{file_fields}
 use Rattle.shuntberry_fields.proofs.FieldsAnswered.{where_answered}
 use Rattle.shuntberry.proofs.shuntberry_rewrite.Goals as goal
 
@@ -32,6 +31,3 @@ rewrite_range input room e =
 
 pub lay_out_file-requires : goal.lay_out_file-requires
 lay_out_file-requires c = where_answered (λ (l : ℕ). l ≤ max_file) c.rewrite.ensures.0 (λ a e. rewrite_range _ _ e)
-
-pub returns : goal.returns
-returns c = let written = c.rewrite.ensures in (c.lay_out_file.ensures ∙ ap file_fields written.0, written.1)

@@ -1,10 +1,8 @@
 -- `shuntberry_shortest_path`: the answer of `shortest_path`, whose steps are few, laid out.
-use mathlib.Core.Path.{ap, ◌∙◌}
 use Prim.Native.Nat.{◌≤◌}
 use Rattle.model.specs.Sets.{max_states}
 use Rattle.model.specs.Calls.{Shortest}
 use Rattle.model.proofs.RangesOfAnswers.{shortest_range}
-use Rattle.shuntberry_fields.specs.Fields.{shortest_fields}
 use Rattle.shuntberry_fields.proofs.FieldsAnswered.{where_answered}
 use Rattle.shuntberry.proofs.shuntberry_shortest_path.Goals as goal
 
@@ -13,6 +11,3 @@ few a = a.steps ≤ max_states
 
 pub lay_out_shortest-requires : goal.lay_out_shortest-requires
 lay_out_shortest-requires c = where_answered few c.shortest_path.ensures.0 (λ a e. shortest_range _ _ _ _ e)
-
-pub returns : goal.returns
-returns c = let found = c.shortest_path.ensures in (c.lay_out_shortest.ensures ∙ ap shortest_fields found.0, found.1)

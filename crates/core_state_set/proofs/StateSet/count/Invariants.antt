@@ -2,5 +2,5 @@
 use Rattle.core_state_set.proofs.SetsOnes.{Counting}
 use Rattle.core_state_set.proofs.StateSet.count.Given as goal
 
-abbrev pub invariant-loop-w : goal.invariant-loop-w
-invariant-loop-w l = Counting l.self.words l.w l.states
+abbrev pub invariant-loop-word : goal.invariant-loop-word
+invariant-loop-word l = Counting l.word-items l.word-index l.states

@@ -10,10 +10,6 @@ pub loop-w-init : goal.loop-w-init
 unfolding first_states states
 loop-w-init c = filling_none _ _ (set_of_proper _).long (search rules)
 
-pub word_below-requires : goal.word_below-requires
-unfolding first_states states
-word_below-requires c = search rules
-
 pub loop-w-preserved : goal.loop-w-preserved
 unfolding first_states states
 loop-w-preserved c = filling_more _ _ _ _ c.loop-w.invariant _ (search rules) (c.word_below.ensures ∙ first_word _ _ (search rules))

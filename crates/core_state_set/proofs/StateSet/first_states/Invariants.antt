@@ -4,4 +4,4 @@ use Rattle.core_state_set.proofs.SetsWords.{Filling}
 use Rattle.core_state_set.proofs.StateSet.first_states.Given as goal
 
 abbrev pub invariant-loop-w : goal.invariant-loop-w
-invariant-loop-w l = Filling (first_states l.n) l.initial.words l.w l.words
+invariant-loop-w l = Filling (first_states l.n) l.initial.word-items l.w l.word-items

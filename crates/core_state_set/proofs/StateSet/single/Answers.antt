@@ -4,14 +4,6 @@ use Rattle.model.specs.Sets.{Set, empty, single, union}
 use Rattle.model.proofs.SetsMembers.{set_of_proper, union_comm, union-empty}
 use Rattle.core_state_set.proofs.StateSet.single.Goals as goal
 
-pub empty-requires : goal.empty-requires
-unfolding single
-empty-requires c = tt
-
-pub with-requires : goal.with-requires
-unfolding single
-with-requires c = tt
-
 pub returns : goal.returns
 unfolding single
 returns c =

@@ -3,11 +3,5 @@ use mathlib.Core.Path.{◌∙◌, ap}
 use Rattle.model.specs.Sets.{difference}
 use Rattle.core_state_set.proofs.StateSet.without.Goals as goal
 
-pub single-requires : goal.single-requires
-single-requires c = tt
-
-pub difference-requires : goal.difference-requires
-difference-requires c = tt
-
 pub returns : goal.returns
 returns c = c.difference.ensures ∙ ap (difference _) c.single.ensures

@@ -1,7 +1,0 @@
--- `StateSet::union`: the words passed are those of the union, the others still those of self.
-use mathlib.Core.Bool.{◌||◌}
-use Rattle.core_state_set.proofs.SetsWords.{Combining}
-use Rattle.core_state_set.proofs.StateSet.union.Given as goal
-
-abbrev pub invariant-loop-w : goal.invariant-loop-w
-invariant-loop-w l = Combining ◌||◌ l.initial.self.words l.other.words l.w l.self.words
