@@ -26,10 +26,13 @@ FALLS = re.compile(r"^# falls on: (\S+): (.*\S)\s*$", re.M)
 DECLARES = re.compile(r"^(?:(?:unfoldable|abbrev|pub)\s+)*(?:(?:record|data)\s+([^\s(){}]+)|([^\s(){}]+)\s+:(?:\s|$))")
 USED = re.compile(r"^ *ghost use Rattle\.(\w+)\.specs\.(\w+)\.\{([^}]*)\}", re.M)
 NAME = re.compile(r"[^\s(){}\[\],;.]+(?:\.[^\s(){}\[\],;]*)?")  # a projection stands tight behind what it is of: `d.row`
-ITEM = re.compile(r"^(?P<indent> *)(?:pub )?(?:extern \"C\" )?fn (?P<name>\w+).*?^(?P=indent)\}$", re.M | re.S)
+# A function with a body; what a trait asks for ends with its head.
+ITEM = re.compile(
+    r"^(?P<indent> *)(?:pub )?(?:extern \"C\" )?fn (?P<name>\w+)(?:(?!;$).)*?(?:\n(?P=indent)\{| \{)\n.*?^(?P=indent)\}$", re.M | re.S
+)
 SAID_TEST = re.compile(r"`((?:tests|rust/outside/tests)/[^`]*)`")
 POINTS_BACK = re.compile(r"(?:accepted|all of these|and|get|its?|nor|such|that|the same|these|where)\b")
-OWNER = re.compile(r"(?:impl(?:<[^>]*>)? (?:[^{\n]* for )?|(?:pub )?trait )(\w+)(?:<[^>]*>)?(?:: [^{]*)?(?: \{|$)")
+OWNER = re.compile(r"(?:impl(?:<[^>]*>)? (?:(?P<law>\w+(?:<[^>]*>)?) for )?|(?:pub )?trait )(?P<type>&?\w+)(?:<[^>]*>)?(?:: [^{]*)?(?: \{|$)")
 FUNCTION = re.compile(r"^\s*(?:#\[[\w()]+\] *)?(?:pub )?(?:extern \"C\" )?fn (\w+)")
 
 
@@ -199,6 +202,14 @@ def declared_at(lines, at):
     return set()
 
 
+def owner_of(opened):
+    """The type or trait; of an impl of a trait what the prover calls it, as `U32FromRefusal` of `impl From<Refusal> for u32`."""
+    if not opened["law"]:
+        return opened["type"]
+    words = re.findall(r"&|\w+", f"{opened['type']} {opened['law']}")
+    return "".join("Ref" if word == "&" else word[0].upper() + word[1:] for word in words)
+
+
 def function_at(lines, at):
     """The function, and the type that it is of, that line `at` of a source is in: of a contract the one below it is meant by none."""
     name = owner = None
@@ -208,7 +219,7 @@ def function_at(lines, at):
             name = found.group(1)
         opened = OWNER.match(lines[k])
         if opened and name and not any(line == "}" for line in lines[k:at]):
-            owner = opened.group(1)
+            owner = owner_of(opened)
             break
     return {tuple(part for part in (owner, name) if part)} if name else set()
 
