@@ -16,8 +16,8 @@ ghost use Rattle.core_rows.specs.Rows.{row_in, successors_by, meet_hold};
 ghost use Rattle.core_fixpoints.specs.Steps.{steps_by_word, cover_by, forward_by, backward_by, IsCover, Leads};
 ghost use Rattle.core_fixpoints.specs.Order.{order_by, padded};
 
-use core_rows::{Rows, Steps, row_of, union_of};
-use core_state_set::{MAX_STATES, StateSet, WORDS};
+use core_rows::{Ones, Rows, Steps, row_of, union_of};
+use core_state_set::{MAX_STATES, StateSet, WORD_BITS, WORDS};
 
 // ---- the cover
 
@@ -72,8 +72,11 @@ fn expand_set(steps: Steps, x: StateSet, order: &mut Order, count: usize) -> Exp
         count,
         found: StateSet::empty(),
     };
-    for s in x.states() {
-        so_far = expand(steps, s, order, so_far);
+    // kept: word by word, as join_rows of core_rows, and for the same bar
+    for w in 0..WORDS {
+        for i in Ones(x.words[w]) {
+            so_far = expand(steps, WORD_BITS * w + i, order, so_far);
+        }
     }
     so_far
 }

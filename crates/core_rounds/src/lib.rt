@@ -16,8 +16,8 @@ ghost use Rattle.core_rounds.specs.Adding.{narrowed};
 ghost use Rattle.core_rounds.specs.RunAnswers.{Concludes, outcome_of};
 
 use core_fixpoints::{WordSteps, backward, forward, steps_by_word};
-use core_rows::{Rows, Steps, row_of};
-use core_state_set::{MAX_STATES, StateSet, WORDS};
+use core_rows::{Ones, Rows, Steps, row_of};
+use core_state_set::{MAX_STATES, StateSet, WORD_BITS, WORDS};
 use core_table::set_at;
 
 // As many refinements as there can be states.
@@ -39,13 +39,17 @@ pub fn not_forbidden(n: usize, forbidden: StateSet) -> StateSet
 }
 
 // The cover once z is added to the list: that of each state of z is met with it.
+// kept: word by word, as join_rows of core_rows, and for the same bar
 fn narrow(cover: &mut Rows, z: StateSet)
     ensures { cover.new ≡ narrowed cover.old z.words }
 {
-    for s in z.states() {
-        // kept: `cover[s] = row_of(cover, s).meet(z).words` stops at the borrow checker, a call's field stored
-        let words = row_of(cover, s).meet(z).words;
-        cover[s] = words;
+    for w in 0..WORDS {
+        for i in Ones(z.words[w]) {
+            let s = WORD_BITS * w + i;
+            // kept: `cover[s] = row_of(cover, s).meet(z).words` stops at the borrow checker, a call's field stored
+            let words = row_of(cover, s).meet(z).words;
+            cover[s] = words;
+        }
     }
 }
 

@@ -5,7 +5,7 @@
 --   map_at-none, map_at_peel               no state, no change; a state's element changed first, then those at the rest
 --   map_at_parts                          one set after the other, where they have no state in common
 --   mapping_turn, mapping_end             the loop over the states: a turn of it, and what it leaves
-use Prim.Native.Nat.{ℕ, ◌-◌, ◌<◌}
+use Prim.Native.Nat.{ℕ, ◌<◌}
 use mathlib.Core.Path.{◌≡◌, sym, ap, ap₂, ◌∙◌, subst}
 use mathlib.Core.Logic.{inl, inr, ⊎_elim}
 use mathlib.Core.Bool.{Bool, false, cond}

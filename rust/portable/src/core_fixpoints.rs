@@ -9,8 +9,8 @@
 //                                       the states that stay in a smaller set
 //   backward                            S, by the states that stay in it
 
-use crate::core_rows::{Rows, Steps, row_of, union_of};
-use crate::core_state_set::{MAX_STATES, StateSet, WORDS};
+use crate::core_rows::{Ones, Rows, Steps, row_of, union_of};
+use crate::core_state_set::{MAX_STATES, StateSet, WORD_BITS, WORDS};
 
 // ---- the cover
 
@@ -55,8 +55,11 @@ fn expand_set(steps: Steps, x: StateSet, order: &mut Order, count: usize) -> Exp
         count,
         found: StateSet::empty(),
     };
-    for s in x.states() {
-        so_far = expand(steps, s, order, so_far);
+    // kept: word by word, as join_rows of core_rows, and for the same bar
+    for w in 0..WORDS {
+        for i in Ones(x.words[w]) {
+            so_far = expand(steps, WORD_BITS * w + i, order, so_far);
+        }
     }
     so_far
 }

@@ -42,11 +42,14 @@ trait Relation: Copy {
 }
 
 // The rows of the states of x, joined.
+// kept: word by word: tried `for s in x.states()`, and decide took 1.53 times the peer's time where it looks backward often; 1.5 is the bar
 fn join_rows<R: Relation>(rows: R, x: StateSet) -> StateSet
 {
     let mut found = StateSet::empty();
-    for s in x.states() {
-        found = found.union(rows.row_at(s));
+    for w in 0..WORDS {
+        for i in Ones(x.words[w]) {
+            found = found.union(rows.row_at(WORD_BITS * w + i));
+        }
     }
     found
 }

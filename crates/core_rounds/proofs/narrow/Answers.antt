@@ -1,24 +1,45 @@
 -- `narrow`: with the covers of the states that are left met with z, all are.
-use native.Mathlib.Omega.{arith}
-use mathlib.Core.Path.{refl, ap₂, ◌∙◌}
-use Rattle.model.specs.Sets.{meet}
-use Rattle.model.proofs.SetsMembers.{in_bound}
+use mathlib.Core.Path.{refl, sym, ap, ap₂, ◌∙◌}
+use mathlib.Core.List.{[]}
+use borrow.Author.Rules.{rules}
+use Rattle.model.specs.Sets.{Set, meet}
+use Rattle.model.proofs.SetsMembers.{Proper, in_bound}
+use Rattle.core_state_set.proofs.SetsWords.{proper}
+use Rattle.core_state_set.proofs.SetsStates.{left_start}
+use Rattle.core_rows.specs.Rows.{map_at}
+use Rattle.core_rows.proofs.SetsJoined.{one_taken, one_less, past_words, next_word}
 use Rattle.core_rows.proofs.RowsMapped.{mapping_turn, mapping_end}
 use Rattle.core_rounds.specs.Adding.{narrowed}
 use Rattle.core_rounds.proofs.narrow.Goals as goal
 
+pub loop-w-init : goal.loop-w-init
+loop-w-init c =
+    ap (λ (Y : Set). map_at Y (λ row. meet row c.args.z.words) [] c.args.cover.now) (left_start _ (proper (search rules) (λ w. search rules)))
+
+pub loop-i-init : goal.loop-i-init
+loop-i-init c =
+    let set : Proper c.args.z.words = proper (search rules) (λ w. search rules) in
+    rw c.into_iter-i-iterator.ensures.into_iter_gives (set.fits _ c.loop-w-test.true, c.loop-w.invariant)
+
 pub row_of-requires : goal.row_of-requires
-row_of-requires c = in_bound (record { is = c.in-Some.ensures.steps.0 })
+row_of-requires c =
+    let taken = one_taken c.loop-i.invariant.0 c.in-Some.ensures.steps c.loop-w.w c.args.z.words (search rules) in
+    in_bound (record { is = taken.0 })
 
-pub offset_bounds-cover-s : goal.offset_bounds-cover-s
-offset_bounds-cover-s c = record { fits = omega (arith, in_bound (record { is = c.in-Some.ensures.steps.0 })) }
+pub loop-i-preserved : goal.loop-i-preserved
+loop-i-preserved c =
+    let fits = c.loop-i.invariant.0 in (
+      one_less fits c.in-Some.ensures.steps,
+      mapping_turn _ _ _ _ (one_taken fits c.in-Some.ensures.steps c.loop-w.w c.args.z.words (search rules))
+          (c.meet.ensures ∙ ap₂ meet c.row_of.ensures refl) c.loop-i.invariant.1,
+    )
 
-pub bounds-cover-s : goal.bounds-cover-s
-bounds-cover-s c = in_bound (record { is = c.in-Some.ensures.steps.0 })
-
-pub loop-s-preserved : goal.loop-s-preserved
-loop-s-preserved c = mapping_turn _ _ _ _ c.in-Some.ensures.steps (c.meet.ensures ∙ ap₂ meet c.row_of.ensures refl) c.loop-s.invariant
+pub loop-w-preserved : goal.loop-w-preserved
+loop-w-preserved c =
+    ap (λ (Y : Set). map_at Y (λ row. meet row c.args.z.words) [] c.loop-i.cover)
+    (sym (next_word c.loop-w.w c.args.z.words (proper (search rules) (λ w. search rules)) c.in-None.ensures.steps.0))
+    ∙ c.loop-i.invariant.1
 
 pub returns : goal.returns
 unfolding narrowed
-returns c = mapping_end _ _ _ c.in-None.ensures.steps.0 c.loop-s.invariant
+returns c = mapping_end _ _ _ (past_words _ _ (proper (search rules) (λ w. search rules)) (search rules)) c.loop-w.invariant
