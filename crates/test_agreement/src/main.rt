@@ -11,8 +11,8 @@ use core_table::{MARKED_AT, RESTING_AT, ROWS_AT, STORE_WORDS};
 use std::io;
 use std::io::Stdout;
 use test_support::{
-    digest, digest_places, digest_words, generate, groups_of, labelled, left_out, line, states_of,
-    unchanged_words,
+    digest, digest_all, digest_words, generate, groups_of, labelled, left_out, line, states_of,
+    unchanged,
 };
 
 const TABLES: usize = 4000;
@@ -40,7 +40,7 @@ fn is_dead_end(stdout: Stdout, store: &[u64], s: usize) -> io::Result<bool> {
     let from = ROWS_AT + WORDS * (s % MAX_STATES);
     let to = from + WORDS;
     if to <= store.len() {
-        return Ok(unchanged_words(&store[from..to], 0, 0));
+        return Ok(unchanged(&store[from..to], 0, 0));
     }
     left_out(stdout)?;
     Ok(false)
@@ -207,7 +207,13 @@ fn digest_answer(
         Ok(Verdict::Safe { count, size, .. }) => Ok(digest_numbers(d, 0, count, size, 0)),
         Ok(Verdict::Unsafe { count, steps }) => {
             let e = digest_numbers(d, 1, count, 0, steps);
-            digest_places(stdout, e, path, steps % MAX_STATES + 1)
+            match path.get(..=steps) {
+                Some(states) => Ok(digest_all(e, states)),
+                None => {
+                    left_out(stdout)?;
+                    Ok(e)
+                }
+            }
         }
         Ok(Verdict::Undecided { count }) => Ok(digest_numbers(d, 2, count, 0, 0)),
         Err(refusal) => Ok(digest_numbers(d, 3, usize::from(u8::from(refusal)), 0, 0)),
@@ -222,9 +228,9 @@ fn invariant_of(answer: Result<Verdict, Refusal>) -> StateSet {
     }
 }
 
-fn digest_set(stdout: Stdout, d: usize, x: StateSet) -> io::Result<usize> {
+fn digest_set(d: usize, x: StateSet) -> usize {
     let words = x.words;
-    digest_words(stdout, d, &words, WORDS)
+    digest_words(d, &words)
 }
 
 fn put_digest(tallies: &mut [usize], d: usize) {
@@ -243,7 +249,7 @@ fn compare(
     tally_answer(tallies, answer, found);
     let before = at(stdout, tallies, DIGEST)?;
     let d = digest_answer(stdout, before, answer, path)?;
-    put_digest(tallies, digest_set(stdout, d, invariant_of(answer))?);
+    put_digest(tallies, digest_set(d, invariant_of(answer)));
     Ok(())
 }
 

@@ -18,27 +18,27 @@ use file_writing::write;
 use std::io;
 use std::io::Stdout;
 use test_support::{
-    add, byte_at, bytes, digest_bytes, digest_words, generate, generate_largest, group, groups_of,
-    initial, labelled, line, marked, print_unchanged, put_byte, put_table, resting, states_of,
-    step, text, unchanged, unchanged_words, wide,
+    add, byte_at, digest_all, digest_words, generate, generate_largest, group, groups_of, initial,
+    labelled, left_out, line, marked, numbers, print_rest, put_byte, put_table, refused, resting,
+    states_of, step, text, unchanged,
 };
 
 // ---- one call of write
 
 // The answer, and how many bytes at the front of the output it accounts for.
 fn print_written(stdout: Stdout, w: Result<usize, Refusal>, output: &[u8]) -> io::Result<usize> {
+    text(stdout, b": ")?;
     match w {
         Ok(length) => {
-            labelled(stdout, b": file of ", length)?;
-            labelled(
-                stdout,
-                b", digest ",
-                digest_bytes(stdout, 0, output, length)?,
-            )?;
+            labelled(stdout, b"file of ", length)?;
+            match output.get(..length) {
+                Some(file) => labelled(stdout, b", digest ", digest_all(0, file))?,
+                None => left_out(stdout)?,
+            }
             Ok(length)
         }
         Err(refusal) => {
-            labelled(stdout, b": refused ", wide(u8::from(refusal)))?;
+            refused(stdout, refusal)?;
             Ok(0)
         }
     }
@@ -58,7 +58,12 @@ fn call_write(
         if room <= output.len() {
             let w = write(&store[0..words], n, g, site, &mut output[0..room]);
             let written = print_written(stdout, w, output)?;
-            print_unchanged(stdout, unchanged(output, written, 7))?;
+            print_rest(
+                stdout,
+                "the rest",
+                "unchanged",
+                unchanged(output, written, 7),
+            )?;
         }
     }
     Ok(())
@@ -97,19 +102,19 @@ fn try_write(
 
 // The answer, and how many words at the front of the store it accounts for.
 fn print_read(stdout: Stdout, r: Result<TableSize, Refusal>, store: &[u64]) -> io::Result<usize> {
+    text(stdout, b": ")?;
     match r {
         Ok(size) => {
-            labelled(stdout, b": n ", size.n)?;
+            labelled(stdout, b"n ", size.n)?;
             labelled(stdout, b" g ", size.g)?;
-            labelled(
-                stdout,
-                b", digest ",
-                digest_words(stdout, 0, store, STORE_WORDS)?,
-            )?;
+            match store.get(..STORE_WORDS) {
+                Some(table) => labelled(stdout, b", digest ", digest_words(0, table))?,
+                None => left_out(stdout)?,
+            }
             Ok(STORE_WORDS)
         }
         Err(refusal) => {
-            labelled(stdout, b": refused ", wide(u8::from(refusal)))?;
+            refused(stdout, refusal)?;
             Ok(0)
         }
     }
@@ -127,7 +132,7 @@ fn call_read(
         if words <= store.len() {
             let r = read(&input[0..length], site, &mut store[0..words]);
             let filled = print_read(stdout, r, store)?;
-            print_unchanged(stdout, unchanged_words(store, filled, 7))?;
+            print_rest(stdout, "the rest", "unchanged", unchanged(store, filled, 7))?;
         }
     }
     Ok(())
@@ -167,7 +172,10 @@ fn mend(stdout: Stdout, file: &mut [u8], at: usize, value: u8) -> io::Result<()>
         if at < file.len() {
             let c = at - i + 510;
             let check = byte_at(stdout, file, c)? + 256 * byte_at(stdout, file, c + 1)?;
-            let more = times(i + 1, 65521 + wide(value) - byte_at(stdout, file, at)?) % 65521;
+            let more = times(
+                i + 1,
+                65521 + usize::from(value) - byte_at(stdout, file, at)?,
+            ) % 65521;
             let sum = (check + more) % 65521;
             put_byte(stdout, file, c, (sum % 256) as u8)?;
             put_byte(stdout, file, c + 1, (sum / 256) as u8)?;
@@ -180,7 +188,7 @@ fn mend(stdout: Stdout, file: &mut [u8], at: usize, value: u8) -> io::Result<()>
 fn replace(stdout: Stdout, file: &mut [u8], at: usize, value: u8) -> io::Result<()> {
     if at < file.len() {
         labelled(stdout, b" ", at)?;
-        labelled(stdout, b"=", wide(value))?;
+        labelled(stdout, b"=", usize::from(value))?;
         mend(stdout, file, at, value)?;
         put_byte(stdout, file, at, value)?;
     }
@@ -217,7 +225,7 @@ fn print_e(stdout: Stdout, e: &[u64]) -> io::Result<()> {
     let mut output = [7u8; 512];
     let _ = write(e, 3, 0, 0, &mut output);
     text(stdout, b"file of E:")?;
-    bytes(stdout, &output, 512)?;
+    numbers(stdout, &output)?;
     line(stdout)
 }
 
@@ -700,12 +708,7 @@ fn round_trip(stdout: Stdout, d: usize, t: usize) -> io::Result<usize> {
     generate(stdout, &mut store, t)?;
     let _ = write(&store, states_of(t), groups_of(t), t, &mut file);
     let _ = read(&file, t, &mut back);
-    digest_words(
-        stdout,
-        digest_bytes(stdout, d, &file, 512)?,
-        &back,
-        STORE_WORDS,
-    )
+    Ok(digest_words(digest_all(d, &file), &back))
 }
 
 fn round_trips(stdout: Stdout) -> io::Result<usize> {
