@@ -11,7 +11,7 @@ use core_table::{MARKED_AT, RESTING_AT, ROWS_AT, STORE_WORDS};
 use std::io;
 use std::io::Stdout;
 use test_support::{
-    digest, digest_places, digest_words, generate, groups_of, left_out, states_of, unchanged_words,
+    Table, digest, digest_all, digest_words, generate, groups_of, left_out, states_of, unchanged,
 };
 
 const TABLES: usize = 4000;
@@ -36,7 +36,7 @@ fn is_dead_end(stdout: Stdout, store: &[u64], s: usize) -> io::Result<bool> {
     let from = ROWS_AT + WORDS * (s % MAX_STATES);
     let to = from + WORDS;
     if to <= store.len() {
-        return Ok(unchanged_words(&store[from..to], 0, 0));
+        return Ok(unchanged(&store[from..to], 0, 0));
     }
     left_out(stdout)?;
     Ok(false)
@@ -89,13 +89,12 @@ impl Queue {
     fn visit_set(
         &mut self,
         stdout: Stdout,
-        store: &[u64],
-        n: usize,
+        t: Table,
         place: usize,
         steps: usize,
     ) -> io::Result<()> {
-        for s in 0..n {
-            if holds(stdout, store, place, s)? {
+        for s in 0..t.n {
+            if holds(stdout, t.store, place, s)? {
                 self.visit(stdout, s, steps)?;
             }
         }
@@ -104,46 +103,39 @@ impl Queue {
 
     // What the queue has at place i.
     fn visited(&self, i: usize) -> Option<(usize, usize)> {
-        if i < self.end {
-            if i < MAX_STATES {
-                return Some(self.visits[i]);
-            }
+        if i < self.end && i < MAX_STATES {
+            return Some(self.visits[i]);
         }
         None
     }
 
     // The first forbidden state in the queue has the fewest steps.
-    fn first_forbidden(
-        &mut self,
-        stdout: Stdout,
-        store: &[u64],
-        n: usize,
-    ) -> io::Result<Option<usize>> {
-        self.visit_set(stdout, store, n, 0, 0)?;
-        for i in 0..n {
+    fn first_forbidden(&mut self, stdout: Stdout, t: Table) -> io::Result<Option<usize>> {
+        self.visit_set(stdout, t, 0, 0)?;
+        for i in 0..t.n {
             let Some((s, steps)) = self.visited(i) else {
                 return Ok(None);
             };
-            if is_forbidden(stdout, store, s)? {
+            if is_forbidden(stdout, t.store, s)? {
                 return Ok(Some(steps));
             }
             let row = ROWS_AT + WORDS * (s % MAX_STATES);
-            self.visit_set(stdout, store, n, row, steps % MAX_STATES + 1)?;
+            self.visit_set(stdout, t, row, steps % MAX_STATES + 1)?;
         }
         Ok(None)
     }
 }
 
 // The fewest steps from an initial to a forbidden state.
-fn search(stdout: Stdout, store: &[u64], n: usize) -> io::Result<Option<usize>> {
+fn search(stdout: Stdout, t: Table) -> io::Result<Option<usize>> {
     let mut queue = Queue::new();
-    queue.first_forbidden(stdout, store, n)
+    queue.first_forbidden(stdout, t)
 }
 
 // ---- the tallies
 
 // How many tables have each verdict, in how many of them the search finds the same, and a digest of all answers.
-#[derive(Clone, Copy)]
+#[derive(Clone, Copy, Default)]
 struct Tallies {
     safe: usize,
     not_safe: usize,
@@ -173,6 +165,7 @@ impl Tallies {
     }
 }
 
+// kept: the verdict is a number here (0 safe, 1 unsafe, 2 undecided, 3 refused), as the stored digest has it in: a test's values don't change.
 fn digest_numbers(d: usize, verdict: usize, count: usize, size: usize, steps: usize) -> usize {
     digest(digest(digest(digest(d, verdict), count), size), steps)
 }
@@ -187,7 +180,13 @@ fn digest_answer(
         Ok(Verdict::Safe { count, size, .. }) => Ok(digest_numbers(d, 0, count, size, 0)),
         Ok(Verdict::Unsafe { count, steps }) => {
             let e = digest_numbers(d, 1, count, 0, steps);
-            digest_places(stdout, e, path, steps % MAX_STATES + 1)
+            match path.get(..=steps) {
+                Some(states) => Ok(digest_all(e, states)),
+                None => {
+                    left_out(stdout)?;
+                    Ok(e)
+                }
+            }
         }
         Ok(Verdict::Undecided { count }) => Ok(digest_numbers(d, 2, count, 0, 0)),
         Err(refusal) => Ok(digest_numbers(d, 3, usize::from(u8::from(refusal)), 0, 0)),
@@ -202,9 +201,9 @@ fn invariant_of(answer: Result<Verdict, Refusal>) -> StateSet {
     }
 }
 
-fn digest_set(stdout: Stdout, d: usize, x: StateSet) -> io::Result<usize> {
+fn digest_set(d: usize, x: StateSet) -> usize {
     let words = x.words;
-    digest_words(stdout, d, &words, WORDS)
+    digest_words(d, &words)
 }
 
 fn compare(
@@ -216,7 +215,7 @@ fn compare(
 ) -> io::Result<()> {
     tallies.tally(answer, found);
     let d = digest_answer(stdout, tallies.digest, answer, path)?;
-    tallies.digest = digest_set(stdout, d, invariant_of(answer))?;
+    tallies.digest = digest_set(d, invariant_of(answer));
     Ok(())
 }
 
@@ -227,10 +226,10 @@ fn try_one(
     store: &mut [u64],
     path: &mut [u16],
 ) -> io::Result<()> {
-    let n = states_of(t);
     generate(stdout, store, t)?;
-    let answer = decide(store, n, groups_of(t), MAX_ALLOWANCE, path);
-    compare(stdout, tallies, answer, path, search(stdout, store, n)?)
+    let table = Table::new(store, states_of(t), groups_of(t));
+    let answer = decide(table.store, table.n, table.g, MAX_ALLOWANCE, path);
+    compare(stdout, tallies, answer, path, search(stdout, table)?)
 }
 
 fn try_table(stdout: Stdout, tallies: &mut Tallies, t: usize) -> io::Result<()> {
@@ -240,13 +239,7 @@ fn try_table(stdout: Stdout, tallies: &mut Tallies, t: usize) -> io::Result<()> 
 }
 
 fn try_tables(stdout: Stdout) -> io::Result<Tallies> {
-    let mut tallies = Tallies {
-        safe: 0,
-        not_safe: 0,
-        same_verdict: 0,
-        same_length: 0,
-        digest: 0,
-    };
+    let mut tallies = Tallies::default();
     for t in 0..TABLES {
         try_table(stdout, &mut tallies, t)?;
     }
