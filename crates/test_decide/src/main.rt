@@ -3,6 +3,8 @@
 // tests/expected/programs.py works out what this must print, from its text.
 #![tactic(auto)]
 
+ghost use Rattle.std.specs.Prelude.{◌*◌, ◌^◌, ◌<◌};
+
 use call_decide::{Verdict, decide};
 use core_refusals::Refusal;
 use core_rounds::MAX_ALLOWANCE;
@@ -11,8 +13,8 @@ use core_table::{MAX_GROUPS, STORE_WORDS};
 use std::io;
 use std::io::Stdout;
 use test_support::{
-    Table, group, initial, marked, print_path, print_rest, put_corridor, put_table, refused,
-    resting, states, step, unchanged,
+    ASKED, LONG, SHORT, Table, group, initial, marked, print_path, print_rest, put_corridor,
+    put_table, refused, resting, states, step, unchanged,
 };
 
 // The answer, and how many places at the front of the path buffer it accounts for.
@@ -48,20 +50,15 @@ fn print_answer(
     }
 }
 
-// Places of a path buffer: as many as are asked for, one fewer, and some more.
-const ASKED: usize = MAX_STATES;
-
-const SHORT: usize = MAX_STATES - 1;
-
-const LONG: usize = MAX_STATES + 44;
-
-// One call, with a path buffer of so many sevens.
+// One call, with a path buffer of so many sevens. (No array has 2^63 bytes.)
 fn try_one<const PLACES: usize>(
     stdout: Stdout,
     name: &str,
     table: Table,
     allowance: usize,
-) -> io::Result<()> {
+) -> io::Result<()>
+    requires { PLACES * 2 < 2 ^ 63 }
+{
     let mut path = [7u16; PLACES];
     print!(stdout; "{name} {allowance}: ")?;
     let answer = decide(table.store, table.n, table.g, allowance, &mut path);

@@ -3,6 +3,8 @@
 // tests/expected/programs.py works out what this must print: it looks at every choice.
 #![tactic(auto)]
 
+ghost use Rattle.std.specs.Prelude.{◌*◌, ◌^◌, ◌<◌};
+
 use call_modal::{ModalVerdict, POSSIBLE_WORDS, decide_modal};
 use core_refusals::Refusal;
 use core_state_set::{MAX_STATES, WORDS};
@@ -10,8 +12,8 @@ use core_table::{MAX_GROUPS, ROWS_AT, STORE_WORDS};
 use std::io;
 use std::io::Stdout;
 use test_support::{
-    Table, add, group, print_path, print_rest, put_corridor, put_table, refused, resting, states,
-    step, unchanged,
+    ASKED, SHORT, Table, add, group, print_path, print_rest, put_corridor, put_table, refused,
+    resting, states, step, unchanged,
 };
 
 // The answer, and how many places at the front of the path buffer it accounts for.
@@ -48,18 +50,15 @@ fn print_answer(
     }
 }
 
-// Places of a path buffer: as many as are asked for, and one fewer.
-const ASKED: usize = MAX_STATES;
-
-const SHORT: usize = MAX_STATES - 1;
-
-// One call, with a path buffer of so many sevens.
+// One call, with a path buffer of so many sevens. (No array has 2^63 bytes.)
 fn try_one<const PLACES: usize>(
     stdout: Stdout,
     name: &str,
     table: Table,
     possible: &[u64],
-) -> io::Result<()> {
+) -> io::Result<()>
+    requires { PLACES * 2 < 2 ^ 63 }
+{
     let mut path = [7u16; PLACES];
     print!(stdout; "{name}: ")?;
     let answer = decide_modal(table.store, table.n, table.g, possible, &mut path);

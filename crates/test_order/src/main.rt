@@ -6,22 +6,24 @@
 ghost use Rattle.std.specs.Prelude.{◌/◌, ◌<◌};
 ghost use Rattle.model.specs.Stores.{max_groups};
 
-use call_first_order::first_order;
-use core_fixpoints::Order;
+use call_first_order::{FirstOrder, first_order};
 use core_state_set::MAX_STATES;
 use core_table::{MAX_GROUPS, STORE_WORDS};
 use std::io;
 use std::io::Stdout;
-use test_support::{Table, group, initial, marked, put_table, refused, resting, step};
+use test_support::{
+    Table, group, initial, left_out, marked, numbers, put_table, refused, resting, step, unchanged,
+};
 
-// The first `count` places; and of each other place, whether it is not 0.
-fn print_places(stdout: Stdout, order: &Order, count: usize) -> io::Result<()> {
-    for (i, s) in order.iter().enumerate() {
-        if i < count {
-            print!(stdout; " {s}")?;
-        } else if *s != 0 {
-            print!(stdout; " NOT 0")?;
-        }
+// The states that are expanded; and whether a place behind them is not 0.
+fn print_order(stdout: Stdout, found: FirstOrder) -> io::Result<()> {
+    print!(stdout; "expands {}:", found.count)?;
+    match found.states.get(..found.count) {
+        Some(states) => numbers(stdout, states)?,
+        None => left_out(stdout)?,
+    }
+    if !unchanged(&found.states, found.count, 0) {
+        print!(stdout; " NOT 0")?;
     }
     Ok(())
 }
@@ -29,12 +31,7 @@ fn print_places(stdout: Stdout, order: &Order, count: usize) -> io::Result<()> {
 fn try_one(stdout: Stdout, name: &str, table: Table) -> io::Result<()> {
     print!(stdout; "{name}: ")?;
     match first_order(table.store, table.n, table.g) {
-        Ok(found) => {
-            let count = found.count;
-            let states = found.states;
-            print!(stdout; "expands {count}:")?;
-            print_places(stdout, &states, count)?;
-        }
+        Ok(found) => print_order(stdout, found)?,
         Err(refusal) => refused(stdout, refusal)?,
     }
     println!(stdout)

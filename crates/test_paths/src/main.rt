@@ -3,6 +3,8 @@
 // written by tests/expected/paths.py, a breadth-first search from the initial states made from the specification's text alone.
 #![tactic(auto)]
 
+ghost use Rattle.std.specs.Prelude.{◌*◌, ◌^◌, ◌<◌};
+
 use call_distances::distances;
 use call_paths::{shortest_path, within};
 use core_refusals::Refusal;
@@ -11,8 +13,8 @@ use core_table::{MAX_GROUPS, STORE_WORDS};
 use std::io;
 use std::io::Stdout;
 use test_support::{
-    Table, group, initial, numbers, print_path, print_rest, put_corridor, put_table, refused,
-    resting, unchanged,
+    ASKED, LONG, SHORT, Table, group, initial, numbers, print_path, print_rest, put_corridor,
+    put_table, refused, resting, unchanged,
 };
 
 // What the path buffers hold before a call.
@@ -42,15 +44,10 @@ fn print_answer(
     }
 }
 
-// Places of a path buffer: as many as are asked for, one fewer, and some more.
-const ASKED: usize = MAX_STATES;
-
-const SHORT: usize = MAX_STATES - 1;
-
-const LONG: usize = MAX_STATES + 44;
-
-// With a path buffer of so many places.
-fn report<const PLACES: usize>(stdout: Stdout, name: &str, table: Table) -> io::Result<()> {
+// With a path buffer of so many places. (No array has 2^63 bytes.)
+fn report<const PLACES: usize>(stdout: Stdout, name: &str, table: Table) -> io::Result<()>
+    requires { PLACES * 2 < 2 ^ 63 }
+{
     let mut path = [BEFORE; PLACES];
     print!(stdout; "{name}: ")?;
     let answer = shortest_path(table.store, table.n, table.g, &mut path);
@@ -244,7 +241,9 @@ fn print_within(stdout: Stdout, table: Table, k: usize) -> io::Result<()> {
 }
 
 // With a distance buffer of so many places.
-fn measure<const PLACES: usize>(stdout: Stdout, name: &str, table: Table) -> io::Result<()> {
+fn measure<const PLACES: usize>(stdout: Stdout, name: &str, table: Table) -> io::Result<()>
+    requires { PLACES * 2 < 2 ^ 63 }
+{
     let mut out = [NO_DISTANCE; PLACES];
     print!(stdout; "{name}: ")?;
     let answer = distances(table.store, table.n, table.g, &mut out);

@@ -7,10 +7,10 @@
 //   put_corridor                              the longest path that there can be
 //   generate, states_of, groups_of            a generated table, its n and its g (generated.rt)
 //   generate_largest                          one with as many states and groups as a store holds
-//   text, number, labelled, line              printed on standard output
 //   states, numbers                           the states of a set, or numbers of any size, printed after spaces
 //   print_path                                the path that a call wrote
 //   refused                                   why a call was refused
+//   ASKED, SHORT, LONG                        how long the path buffers of calls are
 //   byte_at, put_byte                         one byte of a buffer, read and written
 //   unchanged                                 whether each element from a place on is still the one given
 //   print_rest                                such an answer, which ends a line
@@ -160,24 +160,6 @@ pub fn put_corridor(stdout: Stdout, store: &mut [u64]) -> io::Result<()> {
 
 // ---- printing
 
-pub fn text(stdout: Stdout, bytes: &[u8]) -> io::Result<()> {
-    stdout.write_all(bytes)
-}
-
-pub fn number(stdout: Stdout, x: usize) -> io::Result<()> {
-    stdout.print(x)
-}
-
-// A number after its label.
-pub fn labelled(stdout: Stdout, label: &[u8], x: usize) -> io::Result<()> {
-    text(stdout, label)?;
-    number(stdout, x)
-}
-
-pub fn line(stdout: Stdout) -> io::Result<()> {
-    text(stdout, b"\n")
-}
-
 // The states of a set, each after a space.
 pub fn states(stdout: Stdout, x: StateSet) -> io::Result<()> {
     for s in x.states() {
@@ -216,11 +198,12 @@ pub fn refused(stdout: Stdout, refusal: Refusal) -> io::Result<()> {
 
 // ---- buffers
 
-pub fn wide(b: u8) -> usize
-    ensures { result < 256 }
-{
-    b as usize
-}
+// Places of a path buffer: as many as a call asks for, one fewer, and some more.
+pub const ASKED: usize = MAX_STATES;
+
+pub const SHORT: usize = MAX_STATES - 1;
+
+pub const LONG: usize = MAX_STATES + 44;
 
 pub fn byte_at(stdout: Stdout, buffer: &[u8], i: usize) -> io::Result<usize>
     ensures { IfOk result (λ x. x < 256) }
