@@ -145,12 +145,9 @@ fn mend(stdout: Stdout, file: &mut [u8], at: usize, value: u8) -> io::Result<()>
 
 // A byte replaced, and unless it is one of the check's own, the check set right.
 fn replace(stdout: Stdout, file: &mut [u8], at: usize, value: u8) -> io::Result<()> {
-    if at < file.len() {
-        print!(stdout; " {at}={value}")?;
-        mend(stdout, file, at, value)?;
-        put_byte(stdout, file, at, value)?;
-    }
-    Ok(())
+    print!(stdout; " {at}={value}")?;
+    mend(stdout, file, at, value)?;
+    put_byte(stdout, file, at, value)
 }
 
 // Read the first `length` bytes of the file of a table to `words` words, with the bytes at some places replaced; zeros stand behind the file.
