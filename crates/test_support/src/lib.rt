@@ -251,7 +251,7 @@ pub fn digest_all<T: Copy + Into<usize>>(d: usize, xs: &[T]) -> usize {
     now
 }
 
-// A word goes in as its lower and its upper half.
+// kept: no plainer as one with digest_all, since a word goes in as two numbers, its lower and its upper half.
 pub fn digest_words(d: usize, words: &[u64]) -> usize {
     let mut now = d;
     for word in words {
