@@ -11,16 +11,12 @@ use core_table::{MARKED_AT, RESTING_AT, ROWS_AT, STORE_WORDS};
 use std::io;
 use std::io::Stdout;
 use test_support::{
-    digest, digest_places, digest_words, generate, groups_of, labelled, left_out, line, states_of,
-    unchanged_words,
+    Table, digest, digest_all, digest_words, generate, groups_of, left_out, states_of, unchanged,
 };
 
 const TABLES: usize = 4000;
 
 // ---- the search
-
-// More steps than any path has: no path.
-const NONE: usize = 9999;
 
 fn holds(stdout: Stdout, store: &[u64], at: usize, s: usize) -> io::Result<bool> {
     if at < store.len() {
@@ -40,7 +36,7 @@ fn is_dead_end(stdout: Stdout, store: &[u64], s: usize) -> io::Result<bool> {
     let from = ROWS_AT + WORDS * (s % MAX_STATES);
     let to = from + WORDS;
     if to <= store.len() {
-        return Ok(unchanged_words(&store[from..to], 0, 0));
+        return Ok(unchanged(&store[from..to], 0, 0));
     }
     left_out(stdout)?;
     Ok(false)
@@ -56,143 +52,120 @@ fn is_forbidden(stdout: Stdout, store: &[u64], s: usize) -> io::Result<bool> {
     is_dead_end(stdout, store, s)
 }
 
-fn at(stdout: Stdout, xs: &[usize], i: usize) -> io::Result<usize> {
-    if i < xs.len() {
-        return Ok(xs[i]);
-    }
-    left_out(stdout)?;
-    Ok(NONE)
-}
-
-// A state put at the queue's end if it is wanted and was never there, with its steps from an initial state; the end after that.
-fn visit(
-    stdout: Stdout,
-    wanted: bool,
-    s: usize,
-    d: usize,
-    queue: &mut [usize],
+// The states found so far in the order in which they were found, each with its steps from an initial state.
+#[derive(Drop)]
+struct Queue {
+    visits: [(usize, usize); MAX_STATES],
     end: usize,
-    steps: &mut [usize],
-) -> io::Result<usize> {
-    if !wanted {
-        return Ok(end);
-    }
-    if s < steps.len() {
-        if steps[s] != NONE {
-            return Ok(end);
-        }
-        if end < queue.len() {
-            steps[s] = d;
-            queue[end] = s;
-            return Ok(end + 1);
-        }
-    }
-    left_out(stdout)?;
-    Ok(end)
+    found: [bool; MAX_STATES],
 }
 
-// The states of the set that begins at `place`, one after another.
-fn visit_set(
-    stdout: Stdout,
-    store: &[u64],
-    n: usize,
-    place: usize,
-    d: usize,
-    queue: &mut [usize],
-    from: usize,
-    steps: &mut [usize],
-) -> io::Result<usize> {
-    let mut end = from;
-    for s in 0..n {
-        end = visit(
-            stdout,
-            holds(stdout, store, place, s)?,
-            s,
-            d,
-            queue,
-            end,
-            steps,
-        )?;
+impl Queue {
+    fn new() -> Queue {
+        Queue {
+            visits: [(0, 0); MAX_STATES],
+            end: 0,
+            found: [false; MAX_STATES],
+        }
     }
-    Ok(end)
+
+    // A state put at the queue's end if it was never there.
+    fn visit(&mut self, stdout: Stdout, s: usize, steps: usize) -> io::Result<()> {
+        if s < MAX_STATES {
+            if self.found[s] {
+                return Ok(());
+            }
+            if self.end < MAX_STATES {
+                self.found[s] = true;
+                self.visits[self.end] = (s, steps);
+                self.end += 1;
+                return Ok(());
+            }
+        }
+        left_out(stdout)
+    }
+
+    // The states of the set that begins at `place`, one after another.
+    fn visit_set(
+        &mut self,
+        stdout: Stdout,
+        t: Table,
+        place: usize,
+        steps: usize,
+    ) -> io::Result<()> {
+        for s in 0..t.n {
+            if holds(stdout, t.store, place, s)? {
+                self.visit(stdout, s, steps)?;
+            }
+        }
+        Ok(())
+    }
+
+    // What the queue has at place i.
+    fn visited(&self, i: usize) -> Option<(usize, usize)> {
+        if i < self.end && i < MAX_STATES {
+            return Some(self.visits[i]);
+        }
+        None
+    }
+
+    // The first forbidden state in the queue has the fewest steps.
+    fn first_forbidden(&mut self, stdout: Stdout, t: Table) -> io::Result<Option<usize>> {
+        self.visit_set(stdout, t, 0, 0)?;
+        for i in 0..t.n {
+            let Some((s, steps)) = self.visited(i) else {
+                return Ok(None);
+            };
+            if is_forbidden(stdout, t.store, s)? {
+                return Ok(Some(steps));
+            }
+            let row = ROWS_AT + WORDS * (s % MAX_STATES);
+            self.visit_set(stdout, t, row, steps % MAX_STATES + 1)?;
+        }
+        Ok(None)
+    }
 }
 
-// The first forbidden state in the queue has the fewest steps.
-fn search_by(
-    stdout: Stdout,
-    store: &[u64],
-    n: usize,
-    queue: &mut [usize],
-    steps: &mut [usize],
-) -> io::Result<usize> {
-    let mut end = visit_set(stdout, store, n, 0, 0, queue, 0, steps)?;
-    for i in 0..n {
-        if end <= i {
-            return Ok(NONE);
-        }
-        let s = at(stdout, queue, i)?;
-        let d = at(stdout, steps, s)?;
-        if is_forbidden(stdout, store, s)? {
-            return Ok(d);
-        }
-        end = visit_set(
-            stdout,
-            store,
-            n,
-            ROWS_AT + WORDS * (s % MAX_STATES),
-            d % NONE + 1,
-            queue,
-            end,
-            steps,
-        )?;
-    }
-    Ok(NONE)
-}
-
-// The fewest steps from an initial to a forbidden state, or NONE.
-fn search(stdout: Stdout, store: &[u64], n: usize) -> io::Result<usize> {
-    let mut queue = [0usize; MAX_STATES];
-    let mut steps = [NONE; MAX_STATES];
-    search_by(stdout, store, n, &mut queue, &mut steps)
+// The fewest steps from an initial to a forbidden state.
+fn search(stdout: Stdout, t: Table) -> io::Result<Option<usize>> {
+    let mut queue = Queue::new();
+    queue.first_forbidden(stdout, t)
 }
 
 // ---- the tallies
 
-const SAFE: usize = 0;
+// How many tables have each verdict, in how many of them the search finds the same, and a digest of all answers.
+#[derive(Clone, Copy, Default)]
+struct Tallies {
+    safe: usize,
+    not_safe: usize,
+    same_verdict: usize,
+    same_length: usize,
+    digest: usize,
+}
 
-const UNSAFE: usize = 1;
+fn more(tally: usize, counts: bool) -> usize {
+    tally.wrapping_add(usize::from(counts))
+}
 
-const SAME_VERDICT: usize = 2;
-
-const SAME_LENGTH: usize = 3;
-
-const DIGEST: usize = 4;
-
-const TALLIES: usize = 5;
-
-fn tally(tallies: &mut [usize], i: usize, counts: bool) {
-    if counts {
-        if i < tallies.len() {
-            tallies[i] = tallies[i] % 4294967296 + 1;
+impl Tallies {
+    fn tally(&mut self, answer: Result<Verdict, Refusal>, found: Option<usize>) {
+        match answer {
+            Ok(Verdict::Safe { .. }) => {
+                self.safe = more(self.safe, true);
+                self.same_verdict = more(self.same_verdict, found.is_none());
+            }
+            Ok(Verdict::Unsafe { steps, .. }) => {
+                self.not_safe = more(self.not_safe, true);
+                self.same_verdict = more(self.same_verdict, found.is_some());
+                self.same_length = more(self.same_length, found == Some(steps));
+            }
+            _ => {}
         }
     }
 }
 
-fn tally_answer(tallies: &mut [usize], answer: Result<Verdict, Refusal>, found: usize) {
-    match answer {
-        Ok(Verdict::Safe { .. }) => {
-            tally(tallies, SAFE, true);
-            tally(tallies, SAME_VERDICT, found == NONE);
-        }
-        Ok(Verdict::Unsafe { steps, .. }) => {
-            tally(tallies, UNSAFE, true);
-            tally(tallies, SAME_VERDICT, found != NONE);
-            tally(tallies, SAME_LENGTH, found == steps);
-        }
-        _ => {}
-    }
-}
-
+// kept: the verdict is a number here (0 safe, 1 unsafe, 2 undecided, 3 refused), as the stored digest has it in: a test's values don't change.
 fn digest_numbers(d: usize, verdict: usize, count: usize, size: usize, steps: usize) -> usize {
     digest(digest(digest(digest(d, verdict), count), size), steps)
 }
@@ -207,7 +180,13 @@ fn digest_answer(
         Ok(Verdict::Safe { count, size, .. }) => Ok(digest_numbers(d, 0, count, size, 0)),
         Ok(Verdict::Unsafe { count, steps }) => {
             let e = digest_numbers(d, 1, count, 0, steps);
-            digest_places(stdout, e, path, steps % MAX_STATES + 1)
+            match path.get(..=steps) {
+                Some(states) => Ok(digest_all(e, states)),
+                None => {
+                    left_out(stdout)?;
+                    Ok(e)
+                }
+            }
         }
         Ok(Verdict::Undecided { count }) => Ok(digest_numbers(d, 2, count, 0, 0)),
         Err(refusal) => Ok(digest_numbers(d, 3, usize::from(u8::from(refusal)), 0, 0)),
@@ -222,71 +201,57 @@ fn invariant_of(answer: Result<Verdict, Refusal>) -> StateSet {
     }
 }
 
-fn digest_set(stdout: Stdout, d: usize, x: StateSet) -> io::Result<usize> {
+fn digest_set(d: usize, x: StateSet) -> usize {
     let words = x.words;
-    digest_words(stdout, d, &words, WORDS)
-}
-
-fn put_digest(tallies: &mut [usize], d: usize) {
-    if DIGEST < tallies.len() {
-        tallies[DIGEST] = d;
-    }
+    digest_words(d, &words)
 }
 
 fn compare(
     stdout: Stdout,
-    tallies: &mut [usize],
+    tallies: &mut Tallies,
     answer: Result<Verdict, Refusal>,
     path: &[u16],
-    found: usize,
+    found: Option<usize>,
 ) -> io::Result<()> {
-    tally_answer(tallies, answer, found);
-    let before = at(stdout, tallies, DIGEST)?;
-    let d = digest_answer(stdout, before, answer, path)?;
-    put_digest(tallies, digest_set(stdout, d, invariant_of(answer))?);
+    tallies.tally(answer, found);
+    let d = digest_answer(stdout, tallies.digest, answer, path)?;
+    tallies.digest = digest_set(d, invariant_of(answer));
     Ok(())
 }
 
 fn try_one(
     stdout: Stdout,
-    tallies: &mut [usize],
+    tallies: &mut Tallies,
     t: usize,
     store: &mut [u64],
     path: &mut [u16],
 ) -> io::Result<()> {
-    let n = states_of(t);
     generate(stdout, store, t)?;
-    let answer = decide(store, n, groups_of(t), MAX_ALLOWANCE, path);
-    compare(stdout, tallies, answer, path, search(stdout, store, n)?)
+    let table = Table::new(store, states_of(t), groups_of(t));
+    let answer = decide(table.store, table.n, table.g, MAX_ALLOWANCE, path);
+    compare(stdout, tallies, answer, path, search(stdout, table)?)
 }
 
-fn try_table(stdout: Stdout, tallies: &mut [usize], t: usize) -> io::Result<()> {
+fn try_table(stdout: Stdout, tallies: &mut Tallies, t: usize) -> io::Result<()> {
     let mut store = [0u64; STORE_WORDS];
     let mut path = [0u16; MAX_STATES];
     try_one(stdout, tallies, t, &mut store, &mut path)
 }
 
-fn try_tables(stdout: Stdout, tallies: &mut [usize]) -> io::Result<()> {
+fn try_tables(stdout: Stdout) -> io::Result<Tallies> {
+    let mut tallies = Tallies::default();
     for t in 0..TABLES {
-        try_table(stdout, tallies, t)?;
+        try_table(stdout, &mut tallies, t)?;
     }
-    Ok(())
-}
-
-fn print_tally(stdout: Stdout, label: &[u8], tallies: &[usize], i: usize) -> io::Result<()> {
-    labelled(stdout, label, at(stdout, tallies, i)?)?;
-    line(stdout)
+    Ok(tallies)
 }
 
 fn main(rt: HostRuntime) -> io::Result<()> {
-    let stdout = rt.stdout();
-    let mut tallies = [0usize; TALLIES];
-    try_tables(stdout, &mut tallies)?;
-    labelled(stdout, b"tables ", TABLES)?;
-    line(stdout)?;
-    print_tally(stdout, b"safe ", &tallies, SAFE)?;
-    print_tally(stdout, b"unsafe ", &tallies, UNSAFE)?;
-    print_tally(stdout, b"same verdict ", &tallies, SAME_VERDICT)?;
-    print_tally(stdout, b"same length of path ", &tallies, SAME_LENGTH)?;
-    print_tally(stdout, b"digest of all answers ", &tallies, DIGEST)
+    let tallies = try_tables(rt.stdout())?;
+    println!(rt; "tables {TABLES}")?;
+    println!(rt; "safe {}", tallies.safe)?;
+    println!(rt; "unsafe {}", tallies.not_safe)?;
+    println!(rt; "same verdict {}", tallies.same_verdict)?;
+    println!(rt; "same length of path {}", tallies.same_length)?;
+    println!(rt; "digest of all answers {}", tallies.digest)
 }

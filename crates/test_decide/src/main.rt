@@ -3,6 +3,8 @@
 // tests/expected/programs.py works out what this must print, from its text.
 #![tactic(auto)]
 
+ghost use Rattle.std.specs.Prelude.{◌*◌, ◌^◌, ◌<◌};
+
 use call_decide::{Verdict, decide};
 use core_refusals::Refusal;
 use core_rounds::MAX_ALLOWANCE;
@@ -11,8 +13,8 @@ use core_table::{MAX_GROUPS, STORE_WORDS};
 use std::io;
 use std::io::Stdout;
 use test_support::{
-    group, initial, labelled, marked, places, print_unchanged, put_corridor, put_table, resting,
-    states, step, text, unchanged_places,
+    ASKED, LONG, SHORT, Table, group, initial, marked, print_path, print_rest, put_corridor,
+    put_table, refused, resting, states, step, unchanged,
 };
 
 // The answer, and how many places at the front of the path buffer it accounts for.
@@ -29,119 +31,72 @@ fn print_answer(
                 size,
             },
         ) => {
-            labelled(stdout, b"safe ", count)?;
-            labelled(stdout, b" invariant ", size)?;
-            text(stdout, b":")?;
+            print!(stdout; "safe {count} invariant {size}:")?;
             states(stdout, invariant)?;
             Ok(0)
         }
         Ok(Verdict::Unsafe { count, steps }) => {
-            labelled(stdout, b"unsafe ", count)?;
-            text(stdout, b" path")?;
-            if steps < MAX_STATES {
-                places(stdout, path, steps + 1)?;
-                Ok(steps + 1)
-            } else {
-                Ok(0)
-            }
+            print!(stdout; "unsafe {count}")?;
+            print_path(stdout, steps, path)
         }
         Ok(Verdict::Undecided { count }) => {
-            labelled(stdout, b"undecided ", count)?;
+            print!(stdout; "undecided {count}")?;
             Ok(0)
         }
         Err(refusal) => {
-            labelled(stdout, b"refused ", usize::from(u8::from(refusal)))?;
+            refused(stdout, refusal)?;
             Ok(0)
         }
     }
 }
 
-// One call, with a path buffer of sevens.
-fn call(
+// One call, with a path buffer of so many sevens. (No array has 2^63 bytes.)
+fn try_one<const PLACES: usize>(
     stdout: Stdout,
-    name: &[u8],
-    store: &[u64],
-    n: usize,
-    g: usize,
+    name: &str,
+    table: Table,
     allowance: usize,
-    path: &mut [u16],
-) -> io::Result<()> {
-    text(stdout, name)?;
-    labelled(stdout, b" ", allowance)?;
-    text(stdout, b": ")?;
-    let answer = decide(store, n, g, allowance, path);
-    let written = print_answer(stdout, answer, path)?;
-    print_unchanged(stdout, unchanged_places(path, written, 7))
+) -> io::Result<()>
+    requires { PLACES * 2 < 2 ^ 63 }
+{
+    let mut path = [7u16; PLACES];
+    print!(stdout; "{name} {allowance}: ")?;
+    let answer = decide(table.store, table.n, table.g, allowance, &mut path);
+    let written = print_answer(stdout, answer, &path)?;
+    print_rest(
+        stdout,
+        "the rest",
+        "unchanged",
+        unchanged(&path, written, 7),
+    )
 }
 
-fn try_one(
-    stdout: Stdout,
-    name: &[u8],
-    store: &[u64],
-    n: usize,
-    g: usize,
-    allowance: usize,
-) -> io::Result<()> {
-    let mut path = [7u16; MAX_STATES];
-    call(stdout, name, store, n, g, allowance, &mut path)
-}
-
-fn try_short(
-    stdout: Stdout,
-    name: &[u8],
-    store: &[u64],
-    n: usize,
-    g: usize,
-    allowance: usize,
-) -> io::Result<()> {
-    let mut path = [7u16; MAX_STATES - 1];
-    call(stdout, name, store, n, g, allowance, &mut path)
-}
-
-fn try_long(
-    stdout: Stdout,
-    name: &[u8],
-    store: &[u64],
-    n: usize,
-    g: usize,
-    allowance: usize,
-) -> io::Result<()> {
-    let mut path = [7u16; MAX_STATES + 44];
-    call(stdout, name, store, n, g, allowance, &mut path)
-}
-
-fn try_allowances(
-    stdout: Stdout,
-    name: &[u8],
-    store: &[u64],
-    n: usize,
-    g: usize,
-) -> io::Result<()> {
-    try_one(stdout, name, store, n, g, 0)?;
-    try_one(stdout, name, store, n, g, 1)?;
-    try_one(stdout, name, store, n, g, 2)?;
-    try_one(stdout, name, store, n, g, 3)?;
-    try_long(stdout, name, store, n, g, MAX_ALLOWANCE)
+fn try_allowances(stdout: Stdout, name: &str, table: Table) -> io::Result<()> {
+    try_one::<ASKED>(stdout, name, table, 0)?;
+    try_one::<ASKED>(stdout, name, table, 1)?;
+    try_one::<ASKED>(stdout, name, table, 2)?;
+    try_one::<ASKED>(stdout, name, table, 3)?;
+    try_one::<LONG>(stdout, name, table, MAX_ALLOWANCE)
 }
 
 fn table_a(stdout: Stdout) -> io::Result<()> {
     let mut t = [0u64; STORE_WORDS];
     put_table(stdout, &mut t, b"0", b"2", b"01 10 22")?;
-    try_allowances(stdout, b"A", &t, 3, 0)?;
+    try_allowances(stdout, "A", Table::new(&t, 3, 0))?;
     resting(stdout, &mut t, 0)?;
     resting(stdout, &mut t, 1)?;
     resting(stdout, &mut t, 2)?;
-    try_allowances(stdout, b"A, all resting", &t, 3, 0)
+    try_allowances(stdout, "A, all resting", Table::new(&t, 3, 0))
 }
 
 fn table_b(stdout: Stdout) -> io::Result<()> {
     let mut t = [0u64; STORE_WORDS];
     put_table(stdout, &mut t, b"0", b"3", b"01 12 23 44")?;
-    try_allowances(stdout, b"B", &t, 5, 0)?;
+    try_allowances(stdout, "B", Table::new(&t, 5, 0))?;
     group(stdout, &mut t, 0, 0)?;
     group(stdout, &mut t, 1, 1)?;
     group(stdout, &mut t, 2, 2)?;
-    try_allowances(stdout, b"D", &t, 5, 3)
+    try_allowances(stdout, "D", Table::new(&t, 5, 3))
 }
 
 // Marked wins over resting.
@@ -149,19 +104,23 @@ fn table_b_resting(stdout: Stdout) -> io::Result<()> {
     let mut t = [0u64; STORE_WORDS];
     put_table(stdout, &mut t, b"0", b"3", b"01 12 23 44")?;
     resting(stdout, &mut t, 3)?;
-    try_allowances(stdout, b"B, 3 resting", &t, 5, 0)
+    try_allowances(stdout, "B, 3 resting", Table::new(&t, 5, 0))
 }
 
 // State 3 is a hang, whatever other states rest.
 fn table_b_not_marked(stdout: Stdout) -> io::Result<()> {
     let mut t = [0u64; STORE_WORDS];
     put_table(stdout, &mut t, b"0", b"", b"01 12 23 44")?;
-    try_allowances(stdout, b"B, 3 not marked", &t, 5, 0)?;
+    try_allowances(stdout, "B, 3 not marked", Table::new(&t, 5, 0))?;
     resting(stdout, &mut t, 0)?;
     resting(stdout, &mut t, 1)?;
     resting(stdout, &mut t, 2)?;
     resting(stdout, &mut t, 4)?;
-    try_allowances(stdout, b"B, 3 not marked, 0 1 2 4 resting", &t, 5, 0)
+    try_allowances(
+        stdout,
+        "B, 3 not marked, 0 1 2 4 resting",
+        Table::new(&t, 5, 0),
+    )
 }
 
 // No state is forbidden.
@@ -169,40 +128,44 @@ fn table_b_at_rest(stdout: Stdout) -> io::Result<()> {
     let mut t = [0u64; STORE_WORDS];
     put_table(stdout, &mut t, b"0", b"", b"01 12 23 44")?;
     resting(stdout, &mut t, 3)?;
-    try_allowances(stdout, b"B, 3 not marked but resting", &t, 5, 0)
+    try_allowances(stdout, "B, 3 not marked but resting", Table::new(&t, 5, 0))
 }
 
 // Without its step from 0 to 0 it is unsafe where hold leaves out a state without successors.
 fn table_e(stdout: Stdout) -> io::Result<()> {
     let mut t = [0u64; STORE_WORDS];
     put_table(stdout, &mut t, b"0", b"2", b"00 12")?;
-    try_allowances(stdout, b"E", &t, 3, 0)?;
+    try_allowances(stdout, "E", Table::new(&t, 3, 0))?;
     let mut held = [0u64; STORE_WORDS];
     put_table(stdout, &mut held, b"0", b"2", b"12")?;
     resting(stdout, &mut held, 0)?;
-    try_allowances(stdout, b"E, 0 a dead end and resting", &held, 3, 0)
+    try_allowances(
+        stdout,
+        "E, 0 a dead end and resting",
+        Table::new(&held, 3, 0),
+    )
 }
 
 fn table_f(stdout: Stdout) -> io::Result<()> {
     let mut t = [0u64; STORE_WORDS];
     put_table(stdout, &mut t, b"0", b"0", b"")?;
-    try_allowances(stdout, b"F", &t, 1, 0)?;
+    try_allowances(stdout, "F", Table::new(&t, 1, 0))?;
     let mut hang = [0u64; STORE_WORDS];
     initial(stdout, &mut hang, 0)?;
-    try_allowances(stdout, b"F, not marked", &hang, 1, 0)?;
+    try_allowances(stdout, "F, not marked", Table::new(&hang, 1, 0))?;
     resting(stdout, &mut hang, 0)?;
-    try_allowances(stdout, b"F, not marked but resting", &hang, 1, 0)
+    try_allowances(stdout, "F, not marked but resting", Table::new(&hang, 1, 0))
 }
 
 fn table_g(stdout: Stdout) -> io::Result<()> {
     let t = [0u64; STORE_WORDS];
-    try_allowances(stdout, b"G", &t, 1, 0)
+    try_allowances(stdout, "G", Table::new(&t, 1, 0))
 }
 
 // No states.
 fn table_draft(stdout: Stdout) -> io::Result<()> {
     let t = [0u64; STORE_WORDS];
-    try_allowances(stdout, b"draft", &t, 0, 0)
+    try_allowances(stdout, "draft", Table::new(&t, 0, 0))
 }
 
 // The specification gives n and g of H alone. Here 58 leads to a forbidden state and shares a cover with the states that a session goes through, till a
@@ -214,17 +177,17 @@ fn table_h(stdout: Stdout) -> io::Result<()> {
     step(stdout, &mut t, 0, 59)?;
     step(stdout, &mut t, 59, 0)?;
     step(stdout, &mut t, 58, 60)?;
-    try_allowances(stdout, b"H", &t, 61, 0)?;
+    try_allowances(stdout, "H", Table::new(&t, 61, 0))?;
     group(stdout, &mut t, 0, 0)?;
     group(stdout, &mut t, 0, 59)?;
-    try_allowances(stdout, b"H with a group", &t, 61, 1)
+    try_allowances(stdout, "H with a group", Table::new(&t, 61, 1))
 }
 
 fn table_ninth(stdout: Stdout) -> io::Result<()> {
     let mut t = [0u64; STORE_WORDS];
     put_table(stdout, &mut t, b"0", b"2", b"00 01 13 23 30 32")?;
     group(stdout, &mut t, 0, 0)?;
-    try_allowances(stdout, b"ninth", &t, 4, 1)
+    try_allowances(stdout, "ninth", Table::new(&t, 4, 1))
 }
 
 // Each refusal alone, then with every later ground holding as well. `stray` has one state, 5, in the initial set, `at_rest` in the resting one.
@@ -232,60 +195,70 @@ fn refusals(stdout: Stdout, empty: &[u64], stray: &[u64], at_rest: &[u64]) -> io
     let states = MAX_STATES + 1;
     let groups = MAX_GROUPS + 1;
     let allowance = MAX_ALLOWANCE + 1;
-    try_one(stdout, b"n 0 g 1", empty, 0, 1, 0)?;
-    try_short(
+    try_one::<ASKED>(stdout, "n 0 g 1", Table::new(empty, 0, 1), 0)?;
+    try_one::<SHORT>(
         stdout,
-        b"n 0 with groups and all else",
-        stray,
+        "n 0 with groups and all else",
+        Table::new(stray, 0, groups),
+        allowance,
+    )?;
+    try_one::<ASKED>(stdout, "state 5 of 0", Table::new(stray, 0, 0), 0)?;
+    try_one::<ASKED>(stdout, "n too great", Table::new(empty, states, 0), 0)?;
+    try_one::<SHORT>(
+        stdout,
+        "n too great and all else",
+        Table::new(stray, states, groups),
+        allowance,
+    )?;
+    try_one::<ASKED>(stdout, "g too great", Table::new(empty, 5, groups), 0)?;
+    try_one::<SHORT>(
+        stdout,
+        "g too great and all else",
+        Table::new(stray, 5, groups),
+        allowance,
+    )?;
+    try_one::<ASKED>(stdout, "state 5 of 5", Table::new(stray, 5, 0), 0)?;
+    try_one::<SHORT>(
+        stdout,
+        "state 5 of 5 and all else",
+        Table::new(stray, 5, 0),
+        allowance,
+    )?;
+    try_one::<ASKED>(stdout, "state 5 of 5 resting", Table::new(at_rest, 5, 0), 0)?;
+    try_one::<ASKED>(
+        stdout,
+        "allowance too great",
+        Table::new(empty, 5, 0),
+        allowance,
+    )?;
+    try_one::<SHORT>(
+        stdout,
+        "allowance too great and all else",
+        Table::new(empty, 5, 0),
+        allowance,
+    )?;
+    try_one::<SHORT>(
+        stdout,
+        "path buffer one place short",
+        Table::new(empty, 5, 0),
         0,
-        groups,
-        allowance,
     )?;
-    try_one(stdout, b"state 5 of 0", stray, 0, 0, 0)?;
-    try_one(stdout, b"n too great", empty, states, 0, 0)?;
-    try_short(
+    try_one::<ASKED>(
         stdout,
-        b"n too great and all else",
-        stray,
-        states,
-        groups,
-        allowance,
-    )?;
-    try_one(stdout, b"g too great", empty, 5, groups, 0)?;
-    try_short(
-        stdout,
-        b"g too great and all else",
-        stray,
-        5,
-        groups,
-        allowance,
-    )?;
-    try_one(stdout, b"state 5 of 5", stray, 5, 0, 0)?;
-    try_short(stdout, b"state 5 of 5 and all else", stray, 5, 0, allowance)?;
-    try_one(stdout, b"state 5 of 5 resting", at_rest, 5, 0, 0)?;
-    try_one(stdout, b"allowance too great", empty, 5, 0, allowance)?;
-    try_short(
-        stdout,
-        b"allowance too great and all else",
-        empty,
-        5,
-        0,
-        allowance,
-    )?;
-    try_short(stdout, b"path buffer one place short", empty, 5, 0, 0)?;
-    try_one(stdout, b"state 5 of 6", stray, 6, 0, MAX_ALLOWANCE)
+        "state 5 of 6",
+        Table::new(stray, 6, 0),
+        MAX_ALLOWANCE,
+    )
 }
 
 fn short_store(stdout: Stdout) -> io::Result<()> {
     let mut short = [0u64; STORE_WORDS - 1];
     initial(stdout, &mut short, 5)?;
-    try_one(stdout, b"store one word short", &short, 6, 0, 0)?;
-    try_short(
+    try_one::<ASKED>(stdout, "store one word short", Table::new(&short, 6, 0), 0)?;
+    try_one::<SHORT>(
         stdout,
-        b"store one word short and all else",
-        &short,
-        0,
-        MAX_GROUPS + 1,
+        "store one word short and all else",
+        Table::new(&short, 0, MAX_GROUPS + 1),
         MAX_ALLOWANCE + 1,
     )
 }
@@ -298,12 +271,10 @@ fn whole_store(stdout: Stdout) -> io::Result<()> {
     resting(stdout, &mut at_rest, 5)?;
     refusals(stdout, &empty, &stray, &at_rest)?;
     initial(stdout, &mut at_rest, 5)?;
-    try_one(
+    try_one::<ASKED>(
         stdout,
-        b"state 5 of 6 resting",
-        &at_rest,
-        6,
-        0,
+        "state 5 of 6 resting",
+        Table::new(&at_rest, 6, 0),
         MAX_ALLOWANCE,
     )
 }
@@ -312,12 +283,10 @@ fn whole_store(stdout: Stdout) -> io::Result<()> {
 fn long_store(stdout: Stdout) -> io::Result<()> {
     let mut long = [0u64; STORE_WORDS + 12];
     long[STORE_WORDS] = 1;
-    try_one(
+    try_one::<ASKED>(
         stdout,
-        b"n and g at their greatest, store of 12 words more",
-        &long,
-        MAX_STATES,
-        MAX_GROUPS,
+        "n and g at their greatest, store of 12 words more",
+        Table::new(&long, MAX_STATES, MAX_GROUPS),
         MAX_ALLOWANCE,
     )
 }
@@ -327,24 +296,30 @@ fn long_store(stdout: Stdout) -> io::Result<()> {
 fn corridor(stdout: Stdout) -> io::Result<()> {
     let mut t = [0u64; STORE_WORDS];
     put_corridor(stdout, &mut t)?;
-    try_one(stdout, b"corridor", &t, MAX_STATES, 0, MAX_ALLOWANCE)?;
-    try_one(stdout, b"corridor", &t, MAX_STATES, 0, MAX_STATES - 3)?;
-    resting(stdout, &mut t, MAX_STATES - 1)?;
-    try_one(
+    try_one::<ASKED>(
         stdout,
-        b"corridor, the last state resting",
-        &t,
-        MAX_STATES,
-        0,
+        "corridor",
+        Table::new(&t, MAX_STATES, 0),
+        MAX_ALLOWANCE,
+    )?;
+    try_one::<ASKED>(
+        stdout,
+        "corridor",
+        Table::new(&t, MAX_STATES, 0),
+        MAX_STATES - 3,
+    )?;
+    resting(stdout, &mut t, MAX_STATES - 1)?;
+    try_one::<ASKED>(
+        stdout,
+        "corridor, the last state resting",
+        Table::new(&t, MAX_STATES, 0),
         MAX_ALLOWANCE,
     )?;
     marked(stdout, &mut t, MAX_STATES - 1)?;
-    try_one(
+    try_one::<ASKED>(
         stdout,
-        b"corridor, the last state marked and resting",
-        &t,
-        MAX_STATES,
-        0,
+        "corridor, the last state marked and resting",
+        Table::new(&t, MAX_STATES, 0),
         MAX_ALLOWANCE,
     )
 }

@@ -3,6 +3,8 @@
 // tests/expected/programs.py works out what this must print: it looks at every choice.
 #![tactic(auto)]
 
+ghost use Rattle.std.specs.Prelude.{◌*◌, ◌^◌, ◌<◌};
+
 use call_modal::{ModalVerdict, POSSIBLE_WORDS, decide_modal};
 use core_refusals::Refusal;
 use core_state_set::{MAX_STATES, WORDS};
@@ -10,19 +12,9 @@ use core_table::{MAX_GROUPS, ROWS_AT, STORE_WORDS};
 use std::io;
 use std::io::Stdout;
 use test_support::{
-    add, group, labelled, places, print_unchanged, put_corridor, put_table, resting, states, step,
-    text, unchanged_places,
+    ASKED, SHORT, Table, add, group, print_path, print_rest, put_corridor, put_table, refused,
+    resting, states, step, unchanged,
 };
-
-// A path, and how many places it takes.
-fn print_path(stdout: Stdout, steps: usize, path: &[u16]) -> io::Result<usize> {
-    text(stdout, b" path")?;
-    if steps < MAX_STATES {
-        places(stdout, path, steps + 1)?;
-        return Ok(steps + 1);
-    }
-    Ok(0)
-}
 
 // The answer, and how many places at the front of the path buffer it accounts for.
 fn print_answer(
@@ -32,13 +24,12 @@ fn print_answer(
 ) -> io::Result<usize> {
     match answer {
         Ok(ModalVerdict::Safe { invariant, size }) => {
-            labelled(stdout, b"safe invariant ", size)?;
-            text(stdout, b":")?;
+            print!(stdout; "safe invariant {size}:")?;
             states(stdout, invariant)?;
             Ok(0)
         }
         Ok(ModalVerdict::Unsafe { steps }) => {
-            text(stdout, b"unsafe")?;
+            print!(stdout; "unsafe")?;
             print_path(stdout, steps, path)
         }
         Ok(
@@ -48,63 +39,42 @@ fn print_answer(
                 steps,
             },
         ) => {
-            labelled(stdout, b"depends invariant ", size)?;
-            text(stdout, b":")?;
+            print!(stdout; "depends invariant {size}:")?;
             states(stdout, invariant)?;
             print_path(stdout, steps, path)
         }
         Err(refusal) => {
-            labelled(stdout, b"refused ", usize::from(u8::from(refusal)))?;
+            refused(stdout, refusal)?;
             Ok(0)
         }
     }
 }
 
-// One call, with a path buffer of sevens.
-fn call(
+// One call, with a path buffer of so many sevens. (No array has 2^63 bytes.)
+fn try_one<const PLACES: usize>(
     stdout: Stdout,
-    name: &[u8],
-    store: &[u64],
-    n: usize,
-    g: usize,
+    name: &str,
+    table: Table,
     possible: &[u64],
-    path: &mut [u16],
-) -> io::Result<()> {
-    text(stdout, name)?;
-    text(stdout, b": ")?;
-    let answer = decide_modal(store, n, g, possible, path);
-    let written = print_answer(stdout, answer, path)?;
-    print_unchanged(stdout, unchanged_places(path, written, 7))
-}
-
-fn try_one(
-    stdout: Stdout,
-    name: &[u8],
-    store: &[u64],
-    n: usize,
-    g: usize,
-    possible: &[u64],
-) -> io::Result<()> {
-    let mut path = [7u16; MAX_STATES];
-    call(stdout, name, store, n, g, possible, &mut path)
-}
-
-fn try_short(
-    stdout: Stdout,
-    name: &[u8],
-    store: &[u64],
-    n: usize,
-    g: usize,
-    possible: &[u64],
-) -> io::Result<()> {
-    let mut path = [7u16; MAX_STATES - 1];
-    call(stdout, name, store, n, g, possible, &mut path)
+) -> io::Result<()>
+    requires { PLACES * 2 < 2 ^ 63 }
+{
+    let mut path = [7u16; PLACES];
+    print!(stdout; "{name}: ")?;
+    let answer = decide_modal(table.store, table.n, table.g, possible, &mut path);
+    let written = print_answer(stdout, answer, &path)?;
+    print_rest(
+        stdout,
+        "the rest",
+        "unchanged",
+        unchanged(&path, written, 7),
+    )
 }
 
 // A table of at most ten states, without groups and resting states, and its possible steps.
 fn small(
     stdout: Stdout,
-    name: &[u8],
+    name: &str,
     n: usize,
     first: &[u8],
     last: &[u8],
@@ -115,15 +85,15 @@ fn small(
     put_table(stdout, &mut must, first, last, certain)?;
     let mut may = [0u64; STORE_WORDS];
     put_table(stdout, &mut may, b"", b"", possible)?;
-    try_one(stdout, name, &must, n, 0, &may[ROWS_AT..])
+    try_one::<ASKED>(stdout, name, Table::new(&must, n, 0), &may[ROWS_AT..])
 }
 
 fn small_tables(stdout: Stdout) -> io::Result<()> {
-    small(stdout, b"E", 3, b"0", b"2", b"00 12", b"00 12")?;
-    small(stdout, b"E with 01", 3, b"0", b"2", b"00 12", b"00 01 12")?;
+    small(stdout, "E", 3, b"0", b"2", b"00 12", b"00 12")?;
+    small(stdout, "E with 01", 3, b"0", b"2", b"00 12", b"00 01 12")?;
     small(
         stdout,
-        b"E, 01 certain",
+        "E, 01 certain",
         3,
         b"0",
         b"2",
@@ -132,7 +102,7 @@ fn small_tables(stdout: Stdout) -> io::Result<()> {
     )?;
     small(
         stdout,
-        b"B with 03",
+        "B with 03",
         5,
         b"0",
         b"3",
@@ -141,18 +111,18 @@ fn small_tables(stdout: Stdout) -> io::Result<()> {
     )?;
     small(
         stdout,
-        b"B, 12 possible",
+        "B, 12 possible",
         5,
         b"0",
         b"3",
         b"01 23 44",
         b"01 12 23 44",
     )?;
-    small(stdout, b"no step certain", 2, b"0", b"", b"", b"01 10")?;
-    small(stdout, b"a hang behind 01", 2, b"0", b"", b"", b"01")?;
-    small(stdout, b"an initial hang", 2, b"0", b"", b"", b"11")?;
-    small(stdout, b"F with 00", 1, b"0", b"0", b"", b"00")?;
-    small(stdout, b"draft", 0, b"", b"", b"", b"")
+    small(stdout, "no step certain", 2, b"0", b"", b"", b"01 10")?;
+    small(stdout, "a hang behind 01", 2, b"0", b"", b"", b"01")?;
+    small(stdout, "an initial hang", 2, b"0", b"", b"", b"11")?;
+    small(stdout, "F with 00", 1, b"0", b"0", b"", b"00")?;
+    small(stdout, "draft", 0, b"", b"", b"", b"")
 }
 
 // The groups tell 0, 1 and 2 apart; 1 leads to the marked 3, or not, and to the resting 2.
@@ -165,11 +135,16 @@ fn groups_and_rest(stdout: Stdout) -> io::Result<()> {
     group(stdout, &mut must, 2, 2)?;
     let mut may = [0u64; STORE_WORDS];
     put_table(stdout, &mut may, b"", b"", b"01 12")?;
-    try_one(stdout, b"to rest", &must, 4, 3, &may[ROWS_AT..])?;
+    try_one::<ASKED>(stdout, "to rest", Table::new(&must, 4, 3), &may[ROWS_AT..])?;
     step(stdout, &mut may, 1, 3)?;
-    try_one(stdout, b"to rest or 3", &must, 4, 3, &may[ROWS_AT..])?;
+    try_one::<ASKED>(
+        stdout,
+        "to rest or 3",
+        Table::new(&must, 4, 3),
+        &may[ROWS_AT..],
+    )?;
     step(stdout, &mut must, 1, 3)?;
-    try_one(stdout, b"to 3", &must, 4, 3, &may[ROWS_AT..])
+    try_one::<ASKED>(stdout, "to 3", Table::new(&must, 4, 3), &may[ROWS_AT..])
 }
 
 fn clear(store: &mut [u64], at: usize) {
@@ -184,23 +159,24 @@ fn corridor(stdout: Stdout) -> io::Result<()> {
     put_corridor(stdout, &mut must)?;
     let mut may = [0u64; STORE_WORDS];
     put_corridor(stdout, &mut may)?;
-    try_one(stdout, b"corridor", &must, MAX_STATES, 0, &may[ROWS_AT..])?;
-    clear(&mut must, STORE_WORDS - WORDS - 1);
-    try_one(
+    try_one::<ASKED>(
         stdout,
-        b"corridor, the last step possible",
-        &must,
-        MAX_STATES,
-        0,
+        "corridor",
+        Table::new(&must, MAX_STATES, 0),
+        &may[ROWS_AT..],
+    )?;
+    clear(&mut must, STORE_WORDS - WORDS - 1);
+    try_one::<ASKED>(
+        stdout,
+        "corridor, the last step possible",
+        Table::new(&must, MAX_STATES, 0),
         &may[ROWS_AT..],
     )?;
     clear(&mut may, STORE_WORDS - WORDS - 1);
-    try_one(
+    try_one::<ASKED>(
         stdout,
-        b"corridor without its last step",
-        &must,
-        MAX_STATES,
-        0,
+        "corridor without its last step",
+        Table::new(&must, MAX_STATES, 0),
         &may[ROWS_AT..],
     )
 }
@@ -215,36 +191,50 @@ fn refusals(
 ) -> io::Result<()> {
     let states = MAX_STATES + 1;
     let groups = MAX_GROUPS + 1;
-    try_short(
+    try_one::<SHORT>(
         stdout,
-        b"n too great and all else",
-        stray,
-        states,
-        groups,
+        "n too great and all else",
+        Table::new(stray, states, groups),
         far,
     )?;
-    try_short(stdout, b"n 0 g 1 and all else", stray, 0, 1, far)?;
-    try_short(stdout, b"g too great and all else", stray, 5, groups, far)?;
-    try_short(stdout, b"state 5 of 5 and all else", stray, 5, 0, none)?;
-    try_short(
+    try_one::<SHORT>(stdout, "n 0 g 1 and all else", Table::new(stray, 0, 1), far)?;
+    try_one::<SHORT>(
         stdout,
-        b"state 5 of 5 possible and all else",
-        store,
-        5,
-        0,
+        "g too great and all else",
+        Table::new(stray, 5, groups),
         far,
     )?;
-    try_one(stdout, b"state 5 of 5 possible", store, 5, 0, far)?;
-    try_short(
+    try_one::<SHORT>(
         stdout,
-        b"a certain step not possible and all else",
-        store,
-        6,
-        0,
+        "state 5 of 5 and all else",
+        Table::new(stray, 5, 0),
         none,
     )?;
-    try_one(stdout, b"a certain step not possible", store, 6, 0, none)?;
-    try_one(stdout, b"a row of none", none, 0, 0, far)
+    try_one::<SHORT>(
+        stdout,
+        "state 5 of 5 possible and all else",
+        Table::new(store, 5, 0),
+        far,
+    )?;
+    try_one::<ASKED>(
+        stdout,
+        "state 5 of 5 possible",
+        Table::new(store, 5, 0),
+        far,
+    )?;
+    try_one::<SHORT>(
+        stdout,
+        "a certain step not possible and all else",
+        Table::new(store, 6, 0),
+        none,
+    )?;
+    try_one::<ASKED>(
+        stdout,
+        "a certain step not possible",
+        Table::new(store, 6, 0),
+        none,
+    )?;
+    try_one::<ASKED>(stdout, "a row of none", Table::new(none, 0, 0), far)
 }
 
 fn all_refusals(stdout: Stdout) -> io::Result<()> {
@@ -262,22 +252,30 @@ fn lengths(stdout: Stdout) -> io::Result<()> {
     let mut store = [0u64; STORE_WORDS];
     put_table(stdout, &mut store, b"0", b"", b"01")?;
     let short = [0u64; POSSIBLE_WORDS - 1];
-    try_short(
+    try_one::<SHORT>(
         stdout,
-        b"possible steps one word short and all else",
-        &store,
-        MAX_STATES + 1,
-        MAX_GROUPS + 1,
+        "possible steps one word short and all else",
+        Table::new(&store, MAX_STATES + 1, MAX_GROUPS + 1),
         &short,
     )?;
     let short_store = [0u64; STORE_WORDS - 1];
     let none = [0u64; POSSIBLE_WORDS];
-    try_one(stdout, b"store one word short", &short_store, 1, 0, &none)?;
+    try_one::<ASKED>(
+        stdout,
+        "store one word short",
+        Table::new(&short_store, 1, 0),
+        &none,
+    )?;
     let mut long = [0u64; POSSIBLE_WORDS + 3];
     long[POSSIBLE_WORDS] = 1;
     let empty = [0u64; STORE_WORDS];
-    try_one(stdout, b"three words more", &empty, 2, 0, &long)?;
-    try_short(stdout, b"path buffer one place short", &empty, 2, 0, &long)
+    try_one::<ASKED>(stdout, "three words more", Table::new(&empty, 2, 0), &long)?;
+    try_one::<SHORT>(
+        stdout,
+        "path buffer one place short",
+        Table::new(&empty, 2, 0),
+        &long,
+    )
 }
 
 fn main(rt: HostRuntime) -> io::Result<()> {

@@ -6,49 +6,46 @@
 ghost use Rattle.std.specs.Prelude.{◌/◌, ◌<◌};
 ghost use Rattle.model.specs.Stores.{max_groups};
 
-use call_first_order::first_order;
-use core_fixpoints::Order;
+use call_first_order::{FirstOrder, first_order};
 use core_state_set::MAX_STATES;
 use core_table::{MAX_GROUPS, STORE_WORDS};
 use std::io;
 use std::io::Stdout;
-use test_support::{group, initial, labelled, line, marked, put_table, resting, step, text};
+use test_support::{
+    Table, group, initial, left_out, marked, numbers, put_table, refused, resting, step, unchanged,
+};
 
-// The first `count` places; and of each other place, whether it is not 0.
-fn print_places(stdout: Stdout, order: &Order, count: usize) -> io::Result<()> {
-    for (i, s) in order.iter().enumerate() {
-        if i < count {
-            labelled(stdout, b" ", usize::from(*s))?;
-        } else if *s != 0 {
-            text(stdout, b" NOT 0")?;
-        }
+// The states that are expanded; and whether a place behind them is not 0.
+fn print_order(stdout: Stdout, found: FirstOrder) -> io::Result<()> {
+    print!(stdout; "expands {}:", found.count)?;
+    match found.states.get(..found.count) {
+        Some(states) => numbers(stdout, states)?,
+        None => left_out(stdout)?,
+    }
+    if !unchanged(&found.states, found.count, 0) {
+        print!(stdout; " NOT 0")?;
     }
     Ok(())
 }
 
-fn try_one(stdout: Stdout, name: &[u8], store: &[u64], n: usize, g: usize) -> io::Result<()> {
-    text(stdout, name)?;
-    match first_order(store, n, g) {
-        Ok(found) => {
-            let states = found.states;
-            labelled(stdout, b": expands ", found.count)?;
-            text(stdout, b":")?;
-            print_places(stdout, &states, found.count)?;
-        }
-        Err(refusal) => labelled(stdout, b": refused ", usize::from(u8::from(refusal)))?,
+fn try_one(stdout: Stdout, name: &str, table: Table) -> io::Result<()> {
+    print!(stdout; "{name}: ")?;
+    match first_order(table.store, table.n, table.g) {
+        Ok(found) => print_order(stdout, found)?,
+        Err(refusal) => refused(stdout, refusal)?,
     }
-    line(stdout)
+    println!(stdout)
 }
 
 // Two states that step to each other: with no group, their cover is all that is not forbidden.
 fn circles(stdout: Stdout) -> io::Result<()> {
     let mut t = [0u64; STORE_WORDS];
     put_table(stdout, &mut t, b"0", b"2", b"01 10 22")?;
-    try_one(stdout, b"A", &t, 3, 0)?;
+    try_one(stdout, "A", Table::new(&t, 3, 0))?;
     put_table(stdout, &mut t, b"", b"", b"21 12")?;
     group(stdout, &mut t, 0, 0)?;
     group(stdout, &mut t, 1, 1)?;
-    try_one(stdout, b"A with groups", &t, 3, 2)
+    try_one(stdout, "A with groups", Table::new(&t, 3, 2))
 }
 
 // Later passes bring lower states, two at a time, and states that are there already.
@@ -62,11 +59,11 @@ fn branches(stdout: Stdout) -> io::Result<()> {
         b"57 53 74 70 71 34 35 43 08 16 61 85",
     )?;
     for_each_alone(stdout, &mut t, 10)?;
-    try_one(stdout, b"branches", &t, 10, 10)?;
+    try_one(stdout, "branches", Table::new(&t, 10, 10))?;
     initial(stdout, &mut t, 1)?;
-    try_one(stdout, b"branches from two", &t, 10, 10)?;
+    try_one(stdout, "branches from two", Table::new(&t, 10, 10))?;
     group(stdout, &mut t, 3, 8)?;
-    try_one(stdout, b"branches, 3 with 8", &t, 10, 10)
+    try_one(stdout, "branches, 3 with 8", Table::new(&t, 10, 10))
 }
 
 // Group s holds state s and no other.
@@ -79,12 +76,16 @@ fn for_each_alone(stdout: Stdout, store: &mut [u64], n: usize) -> io::Result<()>
 
 fn nothing_initial(stdout: Stdout) -> io::Result<()> {
     let mut t = [0u64; STORE_WORDS];
-    try_one(stdout, b"draft", &t, 0, 0)?;
-    try_one(stdout, b"G", &t, 1, 0)?;
+    try_one(stdout, "draft", Table::new(&t, 0, 0))?;
+    try_one(stdout, "G", Table::new(&t, 1, 0))?;
     put_table(stdout, &mut t, b"", b"2", b"01 12")?;
-    try_one(stdout, b"nothing initial", &t, 3, 0)?;
+    try_one(stdout, "nothing initial", Table::new(&t, 3, 0))?;
     initial(stdout, &mut t, 2)?;
-    try_one(stdout, b"only a forbidden state initial", &t, 3, 0)
+    try_one(
+        stdout,
+        "only a forbidden state initial",
+        Table::new(&t, 3, 0),
+    )
 }
 
 // State 3 is a hang, and not expanded; resting, it is; marked as well, it is not.
@@ -92,11 +93,19 @@ fn hangs(stdout: Stdout) -> io::Result<()> {
     let mut t = [0u64; STORE_WORDS];
     put_table(stdout, &mut t, b"0", b"", b"01 12 23 44")?;
     for_each_alone(stdout, &mut t, 4)?;
-    try_one(stdout, b"B with groups, 3 not marked", &t, 5, 4)?;
+    try_one(stdout, "B with groups, 3 not marked", Table::new(&t, 5, 4))?;
     resting(stdout, &mut t, 3)?;
-    try_one(stdout, b"B with groups, 3 not marked but resting", &t, 5, 4)?;
+    try_one(
+        stdout,
+        "B with groups, 3 not marked but resting",
+        Table::new(&t, 5, 4),
+    )?;
     marked(stdout, &mut t, 3)?;
-    try_one(stdout, b"B with groups, 3 marked and resting", &t, 5, 4)
+    try_one(
+        stdout,
+        "B with groups, 3 marked and resting",
+        Table::new(&t, 5, 4),
+    )
 }
 
 // Two groups for each binary digit of a state, as many digits as there can be groups for: more than tell all states apart.
@@ -142,52 +151,56 @@ fn corridor(stdout: Stdout) -> io::Result<()> {
     let mut t = [0u64; STORE_WORDS];
     initial(stdout, &mut t, MAX_STATES - 1)?;
     put_corridor(stdout, &mut t)?;
-    try_one(stdout, b"corridor", &t, MAX_STATES, MAX_GROUPS)?;
+    try_one(stdout, "corridor", Table::new(&t, MAX_STATES, MAX_GROUPS))?;
     resting(stdout, &mut t, 0)?;
     try_one(
         stdout,
-        b"corridor, state 0 resting",
-        &t,
-        MAX_STATES,
-        MAX_GROUPS,
+        "corridor, state 0 resting",
+        Table::new(&t, MAX_STATES, MAX_GROUPS),
     )?;
     try_one(
         stdout,
-        b"corridor, its last digit's groups not counted",
-        &t,
-        MAX_STATES,
-        MAX_GROUPS - 2,
+        "corridor, its last digit's groups not counted",
+        Table::new(&t, MAX_STATES, MAX_GROUPS - 2),
     )
 }
 
 fn refusals(stdout: Stdout) -> io::Result<()> {
     let mut t = [0u64; STORE_WORDS];
-    try_one(stdout, b"draft with a group", &t, 0, 1)?;
+    try_one(stdout, "draft with a group", Table::new(&t, 0, 1))?;
     try_one(
         stdout,
-        b"draft with a group too many",
-        &t,
-        0,
-        MAX_GROUPS + 1,
+        "draft with a group too many",
+        Table::new(&t, 0, MAX_GROUPS + 1),
     )?;
     put_table(stdout, &mut t, b"0", b"2", b"01 12")?;
-    try_one(stdout, b"n 0", &t, 0, 0)?;
-    try_one(stdout, b"n 0 with a group", &t, 0, 1)?;
-    try_one(stdout, b"a state too many", &t, MAX_STATES + 1, 0)?;
-    try_one(stdout, b"a group too many", &t, 3, MAX_GROUPS + 1)?;
-    try_one(stdout, b"state 2 of 2", &t, 2, 0)?;
+    try_one(stdout, "n 0", Table::new(&t, 0, 0))?;
+    try_one(stdout, "n 0 with a group", Table::new(&t, 0, 1))?;
     try_one(
         stdout,
-        b"a group too many and state 2 of 2",
-        &t,
-        2,
-        MAX_GROUPS + 1,
+        "a state too many",
+        Table::new(&t, MAX_STATES + 1, 0),
+    )?;
+    try_one(
+        stdout,
+        "a group too many",
+        Table::new(&t, 3, MAX_GROUPS + 1),
+    )?;
+    try_one(stdout, "state 2 of 2", Table::new(&t, 2, 0))?;
+    try_one(
+        stdout,
+        "a group too many and state 2 of 2",
+        Table::new(&t, 2, MAX_GROUPS + 1),
     )?;
     let mut at_rest = [0u64; STORE_WORDS];
     resting(stdout, &mut at_rest, 3)?;
-    try_one(stdout, b"state 3 of 3 resting", &at_rest, 3, 0)?;
+    try_one(stdout, "state 3 of 3 resting", Table::new(&at_rest, 3, 0))?;
     let short = [0u64; STORE_WORDS - 1];
-    try_one(stdout, b"store one word short, n 0", &short, 0, 0)
+    try_one(
+        stdout,
+        "store one word short, n 0",
+        Table::new(&short, 0, 0),
+    )
 }
 
 fn main(rt: HostRuntime) -> io::Result<()> {

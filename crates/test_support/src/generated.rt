@@ -16,11 +16,11 @@
 //
 // The largest table has as many states and groups as a store holds, and each word of its store is drawn: word i is 2^32 draw(0, 2 i) +
 // draw(0, 2 i + 1).
-ghost use Rattle.std.specs.Prelude.{◌+◌, ◌*◌, ◌≤◌};
+ghost use Rattle.std.specs.Prelude.{◌+◌, ◌*◌, ◌≤◌, ◌<◌};
 
-use crate::{add, group, left_out, step};
+use crate::{add, group, left_out, resting, step};
 use core_state_set::MAX_STATES;
-use core_table::{MARKED_AT, RESTING_AT, STORE_WORDS};
+use core_table::{MARKED_AT, STORE_WORDS};
 use std::io;
 use std::io::Stdout;
 
@@ -38,14 +38,9 @@ fn draw(t: usize, place: usize) -> usize {
     noise(noise(noise(t % 4294967296 * PLACES + place % 4294967296)))
 }
 
-fn draw_state(t: usize, place: usize, n: usize) -> usize {
-    if n == 0 {
-        return 0;
-    }
-    draw(t, place) % n
-}
-
-pub fn states_of(t: usize) -> usize {
+pub fn states_of(t: usize) -> usize
+    ensures { 0 < result }
+{
     if t % 37 == 0 {
         1 + draw(t, 0) % MAX_STATES
     } else {
@@ -53,8 +48,14 @@ pub fn states_of(t: usize) -> usize {
     }
 }
 
-pub fn groups_of(t: usize) -> usize {
+pub fn groups_of(t: usize) -> usize
+    ensures { result < 5 }
+{
     draw(t, 1) % 5
+}
+
+fn draw_state(t: usize, place: usize) -> usize {
+    draw(t, place) % states_of(t)
 }
 
 // Where the draws of state s begin.
@@ -65,91 +66,59 @@ fn place_of(s: usize) -> usize
 }
 
 // None at times, otherwise one or two.
-fn few(t: usize, place: usize) -> usize {
+fn few(t: usize, place: usize) -> usize
+    ensures { result ≤ 2 }
+{
     (5 + draw(t, place) % 13) / 6
 }
 
-fn add_if(stdout: Stdout, wanted: bool, store: &mut [u64], at: usize, s: usize) -> io::Result<()> {
-    if wanted {
-        add(stdout, store, at, s)?;
+// A few states put into the set that begins at `at`, drawn at the places behind that of their number.
+fn put_few(stdout: Stdout, store: &mut [u64], at: usize, t: usize, place: usize) -> io::Result<()>
+    requires { place < 16 }
+{
+    for i in 0..few(t, place) {
+        add(stdout, store, at, draw_state(t, place + 1 + i))?;
     }
     Ok(())
 }
 
 fn put_ends(stdout: Stdout, store: &mut [u64], t: usize) -> io::Result<()> {
-    let n = states_of(t);
-    add_if(stdout, 0 < few(t, 2), store, 0, draw_state(t, 3, n))?;
-    add_if(stdout, 1 < few(t, 2), store, 0, draw_state(t, 4, n))?;
-    add_if(stdout, 0 < few(t, 5), store, MARKED_AT, draw_state(t, 6, n))?;
-    add_if(stdout, 1 < few(t, 5), store, MARKED_AT, draw_state(t, 7, n))
+    put_few(stdout, store, 0, t, 2)?;
+    put_few(stdout, store, MARKED_AT, t, 5)
 }
 
-fn fan_out(t: usize, p: usize) -> usize {
+fn fan_out(t: usize, p: usize) -> usize
+    ensures { result < 4 }
+{
     if draw(t, p) % 4 == 0 {
         return 0;
     }
     draw(t, 8) % 4
 }
 
-fn successor(t: usize, p: usize, n: usize, s: usize) -> usize {
-    if n == 0 {
-        return 0;
-    }
+fn successor(t: usize, p: usize, s: usize) -> usize {
     if t % 2 == 0 {
-        return draw(t, p) % n;
+        return draw_state(t, p);
     }
-    (s % 4294967296 + draw(t, p) % 6) % n
+    (s % 4294967296 + draw(t, p) % 6) % states_of(t)
 }
 
-fn step_if(stdout: Stdout, wanted: bool, store: &mut [u64], a: usize, b: usize) -> io::Result<()> {
-    if wanted {
-        step(stdout, store, a, b)?;
+fn put_successors(stdout: Stdout, store: &mut [u64], t: usize, s: usize) -> io::Result<()> {
+    let p = place_of(s);
+    for i in 0..fan_out(t, p) {
+        step(stdout, store, s, successor(t, p + 1 + i, s))?;
     }
     Ok(())
 }
 
-fn group_if(
-    stdout: Stdout,
-    wanted: bool,
-    store: &mut [u64],
-    j: usize,
-    g: usize,
-    s: usize,
-) -> io::Result<()> {
-    if wanted {
-        if j < g {
+fn put_in_groups(stdout: Stdout, store: &mut [u64], t: usize, s: usize) -> io::Result<()> {
+    let p = place_of(s);
+    for j in 0..groups_of(t) {
+        if draw(t, p + 4 + j) % 2 == 0 {
             group(stdout, store, j, s)?;
         }
     }
     Ok(())
-}
-
-fn put_successors(
-    stdout: Stdout,
-    store: &mut [u64],
-    t: usize,
-    n: usize,
-    s: usize,
-) -> io::Result<()> {
-    let p = place_of(s);
-    let count = fan_out(t, p);
-    step_if(stdout, 0 < count, store, s, successor(t, p + 1, n, s))?;
-    step_if(stdout, 1 < count, store, s, successor(t, p + 2, n, s))?;
-    step_if(stdout, 2 < count, store, s, successor(t, p + 3, n, s))
-}
-
-fn put_in_groups(
-    stdout: Stdout,
-    store: &mut [u64],
-    t: usize,
-    g: usize,
-    s: usize,
-) -> io::Result<()> {
-    let p = place_of(s);
-    group_if(stdout, draw(t, p + 4) % 2 == 0, store, 0, g, s)?;
-    group_if(stdout, draw(t, p + 5) % 2 == 0, store, 1, g, s)?;
-    group_if(stdout, draw(t, p + 6) % 2 == 0, store, 2, g, s)?;
-    group_if(stdout, draw(t, p + 7) % 2 == 0, store, 3, g, s)
 }
 
 fn rests(t: usize, s: usize) -> bool {
@@ -164,22 +133,11 @@ fn rests(t: usize, s: usize) -> bool {
     fan_out(t, p) == 0
 }
 
-fn put_state(
-    stdout: Stdout,
-    store: &mut [u64],
-    t: usize,
-    n: usize,
-    g: usize,
-    s: usize,
-) -> io::Result<()> {
-    put_successors(stdout, store, t, n, s)?;
-    put_in_groups(stdout, store, t, g, s)?;
-    add_if(stdout, rests(t, s), store, RESTING_AT, s)
-}
-
-fn put_states(stdout: Stdout, store: &mut [u64], t: usize, n: usize, g: usize) -> io::Result<()> {
-    for s in 0..n {
-        put_state(stdout, store, t, n, g, s)?;
+fn put_state(stdout: Stdout, store: &mut [u64], t: usize, s: usize) -> io::Result<()> {
+    put_successors(stdout, store, t, s)?;
+    put_in_groups(stdout, store, t, s)?;
+    if rests(t, s) {
+        resting(stdout, store, s)?;
     }
     Ok(())
 }
@@ -187,23 +145,25 @@ fn put_states(stdout: Stdout, store: &mut [u64], t: usize, n: usize, g: usize) -
 // Table t put into a store that holds zeros.
 pub fn generate(stdout: Stdout, store: &mut [u64], t: usize) -> io::Result<()> {
     put_ends(stdout, store, t)?;
-    put_states(stdout, store, t, states_of(t), groups_of(t))
-}
-
-fn put_word(stdout: Stdout, store: &mut [u64], i: usize) -> io::Result<()> {
-    if i < store.len() {
-        let p = 2 * (i % 4294967296);
-        let high = draw(0, p) % 4294967296;
-        store[i] = (high * 4294967296 + draw(0, p + 1) % 4294967296) as u64;
-    } else {
-        left_out(stdout)?;
+    for s in 0..states_of(t) {
+        put_state(stdout, store, t, s)?;
     }
     Ok(())
 }
 
+// Word i of the largest table.
+fn draw_word(i: usize) -> u64 {
+    let p = 2 * (i % 4294967296);
+    let high = draw(0, p) % 4294967296;
+    (high * 4294967296 + draw(0, p + 1) % 4294967296) as u64
+}
+
 pub fn generate_largest(stdout: Stdout, store: &mut [u64]) -> io::Result<()> {
-    for i in 0..STORE_WORDS {
-        put_word(stdout, store, i)?;
+    if store.len() < STORE_WORDS {
+        left_out(stdout)?;
+    }
+    for (i, word) in store.iter_mut().take(STORE_WORDS).enumerate() {
+        *word = draw_word(i);
     }
     Ok(())
 }

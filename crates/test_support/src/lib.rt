@@ -1,20 +1,20 @@
 // What the test programs share: tables put into a store, answers printed, buffers looked at.
 //
+//   Table                                     what a call is told of a table: a store, n and g
 //   add, step, initial, marked, resting, group
 //                                             a state put into a set of a store
 //   put_table                                 a small table put into a store, given by the digits of its states
 //   put_corridor                              the longest path that there can be
 //   generate, states_of, groups_of            a generated table, its n and its g (generated.rt)
 //   generate_largest                          one with as many states and groups as a store holds
-//   text, number, labelled, line              printed on standard output
-//   states, bytes, places                     a set's states, or the first bytes or 16-bit places of a buffer, printed after spaces
-//   wide, byte_at, put_byte                   a byte as a number; one byte of a buffer, read and written
-//   place_at                                  one 16-bit place of a buffer, as a number
-//   unchanged, unchanged_places, unchanged_words
-//                                             whether each element from a place on is still the one given
-//   print_unchanged                           such an answer, which ends a line
-//   digest, digest_bytes, digest_places, digest_words
-//                                             a number that stands for what was taken into it, so that one number tells all of it
+//   states, numbers                           the states of a set, or numbers of any size, printed after spaces
+//   print_path                                the path that a call wrote
+//   refused                                   why a call was refused
+//   ASKED, SHORT, LONG                        how long the path buffers of calls are
+//   byte_at, put_byte                         one byte of a buffer, read and written
+//   unchanged                                 whether each element from a place on is still the one given
+//   print_rest                                such an answer, which ends a line
+//   digest, digest_all, digest_words          a number that stands for what was taken into it, so that one number tells all of it
 //
 // Each function asks for nothing, so that the programs need hardly any proofs of their own. What does not fit is left out, and said.
 #![tactic(auto)]
@@ -23,6 +23,7 @@ mod generated;
 
 ghost use Rattle.std.specs.Prelude.{◌<◌, IfOk};
 
+use core_refusals::Refusal;
 use core_state_set::{MAX_STATES, StateSet, WORD_BITS, WORDS};
 use core_table::{GROUPS_AT, MARKED_AT, MAX_GROUPS, RESTING_AT, ROWS_AT};
 use generated::noise;
@@ -34,10 +35,24 @@ use std::io::Stdout;
 
 // Said among what the program prints, where no expected output has it: nothing is left out silently.
 pub fn left_out(stdout: Stdout) -> io::Result<()> {
-    text(stdout, b"\nLEFT OUT\n")
+    println!(stdout; "\nLEFT OUT")
 }
 
 // ---- tables
+
+// What a call is told of a table.
+#[derive(Clone, Copy)]
+pub struct Table<'a> {
+    pub store: &'a [u64],
+    pub n: usize,
+    pub g: usize,
+}
+
+impl<'a> Table<'a> {
+    pub fn new(store: &'a [u64], n: usize, g: usize) -> Table<'a> {
+        Table { store, n, g }
+    }
+}
 
 // Bit i of the word `at` set.
 fn put_bit(stdout: Stdout, store: &mut [u64], at: usize, i: usize) -> io::Result<()> {
@@ -90,33 +105,33 @@ pub fn step(stdout: Stdout, store: &mut [u64], a: usize, b: usize) -> io::Result
     Ok(())
 }
 
-// The state whose digit stands at place i, or one that no set takes.
-fn digit(stdout: Stdout, digits: &[u8], i: usize) -> io::Result<usize> {
-    let b = byte_at(stdout, digits, i)?;
-    if b < 48 {
-        return Ok(MAX_STATES);
-    }
-    Ok(b - 48)
+// The state that a digit names.
+fn digit(b: u8) -> Option<usize> {
+    Some(usize::from(b.checked_sub(b'0')?))
 }
 
 fn put_digits(stdout: Stdout, store: &mut [u64], at: usize, digits: &[u8]) -> io::Result<()> {
-    for i in 0..digits.len() {
-        add(stdout, store, at, digit(stdout, digits, i)?)?;
+    for b in digits {
+        match digit(*b) {
+            Some(s) => add(stdout, store, at, s)?,
+            None => left_out(stdout)?,
+        }
     }
     Ok(())
 }
 
+// The two states of a step.
+fn ends_of(pair: &[u8]) -> Option<(usize, usize)> {
+    Some((digit(*pair.first()?)?, digit(*pair.get(1)?)?))
+}
+
 // A pair begins at each third place.
 fn put_steps(stdout: Stdout, store: &mut [u64], pairs: &[u8]) -> io::Result<()> {
-    let mut i = 0;
-    while i < pairs.len() {
-        step(
-            stdout,
-            store,
-            digit(stdout, pairs, i)?,
-            digit(stdout, pairs, i + 1)?,
-        )?;
-        i += 3;
+    for pair in pairs.chunks(3) {
+        match ends_of(pair) {
+            Some((a, b)) => step(stdout, store, a, b)?,
+            None => left_out(stdout)?,
+        }
     }
     Ok(())
 }
@@ -145,73 +160,56 @@ pub fn put_corridor(stdout: Stdout, store: &mut [u64]) -> io::Result<()> {
 
 // ---- printing
 
-pub fn text(stdout: Stdout, bytes: &[u8]) -> io::Result<()> {
-    stdout.write_all(bytes)
-}
-
-pub fn number(stdout: Stdout, x: usize) -> io::Result<()> {
-    stdout.print(x)
-}
-
-// A number after its label.
-pub fn labelled(stdout: Stdout, label: &[u8], x: usize) -> io::Result<()> {
-    text(stdout, label)?;
-    number(stdout, x)
-}
-
-pub fn line(stdout: Stdout) -> io::Result<()> {
-    text(stdout, b"\n")
-}
-
-// A number after a space.
-fn spaced(stdout: Stdout, x: usize) -> io::Result<()> {
-    labelled(stdout, b" ", x)
-}
-
-fn spaced_if(stdout: Stdout, wanted: bool, x: usize) -> io::Result<()> {
-    if wanted {
-        spaced(stdout, x)?;
-    }
-    Ok(())
-}
-
 // The states of a set, each after a space.
 pub fn states(stdout: Stdout, x: StateSet) -> io::Result<()> {
-    for s in 0..MAX_STATES {
-        spaced_if(stdout, x.contains(s), s)?;
+    for s in x.states() {
+        print!(stdout; " {s}")?;
     }
     Ok(())
 }
 
-// The first `count` bytes, each after a space.
-pub fn bytes(stdout: Stdout, buffer: &[u8], count: usize) -> io::Result<()> {
-    for i in 0..count {
-        spaced(stdout, byte_at(stdout, buffer, i)?)?;
+// Numbers, each after a space.
+pub fn numbers<T: Copy + Into<usize>>(stdout: Stdout, xs: &[T]) -> io::Result<()> {
+    for x in xs {
+        let number: usize = (*x).into();
+        print!(stdout; " {number}")?;
     }
     Ok(())
 }
 
-// The first `count` places, each after a space.
-pub fn places(stdout: Stdout, buffer: &[u16], count: usize) -> io::Result<()> {
-    for i in 0..count {
-        spaced(stdout, place_at(stdout, buffer, i)?)?;
+// The states of a path of so many steps, and how many places they take.
+pub fn print_path(stdout: Stdout, steps: usize, path: &[u16]) -> io::Result<usize> {
+    print!(stdout; " path")?;
+    match path.get(..=steps) {
+        Some(states) => {
+            numbers(stdout, states)?;
+            Ok(states.len())
+        }
+        None => {
+            left_out(stdout)?;
+            Ok(0)
+        }
     }
-    Ok(())
+}
+
+pub fn refused(stdout: Stdout, refusal: Refusal) -> io::Result<()> {
+    print!(stdout; "refused {}", u8::from(refusal))
 }
 
 // ---- buffers
 
-pub fn wide(b: u8) -> usize
-    ensures { result < 256 }
-{
-    b as usize
-}
+// Places of a path buffer: as many as a call asks for, one fewer, and some more.
+pub const ASKED: usize = MAX_STATES;
+
+pub const SHORT: usize = MAX_STATES - 1;
+
+pub const LONG: usize = MAX_STATES + 44;
 
 pub fn byte_at(stdout: Stdout, buffer: &[u8], i: usize) -> io::Result<usize>
     ensures { IfOk result (λ x. x < 256) }
 {
     if i < buffer.len() {
-        return Ok(wide(buffer[i]));
+        return Ok(usize::from(buffer[i]));
     }
     left_out(stdout)?;
     Ok(0)
@@ -226,61 +224,15 @@ pub fn put_byte(stdout: Stdout, buffer: &mut [u8], i: usize, value: u8) -> io::R
     Ok(())
 }
 
-fn wide_place(x: u16) -> usize {
-    x as usize
+// Each element from `from` on is `value`.
+pub fn unchanged<T: Copy + PartialEq>(buffer: &[T], from: usize, value: T) -> bool {
+    buffer.iter().skip(from).all(|x| *x == value)
 }
 
-pub fn place_at(stdout: Stdout, buffer: &[u16], i: usize) -> io::Result<usize> {
-    if i < buffer.len() {
-        return Ok(wide_place(buffer[i]));
-    }
-    left_out(stdout)?;
-    Ok(0)
-}
-
-// Each byte from `from` on is `value`.
-pub fn unchanged(buffer: &[u8], from: usize, value: u8) -> bool {
-    let mut i = from;
-    while i < buffer.len() {
-        if buffer[i] != value {
-            return false;
-        }
-        i += 1;
-    }
-    true
-}
-
-// Each place from `from` on is `value`.
-pub fn unchanged_places(buffer: &[u16], from: usize, value: u16) -> bool {
-    let mut i = from;
-    while i < buffer.len() {
-        if buffer[i] != value {
-            return false;
-        }
-        i += 1;
-    }
-    true
-}
-
-// Each word from `from` on is `value`.
-pub fn unchanged_words(buffer: &[u64], from: usize, value: u64) -> bool {
-    let mut i = from;
-    while i < buffer.len() {
-        if buffer[i] != value {
-            return false;
-        }
-        i += 1;
-    }
-    true
-}
-
-pub fn print_unchanged(stdout: Stdout, same: bool) -> io::Result<()> {
-    if same {
-        text(stdout, b", the rest unchanged\n")?;
-    } else {
-        text(stdout, b", the rest CHANGED\n")?;
-    }
-    Ok(())
+// Ends a line that told what a call did.
+pub fn print_rest(stdout: Stdout, rest: &str, word: &str, same: bool) -> io::Result<()> {
+    let found = if same { word } else { "CHANGED" };
+    println!(stdout; ", {rest} {found}")
 }
 
 // ---- digests
@@ -290,37 +242,21 @@ pub fn digest(d: usize, x: usize) -> usize {
     noise(d % 4294967296 + x % 4294967296)
 }
 
-pub fn digest_bytes(stdout: Stdout, d: usize, buffer: &[u8], count: usize) -> io::Result<usize> {
+// Each number of xs in its turn.
+pub fn digest_all<T: Copy + Into<usize>>(d: usize, xs: &[T]) -> usize {
     let mut now = d;
-    for i in 0..count {
-        now = digest(now, byte_at(stdout, buffer, i)?);
+    for x in xs {
+        now = digest(now, (*x).into());
     }
-    Ok(now)
+    now
 }
 
-pub fn digest_places(stdout: Stdout, d: usize, buffer: &[u16], count: usize) -> io::Result<usize> {
+// kept: no plainer as one with digest_all, since a word goes in as two numbers, its lower and its upper half.
+pub fn digest_words(d: usize, words: &[u64]) -> usize {
     let mut now = d;
-    for i in 0..count {
-        now = digest(now, place_at(stdout, buffer, i)?);
+    for word in words {
+        now = digest(now, (*word % 4294967296) as usize);
+        now = digest(now, (*word / 4294967296) as usize);
     }
-    Ok(now)
-}
-
-// A word goes in as its lower and its upper half.
-fn digest_word(stdout: Stdout, d: usize, buffer: &[u64], i: usize) -> io::Result<usize> {
-    if i < buffer.len() {
-        let word = buffer[i];
-        let lower = digest(d, (word % 4294967296) as usize);
-        return Ok(digest(lower, (word / 4294967296) as usize));
-    }
-    left_out(stdout)?;
-    Ok(d)
-}
-
-pub fn digest_words(stdout: Stdout, d: usize, buffer: &[u64], count: usize) -> io::Result<usize> {
-    let mut now = d;
-    for i in 0..count {
-        now = digest_word(stdout, now, buffer, i)?;
-    }
-    Ok(now)
+    now
 }

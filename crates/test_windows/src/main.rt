@@ -22,6 +22,7 @@ fn ask(
     match next_open(time, windows, closed) {
         Ok(Some(minute)) => println!(rt; "{name}: {minute}"),
         Ok(None) => println!(rt; "{name}: never"),
+        // kept: test_support's `refused` is no plainer, as this crate stands on nothing of test_support.
         Err(refusal) => println!(rt; "{name}: refused {}", u8::from(refusal)),
     }
 }

@@ -1,6 +1,0 @@
--- `unchanged` ends: the index grows up to the length.
-use Rattle.std.proofs.Common.{length, ◌-◌}
-use Rattle.test_support.proofs.unchanged.Given as goal
-
-abbrev pub decreases-loop-i : goal.decreases-loop-i
-decreases-loop-i l = length l.buffer - l.i
