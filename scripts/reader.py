@@ -213,7 +213,8 @@ class Reader:
         inner = self.take_if("!")
         self.take("[")
         word = self.peek()
-        if word in ("derive", "repr") and not inner:
+        drops = [self.peek(k) for k in range(4)] == ["derive", "(", "Drop", ")"]  # as every value of Rust does
+        if word in ("derive", "repr") and not inner and not drops:
             self.at += 1
             self.take("(")
             self.listing(")", lambda: self.take(*(DERIVED if word == "derive" else "C")))
@@ -232,7 +233,7 @@ class Reader:
         return word == ")"
 
     def provers(self) -> None:
-        self.take("tactic", "cycle")
+        self.take("tactic", "cycle", "derive")
         depth = 0
         while depth or self.peek() != "]":
             depth += {"(": 1, ")": -1}.get(self.peek(), 0)

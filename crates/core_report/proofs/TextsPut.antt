@@ -9,44 +9,53 @@ use native.Mathlib.Nat.{le_refl, add-zero, zero-add}
 use native.Mathlib.Omega.{arith}
 use mathlib.Core.Path.{◌≡◌, refl, sym, ap, ap₂, ◌∙◌}
 use mathlib.Core.List.{List, [], ◌++◌, append_assoc}
+use borrow.Rule.Slice.Mut.{set_vals}
 use borrow.Rule.Slice.PartMut.{put_mid, Post-is}
 use lib.ListN.{length, take, drop, length-append}
 use lib.Seq.{sets, sets-eq, length-sets, length-take-le}
 use Rattle.model.specs.Calls.{overwrite}
-use Rattle.core_report.specs.Put.{Front, Put}
+use Rattle.core_report.specs.declared.Report.{Report}
+use Rattle.core_report.specs.Put.{Front, Room, Put}
 use Rattle.model.proofs.ListsInParts.{sets-append}
 
-pub put_none : (at : ℕ) (l : List ℕ) → Put 0 [] at l at l
-put_none at l = record { short = omega arith; ends = sym (add-zero at); long = refl; bytes = refl }
+pub put_none : (report : Report) → Put 0 [] report report
+put_none report = record { short = omega arith; ends = sym (add-zero report.at); long = refl; bytes = refl; same_buffer = refl }
 
 -- a text copied over as much of the buffer from `at` on
-pub put_copied : (xs l ys : List ℕ) (at : ℕ) → at + length xs ≤ length l → ys ≡ xs
-    → Put (length xs) xs at l (at + length xs) (put_mid at (at + length xs - at) l ys)
-put_copied xs l ys at h e =
+pub put_copied : (xs ys : List ℕ) (report : Report) → Room (length xs) report → ys ≡ xs
+    → Put (length xs) xs report
+    (record { out = set_vals (put_mid report.at (report.at + length xs - report.at) report.out.now ys) report.out; at = report.at + length xs })
+put_copied xs ys report h e =
+    let at = report.at in
+    let l = report.out.now in
     let copied : put_mid at (at + length xs - at) l ys ≡ sets l at xs =
     ap₂ (λ zs ws. take at l ++ (zs ++ ws)) e (Post-is at (at + length xs) l (omega arith))
     ∙ sym (append_assoc (take at l) xs (drop (at + length xs) l))
     ∙ sym (sets-eq xs l at h) in
-    record { short = le_refl (length xs); ends = refl; long = ap length copied ∙ length-sets l at xs; bytes = copied }
+    record { short = le_refl (length xs); ends = refl; long = ap length copied ∙ length-sets l at xs; bytes = copied; same_buffer = refl }
 
-pub put_then : {j k at m e : ℕ} {xs ys a b c : List ℕ} → Put j xs at a m b → Put k ys m b e c → Put (j + k) (xs ++ ys) at a e c
-put_then {j} {k} {at} {m} {e} {xs} {ys} {a} {b} {c} p q =
+pub put_then : {j k : ℕ} {xs ys : List ℕ} {a b c : Report} → Put j xs a b → Put k ys b c → Put (j + k) (xs ++ ys) a c
+put_then {j} {k} {xs} {ys} {a} {b} {c} p q =
     record {
       short = omega (arith, length-append xs ys);
       ends = omega (arith, length-append xs ys);
       long = q.long ∙ p.long;
-      bytes = q.bytes ∙ rw (p.bytes, p.ends) (sym (sets-append a at xs ys));
+      bytes = q.bytes ∙ rw (p.bytes, p.ends) (sym (sets-append a.out.now a.at xs ys));
+      same_buffer = q.same_buffer ∙ p.same_buffer;
     }
 
-pub put_most : {j k at e : ℕ} {xs a b : List ℕ} → j ≤ k → Put j xs at a e b → Put k xs at a e b
-put_most h p = record { short = omega arith; ends = p.ends; long = p.long; bytes = p.bytes }
+pub put_most : {j k : ℕ} {xs : List ℕ} {a b : Report} → j ≤ k → Put j xs a b → Put k xs a b
+put_most h p = record { short = omega arith; ends = p.ends; long = p.long; bytes = p.bytes; same_buffer = p.same_buffer }
 
-pub put_front : {k e : ℕ} {xs a b : List ℕ} → k ≤ length a → Put k xs 0 a e b → Front xs a e b
+pub put_front : {k : ℕ} {xs after : List ℕ} {a b : Report} → a.at ≡ 0 → k ≤ length a.out.now → Put k xs a b
+    → (a.out.ghost_name ≡ b.out.ghost_name → after ≡ b.out.now) → Front xs a.out.now b.at after
 unfolding overwrite
-put_front {k} {e} {xs} {a} {b} h p =
-    let fits : e ≤ length b = omega arith in
-    record {
-      ends = p.ends ∙ zero-add (length xs);
-      bytes = p.bytes ∙ sets-eq xs a 0 (omega arith) ∙ ap (λ (m : ℕ). xs ++ drop m a) (zero-add (length xs));
-      within = (fits, sym (length-take-le e b fits));
-    }
+put_front {k} {xs} {after} {a} {b} begins h p lent =
+    let same = lent (sym p.same_buffer) in
+    let fits : b.at ≤ length b.out.now = omega arith in
+    rw same
+    (record {
+      ends = p.ends ∙ rw begins (zero-add (length xs));
+      bytes = p.bytes ∙ rw begins (sets-eq xs a.out.now 0 (omega arith) ∙ ap (λ (m : ℕ). xs ++ drop m a.out.now) (zero-add (length xs)));
+      within = (fits, sym (length-take-le b.at b.out.now fits));
+    })

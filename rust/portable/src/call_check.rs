@@ -19,6 +19,7 @@ use crate::file_reading::read;
 pub const CHECK_TEXT: usize = ROOM;
 
 // The verdict on a file: safe and unsafe with the number of states, a refused file with the ground on which read refuses it.
+// kept: no Result: a refused file is an answer with a text of its own, and its Err inside an Ok of `check` is no plainer
 #[derive(Clone, Copy, Debug, PartialEq, Eq)]
 pub enum FileVerdict {
     Safe { n: usize },
@@ -27,6 +28,7 @@ pub enum FileVerdict {
 }
 
 // The length of the text, and the verdict.
+// kept: no flag beside a value: there is a text of this length whatever the verdict
 #[derive(Clone, Copy, Debug, PartialEq, Eq)]
 pub struct Checked {
     pub length: usize,
@@ -50,6 +52,7 @@ pub fn check(input: &[u8], site: usize, output: &mut [u8]) -> Result<Checked, Re
 
 // Only safe is given as safe. A release check is never undecided, and of a store that read filled it is never refused: if it were, the table would be
 // given as unsafe, and as a refused file.
+// kept: the room as write_safe and the others ask it; a type that has it would be taken apart at each of these calls
 fn check_table(store: &[u64], n: usize, g: usize, out: &mut [u8]) -> Checked
 {
     let mut path = [0u16; MAX_STATES];

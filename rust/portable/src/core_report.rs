@@ -4,7 +4,8 @@
 //
 //   write_safe, write_unsafe, write_undecided, write_refused
 //                   the whole text at the front of the buffer; the answer is its length
-//   put_*           a piece of it at the place `at`; the answer is the place after it
+//   Report          a text so far, in the buffer that it is put into
+//     put_*           puts a piece behind it
 //
 // Each piece asks for the room that its longest text takes, and says that its text takes no more. All numbers are of 16 bits, as a path's
 // entries are, so each takes five bytes at most, and a state with the space before it six.
@@ -19,137 +20,145 @@ pub const ROOM: usize = 1024 + SPACED * MAX_STATES;
 
 pub fn write_safe(n: usize, g: usize, count: usize, invariant: StateSet, out: &mut [u8]) -> usize
 {
-    let a = put_head(n, g, b"safe", count, out);
-    put_invariant_line(invariant, a, out)
+    let mut report = Report { out, at: 0 };
+    report.put_head(n, g, b"safe", count);
+    report.put_invariant_line(invariant);
+    report.at
 }
 
 // The path has its states and nothing else.
 pub fn write_unsafe(n: usize, g: usize, count: usize, path: &[u16], out: &mut [u8]) -> usize
 {
-    let a = put_head(n, g, b"unsafe", count, out);
-    put_path_line(path, a, out)
+    let mut report = Report { out, at: 0 };
+    report.put_head(n, g, b"unsafe", count);
+    report.put_path_line(path);
+    report.at
 }
 
 pub fn write_undecided(n: usize, g: usize, count: usize, out: &mut [u8]) -> usize
 {
-    put_head(n, g, b"undecided", count, out)
+    let mut report = Report { out, at: 0 };
+    report.put_head(n, g, b"undecided", count);
+    report.at
 }
 
+// kept: a number, and not a `Refusal`: the clause is of every byte, and the narrower type would ask more of callers
 pub fn write_refused(refusal: u8, out: &mut [u8]) -> usize
 {
-    let a = put_number(b"refused ", refusal as usize, 0, out);
-    put(b"\n", a, out)
+    let mut report = Report { out, at: 0 };
+    report.put_number(b"refused ", refusal as usize);
+    report.put(b"\n");
+    report.at
 }
 
-// ---- lines
-
-// Lines 1 and 2, at the front; the word is the verdict's.
-fn put_head(n: usize, g: usize, word: &[u8], count: usize, out: &mut [u8]) -> usize
-{
-    let a = put_states_line(n, g, 0, out);
-    put_verdict_line(word, count, a, out)
+// A text so far: it stands in the buffer up to `at`.
+// kept: each piece asks for the room that it takes, so no ghost field can say it for all of them
+struct Report<'a> {
+    out: &'a mut [u8],
+    at: usize,
 }
 
-fn put_states_line(n: usize, g: usize, at: usize, out: &mut [u8]) -> usize
-{
-    let a = put_number(b"states ", n, at, out);
-    let b = put_number(b" groups ", g, a, out);
-    put(b"\n", b, out)
-}
+impl<'a> Report<'a> {
+    // ---- lines
 
-fn put_verdict_line(word: &[u8], count: usize, at: usize, out: &mut [u8]) -> usize
-{
-    let a = put(word, at, out);
-    let b = put_number(b" refinements ", count, a, out);
-    put(b"\n", b, out)
-}
-
-fn put_invariant_line(x: StateSet, at: usize, out: &mut [u8]) -> usize
-{
-    let states = x.count();
-    let a = put_number(b"invariant ", states, at, out);
-    let b = put(b":", a, out);
-    let c = put_states_or_none(x, states, b, out);
-    put(b"\n", c, out)
-}
-
-fn put_path_line(path: &[u16], at: usize, out: &mut [u8]) -> usize
-{
-    let a = put(b"path", at, out);
-    let b = put_path(path, a, out);
-    put(b"\n", b, out)
-}
-
-// ---- parts of lines
-
-fn put_states_or_none(x: StateSet, count: usize, at: usize, out: &mut [u8]) -> usize
-{
-    if count == 0 {
-        return put(b" none", at, out);
+    // Lines 1 and 2; the word is the verdict's.
+    fn put_head(&mut self, n: usize, g: usize, word: &[u8], count: usize)
+    {
+        self.put_states_line(n, g);
+        self.put_verdict_line(word, count);
     }
-    put_states(x, at, out)
-}
 
-// The states of x rising, each after a space.
-fn put_states(x: StateSet, at: usize, out: &mut [u8]) -> usize
-{
-    let mut end = at;
-    for s in 0..MAX_STATES {
-        end = put_member(x, s, end, out);
+    fn put_states_line(&mut self, n: usize, g: usize)
+    {
+        self.put_number(b"states ", n);
+        self.put_number(b" groups ", g);
+        self.put(b"\n");
     }
-    end
-}
 
-// State s, if it is in x.
-fn put_member(x: StateSet, s: usize, at: usize, out: &mut [u8]) -> usize
-{
-    if x.contains(s) {
-        return put_spaced(s, at, out);
+    fn put_verdict_line(&mut self, word: &[u8], count: usize)
+    {
+        self.put(word);
+        self.put_number(b" refinements ", count);
+        self.put(b"\n");
     }
-    at
-}
 
-// The states of the path, each after a space.
-fn put_path(path: &[u16], at: usize, out: &mut [u8]) -> usize
-{
-    let mut end = at;
-    for s in path {
-        end = put_spaced(*s as usize, end, out);
+    fn put_invariant_line(&mut self, x: StateSet)
+    {
+        let states = x.count();
+        self.put_number(b"invariant ", states);
+        self.put(b":");
+        self.put_states_or_none(x, states);
+        self.put(b"\n");
     }
-    end
-}
 
-fn put_spaced(x: usize, at: usize, out: &mut [u8]) -> usize
-{
-    put_number(b" ", x, at, out)
-}
-
-// A text and a number.
-fn put_number(label: &[u8], n: usize, at: usize, out: &mut [u8]) -> usize
-{
-    let a = put(label, at, out);
-    put_decimal(n, a, out)
-}
-
-// The digits of n: the last one after those of n / 10.
-fn put_decimal(n: usize, at: usize, out: &mut [u8]) -> usize
-{
-    if n < 10 {
-        return put_digit(n, at, out);
+    fn put_path_line(&mut self, path: &[u16])
+    {
+        self.put(b"path");
+        self.put_path(path);
+        self.put(b"\n");
     }
-    let a = put_decimal(n / 10, at, out);
-    put_digit(n % 10, a, out)
-}
 
-fn put_digit(d: usize, at: usize, out: &mut [u8]) -> usize
-{
-    out[at] = b'0' + d as u8;
-    at + 1
-}
+    // ---- parts of lines
 
-fn put(text: &[u8], at: usize, out: &mut [u8]) -> usize
-{
-    let end = at + text.len();
-    out[at..end].copy_from_slice(text);
-    end
+    fn put_states_or_none(&mut self, x: StateSet, count: usize)
+    {
+        if count == 0 {
+            self.put(b" none");
+        } else {
+            self.put_states(x);
+        }
+    }
+
+    // The states of x rising, each after a space.
+    fn put_states(&mut self, x: StateSet)
+    {
+        for s in x.states() {
+            self.put_spaced(s);
+        }
+    }
+
+    // The states of the path, each after a space.
+    fn put_path(&mut self, path: &[u16])
+    {
+        for s in path {
+            self.put_spaced(*s as usize);
+        }
+    }
+
+    fn put_spaced(&mut self, x: usize)
+    {
+        self.put_number(b" ", x);
+    }
+
+    // A text and a number.
+    fn put_number(&mut self, label: &[u8], n: usize)
+    {
+        self.put(label);
+        self.put_decimal(n);
+    }
+
+    // The digits of n: the last one after those of n / 10.
+    // kept: by hand: unsafe with a path of 4 states took 350 instructions so, and 1,677 by `write!`
+    fn put_decimal(&mut self, n: usize)
+    {
+        if n < 10 {
+            self.put_digit(n);
+        } else {
+            self.put_decimal(n / 10);
+            self.put_digit(n % 10);
+        }
+    }
+
+    fn put_digit(&mut self, d: usize)
+    {
+        self.out[self.at] = b'0' + d as u8;
+        self.at += 1;
+    }
+
+    fn put(&mut self, text: &[u8])
+    {
+        let end = self.at + text.len();
+        self.out[self.at..end].copy_from_slice(text);
+        self.at = end;
+    }
 }

@@ -7,27 +7,27 @@ use lib.ListN.{length, length-append}
 use Rattle.core_report.specs.Text.{digit, decimal}
 use Rattle.core_report.proofs.Decimals.{decimal_one, decimal-more, decimal-long}
 use Rattle.core_report.proofs.TextsPut.{put_most, put_then}
-use Rattle.core_report.proofs.+put_decimal.Goals as goal
+use Rattle.core_report.proofs.Report.+put_decimal.Goals as goal
 
 pub put_digit-requires : goal.put_digit-requires
-put_digit-requires t c = (c.if-n-lt10.true, omega (arith, c.requires, ap length (decimal_one c.args.n c.if-n-lt10.true)))
+put_digit-requires t c = (c.if-n-lt10.true, omega (arith, ap length (decimal_one c.args.n c.if-n-lt10.true)))
 
 pub returns-then-n-lt10 : goal.returns-then-n-lt10
 returns-then-n-lt10 t c = rw (decimal_one c.args.n c.if-n-lt10.true) c.put_digit.ensures
 
-pub put_decimal-a-requires : goal.put_decimal-a-requires
-put_decimal-a-requires t c =
+pub put_decimal-requires : goal.put_decimal-requires
+put_decimal-requires t c =
     let many = c.if-n-lt10.false in
-    (omega arith, omega (arith, c.requires, decimal-long c.args.n many))
+    omega (arith, decimal-long c.args.n many)
 
-pub put_digit-requires-2 : goal.put_digit-requires-2
-put_digit-requires-2 t c =
+pub put_digit-requires-else-n-lt10 : goal.put_digit-requires-else-n-lt10
+put_digit-requires-else-n-lt10 t c =
     let many = c.if-n-lt10.false in
-    (omega arith, omega (arith, c.requires, decimal-long c.args.n many, c.put_decimal-a.ensures.ends, c.put_decimal-a.ensures.long))
+    (omega arith, omega (arith, decimal-long c.args.n many))
 
-pub returns : goal.returns
-returns t c =
+pub returns-else-n-lt10 : goal.returns-else-n-lt10
+returns-else-n-lt10 t c =
     let many = c.if-n-lt10.false in
     rw (decimal-more c.args.n many)
     (put_most (omega (arith, length-append (decimal (c.args.n / 10)) (digit (c.args.n % 10) ∷ [])))
-    (put_then c.put_decimal-a.ensures c.put_digit-2.ensures))
+    (put_then c.put_decimal.ensures c.put_digit-else-n-lt10.ensures))

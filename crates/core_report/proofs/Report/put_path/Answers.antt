@@ -1,4 +1,4 @@
--- `core_report::put_path` meets its contract. After i turns the first i states are put.
+-- `Report::put_path` meets its contract. After i turns the first i states are put.
 use Prim.Native.Nat.{◌<◌}
 use native.Mathlib.Omega.{arith}
 use lib.ListN.{length}
@@ -6,16 +6,16 @@ use lib.Seq.{take_all}
 use Rattle.core_report.specs.Text.{spaced}
 use Rattle.core_report.proofs.TextsPut.{put_none, put_then, put_most}
 use Rattle.core_report.proofs.Turns.{take_more, spaced-append}
-use Rattle.core_report.proofs.put_path.Goals as goal
+use Rattle.core_report.proofs.Report.put_path.Goals as goal
 
 pub loop-s-init : goal.loop-s-init
 unfolding spaced
-loop-s-init c = put_none _ _
+loop-s-init c = put_none _
 
 pub loop-s-preserved : goal.loop-s-preserved
 loop-s-preserved c =
     let more : c.loop-s.s-index < length c.args.path.now = omega arith in
-    rw (take_more, spaced-append) (put_most (omega arith) (put_then c.loop-s.invariant c.put_spaced-end.ensures))
+    rw (take_more, spaced-append) (put_most (omega arith) (put_then c.loop-s.invariant c.put_spaced.ensures))
 
 pub returns : goal.returns
 returns c =
