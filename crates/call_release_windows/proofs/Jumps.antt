@@ -3,18 +3,19 @@
 --   at_most-week          a wait is a week at most
 --   NoneOpen              none of the first minutes from the time on is open; longer: nor of more of them
 --   over_day, over_wait   no minute is open before the end of a closed day, or before a window opens
---   opened, all_shut      the first open minute is reached, or the whole span is passed
+--   opened, all_shut      the first open minute is reached, or the whole span is passed, and no minute of it is open
 use Prim.Native.Nat.{ℕ, ◌+◌, ◌-◌, ◌/◌, ◌%◌, ◌≤◌, ◌<◌}
 use native.Mathlib.Omega.{arith}
 use mathlib.Core.Path.{◌≡◌, sym}
 use mathlib.Core.Logic.{⊎_elim}
 use mathlib.Core.Bool.{Bool, true, false, and-false}
 use mathlib.Core.List.{List}
+use borrow.Author.Tests.{lt-ltb}
 use lib.Dec.{eqb}
 use Rattle.basics.specs.Bounds.{first}
 use Rattle.basics.proofs.BoundLaws.{lt_or_ge, first_le, first_passes, first-least, first-is, first-none}
 use Rattle.call_release_windows.specs.Windows.{day, week, some, in_some, is_closed, is_open}
-use Rattle.call_release_windows.specs.WindowAnswers.{span, waiting}
+use Rattle.call_release_windows.specs.WindowAnswers.{span, minute, never, waiting, first_opening}
 
 pub at_most-week : (p : ℕ → Bool) {wait : ℕ} → wait ≡ first week p → wait ≤ week
 at_most-week p e = rw e (first_le p week)
@@ -58,15 +59,22 @@ module _ (time : ℕ) (windows days : List ℕ) where
         outside_shut windows days (time + j)
         (rw same at (first-least (λ k. in_some windows (time + waited + k)) week (j - waited) (rw e at before))))
 
-    pub opened : {wait : ℕ} → waited < span → some (eqb ((time + waited) / day)) days ≡ false
+    waited_for : {wait : ℕ} → waited < span → some (eqb ((time + waited) / day)) days ≡ false
         → wait ≡ first week (λ k. in_some windows (time + waited + k)) → wait ≡ 0 → waited ≡ waiting time windows days
     unfolding waiting
-    opened {wait} l c e z =
+    waited_for {wait} l c e z =
         let entered : ℕ → Bool = λ k. in_some windows (time + waited + k) in
         let here : time + waited + first week entered ≡ time + waited = omega (arith, e, z) in
         let inside : in_some windows (time + waited) ≡ true = rw here at (first_passes entered week (omega (arith, e, z))) in
         sym (first-is (λ k. is_open windows days (time + k)) span waited l (open_where windows days (time + waited) c inside) so.shut)
 
-    pub all_shut : span ≤ waited → span ≡ waiting time windows days
-    unfolding waiting
-    all_shut l = sym (first-none (λ k. is_open windows days (time + k)) span (λ j h. so.shut j (omega (arith, l, h))))
+    pub opened : {wait : ℕ} → waited < span → some (eqb ((time + waited) / day)) days ≡ false
+        → wait ≡ first week (λ k. in_some windows (time + waited + k)) → wait ≡ 0 → minute (time + waited) ≡ first_opening time windows days
+    unfolding first_opening
+    opened l c e z = rw (← waited_for l c e z, lt-ltb waited span l)
+
+    pub all_shut : span ≤ waited → never ≡ first_opening time windows days
+    unfolding first_opening waiting
+    all_shut l =
+        let all : waiting time windows days ≡ span = first-none (λ k. is_open windows days (time + k)) span (λ j h. so.shut j (omega (arith, l, h))) in
+        rw all

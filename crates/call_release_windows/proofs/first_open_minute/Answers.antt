@@ -1,18 +1,15 @@
--- `minutes_to_open`: none of the minutes waited is open. Each jump is over one minute at least.
+-- `first_open_minute`: none of the minutes waited is open. Each jump is over one minute at least.
 use native.Mathlib.Omega.{arith}
 use mathlib.Core.Path.{sym, ◌∙◌}
 use borrow.Author.Rules.{rules}
 use Rattle.call_release_windows.proofs.Jumps.{at_most-week, over_day, over_wait, opened, all_shut}
-use Rattle.call_release_windows.proofs.minutes_to_open.Goals as goal
+use Rattle.call_release_windows.proofs.first_open_minute.Goals as goal
 
 pub loop-waited-init : goal.loop-waited-init
 loop-waited-init c = record { shut = λ j h. absurd (omega (arith, h)) }
 
 pub loop-waited-preserved-then-is_closed : goal.loop-waited-preserved-then-is_closed
 loop-waited-preserved-then-is_closed c = over_day _ _ _ c.loop-waited.invariant _ (sym c.is_closed.ensures ∙ c.if-is_closed.true) (search rules)
-
-pub least_wait-wait-requires : goal.least_wait-wait-requires
-least_wait-wait-requires c = (search rules, c.requires.1)
 
 pub returns-then-wait-eq0 : goal.returns-then-wait-eq0
 returns-then-wait-eq0 c =
