@@ -142,17 +142,17 @@ fn first_open_minute(time: usize, windows: Windows, closed: &[u32]) -> Option<u3
     requires { time ≤ max_time }
     ensures { minute_of result ≡ first_opening time windows.entry.numbers.now closed.now }
 {
-    let mut waited = 0;
-    while waited < SPAN {
-        let minute = time + waited;
-        if is_closed(closed, (minute / DAY) as u32) {
-            waited += DAY - minute % DAY;
+    let mut minute = time;
+    while minute < time + SPAN {
+        let day = minute / DAY;
+        if is_closed(closed, day as u32) {
+            minute = DAY * (day + 1);
         } else {
             let wait = windows.least_wait(minute);
             if wait == 0 {
                 return Some(minute as u32);
             }
-            waited += wait;
+            minute += wait;
         }
     }
     None
