@@ -4,8 +4,10 @@
 --   Swept rows t d                   the sweep as far as layer d: what is found, and the distances of the states before the layer
 --   layer_distance                   so the states of layer d are at distance d
 --   swept_start, -turn, -end         where it starts; a turn; when the layer is empty
-use Prim.Native.Nat.{ℕ, zero, suc, ◌+◌, zero-le}
+--   swept_full                       which it is after as many turns as a set has states
+use Prim.Native.Nat.{ℕ, zero, suc, ◌+◌, ◌≤◌, zero-le}
 use native.Mathlib.Numerals.{add-one}
+use native.Mathlib.Omega.{arith}
 use mathlib.Core.Path.{◌≡◌, refl, sym, ap, ◌∙◌}
 use mathlib.Core.Logic.{inl, inr, ⊎_elim}
 use mathlib.Core.Bool.{Bool, true, false, cond}
@@ -16,14 +18,14 @@ use Rattle.model.specs.Sets.{max_states, Set, member, empty, union, difference, 
 use Rattle.model.specs.Tables.{Table}
 use Rattle.model.specs.Rounds.{iterate}
 use Rattle.model.specs.Paths.{reaching, unreachable, distance}
-use Rattle.basics.proofs.BoundLaws.{is_false, clash, by_cond, same_test, tabulate_cong, tabulate_const}
+use Rattle.basics.proofs.BoundLaws.{is_false, clash, decided, by_cond, same_test, tabulate_cong, tabulate_const}
 use Rattle.model.proofs.SetsMembers.{Proper, In, in_bound, empty_in, in_union, union_in, in_states, states_in_lem, in_first_states, first_states_in, ⊆-of-eq, in_image, image_in}
 use Rattle.model.specs.WellFormed.{WellFormed}
 use Rattle.model.proofs.PathLaws.{At, in_reaching, reaching_in, reaching_mono, at_lt, distance_is, distance-unreachable}
 use Rattle.core_rows.specs.Rows.{map_at}
 use Rattle.core_rows.proofs.RowsLent.{HasRows}
 use Rattle.core_rows.proofs.RowsMapped.{map_at-tabulate}
-use Rattle.core_reach.proofs.ReachLayers.{before, before_grows, before_mono, Layered, layered_start, layered_turn, layered_still}
+use Rattle.core_reach.proofs.ReachLayers.{before, before_grows, before_mono, Layered, layered_start, layered_turn, layered_below, layered_still}
 use Rattle.call_distances.specs.Transposing.{predecessors_in}
 
 -- the states that fewer than d steps back lead to from the forbidden ones
@@ -105,3 +107,6 @@ module _ (rows : List ℕ) {t : Table} (r : HasRows t rows) (ok : WellFormed t) 
         (λ s l.
         by_cond (λ (x : ℕ). x ≡ distance t s) (member (nearer rows t d) s) _ _ (λ e. refl)
         (λ e. sym (distance-unreachable t s (λ k m h. clash (layered_still _ _ so.layered none (suc k) s (near_before k h)).is e))))
+
+    pub swept_full : max_states ≤ d → distances ≡ tabulate max_states (distance t)
+    swept_full l = ⊎_elim swept_end (λ some. absurd (omega (arith, layered_below _ _ so.layered some))) (decided (subset layer empty))

@@ -1,9 +1,10 @@
 -- Laws of the numbers that a buffer begins with.
 --
---   front_long                             so many are there
---   first-number, start_more, sum_more     the first of them put there; one more where there are fewer than long_lag, and where there are as many
---   fewer                                  if it begins with some, it begins with fewer
-use Rattle.std.proofs.Common.{◌≡◌, ℕ, zero, suc, ◌+◌, ◌-◌, ◌%◌, ◌^◌, ◌<◌, ◌≤◌, List, [], ◌∷◌, length, get_or, take, set, sym, refl, ap, ◌∙◌, le_of_eq, add-zero, add-suc, add-one, arith, length-append, take_all, get_or-take, take-take, take-suc-set, le-ltb, lt-ltb, ne_eqb}
+--   front_long                                 so many are there
+--   Starting, starting_none, -turn, -end       the first of them, fewer than long_lag, put there one after the other: before the first turn; a turn; all
+--   sum_more                                   one more where there are as many
+--   fewer                                      if it begins with some, it begins with fewer
+use Rattle.std.proofs.Common.{◌≡◌, ℕ, zero, suc, ◌+◌, ◌-◌, ◌%◌, ◌^◌, ◌<◌, ◌≤◌, List, [], ◌∷◌, ◌++◌, length, get_or, take, set, sym, refl, ap, ◌∙◌, le_of_eq, add-zero, add-suc, add-one, add-sub_cancel, arith, length-append, take_all, get_or-take, take-take, take-suc-set, get_or-set_same, le-ltb, lt-ltb, ne_eqb}
 use lib.Seq.{take-append-le}
 use Rattle.call_generate.specs.Load.{long_lag, short_lag, increment, next_number, numbers}
 
@@ -17,29 +18,42 @@ front_long seed k buffer so = ap length so ∙ length-numbers seed k
 
 -- ---- one number more
 
-module _ (seed k : ℕ) (buffer : List ℕ) (x : ℕ) (so : take k buffer ≡ numbers seed k) (h : k < length buffer) where
-  more : x ≡ next_number seed (numbers seed k) → take (k + 1) (set buffer k x) ≡ numbers seed (k + 1)
+module _ (seed k : ℕ) (buffer : List ℕ) (so : take k buffer ≡ numbers seed k) where
+  more : {x : ℕ} → k < length buffer → x ≡ next_number seed (numbers seed k) → take (k + 1) (set buffer k x) ≡ numbers seed (k + 1)
   unfolding numbers
-  more e = rw (add-one k, take-suc-set buffer k x h, so, e)
+  more {x} h e = rw (add-one k, take-suc-set buffer k x h, so, e)
 
   -- a number that is there
   at : (j : ℕ) → j < k → get_or (numbers seed k) j 0 ≡ get_or buffer j 0
   at j l = ap (λ ys. get_or ys j 0) (sym so) ∙ get_or-take k buffer j 0 l
 
-  pub start_more : 0 < k → k < long_lag → x ≡ (get_or buffer (k - 1) 0 + increment) % 2 ^ 32 → take (k + 1) (set buffer k x) ≡ numbers seed (k + 1)
+  start_next : 0 < k → k < long_lag → (get_or buffer (k - 1) 0 + increment) % 2 ^ 32 ≡ next_number seed (numbers seed k)
   unfolding next_number
-  start_more some few e =
-      more (rw (length-numbers seed k, ne_eqb k 0 (λ z. omega arith), lt-ltb k long_lag few, at (k - 1) (omega arith)) e)
+  start_next some few = rw (length-numbers seed k, ne_eqb k 0 (λ z. omega arith), lt-ltb k long_lag few, at (k - 1) (omega arith))
 
-  pub sum_more : long_lag ≤ k → x ≡ (get_or buffer (k - short_lag) 0 + get_or buffer (k - long_lag) 0) % 2 ^ 32 → take (k + 1) (set buffer k x) ≡ numbers seed (k + 1)
+  pub sum_more : {x : ℕ} → k < length buffer → long_lag ≤ k → x ≡ (get_or buffer (k - short_lag) 0 + get_or buffer (k - long_lag) 0) % 2 ^ 32
+      → take (k + 1) (set buffer k x) ≡ numbers seed (k + 1)
   unfolding next_number
-  sum_more many e =
-      more
+  sum_more h many e =
+      more h
       (rw (length-numbers seed k, ne_eqb k 0 (λ z. omega arith), le-ltb k long_lag many, at (k - short_lag) (omega arith), at (k - long_lag) (omega arith)) e)
 
-pub first-number : (seed : ℕ) (buffer : List ℕ) → 0 < length buffer → take 1 (set buffer 0 seed) ≡ numbers seed 1
+-- ---- the first numbers
+
+pub record Starting (seed i next : ℕ) (buffer : List ℕ) : Type 0 where
+  pub front : take i buffer ≡ numbers seed i
+  pub follows : i < long_lag → next ≡ next_number seed (numbers seed i)
+
+pub starting_none : (seed : ℕ) (buffer : List ℕ) → Starting seed 0 seed buffer
 unfolding numbers next_number
-first-number seed buffer h = take-suc-set buffer 0 seed h
+starting_none seed buffer = record { front = refl; follows = λ h. refl }
+
+pub starting_turn : (seed i next : ℕ) (buffer : List ℕ) → Starting seed i next buffer → i < length buffer → length buffer ≡ long_lag
+    → {after : ℕ} → after ≡ (next + increment) % 2 ^ 32 → Starting seed (i + 1) after (set buffer i next)
+starting_turn seed i next buffer so h long e =
+    let front = more seed i buffer so.front h (so.follows (omega (arith, h, long))) in
+    let last : get_or (set buffer i next) (i + 1 - 1) 0 ≡ next = rw (add-sub_cancel i 1, get_or-set_same buffer i next 0 h) in
+    record { front = front; follows = λ l. e ∙ rw last at (start_next seed (i + 1) (set buffer i next) front (omega arith) l) }
 
 -- ---- fewer
 
@@ -52,3 +66,8 @@ pub fewer : (seed k m : ℕ) (buffer : List ℕ) → take m buffer ≡ numbers s
 fewer seed k m buffer so h =
     let rest : m ≡ k + (m - k) = omega arith in
     sym (take-take k m buffer h) ∙ ap (take k) (so ∙ ap (numbers seed) rest) ∙ front seed k (m - k)
+
+pub starting_end : (seed i next : ℕ) (buffer rest : List ℕ) → Starting seed i next buffer → length buffer ≤ i → length buffer ≡ long_lag
+    → take long_lag (buffer ++ rest) ≡ numbers seed long_lag
+starting_end seed i next buffer rest so h long =
+    take-append-le long_lag buffer rest (le_of_eq (sym long)) ∙ fewer seed long_lag i buffer so.front (omega (arith, h, long))

@@ -5,7 +5,9 @@
 //   put_numbers                  the first numbers; put_start, put_sums: those before the first sum, and some sums
 //   fill                         the table of some numbers put into the store
 //   put_rows                     the row of each state
-//   put_remainders, remainder    the numbers that a state takes, each modulo n; the remainder by a multiplication
+//   put_remainders               the numbers that a state takes, each modulo n
+//   Divisor                      n, with what makes a division by it a multiplication
+//     remainder                    a number modulo n
 //
 // n is the number of states and f the fan-out. The call, `generate`, asks for nothing.
 #![tactic(auto)]
@@ -73,10 +75,10 @@ fn put_start(seed: u32, buffer: &mut [u32])
     requires { long_lag ≤ length buffer.old }
     ensures { take long_lag buffer.new ≡ numbers seed long_lag }
 {
-    buffer[0] = seed;
-    // kept: each number is made of one before it in the buffer that is written, so an iterator over it is no plainer.
-    for k in 1..LONG_LAG {
-        buffer[k] = std::num::wrapping_add_u32(buffer[k - 1], INCREMENT);
+    let mut next = seed;
+    for number in buffer[..LONG_LAG].iter_mut() {
+        *number = next;
+        next = std::num::wrapping_add_u32(next, INCREMENT);
     }
 }
 
@@ -85,7 +87,7 @@ fn put_sums(made: usize, buffer: &mut [u32])
     requires { (long_lag ≤ made) × (made + short_lag ≤ length buffer.old) }
     ensures { (seed : ℕ) → take made buffer.old ≡ numbers seed made → take (made + short_lag) buffer.new ≡ numbers seed (made + short_lag) }
 {
-    // kept: as in put_start.
+    // kept: each sum is of two numbers before it in the buffer that is written, which an iterator over it does not lend
     for k in made..made + SHORT_LAG {
         buffer[k] = std::num::wrapping_add_u32(buffer[k - SHORT_LAG], buffer[k - LONG_LAG]);
     }
@@ -98,6 +100,7 @@ fn put_numbers(seed: u32, count: usize, buffer: &mut [u32])
 {
     put_start(seed, buffer);
     let mut made = LONG_LAG;
+    // kept: no `step_by`, which looks at each number between: 63,336 instructions for 53,080 in all of this, at 8,192 numbers (Rust's own 73,615)
     while made < count {
         put_sums(made, buffer);
         made += SHORT_LAG;
@@ -120,35 +123,57 @@ fn put_rows(numbers: &[u32], n: usize, f: usize, store: &mut [u64])
     requires { (0 < n) × (n ≤ max_states) × (long_lag + n * f ≤ length numbers.now) × (store_words ≤ length store.old) }
     ensures { store.new ≡ put_sets row_at (successors numbers.now n f) n store.old }
 {
-    let inverse = (1u64 << 32) / (n as u64);
+    let divisor = Divisor::of(n);
     for s in 0..n {
         let from = LONG_LAG + s * f;
         let end = from + f;
         let at = ROWS_AT + WORDS * s;
-        put_remainders(&numbers[from..end], n, inverse, &mut store[at..]);
+        put_remainders(&numbers[from..end], divisor, &mut store[at..]);
     }
 }
 
-// x modulo n, where `inverse` is 2^32 / n: a multiplication in place of a division, which would be most of the work. The quotient that it gives is at most
-// one too small.
-fn remainder(x: u64, n: u64, inverse: u64) -> u64
-    requires { (x < 2 ^ 32) × (0 < n) × (n ≤ max_states) × (inverse ≡ 2 ^ 32 / n) }
-    ensures { result ≡ x % n }
-{
-    let quotient = x * inverse >> 32;
-    let rest = x - quotient * n;
-    if rest < n { rest } else { rest - n }
+// A number of states to divide by, and 2^32 divided by it.
+#[derive(Clone, Copy)]
+struct Divisor {
+    n: u64,
+    inverse: u64,
+    ghost some: { 0 < n },
+    ghost small: { n ≤ max_states },
+    ghost inverted: { inverse ≡ 2 ^ 32 / n },
+}
+
+impl Divisor {
+    fn of(n: usize) -> Self
+        requires { (0 < n) × (n ≤ max_states) }
+        ensures { result.n ≡ n }
+    {
+        let n = n as u64;
+        Divisor {
+            n,
+            inverse: (1 << 32) / n,
+        }
+    }
+
+    // x modulo n: a multiplication in place of a division, which would be most of the work. The quotient that it gives is at most one too small.
+    fn remainder(self, x: u32) -> u64
+        ensures { result ≡ x % self.n }
+    {
+        let x = u64::from(x);
+        let quotient = x * self.inverse >> 32;
+        let rest = x - quotient * self.n;
+        if rest < self.n { rest } else { rest - self.n }
+    }
 }
 
 // Some numbers, each modulo n, as a set in a row. The bits are set in the store itself, in words that are cleared for it: a set put together
 // elsewhere would be read by wider words than it was written by, which is slow.
-fn put_remainders(numbers: &[u32], n: usize, inverse: u64, row: &mut [u64])
-    requires { (0 < n) × (n ≤ max_states) × (inverse ≡ 2 ^ 32 / n) × (WORDS ≤ length row.old) }
-    ensures { row.new ≡ overwrite (remainders numbers.now n) row.old }
+fn put_remainders(numbers: &[u32], divisor: Divisor, row: &mut [u64])
+    requires { WORDS ≤ length row.old }
+    ensures { row.new ≡ overwrite (remainders numbers.now divisor.n) row.old }
 {
     put_set(row, 0, StateSet::empty());
     for x in numbers {
-        let t = narrow(remainder(u64::from(*x), n as u64, inverse));
+        let t = narrow(divisor.remainder(*x));
         row[t / WORD_BITS] |= 1 << (t % WORD_BITS);
     }
 }

@@ -3,8 +3,8 @@
 --   Sound, sound              what no ground leaves: a time and days within their limits, windows in their range; sound_answer: of a call
 --                             that is answered
 --   refuses                   a ground holds
---   opened, never_opens       else the first open minute, or never
---   opens, shuts              the same of a call that is answered
+--   answers                   none does, and the first opening is given
+--   opens, shuts              of a call that is answered: the first open minute, or never
 use Prim.Native.Nat.{ℕ, ◌+◌, ◌≤◌, ◌<◌}
 use mathlib.Core.Path.{◌≡◌, refl, sym, ◌∙◌}
 use mathlib.Core.Bool.{false}
@@ -12,7 +12,7 @@ use mathlib.Core.List.{List, []}
 use borrow.Author.Tests.{lt-ltb, le-ltb, ltb-false}
 use lib.Dec.{ltb}
 use lib.ListN.{length}
-use Rattle.std.specs.Prelude.{Some, None, Ok, Err}
+use Rattle.std.specs.Prelude.{Option, Ok, Err}
 use Rattle.basics.specs.Refusals.{refuse, answered}
 use Rattle.basics.proofs.BoundLaws.{or_false}
 use Rattle.basics.proofs.RefusalLaws.{Clear, refuse_clear, answered_clear, answered_value}
@@ -20,7 +20,7 @@ use Rattle.core_refusals.specs.declared.Refusal.{Refusal}
 use Rattle.core_refusals.specs.Refusals.{number}
 use Rattle.core_refusals.proofs.RefusalNumbers.{answer_refused, answer_given}
 use Rattle.call_release_windows.specs.Windows.{outside, some}
-use Rattle.call_release_windows.specs.WindowAnswers.{Opening, minute, never, minute_of, max_time, max_windows, max_days, span, grounds, waiting, next_open_answer, CalledNextOpen}
+use Rattle.call_release_windows.specs.WindowAnswers.{Opening, minute, never, minute_of, max_time, max_windows, max_days, span, grounds, waiting, first_opening, next_open_answer, CalledNextOpen}
 
 pub record Sound (time : ℕ) (windows days : List ℕ) : Type 0 where
   pub no_later : time ≤ max_time
@@ -39,14 +39,9 @@ module _ (time : ℕ) (windows days : List ℕ) where
     unfolding grounds
     sound = clear_sound (refuse_clear (grounds time windows days) [] refl (sym z)).0
 
-    module _ {wait : ℕ} (q : wait ≡ waiting time windows days) where
-      pub opened : wait < span → CalledNextOpen time windows days (Ok (Some (time + wait)))
-      unfolding next_open_answer grounds
-      opened l = answer_given minute_of (grounds time windows days) _ (Some (time + wait)) refl z (rw (← q, lt-ltb wait span l))
-
-      pub never_opens : span ≤ wait → CalledNextOpen time windows days (Ok None)
-      unfolding next_open_answer grounds
-      never_opens l = answer_given minute_of (grounds time windows days) _ None refl z (rw (← q, le-ltb wait span l))
+    pub answers : (m : Option ℕ) → minute_of m ≡ first_opening time windows days → CalledNextOpen time windows days (Ok m)
+    unfolding next_open_answer grounds
+    answers m e = answer_given minute_of (grounds time windows days) _ m refl z e
 
   pub refuses : (r : Refusal) → number r ≡ refuse (grounds time windows days) → CalledNextOpen time windows days (Err r)
   unfolding next_open_answer
@@ -58,9 +53,9 @@ module _ (time : ℕ) (windows days : List ℕ) where
     sound_answer = clear_sound (answered_clear (grounds time windows days) _ e)
 
     pub opens : waiting time windows days < span → a ≡ minute (time + waiting time windows days)
-    unfolding next_open_answer
+    unfolding next_open_answer first_opening
     opens l = answered_value (grounds time windows days) _ e ∙ rw (lt-ltb (waiting time windows days) span l)
 
     pub shuts : span ≤ waiting time windows days → a ≡ never
-    unfolding next_open_answer
+    unfolding next_open_answer first_opening
     shuts l = answered_value (grounds time windows days) _ e ∙ rw (le-ltb (waiting time windows days) span l)

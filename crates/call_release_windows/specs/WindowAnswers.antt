@@ -5,8 +5,9 @@
 --   Opening                           what the call answers
 --   grounds                           31, 30, 29, in this order
 --   waiting                           the minutes from the time to the first open one, or `span` if none of that many is open
---   next_open_answer                    the first open minute at or after the time, or never
---   opening_of                         what the code's answer says
+--   first_opening                     the first open minute at or after the time, or never
+--   next_open_answer                  what the call answers: a refusal, or the first opening
+--   minute_of, opening_of             what the code's answer says, of what is not refused and in all
 --   CalledNextOpen                    a call and what it gave, as the contract of next_open has it
 use Rattle.std.specs.Prelude.{ℕ, ◌+◌, ◌-◌, ◌^◌, ◌≡◌, cond, ◌||◌, List, [], ◌∷◌, Option, Some, None, Result, ltb, length}
 use Rattle.basics.specs.Bounds.{first}
@@ -41,10 +42,13 @@ grounds time windows days =
 unfoldable pub waiting : ℕ → List ℕ → List ℕ → ℕ
 waiting time windows days = first span (λ k. is_open windows days (time + k))
 
-unfoldable pub next_open_answer : ℕ → List ℕ → List ℕ → Answered Opening
-next_open_answer time windows days =
+unfoldable pub first_opening : ℕ → List ℕ → List ℕ → Opening
+first_opening time windows days =
     let wait = waiting time windows days in
-    answer (grounds time windows days) (cond (ltb wait span) (minute (time + wait)) never)
+    cond (ltb wait span) (minute (time + wait)) never
+
+unfoldable pub next_open_answer : ℕ → List ℕ → List ℕ → Answered Opening
+next_open_answer time windows days = answer (grounds time windows days) (first_opening time windows days)
 
 -- ---- the code's answer
 

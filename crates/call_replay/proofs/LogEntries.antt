@@ -1,13 +1,12 @@
 -- Laws of a walk.
 --
---   entry-bytes                          the two bytes of an entry
 --   holds_word, holds-past               membership in a set of the store, by its one word
 --   seen_in, in_seen                     the states that the first entries hold; seen_none, seen_more: before the first, and one more
 --   breaks t log i                       entry i breaks the walk
 --   followed_in, followed-states         each followed entry is a state that it may hold, and a state of the table
 --   followed_cong                        only the initial states and the rows of the table's states play a part
 --   Closed t X, followed-closed          what holds the initial states and each step out of it holds every followed entry
-use Prim.Native.Nat.{ℕ, zero, suc, ◌+◌, ◌*◌, ◌/◌, ◌%◌, ◌^◌, ◌≤◌, ◌<◌}
+use Prim.Native.Nat.{ℕ, zero, suc, ◌+◌, ◌/◌, ◌%◌, ◌^◌, ◌≤◌, ◌<◌}
 use native.Mathlib.Nat.{eq-or-lt_of_le}
 use native.Mathlib.Omega.{arith}
 use mathlib.Core.Path.{◌≡◌, refl, sym, ap, ◌∙◌}
@@ -27,14 +26,9 @@ use Rattle.model.proofs.SetsMembers.{member-set_of, set_of_cong, In, in_set_of, 
 use Rattle.model.proofs.StoresTables.{get_or-set_at}
 use Rattle.model.specs.WellFormed.{WellFormed}
 use Rattle.core_state_set.proofs.SetsWords.{member_word, member-past}
-use Rattle.call_replay.specs.Logs.{entry_bytes, entry_count, entry, may_hold, followed, seen}
+use Rattle.call_replay.specs.Logs.{entry_count, entry, may_hold, followed, seen}
 
--- ---- an entry, and a set of the store
-
-pub entry-bytes : (log : List ℕ) (i : ℕ) {low high : ℕ} → low ≡ get_or log (entry_bytes * i) 0 → high ≡ get_or log (entry_bytes * i + 1) 0
-    → low + 256 * high ≡ entry log i
-unfolding entry
-entry-bytes log i p q = rw (p, q)
+-- ---- a set of the store
 
 module _ (store : List ℕ) (at s : ℕ) where
   pub holds_word : s / 64 < WORDS → eqb (bit_and (get_or store (at + s / 64) 0 / 2 ^ (s % 64)) 1) 1 ≡ member (set_at store at) s

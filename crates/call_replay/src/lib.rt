@@ -32,9 +32,7 @@ fn entry_at(log: &[u8], i: usize) -> usize
     ensures { result ≡ entry log.now i }
 {
     let at = ENTRY_BYTES * i;
-    let low = usize::from(log[at]);
-    let high = usize::from(log[at + 1]);
-    low + 256 * high
+    usize::from(u16::from_le_bytes([log[at], log[at + 1]]))
 }
 
 // The set whose words begin at `at` holds s: one word of it is read, and no copy made.

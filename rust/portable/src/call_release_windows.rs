@@ -3,12 +3,14 @@
 // When a release may be loaded: the first minute at or after a time that lies in one of a house's weekly windows and on no closed day. Time
 // is whole minutes since a Saturday, 00:00, and weeks begin on Saturday.
 //
-//   start_of, length_of          a window is one 64-bit number: its start in the low 32 bits, its length in the high
+//   Window                       a window's start and length, which are one 64-bit number: the start in the low 32 bits, the length in the high
 //   accept_call                  refuses by the first of the grounds 31, 30 and 29 that holds
-//   wait_for, least_wait         the minutes until a window, or one of the windows, is open
+//   wait_for                     the minutes until a window is open
+//   Windows                      the windows of a call, each in its range
+//     least_wait                   the minutes until one of them is open
 //   is_closed                    a day is one of the closed days
-//   minutes_to_open              the minutes until a window is open on a day that is not closed: jumps from midnight to midnight over closed
-//                                days, and over the least wait on any other, so that even the longest search takes some hundred turns
+//   first_open_minute            the first minute in a window on a day that is not closed: jumps from midnight to midnight over closed days,
+//                                and over the least wait on any other, so that even the longest search takes some hundred turns
 //   next_open                    the call
 
 use crate::core_refusals::Refusal;
@@ -27,24 +29,29 @@ const SPAN: usize = 655200;
 // A window's length stands above its start.
 const LENGTH_UNIT: u64 = 4294967296;
 
-fn start_of(window: u64) -> usize
-{
-    let start = window % LENGTH_UNIT;
-    usize::try_from(start).expect("a number that fits")
+#[derive(Clone, Copy)]
+struct Window {
+    start: usize,
+    length: usize,
 }
 
-fn length_of(window: u64) -> usize
-{
-    let length = window / LENGTH_UNIT;
-    usize::try_from(length).expect("a number that fits")
+impl From<u64> for Window {
+    fn from(number: u64) -> Self {
+        let start = number % LENGTH_UNIT;
+        let length = number / LENGTH_UNIT;
+        Window {
+            start: usize::try_from(start).expect("a number that fits"),
+            length: usize::try_from(length).expect("a number that fits"),
+        }
+    }
 }
 
 // ---- refusals
 
 fn is_outside(window: u64) -> bool
 {
-    let length = length_of(window);
-    (WEEK - 1 < start_of(window)) | (length == 0) | (WEEK < length)
+    let window = Window::from(window);
+    (WEEK - 1 < window.start) | (window.length == 0) | (WEEK < window.length)
 }
 
 fn any_outside(windows: &[u64]) -> bool
@@ -75,22 +82,32 @@ fn accept_call(time: usize, windows: &[u64], closed: &[u32]) -> Result<(), Refus
 // The minutes from `minute` until the window is open, or `most` if it is not open sooner.
 fn wait_for(window: u64, minute: usize, most: usize) -> usize
 {
-    let since_start = (minute + WEEK - start_of(window)) % WEEK;
-    if since_start < length_of(window) {
+    let window = Window::from(window);
+    let since_start = (minute + WEEK - window.start) % WEEK;
+    if since_start < window.length {
         return 0;
     }
     let wait = WEEK - since_start;
     if wait < most { wait } else { most }
 }
 
-// The minutes from `minute` until one of the windows is open, or a week if there is none.
-fn least_wait(windows: &[u64], minute: usize) -> usize
-{
-    let mut least = WEEK;
-    for window in windows {
-        least = wait_for(*window, minute, least);
+// The windows of a call, each in its range.
+#[derive(Clone, Copy)]
+struct Windows<'a> {
+    numbers: &'a [u64],
+}
+
+impl<'a> Windows<'a> {
+    // The minutes from `minute` until one of the windows is open, or a week if there is none.
+    // kept: a week for none, the bound of the search and where the least begins: as an Option each turn would tell the first window from the others
+    fn least_wait(self, minute: usize) -> usize
+    {
+        let mut least = WEEK;
+        for window in self.numbers {
+            least = wait_for(*window, minute, least);
+        }
+        least
     }
-    least
 }
 
 // Each is compared, with no early end: several at a time, once compiled.
@@ -103,23 +120,23 @@ fn is_closed(closed: &[u32], day: u32) -> bool
     found
 }
 
-// The minutes from `time` to the first open minute, or SPAN if none of that many is open.
-fn minutes_to_open(time: usize, windows: &[u64], closed: &[u32]) -> usize
+// The first open minute from `time` on, if one of the next SPAN is.
+fn first_open_minute(time: usize, windows: Windows, closed: &[u32]) -> Option<u32>
 {
-    let mut waited = 0;
-    while waited < SPAN {
-        let minute = time + waited;
-        if is_closed(closed, (minute / DAY) as u32) {
-            waited += DAY - minute % DAY;
+    let mut minute = time;
+    while minute < time + SPAN {
+        let day = minute / DAY;
+        if is_closed(closed, day as u32) {
+            minute = DAY * (day + 1);
         } else {
-            let wait = least_wait(windows, minute);
+            let wait = windows.least_wait(minute);
             if wait == 0 {
-                return waited;
+                return Some(minute as u32);
             }
-            waited += wait;
+            minute += wait;
         }
     }
-    SPAN
+    None
 }
 
 // ---- the call
@@ -128,10 +145,6 @@ fn minutes_to_open(time: usize, windows: &[u64], closed: &[u32]) -> usize
 pub fn next_open(time: usize, windows: &[u64], closed: &[u32]) -> Result<Option<u32>, Refusal>
 {
     accept_call(time, windows, closed)?;
-    let wait = minutes_to_open(time, windows, closed);
-    if wait < SPAN {
-        Ok(Some((time + wait) as u32))
-    } else {
-        Ok(None)
-    }
+    let windows = Windows { numbers: windows };
+    Ok(first_open_minute(time, windows, closed))
 }

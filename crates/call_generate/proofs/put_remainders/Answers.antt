@@ -9,22 +9,22 @@ loop-x-init c = (search rules, reducing_none _ _ _ _ _ (search rules) c.empty.en
 
 pub offset_bounds-row-t : goal.offset_bounds-row-t
 offset_bounds-row-t c =
-    let state : c.narrow-t.result < max_states = remainder-state _ (c.narrow-t.ensures ∙ c.remainder.ensures) (search rules) (search rules) in
+    let state : c.narrow-t.result < max_states = remainder-state _ (c.narrow-t.ensures ∙ c.remainder.ensures) c.args.divisor.some c.args.divisor.small in
     record { fits = omega (arith, state) }
 
 pub bounds-row-t : goal.bounds-row-t
 bounds-row-t c =
-    let state : c.narrow-t.result < max_states = remainder-state _ (c.narrow-t.ensures ∙ c.remainder.ensures) (search rules) (search rules) in
+    let state : c.narrow-t.result < max_states = remainder-state _ (c.narrow-t.ensures ∙ c.remainder.ensures) c.args.divisor.some c.args.divisor.small in
     omega (arith, state)
 
 pub bounds-row-t-in-loop-x : goal.bounds-row-t-in-loop-x
 bounds-row-t-in-loop-x c =
-    let state : c.narrow-t.result < max_states = remainder-state _ (c.narrow-t.ensures ∙ c.remainder.ensures) (search rules) (search rules) in
+    let state : c.narrow-t.result < max_states = remainder-state _ (c.narrow-t.ensures ∙ c.remainder.ensures) c.args.divisor.some c.args.divisor.small in
     omega (arith, state)
 
 pub loop-x-preserved : goal.loop-x-preserved
 loop-x-preserved c =
-    let state : c.narrow-t.result < max_states = remainder-state _ (c.narrow-t.ensures ∙ c.remainder.ensures) (search rules) (search rules) in
+    let state : c.narrow-t.result < max_states = remainder-state _ (c.narrow-t.ensures ∙ c.remainder.ensures) c.args.divisor.some c.args.divisor.small in
     let so = c.loop-x.invariant in
     (search rules, reducing_more _ _ so.1 (search rules) (c.narrow-t.ensures ∙ c.remainder.ensures) state)
 

@@ -23,12 +23,12 @@ pub slice_bounds-put_remainders-end : goal.slice_bounds-put_remainders-end
 slice_bounds-put_remainders-end c = omega (arith, numbers_inside c.args.n c.args.f c.loop-s.s c.requires.2 c.loop-s-test.true)
 
 pub put_remainders-requires : goal.put_remainders-requires
-put_remainders-requires c = (search rules, search rules, refl, simp (length-take, length-drop) (omega arith))
+put_remainders-requires c = simp (length-take, length-drop) (omega arith)
 
 pub loop-s-preserved : goal.loop-s-preserved
 loop-s-preserved c = (
   search rules,
-  filling_more _ _ _ _ _ c.loop-s.invariant.1 _ (search rules) (row_put _ _ _ _ _ _ refl c.put_remainders.ensures),
+  filling_more _ _ _ _ _ c.loop-s.invariant.1 _ (search rules) (row_put _ _ _ _ _ _ refl (rw c.of-divisor.ensures at c.put_remainders.ensures)),
 )
 
 pub returns : goal.returns

@@ -9,7 +9,7 @@ loop-k-init c = (search rules, search rules, search rules, search rules, λ seed
 pub loop-k-preserved : goal.loop-k-preserved
 loop-k-preserved c =
     let so = c.loop-k.invariant in
-    (search rules, search rules, simp length-set (search rules), simp length-set (search rules), λ seed e. sum_more _ _ _ _ (so.4 seed e) (search rules) (search rules) c.wrapping_add_u32.ensures.value)
+    (search rules, search rules, simp length-set (search rules), simp length-set (search rules), λ seed e. sum_more _ _ _ (so.4 seed e) (search rules) (search rules) c.wrapping_add_u32.ensures.value)
 
 pub returns : goal.returns
 returns c = λ seed e. fewer _ _ _ _ (c.loop-k.invariant.4 seed e) (search rules)

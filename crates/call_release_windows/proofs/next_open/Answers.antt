@@ -1,7 +1,6 @@
 -- `next_open`: the grounds in their order, then what the search found.
-use Rattle.std.proofs.Common.{arith}
 use Rattle.std.proofs.lemmas.Result.{err_from_is_err_and}
-use Rattle.call_release_windows.proofs.WindowsAnswered.{Sound, sound, refuses, opened, never_opens}
+use Rattle.call_release_windows.proofs.WindowsAnswered.{sound, refuses, answers}
 use Rattle.call_release_windows.proofs.next_open.Goals as goal
 
 pub returns-in_err-accept_call : goal.returns-in_err-accept_call
@@ -9,21 +8,11 @@ returns-in_err-accept_call c =
     let p = err_from_is_err_and c.from_residual.result c.from_residual.ensures.1 in
     rw (p.1, p.2) (refuses _ _ _ _ c.in_err-accept_call.ensures)
 
-pub minutes_to_open-wait-requires : goal.minutes_to_open-wait-requires
-minutes_to_open-wait-requires c = let held = sound _ _ _ c.in_ok-accept_call.ensures in (held.no_later, held.in_range)
+pub invariant_of-windows : goal.invariant_of-windows
+invariant_of-windows c = record { in_range = (sound _ _ _ c.in_ok-accept_call.ensures).in_range }
 
-pub overflow_add-result : goal.overflow_add-result
-overflow_add-result c =
-    let held : Sound c.args.time c.args.windows.now c.args.closed.now = sound _ _ _ c.in_ok-accept_call.ensures in
-    record { fits = omega (arith, held.no_later, c.if-wait-lt-SPAN.true) }
+pub first_open_minute-requires : goal.first_open_minute-requires
+first_open_minute-requires c = (sound _ _ _ c.in_ok-accept_call.ensures).no_later
 
-pub overflow_cast-result : goal.overflow_cast-result
-overflow_cast-result c =
-    let held : Sound c.args.time c.args.windows.now c.args.closed.now = sound _ _ _ c.in_ok-accept_call.ensures in
-    record { fits = omega (arith, held.no_later, c.if-wait-lt-SPAN.true) }
-
-pub returns-then-wait-lt-SPAN : goal.returns-then-wait-lt-SPAN
-returns-then-wait-lt-SPAN c = opened _ _ _ c.in_ok-accept_call.ensures c.minutes_to_open-wait.ensures c.if-wait-lt-SPAN.true
-
-pub returns-else-wait-lt-SPAN : goal.returns-else-wait-lt-SPAN
-returns-else-wait-lt-SPAN c = never_opens _ _ _ c.in_ok-accept_call.ensures c.minutes_to_open-wait.ensures c.if-wait-lt-SPAN.false
+pub returns : goal.returns
+returns c = answers _ _ _ c.in_ok-accept_call.ensures _ c.first_open_minute.ensures

@@ -1,6 +1,8 @@
 -- `entry_at`: the two bytes of the entry.
-use Rattle.call_replay.proofs.LogEntries.{entry-bytes}
+use borrow.Author.Rules.{rules}
+use Rattle.call_replay.specs.Logs.{entry}
 use Rattle.call_replay.proofs.entry_at.Goals as goal
 
 pub returns : goal.returns
-returns c = entry-bytes _ _ c.from-low.ensures c.from-high.ensures
+unfolding entry
+returns c = search rules

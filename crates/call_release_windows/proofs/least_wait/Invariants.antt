@@ -1,6 +1,0 @@
--- `least_wait`: `least` is the wait for the windows passed.
-use Rattle.call_release_windows.proofs.Waits.{Nearest}
-use Rattle.call_release_windows.proofs.least_wait.Given as goal
-
-abbrev pub invariant-loop-window : goal.invariant-loop-window
-invariant-loop-window l = Nearest l.windows l.minute l.least l.window-index
