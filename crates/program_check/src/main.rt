@@ -5,14 +5,14 @@
 //   put_text      what is printed for a file, put into a lent buffer; the answer is its length
 #![tactic(auto)]
 
-ghost use Rattle.std.specs.Prelude.{◌≤◌, length};
-ghost use Rattle.core_report.specs.Put.{text_room, Front};
+ghost use Rattle.std.specs.Prelude.{length};
+ghost use Rattle.core_report.specs.Put.{Front};
 ghost use Rattle.call_check.specs.CheckText.{check_text};
 ghost use Rattle.program_input.specs.Reads.{Within, text_of, ForText};
 
 use call_check::{CHECK_TEXT, check};
 use core_report::write_refused;
-use program_input::{Input, input_room, read_input, text_of};
+use program_input::{Input, input_room, put_for, read_input};
 use std::io;
 
 // The site of the files that the program reads.
@@ -30,19 +30,16 @@ fn main(rt: HostRuntime) -> io::Result<()> {
     }
 }
 
-// A read that failed prints no verdict: it must not pass for an empty file, which is a draft, nor for a part of a file.
-fn put_answer(read: Input, room: &[u8], out: &mut [u8]) -> Option<usize>
-    requires within { Within read (length room.now) }
-    requires text_room_in_bounds { text_room ≤ length out.old }
+// A read that failed prints no verdict.
+fn put_answer(read: Input, room: &[u8], out: &mut [u8; CHECK_TEXT]) -> Option<usize>
+    requires { Within read (length room.now) }
     ensures { ForText (λ input end. Front (check_text input 0) out.old end out.new) (text_of read (length room.now)) room.now result }
 {
-    let length = text_of(read, room.len())?;
-    Some(put_text(&room[..length], out))
+    put_for(read, room, out, put_text)
 }
 
 // There is room for any text, and site 0 is one, so that the call is never refused.
-fn put_text(input: &[u8], out: &mut [u8]) -> usize
-    requires { text_room ≤ length out.old }
+fn put_text(input: &[u8], out: &mut [u8; CHECK_TEXT]) -> usize
     ensures { Front (check_text input.now 0) out.old result out.new }
 {
     match check(input, SITE, out) {

@@ -2,11 +2,12 @@
 --
 --   made_file      where the load is not refused
 --   made_refused   where it is
+--   made_short     it is no longer than the largest
 use Prim.Native.Nat.{ℕ, ◌≤◌}
 use native.Mathlib.Omega.{arith}
 use mathlib.Core.Path.{◌≡◌, refl, sym, ap, ap₂, ◌∙◌}
 use mathlib.Core.Bool.{cond}
-use Rattle.std.specs.Prelude.{Result, Ok, Err}
+use Rattle.std.specs.Prelude.{Result, Ok, Err, IfOk}
 use mathlib.Core.List.{List, []}
 use lib.Dec.{eqb}
 use lib.ListN.{length}
@@ -21,6 +22,8 @@ use Rattle.model.specs.Files.{block_file, file_length, file_of, max_file}
 use Rattle.model.specs.Calls.{overwrite, write_answer, write_buffer}
 use Rattle.model.proofs.ContentLaws.{contents_cong}
 use Rattle.model.proofs.FileLaws.{file_length-most}
+use Rattle.model.proofs.RangesOfAnswers.{write_range}
+use Rattle.file_writing.specs.WriteAnswers.{written_of}
 use Rattle.core_refusals.specs.declared.Refusal.{Refusal}
 use Rattle.core_refusals.specs.Refusals.{number}
 use Rattle.core_refusals.proofs.RefusalNumbers.{number_some}
@@ -59,3 +62,7 @@ module _ (seed n f : ℕ) (lent store : List ℕ) (r : Result (Unit {0}) Refusal
       let no = refused-is grounds tt (sym told ∙ ap generated_of e) in
       let answers = answer-refused grounds (file_length new_form n 0) no (number_some k) in
       (sym answers, sym (ap (unless_refused out (λ (l : ℕ). overwrite (file_of new_form 0 (load seed n f)) out)) answers))
+
+pub made_short : (store : List ℕ) (n g site room : ℕ) (r : Result ℕ Refusal) → written_of r ≡ write_answer store n g site room → IfOk r (λ l. l ≤ max_file)
+made_short store n g site room (Ok l) e = write_range store n g site room (sym e)
+made_short store n g site room (Err k) e = tt

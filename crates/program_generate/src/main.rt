@@ -2,17 +2,17 @@
 //
 //   main             reads the words, calls and writes
 //   usage            what is said where the words are not three numbers, the first of them a seed
+//   Load, words      the load that the words ask for
 //   is_word          whether the program has so many words
 //   argument         one of the program's words
 //   number_of        what a word says as a number
-//   file_room        where the file is put
 //   put_file         the file of a load at the front of a lent buffer; write_out: to standard output
 //   say_refused      what is said where the load is refused
 //
 // A program has no status of its own: where anything goes wrong it says so on standard error.
 #![tactic(auto)]
 
-ghost use Rattle.std.specs.Prelude.{◌≡◌, ◌≤◌, length};
+ghost use Rattle.std.specs.Prelude.{◌≡◌, ◌≤◌, IfOk};
 ghost use Rattle.model.specs.Files.{max_file};
 ghost use Rattle.file_writing.specs.WriteAnswers.{written_of};
 ghost use Rattle.program_generate.specs.Words.{word_of};
@@ -36,24 +36,12 @@ const LIMIT: usize = 4294967296;
 
 fn main(rt: HostRuntime) -> io::Result<()> {
     let stderr = rt.stderr();
-    if is_word(&rt, 4) {
-        return usage(stderr);
-    }
-    let Some(seed) = argument(&rt, 1) else {
+    let Some(Load { seed, n, f }) = words(&rt) else {
         return usage(stderr);
     };
-    let Some(n) = argument(&rt, 2) else {
-        return usage(stderr);
-    };
-    let Some(f) = argument(&rt, 3) else {
-        return usage(stderr);
-    };
-    if LIMIT <= seed {
-        return usage(stderr);
-    }
-    let mut file = file_room();
-    match put_file(seed as u32, n, f, &mut file) {
-        Ok(length) => write_out(rt.stdout(), stderr, &file, length),
+    let mut file = [0; MAX_FILE];
+    match put_file(seed, n, f, &mut file) {
+        Ok(length) => write_out(rt.stdout(), stderr, &file[..length]),
         Err(refusal) => say_refused(stderr, refusal),
     }
 }
@@ -63,6 +51,28 @@ fn usage(stderr: Stderr) -> io::Result<()> {
 }
 
 // ---- words
+
+// A table to generate: its seed, number of states and fan-out.
+struct Load {
+    seed: u32,
+    n: usize,
+    f: usize,
+}
+
+// Three words that are numbers, the first of them a seed; else none.
+fn words(env: &impl Env) -> Option<Load> {
+    if is_word(env, 4) {
+        return None;
+    }
+    let seed = argument(env, 1)?;
+    let n = argument(env, 2)?;
+    let f = argument(env, 3)?;
+    if LIMIT <= seed {
+        return None;
+    }
+    let seed = seed as u32;
+    Some(Load { seed, n, f })
+}
 
 // Whether word i is there. Word 0 is the program's name.
 fn is_word(env: &impl Env, i: usize) -> bool {
@@ -97,27 +107,19 @@ fn number_of(word: &[u8]) -> Option<usize>
 
 // ---- the file
 
-fn file_room() -> [u8; MAX_FILE]
-    ensures { max_file ≡ length result }
-{
-    [0; MAX_FILE]
-}
-
 // What generate filled, write writes.
-fn put_file(seed: u32, n: usize, f: usize, out: &mut [u8]) -> Result<usize, Refusal>
-    requires { max_file ≤ length out.old }
-    ensures { (written_of result ≡ file_made n f) × (out.new ≡ file_buffer seed n f out.old) }
+fn put_file(seed: u32, n: usize, f: usize, out: &mut [u8; MAX_FILE]) -> Result<usize, Refusal>
+    ensures file { (written_of result ≡ file_made n f) × (out.new ≡ file_buffer seed n f out.old) }
+    ensures inside { IfOk result (λ l. l ≤ max_file) }
 {
     let mut store = [0u64; STORE_WORDS];
     generate(seed, n, f, &mut store)?;
     write(&store, n, 0, SITE, out)
 }
 
-fn write_out(stdout: Stdout, stderr: Stderr, file: &[u8], length: usize) -> io::Result<()> {
-    if length <= file.len() {
-        if stdout.write_all(&file[..length]).is_ok() {
-            return Ok(());
-        }
+fn write_out(stdout: Stdout, stderr: Stderr, file: &[u8]) -> io::Result<()> {
+    if stdout.write_all(file).is_ok() {
+        return Ok(());
     }
     stderr.write_all(b"generate: the file could not be written\n")
 }

@@ -3,10 +3,10 @@
 --   counts          a number within a buffer counts bytes at its start
 --   text-within     the text of an input lies within the room
 --   put_bytes       what is put for a text, and put_nothing: for none
---   put_ends        the length that is answered, of what was put
+--   put_by          what one puts for an input, by what another one does
 use Prim.Native.Nat.{ℕ, ◌≤◌}
 use native.Mathlib.Omega.{arith}
-use mathlib.Core.Path.{◌≡◌, sym, ap, ◌∙◌, subst}
+use mathlib.Core.Path.{◌≡◌, sym, ◌∙◌, subst}
 use mathlib.Core.List.{List}
 use lib.ListN.{length, take}
 use lib.Seq.{length-take-le}
@@ -38,15 +38,7 @@ module _ {t : Option ℕ} (read : Input) (room : List ℕ) (e : t ≡ text_of re
     pub put_nothing : t ≡ None → ForText Put (text_of read (length room)) room None
     put_nothing b = subst (λ (x : Option ℕ). ForText Put x room None) (sym b ∙ e) none
 
-abbrev length_of : Option ℕ → ℕ
-length_of (Some k) = k
-length_of None = 0
-
-abbrev NoText : Option ℕ → Type 0
-NoText (Some k) = ⊥
-NoText None = Unit {0}
-
-pub put_ends : {Put : List ℕ → ℕ → Type 0} {t r : Option ℕ} {room : List ℕ} {end : ℕ} (Fact : ℕ → Type 0)
-    → ((xs : List ℕ) (k : ℕ) → Put xs k → Fact k) → ForText Put t room r → r ≡ Some end → Fact end
-put_ends Fact f (some p) e = subst Fact (ap length_of e) (f _ _ p)
-put_ends Fact f none e = absurd (subst NoText e tt)
+pub put_by : {Put Other : List ℕ → ℕ → Type 0} {t r : Option ℕ} {room : List ℕ} → ((xs : List ℕ) (end : ℕ) → Other xs end → Put xs end)
+    → ForText Other t room r → ForText Put t room r
+put_by f (some p) = some (f _ _ p)
+put_by f none = none

@@ -5,11 +5,13 @@
 --   OneRead       one read, of which no byte that is there is lost
 --   Within        what reading a whole input may answer, in a room of so many bytes
 --   text_of        which bytes of the room are the input's text, by how reading ended
+--   Puts          what a call gives that is lent a text and a place: a number, and what it leaves there
 --   ForText       what is put for an input: for a text, of its bytes and a length; for no text nothing
 --
 -- No contract says what C's read returns on which input, nor which bytes it puts into the room. So `Within` is what holds for every run of reads;
 -- that the answer is the one for the reads that were made is tested (tests/programs, tests/input).
 use Rattle.std.specs.Prelude.{ℕ, zero, suc, ◌+◌, ◌<◌, cond, ◌≡◌, List, eqb, ltb, ℤ, pos, negsuc, length, take, Option, Some, None, Result, Ok, Err}
+use Rattle.std.specs.Borrow.{Bor, MutBor}
 use Rattle.std.specs.declared.ops.ControlFlow.{ControlFlow}
 use Rattle.std.specs.declared.ops.ControlFlow.TheVariants.{Continue, Break}
 use Rattle.program_input.specs.declared.Input.{Input}
@@ -44,6 +46,16 @@ abbrev pub text_of : Input → ℕ → Option ℕ
 text_of (Ended k) room = Some k
 text_of Full room = Some room
 text_of Failed room = None
+
+-- `Gives` says it of references, as `F.post` does; this is of what they show.
+pub record Puts {T : Type 0} (Gives : Bor (List ℕ) → MutBor T → ℕ → MutBor T → Type 0) (text : List ℕ) (before : T) (end : ℕ) (after : T) : Type 0 where
+  pub shown : Bor (List ℕ)
+  pub lent : MutBor T
+  pub left : MutBor T
+  pub gave : Gives shown lent end left
+  pub shows : shown.now ≡ text
+  pub lends : lent.now ≡ before
+  pub leaves : left.now ≡ after
 
 -- No text is told from every text: neither is answered for the other.
 pub data ForText (Put : List ℕ → ℕ → Type 0) : Option ℕ → List ℕ → Option ℕ → Type 0 where

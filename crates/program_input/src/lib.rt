@@ -1,6 +1,7 @@
 // A file on standard input, as the programs read it.
 //
 //   text_of                    which bytes of the room are the input's text, if it has one
+//   put_for                    what is put for an input: for a text, what a function puts for its bytes; for no text nothing
 //   Input, read_input          how reading ended, and how many bytes were read
 //   read_more                  one read: how many bytes are there after it, and there is room for more; or how reading ended
 //   after_read                 that, from what the read gave
@@ -9,7 +10,7 @@
 
 ghost use Rattle.std.specs.Prelude.{◌≡◌, ◌+◌, ◌<◌, length};
 ghost use Rattle.model.specs.Files.{max_file};
-ghost use Rattle.program_input.specs.Reads.{number_read, after_read, OneRead, Within, text_of};
+ghost use Rattle.program_input.specs.Reads.{number_read, after_read, OneRead, Within, text_of, Puts, ForText};
 
 use file_blocks::MAX_FILE;
 use std::io;
@@ -21,7 +22,8 @@ const INPUT: usize = MAX_FILE + 1;
 
 // How reading ended: the input ended after so many bytes, before the room was full; the room is full; or a read failed.
 // Only an input that ended has a number, so that a full room is taken whole, and nothing is taken of an input that failed.
-#[derive(Clone, Copy)]
+// kept: Result's shape: `Reads.Within` and `Reads.text_of` tell a full room from an input that ended; it is no error, as `text_of` takes it whole.
+#[derive(Clone, Copy, Debug, PartialEq, Eq)]
 pub enum Input {
     Ended(usize),
     Full,
@@ -38,6 +40,21 @@ pub fn text_of(input: Input, room: usize) -> Option<usize>
         Input::Full => Some(room),
         Input::Failed => None,
     }
+}
+
+// A failed input puts nothing: it must not pass for an empty file, which is a draft, nor for a part of a file.
+pub fn put_for<T, F: FnOnce(&[u8], &mut T) -> usize>(
+    read: Input,
+    room: &[u8],
+    out: &mut T,
+    put: F,
+) -> Option<usize>
+    requires within { Within read (length room.now) }
+    requires callable { F.IsAlwaysCallable put }
+    ensures { ForText (λ text end. Puts (F.post put) text out.old end out.new) (text_of read (length room.now)) room.now result }
+{
+    let length = text_of(read, room.len())?;
+    Some(put(&room[..length], out))
 }
 
 // Reads until the room is full, the input ends or a read fails.
