@@ -85,7 +85,7 @@ pub fn le16_at(bytes: &[u8], i: usize) -> usize
     requires { i + 1 < length bytes.now }
     ensures { result ≡ le16_at bytes.now i }
 {
-    usize::from(bytes[i]) + 256 * usize::from(bytes[i + 1])
+    usize::from(u16::from_le_bytes([bytes[i], bytes[i + 1]]))
 }
 
 // The content of a block, from byte `from` of some bytes on, to the front of what is lent.
@@ -140,9 +140,9 @@ fn whole_chunks(block: &[u8]) -> u32
 {
     let mut sums = [0u16; LANES];
     let mut turns = [0u16; LANES];
-    for k in 0..CHUNKS {
+    for k in (0..CHUNKS).rev() {
         add_lanes(&sums, &mut turns);
-        add_bytes(block, LANES * (CHUNKS - 1 - k), &mut sums);
+        add_bytes(block, LANES * k, &mut sums);
     }
     lanes_sum(&sums, &turns)
 }

@@ -103,10 +103,8 @@ fn word_in(bytes: &[u8], at: usize, v: usize) -> u64
     requires { (at + 8 * WORDS ≤ length bytes.now) × (v < WORDS) }
     ensures { result ≡ get_or (set_in bytes.now (8 * WORDS) at) v 0 }
 {
-    let mut word: u64 = 0;
-    // kept: from_le_bytes takes an array, into which the eight bytes of the slice would be copied first.
-    for b in 0..8 {
-        word |= u64::from(bytes[at + (8 * v + b)]) << (8 * b);
-    }
-    word
+    let first = at + 8 * v;
+    let mut word = [0; 8];
+    word.copy_from_slice(&bytes[first..first + 8]);
+    u64::from_le_bytes(word)
 }
