@@ -3,7 +3,7 @@
 //   join_contents, join_sets       the contents; the sets, which stand behind the header
 //   place_of                       where a set of the file begins in the store
 //   put_set_bytes                  the bytes of a set
-//   put_words, put_bytes           those of its first words; the lowest of a word
+//   put_words, put_bytes           those of some words; the lowest of a word
 //   write_le16                     a two-byte number, low byte first
 //
 // What is written is said with the model's `overwrite`: at the front of what was lent, the rest of it untouched.
@@ -64,7 +64,7 @@ fn put_set_bytes(set: &[u64], width: usize, out: &mut [u8])
     ensures { out.new ≡ overwrite (set_bytes width set.now) out.old }
 {
     let whole = width / 8;
-    put_words(set, whole, out);
+    put_words(&set[..whole], out);
     let at = 8 * whole;
     if at == width {
         return;
@@ -72,11 +72,11 @@ fn put_set_bytes(set: &[u64], width: usize, out: &mut [u8])
     put_bytes(set[whole], width - at, &mut out[at..]);
 }
 
-fn put_words(set: &[u64], count: usize, out: &mut [u8])
-    requires { (count ≤ WORDS) × (WORDS ≤ length set.now) × (8 * count ≤ length out.old) }
-    ensures { out.new ≡ overwrite (concat count (words_bytes set.now)) out.old }
+fn put_words(words: &[u64], out: &mut [u8])
+    requires { 8 * length words.now ≤ length out.old }
+    ensures { out.new ≡ overwrite (concat (length words.now) (words_bytes words.now)) out.old }
 {
-    for (v, word) in set[..count].iter().enumerate() {
+    for (v, word) in words.iter().enumerate() {
         let at = 8 * v;
         put_bytes(*word, 8, &mut out[at..]);
     }
