@@ -44,15 +44,12 @@ fn is_set_beyond(bytes: &[u8], n: usize, width: usize, k: usize) -> bool
     last >> (n - 8 * (width - 1)) != 0
 }
 
-// Some byte from `from` on and before `to` is not 0. They are joined and tested once, as the words of a store are.
-pub fn non_zero_byte(bytes: &[u8], from: usize, to: usize) -> bool
-    requires { (from ≤ to) × (to ≤ length bytes.now) }
-    ensures { result ≡ non_zero bytes.now from to }
+// Some byte is not 0. They are joined and tested once, as the words of a store are.
+// kept: non_zero_word of core_table again, for bytes. One function of both would join the bytes as words, eight times as much work.
+pub fn non_zero_byte(bytes: &[u8]) -> bool
+    ensures { result ≡ non_zero bytes.now 0 (length bytes.now) }
 {
-    bytes[from..to]
-        .iter()
-        .fold(0, |joined, byte| joined | *byte)
-        != 0
+    bytes.iter().fold(0, |joined, byte| joined | *byte) != 0
 }
 
 // ---- filling

@@ -110,7 +110,7 @@ fn read_contents(
     if any_content_beyond(form, bytes, n, g) {
         return Err(Refusal::StrayBit);
     }
-    if non_zero_byte(bytes, size, CONTENT_BYTES * blocks) {
+    if non_zero_byte(&bytes[size..CONTENT_BYTES * blocks]) {
         return Err(Refusal::Filler);
     }
     fill(form, bytes, n, g, store);
