@@ -23,10 +23,6 @@ pub returns-then-g-gt-MAX_GROUPS : goal.returns-then-g-gt-MAX_GROUPS
 unfolding bytes_grounds
 returns-then-g-gt-MAX_GROUPS c = reads_first 1 _ (search (rules, ne_eqb, le-ltb, or_none), second_high _ (second_is c.added-least.ensures.0 (search rules)) c.if-g-gt-MAX_GROUPS.true) refl
 
-pub content_length-size-requires : goal.content_length-size-requires
-unfolding bytes_grounds
-content_length-size-requires c = search rules
-
 pub returns-then-blocks-blocks_for : goal.returns-then-blocks-blocks_for
 unfolding bytes_grounds
 returns-then-blocks-blocks_for c =
