@@ -10,7 +10,7 @@
 #![tactic(auto)]
 
 ghost use Rattle.std.specs.Prelude.{◌+◌, ◌*◌, ◌≤◌, ◌<◌, ◌≡◌, length};
-ghost use Rattle.model.specs.Sets.{WORDS};
+ghost use Rattle.model.specs.Sets.{WORDS, max_states};
 ghost use Rattle.basics.specs.Bounds.{concat};
 ghost use Rattle.model.specs.Stores.{head_sets, store_words, dialogue_of};
 ghost use Rattle.model.specs.Blocks.{le16};
@@ -46,7 +46,7 @@ fn join_sets(store: &[u64], counts: Counts, out: &mut [u8])
 
 // Where set k of the file begins in the store.
 fn place_of(counts: Counts, k: usize) -> usize
-    requires { k < head_sets + counts.g + counts.n }
+    requires { k < head_sets + counts.g + max_states }
     ensures { (result ≡ place_of counts.g k) × (result + WORDS ≤ store_words) }
 {
     let g = counts.g;
