@@ -1,7 +1,7 @@
 -- Laws of the chunks of a block, summed in lanes.
 --
 --   chunk_sum                              one chunk more: what two rows stand for, with the weighted sum of the bytes before the chunk
---   Chunked, chunk_none, -more, -all       the loop of `whole_chunks`, from the last chunk to the first, and how great the lanes become
+--   Chunked, chunk_none, -more, -all       the loop of `whole_chunks`, of which k chunks are left, and how great the lanes become
 use Prim.Native.Nat.{ℕ, zero, suc, ◌+◌, ◌*◌, ◌-◌, ◌≤◌, ◌<◌}
 use native.Mathlib.Nat.{add-zero, add-suc, mul-add, add-mul, le_refl}
 use native.Mathlib.Omega.{arith}
@@ -37,37 +37,35 @@ chunk_sum block sums turns at (suc n) h =
 
 pub record Chunked (block sums turns : List ℕ) (k : ℕ) : Type 0 where
   pub within : k ≤ chunks
-  pub is : weighted block (lanes * (chunks - k)) + lanes_sum (lanes * (chunks - k)) sums turns lanes ≡ weighted block (lanes * chunks)
-  pub low : Most (byte_most * k) sums
-  pub low_turns : Most (byte_most * chunks * k) turns
+  pub is : weighted block (lanes * k) + lanes_sum (lanes * k) sums turns lanes ≡ weighted block (lanes * chunks)
+  pub low : Most (byte_most * (chunks - k)) sums
+  pub low_turns : Most (byte_most * chunks * (chunks - k)) turns
 
 zeros_sum : lanes_sum (lanes * chunks) (replicate lanes 0) (replicate lanes 0) lanes ≡ 0
 unfolding lanes_sum
 zeros_sum = refl
 
-pub chunk_none : (block : List ℕ) → Chunked block (replicate lanes 0) (replicate lanes 0) 0
+pub chunk_none : (block : List ℕ) → Chunked block (replicate lanes 0) (replicate lanes 0) chunks
 chunk_none block = record { within = omega arith; is = omega (arith, zeros_sum); low = most_zero; low_turns = most_zero }
 
 module _ {block sums turns : List ℕ} {k : ℕ} (so : Chunked block sums turns k) where
-  pub chunk_more : {sums' turns' : List ℕ} → let part = chunk_at block (lanes * (chunks - 1 - k)) in
-      k < chunks → turns' ≡ plus turns sums → sums' ≡ plus sums part → Most byte_most part → Chunked block sums' turns' (k + 1)
-  chunk_more {sums'} {turns'} h e f byte =
-      let at = lanes * (chunks - 1 - k) in
-      let here : lanes * (chunks - (k + 1)) ≡ at = omega arith in
-      let next : at + lanes ≡ lanes * (chunks - k) = omega arith in
+  pub chunk_more : {sums' turns' : List ℕ} → let part = chunk_at block (lanes * (k - 1)) in
+      0 < k → turns' ≡ plus turns sums → sums' ≡ plus sums part → Most byte_most part → Chunked block sums' turns' (k - 1)
+  chunk_more h e f byte =
+      let at = lanes * (k - 1) in
+      let next : at + lanes ≡ lanes * k = omega arith in
       record {
-        within = omega arith;
+        within = omega (arith, so.within);
         is =
-            ap (λ (m : ℕ). weighted block m + lanes_sum m sums' turns' lanes) here
-            ∙ ap₂ (λ xs ys. weighted block at + lanes_sum at xs ys lanes) f e
+            ap₂ (λ xs ys. weighted block at + lanes_sum at xs ys lanes) f e
             ∙ chunk_sum block sums turns at lanes (le_refl lanes)
             ∙ ap (λ (m : ℕ). weighted block m + lanes_sum m sums turns lanes) next
             ∙ so.is;
-        low = subst (Most (byte_most * (k + 1))) (sym f) (most-plus so.low byte (omega arith));
-        low_turns = subst (Most (byte_most * chunks * (k + 1))) (sym e) (most-plus so.low_turns so.low (omega arith));
+        low = subst (Most (byte_most * (chunks - (k - 1)))) (sym f) (most-plus so.low byte (omega (arith, so.within)));
+        low_turns = subst (Most (byte_most * chunks * (chunks - (k - 1)))) (sym e) (most-plus so.low_turns so.low (omega (arith, so.within)));
       }
 
-  pub chunk_all : chunks ≤ k → lanes_sum 0 sums turns lanes ≡ weighted block (lanes * chunks)
+  pub chunk_all : k ≤ 0 → lanes_sum 0 sums turns lanes ≡ weighted block (lanes * chunks)
   chunk_all h =
-      let first : lanes * (chunks - k) ≡ 0 = omega arith in
+      let first : lanes * k ≡ 0 = omega arith in
       omega (arith, weighted-none block, ap (λ (m : ℕ). weighted block m + lanes_sum m sums turns lanes) first, so.is)

@@ -7,12 +7,15 @@
 //   Form, head_sets, added                   the form of a file; its sets before the groups, how many; what its second number has more than g
 //   le16_at                                  the number whose two bytes stand at a place, low byte first
 //   copy_content                             the content of a block, copied
-//   MODULUS, MAX_SITE, checksum_of           the prime of the checksum; the greatest site number; the checksum of a block for a site (01: its check)
+//   MODULUS, MAX_SITE, Site                  the prime of the checksum; the greatest site number; the number of a site
+//   checksum_of                              the checksum of a block for a site (01: its check)
 //   whole_chunks                             the part of its sum that is taken a chunk at a time, LANES bytes side by side
 //   add_lanes, add_bytes                     a row of lanes, or a chunk of bytes, added to a row of lanes
 //   lanes_sum                                the weighted sum that two rows stand for
-//   set_width, set_count                     the bytes of a set, and how many sets there are
-//   content_length, blocks_for               the bytes of the contents (L), and the blocks that hold so many
+//   Counts                                   how many states and groups a table has
+//     set_width, set_count                   the bytes of a set, and how many sets its file has
+//     content_length                         the bytes of its contents (L)
+//   blocks_for                               the blocks that hold so many bytes
 #![tactic(auto)]
 
 ghost use Rattle.std.specs.Prelude.{◌+◌, ◌*◌, ◌≤◌, ◌<◌, ◌≡◌, length, take, drop};
@@ -56,6 +59,14 @@ const MODULUS: u32 = 65521;
 
 pub const MAX_SITE: usize = MODULUS as usize - 1;
 
+// The number of a site.
+// kept: no TryFrom, by which read takes an instruction more.
+#[derive(Clone, Copy)]
+pub struct Site {
+    pub number: usize,
+    ghost known: { number ≤ max_site },
+}
+
 // The old form has no resting states.
 #[derive(Clone, Copy, Debug, PartialEq, Eq)]
 pub enum Form {
@@ -85,7 +96,7 @@ pub fn le16_at(bytes: &[u8], i: usize) -> usize
     requires { i + 1 < length bytes.now }
     ensures { result ≡ le16_at bytes.now i }
 {
-    usize::from(bytes[i]) + 256 * usize::from(bytes[i + 1])
+    usize::from(u16::from_le_bytes([bytes[i], bytes[i + 1]]))
 }
 
 // The content of a block, from byte `from` of some bytes on, to the front of what is lent.
@@ -140,19 +151,19 @@ fn whole_chunks(block: &[u8]) -> u32
 {
     let mut sums = [0u16; LANES];
     let mut turns = [0u16; LANES];
-    for k in 0..CHUNKS {
+    for k in (0..CHUNKS).rev() {
         add_lanes(&sums, &mut turns);
-        add_bytes(block, LANES * (CHUNKS - 1 - k), &mut sums);
+        add_bytes(block, LANES * k, &mut sums);
     }
     lanes_sum(&sums, &turns)
 }
 
 // The sum starts from the site and the whole chunks. It stays below 2^32, so it is reduced once, at the end.
-pub fn checksum_of(block: &[u8], site: usize) -> usize
-    requires { (check_at ≤ length block.now) × (site ≤ max_site) }
-    ensures { result ≡ check_of site block.now }
+pub fn checksum_of(block: &[u8], site: Site) -> usize
+    requires { check_at ≤ length block.now }
+    ensures { result ≡ check_of site.number block.now }
 {
-    let mut sum: u32 = site as u32 + whole_chunks(block);
+    let mut sum: u32 = site.number as u32 + whole_chunks(block);
     // kept: `block[..CHECK_AT].iter().enumerate().skip(LANES * CHUNKS)` names each byte, and is no plainer.
     for i in LANES * CHUNKS..CHECK_AT {
         sum += (i as u32 + 1) * u32::from(block[i]);
@@ -160,25 +171,33 @@ pub fn checksum_of(block: &[u8], site: usize) -> usize
     (sum % MODULUS) as usize
 }
 
-pub fn set_width(n: usize) -> usize
-    requires { n ≤ max_states }
-    ensures { result ≡ set_width n }
-{
-    (n + 7) / 8
+// How many states and groups a table has: no more than the store has room for.
+#[derive(Clone, Copy)]
+pub struct Counts {
+    pub n: usize,
+    pub g: usize,
+    ghost small: { n ≤ max_states },
+    ghost few: { g ≤ max_groups },
 }
 
-pub fn set_count(form: Form, n: usize, g: usize) -> usize
-    requires { (n ≤ max_states) × (g ≤ max_groups) }
-    ensures { (result ≡ heads (form_of form) + g + n) × (result ≤ head_sets + max_groups + max_states) }
-{
-    head_sets(form) + g + n
-}
+impl Counts {
+    pub fn set_width(self) -> usize
+        ensures { result ≡ set_width self.n }
+    {
+        (self.n + 7) / 8
+    }
 
-pub fn content_length(form: Form, n: usize, g: usize) -> usize
-    requires { (n ≤ max_states) × (g ≤ max_groups) }
-    ensures { (result ≡ content_length (form_of form) n g) × (result ≤ content_length new_form max_states max_groups) }
-{
-    HEADER + set_width(n) * set_count(form, n, g)
+    pub fn set_count(self, form: Form) -> usize
+        ensures { (result ≡ heads (form_of form) + self.g + self.n) × (result ≤ head_sets + max_groups + max_states) }
+    {
+        head_sets(form) + self.g + self.n
+    }
+
+    pub fn content_length(self, form: Form) -> usize
+        ensures { (result ≡ content_length (form_of form) self.n self.g) × (result ≤ content_length new_form max_states max_groups) }
+    {
+        HEADER + self.set_width() * self.set_count(form)
+    }
 }
 
 pub fn blocks_for(l: usize) -> usize

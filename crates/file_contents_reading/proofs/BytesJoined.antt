@@ -1,8 +1,10 @@
 -- Bytes joined, to see whether there is one that is not 0.
 --
---   non_zero_joined      the bytes of a stretch joined are other than 0 where one of them is
+--   joined_part          the bytes of a stretch joined are other than 0 where one of them is
+--   non_zero_joined      all bytes likewise
+--   non_zero_part        a stretch cut out has a byte that is not 0 where it has one in its place
 use Prim.Native.Nat.{ℕ, zero, suc, ◌+◌, ◌-◌, ◌≤◌}
-use native.Mathlib.Nat.{add-zero, add-suc}
+use native.Mathlib.Nat.{zero-add, add-zero, add-suc}
 use native.Mathlib.Numerals.{add-one}
 use native.Mathlib.Omega.{arith}
 use mathlib.Core.Path.{◌≡◌, sym, ap, ◌∙◌}
@@ -11,7 +13,7 @@ use mathlib.Core.List.{List}
 use lib.Bits.{bit_or}
 use lib.Dec.{eqb}
 use lib.ListN.{length, get_or, take, drop, length-drop}
-use lib.Seq.{get_or-drop}
+use lib.Seq.{get_or-drop, take-length}
 use Rattle.std.specs.List.{fold}
 use Rattle.std.proofs.lemmas.List.Sums.{fold_more}
 use Rattle.model.specs.Stores.{non_zero}
@@ -31,7 +33,13 @@ module _ (xs : List ℕ) (from : ℕ) where
       ∙ non_zero_turn xs from (from + m) (joined m) (omega arith) (first_joined m (omega arith))
       ∙ ap (λ x. not (eqb x 0)) (sym next ∙ ap joined (add-one m))
 
-  pub non_zero_joined : (to : ℕ) → from ≤ to → to ≤ length xs → not (eqb (joined (to - from)) 0) ≡ non_zero xs from to
-  non_zero_joined to l h =
+  joined_part : (to : ℕ) → from ≤ to → to ≤ length xs → not (eqb (joined (to - from)) 0) ≡ non_zero xs from to
+  joined_part to l h =
       let all : from + (to - from) ≡ to = omega arith in
       sym (first_joined (to - from) (omega arith)) ∙ ap (non_zero xs from) all
+
+pub non_zero_joined : (xs : List ℕ) → not (eqb (fold bit_or 0 xs) 0) ≡ non_zero xs 0 (length xs)
+non_zero_joined xs = ap (λ ys. not (eqb (fold bit_or 0 ys) 0)) (sym (take-length xs)) ∙ sym (first_joined xs 0 (length xs) (omega arith)) ∙ ap (non_zero xs 0) (zero-add (length xs))
+
+pub non_zero_part : (xs : List ℕ) {from to : ℕ} → from ≤ to → to ≤ length xs → let part = take (to - from) (drop from xs) in non_zero part 0 (length part) ≡ non_zero xs from to
+non_zero_part xs {from} {to} l h = sym (non_zero_joined (take (to - from) (drop from xs))) ∙ joined_part xs from to l h

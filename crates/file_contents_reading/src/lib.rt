@@ -8,27 +8,26 @@
 
 ghost use Rattle.std.specs.Prelude.{◌≡◌, ◌+◌, ◌*◌, ◌≤◌, ◌<◌, length, get_or};
 ghost use Rattle.basics.specs.Bounds.{any, concat};
-ghost use Rattle.model.specs.Sets.{WORDS, max_states, meet};
+ghost use Rattle.model.specs.Sets.{WORDS, meet};
 ghost use Rattle.model.specs.Stores.{store_words, layout, beyond, non_zero};
 ghost use Rattle.model.specs.Contents.{heads, set_width, header_bytes, set_in, set_number, dialogue_in};
 ghost use Rattle.model.specs.Calls.{overwrite};
-ghost use Rattle.file_blocks.specs.Forms.{form_of};
-ghost use Rattle.file_contents_reading.specs.Parts.{TableInside, PartInside, part_set};
+ghost use Rattle.file_blocks.specs.Forms.{form_of, joined_room};
+ghost use Rattle.file_contents_reading.specs.Parts.{PartInside, part_set};
 
 use core_state_set::{MAX_STATES, StateSet, WORDS};
 use core_table::{GROUPS_AT, HEAD_SETS, MAX_GROUPS, ROWS_AT, put_set};
-use file_blocks::{Form, HEADER, head_sets, set_count, set_width};
+use file_blocks::{Counts, Form, HEADER, head_sets};
 
 // ---- grounds of the contents
 
 // A set of the table has a state from n up.
-pub fn any_content_beyond(form: Form, bytes: &[u8], n: usize, g: usize) -> bool
-    requires { TableInside bytes.now n g × (0 < n) }
-    ensures { result ≡ any (heads (form_of form) + g + n) (λ k. beyond n (set_number bytes.now n k)) }
+pub fn any_content_beyond(form: Form, bytes: &[u8], counts: Counts) -> bool
+    requires { (joined_room ≤ length bytes.now) × (0 < counts.n) }
+    ensures { result ≡ any (heads (form_of form) + counts.g + counts.n) (λ k. beyond counts.n (set_number bytes.now counts.n k)) }
 {
-    let width = set_width(n);
-    for k in 0..set_count(form, n, g) {
-        if is_set_beyond(bytes, n, width, k) {
+    for k in 0..counts.set_count(form) {
+        if is_set_beyond(bytes, counts, k) {
             return true;
         }
     }
@@ -36,45 +35,53 @@ pub fn any_content_beyond(form: Form, bytes: &[u8], n: usize, g: usize) -> bool
 }
 
 // Set k of the contents has a state from n up: those are in the last of its bytes.
-fn is_set_beyond(bytes: &[u8], n: usize, width: usize, k: usize) -> bool
-    requires { (header_bytes + width * k + 8 * WORDS ≤ length bytes.now) × (0 < n) × (n ≤ max_states) × (width ≡ set_width n) }
-    ensures { result ≡ beyond n (set_number bytes.now n k) }
+fn is_set_beyond(bytes: &[u8], counts: Counts, k: usize) -> bool
+    requires { (header_bytes + set_width counts.n * k + 8 * WORDS ≤ length bytes.now) × (0 < counts.n) }
+    ensures { result ≡ beyond counts.n (set_number bytes.now counts.n k) }
 {
+    let width = counts.set_width();
     let last = usize::from(bytes[HEADER + width * k + (width - 1)]);
-    last >> (n - 8 * (width - 1)) != 0
+    last >> (counts.n - 8 * (width - 1)) != 0
 }
 
-// Some byte from `from` on and before `to` is not 0. They are joined and tested once, as the words of a store are.
-pub fn non_zero_byte(bytes: &[u8], from: usize, to: usize) -> bool
-    requires { (from ≤ to) × (to ≤ length bytes.now) }
-    ensures { result ≡ non_zero bytes.now from to }
+// Some byte is not 0. They are joined and tested once, as the words of a store are.
+// kept: non_zero_word of core_table again. Tried one over `T: Into<u64>`: it joins bytes as words, 966 instructions for 153 of 400 bytes.
+pub fn non_zero_byte(bytes: &[u8]) -> bool
+    ensures { result ≡ non_zero bytes.now 0 (length bytes.now) }
 {
-    bytes[from..to]
-        .iter()
-        .fold(0, |joined, byte| joined | *byte)
-        != 0
+    bytes.iter().fold(0, |joined, byte| joined | *byte) != 0
 }
 
 // ---- filling
 
 // The sets before the groups, the groups and the rows: of each part of the store its first sets come from the contents, and the others are empty.
-pub fn fill(form: Form, bytes: &[u8], n: usize, g: usize, store: &mut [u64])
-    requires { TableInside bytes.now n g × (store_words ≤ length store.old) }
-    ensures { store.new ≡ overwrite (layout (dialogue_in (form_of form) bytes.now n g)) store.old }
+pub fn fill(form: Form, bytes: &[u8], counts: Counts, store: &mut [u64])
+    requires { (joined_room ≤ length bytes.now) × (store_words ≤ length store.old) }
+    ensures { store.new ≡ overwrite (layout (dialogue_in (form_of form) bytes.now counts.n counts.g)) store.old }
 {
+    let n = counts.n;
+    let g = counts.g;
     let heads = head_sets(form);
-    fill_sets(store, bytes, n, 0, heads, HEAD_SETS);
-    fill_sets(&mut store[GROUPS_AT..], bytes, n, heads, g, MAX_GROUPS);
-    fill_sets(&mut store[ROWS_AT..], bytes, n, heads + g, n, MAX_STATES);
+    let rows = heads + g;
+    fill_sets(store, bytes, counts, 0, heads, HEAD_SETS);
+    fill_sets(&mut store[GROUPS_AT..], bytes, counts, heads, g, MAX_GROUPS);
+    fill_sets(&mut store[ROWS_AT..], bytes, counts, rows, n, MAX_STATES);
 }
 
 // A part of the store that has room for `room` sets: the first `count` are those of the contents from set `first` on, and the others are empty. Each of
 // the first is put into its own words: the part of the store from there on is lent, from ROWS_AT + WORDS * s on for the row of state s, to be filled from the set's bytes.
-fn fill_sets(part: &mut [u64], bytes: &[u8], n: usize, first: usize, count: usize, room: usize)
-    requires { PartInside bytes.now n first count × (WORDS * room ≤ length part.old) }
-    ensures { part.new ≡ overwrite (concat room (part_set bytes.now n first count)) part.old }
+fn fill_sets(
+    part: &mut [u64],
+    bytes: &[u8],
+    counts: Counts,
+    first: usize,
+    count: usize,
+    room: usize,
+)
+    requires { PartInside bytes.now first count × (WORDS * room ≤ length part.old) }
+    ensures { part.new ≡ overwrite (concat room (part_set bytes.now counts.n first count)) part.old }
 {
-    let width = set_width(n);
+    let width = counts.set_width();
     let own = StateSet::first_states(8 * width); // what the bytes of one set can have
     for k in 0..room {
         let at = WORDS * k;
@@ -103,10 +110,8 @@ fn word_in(bytes: &[u8], at: usize, v: usize) -> u64
     requires { (at + 8 * WORDS ≤ length bytes.now) × (v < WORDS) }
     ensures { result ≡ get_or (set_in bytes.now (8 * WORDS) at) v 0 }
 {
-    let mut word: u64 = 0;
-    // kept: from_le_bytes takes an array, into which the eight bytes of the slice would be copied first.
-    for b in 0..8 {
-        word |= u64::from(bytes[at + (8 * v + b)]) << (8 * b);
-    }
-    word
+    let first = at + 8 * v;
+    let mut word = [0; 8];
+    word.copy_from_slice(&bytes[first..first + 8]);
+    u64::from_le_bytes(word)
 }

@@ -3,6 +3,7 @@
 --   length-word_bytes             the bytes of a word: how many; bytes-written, le16-written: so many, and two, copied from the library's
 --   words_more                   a loop that writes the words of a set
 --   set_byte, set_more           a byte of a set by its word; the bytes of some whole words, and some of the next one
+--   words_front                  the whole words of a set, cut off
 --   set_whole, set_rest          so the bytes of a set are written, whether they end with a word or not
 use Prim.Native.Nat.{ℕ, zero, suc, ◌+◌, ◌*◌, ◌-◌, ◌/◌, ◌%◌, ◌^◌, ◌≤◌, ◌<◌}
 use native.Mathlib.Nat.{zero-add, add-zero, add-suc, not-suc-le-zero, pow-suc}
@@ -21,7 +22,7 @@ use Rattle.model.specs.Blocks.{le16}
 use Rattle.model.specs.Contents.{set_bytes}
 use Rattle.model.specs.Calls.{overwrite}
 use Rattle.basics.proofs.BoundLaws.{lt_or_ge, length-tabulate, get_or-tabulate}
-use Rattle.model.proofs.ListsInParts.{length-concat}
+use Rattle.model.proofs.ListsInParts.{length-concat, concat_cong}
 use Rattle.model.proofs.SetsBytes.{byte_number}
 use Rattle.file_contents_writing.specs.Placed.{word_bytes, words_bytes}
 use Rattle.core_table.proofs.ListsOverwritten.{Over, lent, back, overwrite_lent, parts_more}
@@ -106,9 +107,19 @@ module _ (X : Set) where
       let next : 8 * v + 8 ≡ 8 * suc v = omega arith in
       ap (λ xs. xs ++ words_bytes X v) (set_words v (omega arith)) ∙ set_more v 8 (omega arith) (omega arith) ∙ ap (λ (w : ℕ). set_bytes w X) next
 
-  module _ {w : ℕ} (narrow : w ≤ 8 * WORDS) (old out : List ℕ) (so : out ≡ overwrite (concat (w / 8) (words_bytes X)) old) where
+  words_front : (v : ℕ) → v ≤ length X → concat (length (take v X)) (words_bytes (take v X)) ≡ concat v (words_bytes X)
+  unfolding words_bytes
+  words_front v h =
+      ap (λ (m : ℕ). concat m (words_bytes (take v X))) (length-take-le v X h)
+      ∙ concat_cong _ (words_bytes X) v (λ i l. ap (λ (x : ℕ). word_bytes x 8) (get_or-take v X i 0 l))
+
+  module _ {w : ℕ} (narrow : w ≤ 8 * WORDS) (long : WORDS ≤ length X) (old out : List ℕ)
+      (so : out ≡ overwrite (concat (length (take (w / 8) X)) (words_bytes (take (w / 8) X))) old) where
+    front : out ≡ overwrite (concat (w / 8) (words_bytes X)) old
+    front = so ∙ ap (λ xs. overwrite xs old) (words_front (w / 8) (omega arith))
+
     pub set_whole : 8 * (w / 8) ≡ w → out ≡ overwrite (set_bytes w X) old
-    set_whole e = so ∙ ap (λ xs. overwrite xs old) (set_words (w / 8) (omega arith) ∙ ap (λ (v : ℕ). set_bytes v X) e)
+    set_whole e = front ∙ ap (λ xs. overwrite xs old) (set_words (w / 8) (omega arith) ∙ ap (λ (v : ℕ). set_bytes v X) e)
 
     pub set_rest : (rest : List ℕ) → (8 * (w / 8) ≡ w → ⊥)
         → rest ≡ overwrite (word_bytes (get_or X (w / 8) 0) (w - 8 * (w / 8))) (lent (8 * (w / 8)) out) → back (8 * (w / 8)) out rest ≡ overwrite (set_bytes w X) old
@@ -117,6 +128,6 @@ module _ (X : Set) where
         let last : v < WORDS = ⊎_elim (λ l. l) (λ l. absurd (f (omega arith))) (lt_or_ge v WORDS) in
         let all : 8 * v + (w - 8 * v) ≡ w = omega arith in
         overwrite_lent (concat v (words_bytes X)) (word_bytes (get_or X v 0) (w - 8 * v)) old out rest (8 * v)
-        (length-concat (words_bytes X) 8 v (λ j h. length-words_bytes j)) so e
+        (length-concat (words_bytes X) 8 v (λ j h. length-words_bytes j)) front e
         ∙ ap (λ xs. overwrite xs old)
         (ap (λ xs. xs ++ word_bytes (get_or X v 0) (w - 8 * v)) (set_words v (omega arith)) ∙ set_more v (w - 8 * v) last (omega arith) ∙ ap (λ (u : ℕ). set_bytes u X) all)

@@ -3,7 +3,7 @@
 //   join_contents, join_sets       the contents; the sets, which stand behind the header
 //   place_of                       where a set of the file begins in the store
 //   put_set_bytes                  the bytes of a set
-//   put_words, put_bytes           those of its first words; the lowest of a word
+//   put_words, put_bytes           those of some words; the lowest of a word
 //   write_le16                     a two-byte number, low byte first
 //
 // What is written is said with the model's `overwrite`: at the front of what was lent, the rest of it untouched.
@@ -12,32 +12,32 @@
 ghost use Rattle.std.specs.Prelude.{◌+◌, ◌*◌, ◌≤◌, ◌<◌, ◌≡◌, length};
 ghost use Rattle.model.specs.Sets.{WORDS, max_states};
 ghost use Rattle.basics.specs.Bounds.{concat};
-ghost use Rattle.model.specs.Stores.{head_sets, max_groups, store_words, dialogue_of};
+ghost use Rattle.model.specs.Stores.{head_sets, store_words, dialogue_of};
 ghost use Rattle.model.specs.Blocks.{le16};
 ghost use Rattle.model.specs.Contents.{new_form, set_width, set_bytes, contents, content_length};
 ghost use Rattle.model.specs.Calls.{overwrite};
-ghost use Rattle.file_contents_writing.specs.Placed.{LongEnough, word_bytes, words_bytes, place_of, placed_set};
+ghost use Rattle.file_contents_writing.specs.Placed.{word_bytes, words_bytes, place_of, placed_set};
 
 use core_state_set::WORDS;
 use core_table::{GROUPS_AT, HEAD_SETS, ROWS_AT};
-use file_blocks::{Form, HEADER, added, set_count, set_width};
+use file_blocks::{Counts, Form, HEADER, added};
 
-pub fn join_contents(store: &[u64], n: usize, g: usize, out: &mut [u8])
-    requires { LongEnough store.now n g × (content_length new_form n g ≤ length out.old) }
-    ensures { out.new ≡ overwrite (contents new_form (dialogue_of store.now n g)) out.old }
+pub fn join_contents(store: &[u64], counts: Counts, out: &mut [u8])
+    requires { (store_words ≤ length store.now) × (content_length new_form counts.n counts.g ≤ length out.old) }
+    ensures { out.new ≡ overwrite (contents new_form (dialogue_of store.now counts.n counts.g)) out.old }
 {
-    write_le16(n, out);
-    write_le16(added(Form::New) + g, &mut out[2..]);
-    join_sets(store, n, g, &mut out[HEADER..]);
+    write_le16(counts.n, out);
+    write_le16(added(Form::New) + counts.g, &mut out[2..]);
+    join_sets(store, counts, &mut out[HEADER..]);
 }
 
-fn join_sets(store: &[u64], n: usize, g: usize, out: &mut [u8])
-    requires { LongEnough store.now n g × (set_width n * (head_sets + g + n) ≤ length out.old) }
-    ensures { out.new ≡ overwrite (concat (head_sets + g + n) (placed_set store.now (set_width n) g)) out.old }
+fn join_sets(store: &[u64], counts: Counts, out: &mut [u8])
+    requires { (store_words ≤ length store.now) × (set_width counts.n * (head_sets + counts.g + counts.n) ≤ length out.old) }
+    ensures { out.new ≡ overwrite (concat (head_sets + counts.g + counts.n) (placed_set store.now (set_width counts.n) counts.g)) out.old }
 {
-    let width = set_width(n);
-    for k in 0..set_count(Form::New, n, g) {
-        let a = place_of(g, k);
+    let width = counts.set_width();
+    for k in 0..counts.set_count(Form::New) {
+        let a = place_of(counts, k);
         let e = a + WORDS;
         let at = width * k;
         put_set_bytes(&store[a..e], width, &mut out[at..]);
@@ -45,10 +45,11 @@ fn join_sets(store: &[u64], n: usize, g: usize, out: &mut [u8])
 }
 
 // Where set k of the file begins in the store.
-fn place_of(g: usize, k: usize) -> usize
-    requires { (g ≤ max_groups) × (k < head_sets + g + max_states) }
-    ensures { (result ≡ place_of g k) × (result + WORDS ≤ store_words) }
+fn place_of(counts: Counts, k: usize) -> usize
+    requires { k < head_sets + counts.g + max_states }
+    ensures { (result ≡ place_of counts.g k) × (result + WORDS ≤ store_words) }
 {
+    let g = counts.g;
     if k < HEAD_SETS {
         return WORDS * k;
     }
@@ -64,7 +65,7 @@ fn put_set_bytes(set: &[u64], width: usize, out: &mut [u8])
     ensures { out.new ≡ overwrite (set_bytes width set.now) out.old }
 {
     let whole = width / 8;
-    put_words(set, whole, out);
+    put_words(&set[..whole], out);
     let at = 8 * whole;
     if at == width {
         return;
@@ -72,11 +73,11 @@ fn put_set_bytes(set: &[u64], width: usize, out: &mut [u8])
     put_bytes(set[whole], width - at, &mut out[at..]);
 }
 
-fn put_words(set: &[u64], count: usize, out: &mut [u8])
-    requires { (count ≤ WORDS) × (WORDS ≤ length set.now) × (8 * count ≤ length out.old) }
-    ensures { out.new ≡ overwrite (concat count (words_bytes set.now)) out.old }
+fn put_words(words: &[u64], out: &mut [u8])
+    requires { 8 * length words.now ≤ length out.old }
+    ensures { out.new ≡ overwrite (concat (length words.now) (words_bytes words.now)) out.old }
 {
-    for (v, word) in set[..count].iter().enumerate() {
+    for (v, word) in words.iter().enumerate() {
         let at = 8 * v;
         put_bytes(*word, 8, &mut out[at..]);
     }

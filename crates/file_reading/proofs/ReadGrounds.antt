@@ -7,6 +7,9 @@
 --   whole_blocks
 --   second_is, second_low,            the second number, from g as code works it out; ground 15 holds
 --   second_high
+--   header_passes                     grounds 14 and 15 do not hold
+--   count_passes, miscounted          ground 16 does not hold, or does
+--   filler_said                       ground 18, as it is said of the bytes behind the contents
 --   reads_contents                    the contents, with g as code works it out
 --   Same, zeros_same                  bytes that are those of contents, with 0 behind them; so are contents joined in a buffer of zeros
 --   joined-room                       they have room there
@@ -16,11 +19,11 @@ use Rattle.std.specs.Prelude.{Result, Ok, Err}
 use Prim.Native.Nat.{ℕ, ◌+◌, ◌*◌, ◌-◌, ◌/◌, ◌%◌, ◌≤◌, ◌<◌}
 use native.Mathlib.Omega.{arith}
 use mathlib.Core.Path.{◌≡◌, refl, sym, ap, ap₂, ◌∙◌, subst, transport}
-use mathlib.Core.Bool.{true, false, cond, not, ◌&&◌, ◌||◌}
+use mathlib.Core.Bool.{Bool, true, false, cond, not, ◌&&◌, ◌||◌}
 use mathlib.Core.List.{List, [], ◌∷◌, ◌++◌, append-nil}
 use borrow.Author.Tests.{lt-ltb, le-ltb, eq-eqb, ne_eqb}
 use lib.Dec.{eqb, leb, ltb}
-use lib.ListN.{length, get_or, replicate, length-replicate}
+use lib.ListN.{length, get_or, take, drop, replicate, length-replicate}
 use Rattle.basics.specs.Bounds.{any, tabulate}
 use Rattle.basics.specs.Refusals.{Ground, refuse, answered}
 use Rattle.model.specs.Sets.{max_states, bit, set_of, empty}
@@ -32,10 +35,11 @@ use Rattle.model.specs.Files.{max_file}
 use Rattle.model.specs.Calls.{overwrite, states_in, second_in, groups_in, bad_length, bad_second, content_grounds, file_grounds, read_grounds_as, read_answer_as, read_buffer_as}
 use Rattle.basics.proofs.BoundLaws.{or_left, or_right, or_none}
 use Rattle.basics.proofs.RefusalLaws.{First, number_at, refuse-first, Clear, numbered, refuse_clear, answer-refused, answer_clear, answer_behind}
-use Rattle.model.proofs.CallLaws.{draft-says}
+use Rattle.model.proofs.CallLaws.{draft-says, second_pass}
 use Rattle.model.proofs.Drafts.{draft-layout}
 use Rattle.file_blocks.specs.Forms.{joined_room}
 use Rattle.file_blocks.proofs.ContentsLength.{get_or-joined}
+use Rattle.file_contents_reading.proofs.BytesJoined.{non_zero_part}
 use Rattle.core_table.specs.Writing.{cleared}
 use Rattle.core_refusals.specs.declared.Refusal.{Refusal}
 use Rattle.core_refusals.specs.Refusals.{number}
@@ -99,6 +103,27 @@ module _ (form : Form) {second : ℕ} where
   pub second_high : {g : ℕ} → second ≡ added form + g → max_groups < g → bad_second form second ≡ true
   unfolding bad_second
   second_high e h = or_right (ltb second (added form)) _ (lt-ltb (added form + max_groups) second (omega arith))
+
+-- grounds 14 and 15 do not hold
+pub header_passes : (form : Form) {n second least : ℕ} → (n ≡ 0 → ⊥) → n ≤ max_states → least ≡ added form → least ≤ second → second - least ≤ max_groups
+    → ((eqb n 0 || ltb max_states n) ≡ false) × (bad_second form second ≡ false)
+header_passes form some small e l few = (or_none _ _ (ne_eqb _ 0 some) (le-ltb max_states _ small), second_pass form _ _ (second_is e l) few)
+
+-- ground 16 does not hold, or does
+module _ (form : Form) (n g : ℕ) {needed size : ℕ} (e : size ≡ content_length form n g) (f : needed ≡ blocks_for size) where
+  needs : needed ≡ blocks_for (content_length form n g)
+  needs = f ∙ ap (λ (l : ℕ). blocks_for l) e
+
+  pub count_passes : {blocks : ℕ} → blocks ≡ needed → not (eqb blocks (blocks_for (content_length form n g))) ≡ false
+  count_passes same = ap not (eq-eqb _ _ (same ∙ needs))
+
+  pub miscounted : {blocks : ℕ} → (blocks ≡ needed → ⊥) → not (eqb blocks (blocks_for (content_length form n g))) ≡ true
+  miscounted other = ap not (ne_eqb _ _ (λ s. other (s ∙ sym needs)))
+
+-- ground 18, of the bytes behind the contents
+pub filler_said : (form : Form) (bytes : List ℕ) (n g : ℕ) {size end : ℕ} {b : Bool} → size ≡ content_length form n g → size ≤ end → end ≤ length bytes
+    → let part = take (end - size) (drop size bytes) in b ≡ non_zero part 0 (length part) → non_zero bytes (content_length form n g) end ≡ b
+filler_said form bytes n g {end = end} e l h f = sym (f ∙ non_zero_part bytes l h ∙ ap (λ (m : ℕ). non_zero bytes m end) e)
 
 pub reads_contents : (form : Form) (bytes : List ℕ) (blocks n second : ℕ) {least : ℕ} {before : List ℕ} {r : Result TableSize Refusal} {after : List ℕ} → least ≡ added form
     → Reads (bytes_grounds form bytes blocks n second (second - least)) (dialogue_in form bytes) n (second - least) before r after

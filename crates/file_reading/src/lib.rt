@@ -10,7 +10,7 @@ ghost use Rattle.std.specs.Prelude.{◌≡◌, ◌*◌, ◌/◌, ◌≤◌, ◌<
 ghost use Rattle.basics.specs.Refusals.{refuse};
 ghost use Rattle.core_refusals.specs.Refusals.{number_of};
 ghost use Rattle.model.specs.Stores.{store_words};
-ghost use Rattle.model.specs.Blocks.{block_bytes, content_bytes, max_site, block_grounds};
+ghost use Rattle.model.specs.Blocks.{block_bytes, content_bytes, block_grounds};
 ghost use Rattle.file_blocks.specs.Forms.{form_of, joined_room};
 ghost use Rattle.file_reading.specs.Reading.{ReadsFile, ReadsContents, Joined};
 ghost use Rattle.file_reading.specs.ReadAnswers.{CalledReadAs, CalledRead, CalledReadOld};
@@ -19,8 +19,8 @@ use core_refusals::Refusal;
 use core_state_set::MAX_STATES;
 use core_table::{MAX_GROUPS, STORE_WORDS, clear};
 use file_blocks::{
-    BLOCK, CHECK_AT, CONTENT_AT, CONTENT_BYTES, Form, JOINED_ROOM, MAX_FILE, MAX_SITE, added,
-    blocks_for, checksum_of, content_length, copy_content, le16_at,
+    BLOCK, CHECK_AT, CONTENT_AT, CONTENT_BYTES, Counts, Form, JOINED_ROOM, MAX_FILE, MAX_SITE,
+    Site, added, blocks_for, checksum_of, copy_content, le16_at,
 };
 use file_contents_reading::{any_content_beyond, fill, non_zero_byte};
 
@@ -53,6 +53,7 @@ fn read_as(form: Form, input: &[u8], site: usize, store: &mut [u64]) -> Result<T
     if MAX_SITE < site {
         return Err(Refusal::Site);
     }
+    let site = Site { number: site };
     if input.len() == 0 {
         clear(store);
         return Ok(TableSize { n: 0, g: 0 });
@@ -60,9 +61,9 @@ fn read_as(form: Form, input: &[u8], site: usize, store: &mut [u64]) -> Result<T
     read_file(form, input, site, store)
 }
 
-fn read_file(form: Form, input: &[u8], site: usize, store: &mut [u64]) -> Result<TableSize, Refusal>
-    requires { (0 < length input.now) × (site ≤ max_site) × (store_words ≤ length store.old) }
-    ensures { ReadsFile (form_of form) input.now site store.old result store.new }
+fn read_file(form: Form, input: &[u8], site: Site, store: &mut [u64]) -> Result<TableSize, Refusal>
+    requires { (0 < length input.now) × (store_words ≤ length store.old) }
+    ensures { ReadsFile (form_of form) input.now site.number store.old result store.new }
 {
     if input.len() % BLOCK != 0 {
         return Err(Refusal::InputLength);
@@ -103,17 +104,18 @@ fn read_contents(
     if MAX_GROUPS < g {
         return Err(Refusal::Groups);
     }
-    let size = content_length(form, n, g);
+    let counts = Counts { n, g };
+    let size = counts.content_length(form);
     if blocks != blocks_for(size) {
         return Err(Refusal::BlockCount);
     }
-    if any_content_beyond(form, bytes, n, g) {
+    if any_content_beyond(form, bytes, counts) {
         return Err(Refusal::StrayBit);
     }
-    if non_zero_byte(bytes, size, CONTENT_BYTES * blocks) {
+    if non_zero_byte(&bytes[size..CONTENT_BYTES * blocks]) {
         return Err(Refusal::Filler);
     }
-    fill(form, bytes, n, g, store);
+    fill(form, bytes, counts, store);
     Ok(TableSize { n, g })
 }
 
@@ -121,9 +123,9 @@ fn read_contents(
 
 // Refuses by the first block that has a fault. Where none has one, the contents of all blocks stand one behind the other at the front of
 // what is lent. A block is copied while its bytes are still near.
-fn join_blocks(input: &[u8], site: usize, out: &mut [u8]) -> Result<(), Refusal>
-    requires { (site ≤ max_site) × (content_bytes * (length input.now / block_bytes) ≤ length out.old) }
-    ensures { Joined input.now site result out.old out.new }
+fn join_blocks(input: &[u8], site: Site, out: &mut [u8]) -> Result<(), Refusal>
+    requires { content_bytes * (length input.now / block_bytes) ≤ length out.old }
+    ensures { Joined input.now site.number result out.old out.new }
 {
     for k in 0..input.len() / BLOCK {
         let a = BLOCK * k;
@@ -136,9 +138,9 @@ fn join_blocks(input: &[u8], site: usize, out: &mut [u8]) -> Result<(), Refusal>
 }
 
 // Whether block k is as it should be.
-fn check_block(block: &[u8], site: usize, k: usize) -> Result<(), Refusal>
-    requires { (length block.now ≡ block_bytes) × (site ≤ max_site) }
-    ensures { number_of result ≡ refuse (block_grounds site block.now k) }
+fn check_block(block: &[u8], site: Site, k: usize) -> Result<(), Refusal>
+    requires { length block.now ≡ block_bytes }
+    ensures { number_of result ≡ refuse (block_grounds site.number block.now k) }
 {
     let number = le16_at(block, 0);
     if number != k {

@@ -31,7 +31,6 @@ use Rattle.core_refusals.specs.declared.Refusal.TheVariants.{StoreShort, OutputS
 use Rattle.core_refusals.specs.Refusals.{number}
 use Rattle.core_refusals.proofs.RefusalNumbers.{number_some}
 use Rattle.file_writing.specs.WriteAnswers.{CalledWrite}
-use Rattle.file_contents_writing.specs.Placed.{LongEnough}
 
 -- ---- a block
 
@@ -65,8 +64,8 @@ module _ (bytes : List ℕ) (k : ℕ) (inside : content_bytes * k + content_byte
 -- ---- the call
 
 -- no ground that the calls share holds
-pub held : (store : List ℕ) (n g k : ℕ) → k ≡ refuse (shared_grounds store n g) → k ≡ 0 → LongEnough store n g
-held store n g k e z = let s = (accepted_store store n g [] (sym e ∙ z)).0 in record { long = s.long; small = s.small; few = s.few }
+pub held : (store : List ℕ) (n g k : ℕ) → k ≡ refuse (shared_grounds store n g) → k ≡ 0 → Store store n g
+held store n g k e z = (accepted_store store n g [] (sym e ∙ z)).0
 
 module _ (store : List ℕ) (n g site : ℕ) (out : List ℕ) where
   -- a ground holds, and r is its refusal

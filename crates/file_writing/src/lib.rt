@@ -10,18 +10,17 @@
 ghost use Rattle.std.specs.Prelude.{◌+◌, ◌*◌, ◌≤◌, ◌<◌, ◌≡◌, length};
 ghost use Rattle.model.specs.Sets.{max_states};
 ghost use Rattle.basics.specs.Bounds.{concat};
-ghost use Rattle.model.specs.Stores.{max_groups, dialogue_of};
-ghost use Rattle.model.specs.Blocks.{block_bytes, content_bytes, max_site, blocks_for, block_of};
+ghost use Rattle.model.specs.Stores.{max_groups, store_words, dialogue_of};
+ghost use Rattle.model.specs.Blocks.{block_bytes, content_bytes, blocks_for, block_of};
 ghost use Rattle.model.specs.Contents.{new_form, contents, content_length};
 ghost use Rattle.model.specs.Calls.{overwrite};
 ghost use Rattle.file_writing.specs.WriteAnswers.{CalledWrite};
-ghost use Rattle.file_contents_writing.specs.Placed.{LongEnough};
 
 use core_refusals::Refusal;
 use core_table::{STORE_WORDS, accept};
 use file_blocks::{
-    BLOCK, CHECK_AT, CONTENT_AT, CONTENT_BYTES, Form, JOINED_ROOM, MAX_SITE, blocks_for,
-    checksum_of, content_length, copy_content,
+    BLOCK, CHECK_AT, CONTENT_AT, CONTENT_BYTES, Counts, Form, JOINED_ROOM, MAX_SITE, Site,
+    blocks_for, checksum_of, copy_content,
 };
 use file_contents_writing::{join_contents, write_le16};
 
@@ -41,36 +40,38 @@ pub fn write(
     if MAX_SITE < site {
         return Err(Refusal::Site);
     }
+    let site = Site { number: site };
     accept(store, n, g)?;
     if n == 0 {
         return Ok(0);
     }
-    let l = content_length(Form::New, n, g);
+    let counts = Counts { n, g };
+    let l = counts.content_length(Form::New);
     let blocks = blocks_for(l);
     let size = BLOCK * blocks;
     if output.len() < size {
         return Err(Refusal::OutputShort);
     }
-    write_file(store, n, g, site, blocks, output);
+    write_file(store, counts, site, blocks, output);
     Ok(size)
 }
 
 // The contents are joined first: so each set is taken apart once, by words, wherever the edges of blocks cut it.
-fn write_file(store: &[u64], n: usize, g: usize, site: usize, blocks: usize, out: &mut [u8])
-    requires { LongEnough store.now n g × (site ≤ max_site) × (blocks ≤ blocks_for (content_length new_form max_states max_groups)) × (block_bytes * blocks ≤ length out.old) }
-    ensures { out.new ≡ overwrite (concat blocks (block_of site (contents new_form (dialogue_of store.now n g)))) out.old }
+fn write_file(store: &[u64], counts: Counts, site: Site, blocks: usize, out: &mut [u8])
+    requires { (store_words ≤ length store.now) × (blocks ≤ blocks_for (content_length new_form max_states max_groups)) × (block_bytes * blocks ≤ length out.old) }
+    ensures { out.new ≡ overwrite (concat blocks (block_of site.number (contents new_form (dialogue_of store.now counts.n counts.g)))) out.old }
 {
     let mut bytes = [0u8; JOINED_ROOM];
-    join_contents(store, n, g, &mut bytes);
+    join_contents(store, counts, &mut bytes);
     write_blocks(&bytes, site, blocks, out);
 }
 
 // ---- blocks
 
 // The number of a block has two bytes.
-fn write_blocks(bytes: &[u8], site: usize, blocks: usize, out: &mut [u8])
-    requires { (content_bytes * blocks ≤ length bytes.now) × (site ≤ max_site) × (blocks ≤ 65536) × (block_bytes * blocks ≤ length out.old) }
-    ensures { out.new ≡ overwrite (concat blocks (block_of site bytes.now)) out.old }
+fn write_blocks(bytes: &[u8], site: Site, blocks: usize, out: &mut [u8])
+    requires { (content_bytes * blocks ≤ length bytes.now) × (blocks ≤ 65536) × (block_bytes * blocks ≤ length out.old) }
+    ensures { out.new ≡ overwrite (concat blocks (block_of site.number bytes.now)) out.old }
 {
     for k in 0..blocks {
         let at = BLOCK * k;
@@ -78,9 +79,9 @@ fn write_blocks(bytes: &[u8], site: usize, blocks: usize, out: &mut [u8])
     }
 }
 
-fn write_block(bytes: &[u8], site: usize, k: usize, out: &mut [u8])
-    requires { (content_bytes * k + content_bytes ≤ length bytes.now) × (site ≤ max_site) × (k < 65536) × (block_bytes ≤ length out.old) }
-    ensures { out.new ≡ overwrite (block_of site bytes.now k) out.old }
+fn write_block(bytes: &[u8], site: Site, k: usize, out: &mut [u8])
+    requires { (content_bytes * k + content_bytes ≤ length bytes.now) × (k < 65536) × (block_bytes ≤ length out.old) }
+    ensures { out.new ≡ overwrite (block_of site.number bytes.now k) out.old }
 {
     write_le16(k, out);
     copy_content(bytes, CONTENT_BYTES * k, &mut out[CONTENT_AT..]);

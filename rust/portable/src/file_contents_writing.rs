@@ -5,27 +5,27 @@
 //   join_contents, join_sets       the contents; the sets, which stand behind the header
 //   place_of                       where a set of the file begins in the store
 //   put_set_bytes                  the bytes of a set
-//   put_words, put_bytes           those of its first words; the lowest of a word
+//   put_words, put_bytes           those of some words; the lowest of a word
 //   write_le16                     a two-byte number, low byte first
 //
 // What is written is said with the model's `overwrite`: at the front of what was lent, the rest of it untouched.
 
 use crate::core_state_set::WORDS;
 use crate::core_table::{GROUPS_AT, HEAD_SETS, ROWS_AT};
-use crate::file_blocks::{Form, HEADER, added, set_count, set_width};
+use crate::file_blocks::{Counts, Form, HEADER, added};
 
-pub fn join_contents(store: &[u64], n: usize, g: usize, out: &mut [u8])
+pub fn join_contents(store: &[u64], counts: Counts, out: &mut [u8])
 {
-    write_le16(n, out);
-    write_le16(added(Form::New) + g, &mut out[2..]);
-    join_sets(store, n, g, &mut out[HEADER..]);
+    write_le16(counts.n, out);
+    write_le16(added(Form::New) + counts.g, &mut out[2..]);
+    join_sets(store, counts, &mut out[HEADER..]);
 }
 
-fn join_sets(store: &[u64], n: usize, g: usize, out: &mut [u8])
+fn join_sets(store: &[u64], counts: Counts, out: &mut [u8])
 {
-    let width = set_width(n);
-    for k in 0..set_count(Form::New, n, g) {
-        let a = place_of(g, k);
+    let width = counts.set_width();
+    for k in 0..counts.set_count(Form::New) {
+        let a = place_of(counts, k);
         let e = a + WORDS;
         let at = width * k;
         put_set_bytes(&store[a..e], width, &mut out[at..]);
@@ -33,8 +33,9 @@ fn join_sets(store: &[u64], n: usize, g: usize, out: &mut [u8])
 }
 
 // Where set k of the file begins in the store.
-fn place_of(g: usize, k: usize) -> usize
+fn place_of(counts: Counts, k: usize) -> usize
 {
+    let g = counts.g;
     if k < HEAD_SETS {
         return WORDS * k;
     }
@@ -48,7 +49,7 @@ fn place_of(g: usize, k: usize) -> usize
 fn put_set_bytes(set: &[u64], width: usize, out: &mut [u8])
 {
     let whole = width / 8;
-    put_words(set, whole, out);
+    put_words(&set[..whole], out);
     let at = 8 * whole;
     if at == width {
         return;
@@ -56,9 +57,9 @@ fn put_set_bytes(set: &[u64], width: usize, out: &mut [u8])
     put_bytes(set[whole], width - at, &mut out[at..]);
 }
 
-fn put_words(set: &[u64], count: usize, out: &mut [u8])
+fn put_words(words: &[u64], out: &mut [u8])
 {
-    for (v, word) in set[..count].iter().enumerate() {
+    for (v, word) in words.iter().enumerate() {
         let at = 8 * v;
         put_bytes(*word, 8, &mut out[at..]);
     }

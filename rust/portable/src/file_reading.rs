@@ -11,8 +11,8 @@ use crate::core_refusals::Refusal;
 use crate::core_state_set::MAX_STATES;
 use crate::core_table::{MAX_GROUPS, STORE_WORDS, clear};
 use crate::file_blocks::{
-    BLOCK, CHECK_AT, CONTENT_AT, CONTENT_BYTES, Form, JOINED_ROOM, MAX_FILE, MAX_SITE, added,
-    blocks_for, checksum_of, content_length, copy_content, le16_at,
+    BLOCK, CHECK_AT, CONTENT_AT, CONTENT_BYTES, Counts, Form, JOINED_ROOM, MAX_FILE, MAX_SITE,
+    Site, added, blocks_for, checksum_of, copy_content, le16_at,
 };
 use crate::file_contents_reading::{any_content_beyond, fill, non_zero_byte};
 
@@ -42,6 +42,7 @@ fn read_as(form: Form, input: &[u8], site: usize, store: &mut [u64]) -> Result<T
     if MAX_SITE < site {
         return Err(Refusal::Site);
     }
+    let site = Site { number: site };
     if input.len() == 0 {
         clear(store);
         return Ok(TableSize { n: 0, g: 0 });
@@ -49,7 +50,7 @@ fn read_as(form: Form, input: &[u8], site: usize, store: &mut [u64]) -> Result<T
     read_file(form, input, site, store)
 }
 
-fn read_file(form: Form, input: &[u8], site: usize, store: &mut [u64]) -> Result<TableSize, Refusal>
+fn read_file(form: Form, input: &[u8], site: Site, store: &mut [u64]) -> Result<TableSize, Refusal>
 {
     if input.len() % BLOCK != 0 {
         return Err(Refusal::InputLength);
@@ -88,17 +89,18 @@ fn read_contents(
     if MAX_GROUPS < g {
         return Err(Refusal::Groups);
     }
-    let size = content_length(form, n, g);
+    let counts = Counts { n, g };
+    let size = counts.content_length(form);
     if blocks != blocks_for(size) {
         return Err(Refusal::BlockCount);
     }
-    if any_content_beyond(form, bytes, n, g) {
+    if any_content_beyond(form, bytes, counts) {
         return Err(Refusal::StrayBit);
     }
-    if non_zero_byte(bytes, size, CONTENT_BYTES * blocks) {
+    if non_zero_byte(&bytes[size..CONTENT_BYTES * blocks]) {
         return Err(Refusal::Filler);
     }
-    fill(form, bytes, n, g, store);
+    fill(form, bytes, counts, store);
     Ok(TableSize { n, g })
 }
 
@@ -106,7 +108,7 @@ fn read_contents(
 
 // Refuses by the first block that has a fault. Where none has one, the contents of all blocks stand one behind the other at the front of
 // what is lent. A block is copied while its bytes are still near.
-fn join_blocks(input: &[u8], site: usize, out: &mut [u8]) -> Result<(), Refusal>
+fn join_blocks(input: &[u8], site: Site, out: &mut [u8]) -> Result<(), Refusal>
 {
     for k in 0..input.len() / BLOCK {
         let a = BLOCK * k;
@@ -119,7 +121,7 @@ fn join_blocks(input: &[u8], site: usize, out: &mut [u8]) -> Result<(), Refusal>
 }
 
 // Whether block k is as it should be.
-fn check_block(block: &[u8], site: usize, k: usize) -> Result<(), Refusal>
+fn check_block(block: &[u8], site: Site, k: usize) -> Result<(), Refusal>
 {
     let number = le16_at(block, 0);
     if number != k {

@@ -11,8 +11,8 @@
 use crate::core_refusals::Refusal;
 use crate::core_table::{STORE_WORDS, accept};
 use crate::file_blocks::{
-    BLOCK, CHECK_AT, CONTENT_AT, CONTENT_BYTES, Form, JOINED_ROOM, MAX_SITE, blocks_for,
-    checksum_of, content_length, copy_content,
+    BLOCK, CHECK_AT, CONTENT_AT, CONTENT_BYTES, Counts, Form, JOINED_ROOM, MAX_SITE, Site,
+    blocks_for, checksum_of, copy_content,
 };
 use crate::file_contents_writing::{join_contents, write_le16};
 
@@ -31,32 +31,34 @@ pub fn write(
     if MAX_SITE < site {
         return Err(Refusal::Site);
     }
+    let site = Site { number: site };
     accept(store, n, g)?;
     if n == 0 {
         return Ok(0);
     }
-    let l = content_length(Form::New, n, g);
+    let counts = Counts { n, g };
+    let l = counts.content_length(Form::New);
     let blocks = blocks_for(l);
     let size = BLOCK * blocks;
     if output.len() < size {
         return Err(Refusal::OutputShort);
     }
-    write_file(store, n, g, site, blocks, output);
+    write_file(store, counts, site, blocks, output);
     Ok(size)
 }
 
 // The contents are joined first: so each set is taken apart once, by words, wherever the edges of blocks cut it.
-fn write_file(store: &[u64], n: usize, g: usize, site: usize, blocks: usize, out: &mut [u8])
+fn write_file(store: &[u64], counts: Counts, site: Site, blocks: usize, out: &mut [u8])
 {
     let mut bytes = [0u8; JOINED_ROOM];
-    join_contents(store, n, g, &mut bytes);
+    join_contents(store, counts, &mut bytes);
     write_blocks(&bytes, site, blocks, out);
 }
 
 // ---- blocks
 
 // The number of a block has two bytes.
-fn write_blocks(bytes: &[u8], site: usize, blocks: usize, out: &mut [u8])
+fn write_blocks(bytes: &[u8], site: Site, blocks: usize, out: &mut [u8])
 {
     for k in 0..blocks {
         let at = BLOCK * k;
@@ -64,7 +66,7 @@ fn write_blocks(bytes: &[u8], site: usize, blocks: usize, out: &mut [u8])
     }
 }
 
-fn write_block(bytes: &[u8], site: usize, k: usize, out: &mut [u8])
+fn write_block(bytes: &[u8], site: Site, k: usize, out: &mut [u8])
 {
     write_le16(k, out);
     copy_content(bytes, CONTENT_BYTES * k, &mut out[CONTENT_AT..]);

@@ -9,7 +9,7 @@ use Rattle.file_blocks.proofs.Summing.{sum_fits, sum_more, sum-all, check-next, 
 use Rattle.file_blocks.proofs.checksum_of.Goals as goal
 
 pub loop-i-init : goal.loop-i-init
-loop-i-init c = record { within = omega arith; is = ap (λ (x : ℕ). c.args.site + x) c.whole_chunks.ensures.0; low = search rules }
+loop-i-init c = record { within = omega arith; is = ap (λ (x : ℕ). c.args.site.number + x) c.whole_chunks.ensures.0; low = search rules }
 
 pub overflow_mul-sum : goal.overflow_mul-sum
 overflow_mul-sum c = record { fits = term_fits check_at byte_most (search rules) (search rules) (omega arith) }

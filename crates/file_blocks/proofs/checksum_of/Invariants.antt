@@ -6,4 +6,4 @@ use Rattle.file_blocks.proofs.Summing.{Summing}
 use Rattle.file_blocks.proofs.checksum_of.Given as goal
 
 abbrev pub invariant-loop-i : goal.invariant-loop-i
-invariant-loop-i l = Summing (λ j. l.site + weighted l.block j) (max_site + 2 * lanes * lane_most * lanes) (check_at * byte_most) check_at l.sum l.i
+invariant-loop-i l = Summing (λ j. l.fn.site.number + weighted l.block j) (max_site + 2 * lanes * lane_most * lanes) (check_at * byte_most) check_at l.sum l.i

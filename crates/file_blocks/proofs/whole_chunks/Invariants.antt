@@ -1,4 +1,4 @@
--- `whole_chunks`: the chunks passed are in the lanes.
+-- `whole_chunks`: the chunks passed, all but the first k, are in the lanes.
 use Rattle.file_blocks.proofs.Chunks.{Chunked}
 use Rattle.file_blocks.proofs.whole_chunks.Given as goal
 

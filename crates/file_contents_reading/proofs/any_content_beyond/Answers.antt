@@ -1,5 +1,5 @@
 -- `any_content_beyond`: no set passed has a state from n up.
-use mathlib.Core.Path.{sym, ◌∙◌}
+use mathlib.Core.Path.{refl, sym, ◌∙◌}
 use borrow.Author.Rules.{rules}
 use Rattle.basics.proofs.BoundLaws.{any_start, any_turn, any_intro, any-end}
 use Rattle.file_contents_reading.proofs.ContentsWords.{set_inside}
@@ -9,7 +9,7 @@ pub loop-k-init : goal.loop-k-init
 loop-k-init c = (search rules, any_start _)
 
 pub is_set_beyond-requires : goal.is_set_beyond-requires
-is_set_beyond-requires c = (set_inside (search rules) c.set_width-width.ensures (search rules) (search rules), search rules, search rules, search rules)
+is_set_beyond-requires c = (set_inside (search rules) refl (search rules) (search rules), search rules)
 
 pub returns-then-is_set_beyond : goal.returns-then-is_set_beyond
 returns-then-is_set_beyond c =

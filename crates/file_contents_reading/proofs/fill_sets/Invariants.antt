@@ -6,4 +6,4 @@ use Rattle.file_contents_reading.specs.Parts.{part_set}
 use Rattle.file_contents_reading.proofs.fill_sets.Given as goal
 
 abbrev pub invariant-loop-k : goal.invariant-loop-k
-invariant-loop-k l = (l.k ≤ l.room) × Over (concat l.k (part_set l.bytes l.n l.first l.count)) l.initial.part l.part
+invariant-loop-k l = (l.k ≤ l.room) × Over (concat l.k (part_set l.bytes l.fn.counts.n l.first l.count)) l.initial.part l.part

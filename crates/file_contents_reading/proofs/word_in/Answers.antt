@@ -1,13 +1,8 @@
--- `word_in`: the bytes passed are the low bits of the word.
+-- `word_in`: its eight bytes.
+use mathlib.Core.Path.{refl}
 use borrow.Author.Rules.{rules}
-use Rattle.file_contents_reading.proofs.ContentsWords.{word_none, word_more, word_all}
+use Rattle.file_contents_reading.proofs.ContentsWords.{word_joined}
 use Rattle.file_contents_reading.proofs.word_in.Goals as goal
 
-pub loop-b-init : goal.loop-b-init
-loop-b-init c = (search rules, word_none _ _ _)
-
-pub loop-b-preserved : goal.loop-b-preserved
-loop-b-preserved c = (search rules, word_more _ _ _ c.shared_slice_known-1.given (search rules) (search rules) c.loop-b.invariant.1 (search rules))
-
 pub returns : goal.returns
-returns c = word_all _ _ _ (search rules) (search rules) (search rules) c.loop-b.invariant.1
+returns c = word_joined c.args.bytes.now c.args.at c.args.v (search rules) (search rules) refl c.copy_from_slice.ensures.after c.from_le_bytes.ensures

@@ -22,7 +22,7 @@ returns-then-input-gt-MAX_FILE c = reads_first 0 _ (search (rules, long_input)) 
 
 pub join_blocks-requires : goal.join_blocks-requires
 unfolding file_grounds
-join_blocks-requires c = (search rules, joined-room joined_room (omega arith) c.if-input-gt-MAX_FILE.false)
+join_blocks-requires c = joined-room joined_room (omega arith) c.if-input-gt-MAX_FILE.false
 
 pub returns-in_err-join_blocks : goal.returns-in_err-join_blocks
 unfolding file_grounds

@@ -20,16 +20,17 @@ returns-in_err-accept c =
 pub returns-then-n-eq0 : goal.returns-then-n-eq0
 returns-then-n-eq0 c = draft-written _ _ _ _ _ c.if-store-lt-STORE_WORDS.false c.if-site-gt-MAX_SITE.false _ c.in_ok-accept.ensures refl c.if-n-eq0.true
 
-pub content_length-l-requires : goal.content_length-l-requires
-content_length-l-requires c =
-    let h = held c.args.store.now _ _ _ c.in_ok-accept.ensures refl in
-    (h.small, h.few)
+pub invariant_of-counts-clause-small : goal.invariant_of-counts-clause-small
+invariant_of-counts-clause-small c = (held c.args.store.now _ _ _ c.in_ok-accept.ensures refl).small
+
+pub invariant_of-counts-clause-few : goal.invariant_of-counts-clause-few
+invariant_of-counts-clause-few c = (held c.args.store.now _ _ _ c.in_ok-accept.ensures refl).few
 
 pub returns-then-output-size : goal.returns-then-output-size
 returns-then-output-size c = refused-room _ _ _ _ _ c.if-store-lt-STORE_WORDS.false c.if-site-gt-MAX_SITE.false _ c.in_ok-accept.ensures refl c.if-n-eq0.false c.blocks_for-blocks.result (cc) (search rules)
 
 pub write_file-requires : goal.write_file-requires
-write_file-requires c = (held _ _ _ _ c.in_ok-accept.ensures refl, c.if-site-gt-MAX_SITE.false, search rules, search rules)
+write_file-requires c = (search rules, search rules, search rules)
 
 pub returns : goal.returns
 returns c = written _ _ _ _ _ c.if-store-lt-STORE_WORDS.false c.if-site-gt-MAX_SITE.false _ c.in_ok-accept.ensures refl c.if-n-eq0.false _ (cc) _ (search rules) c.write_file.ensures

@@ -6,4 +6,4 @@ use Rattle.core_table.proofs.ListsOverwritten.{Over}
 use Rattle.file_writing.proofs.write_blocks.Given as goal
 
 abbrev pub invariant-loop-k : goal.invariant-loop-k
-invariant-loop-k l = (l.k ≤ l.blocks) × Over (concat l.k (block_of l.site l.bytes)) l.initial.out l.out
+invariant-loop-k l = (l.k ≤ l.blocks) × Over (concat l.k (block_of l.fn.site.number l.bytes)) l.initial.out l.out

@@ -1,7 +1,7 @@
 -- `content_length`: no factor is large, so the product fits.
 use borrow.Author.Rules.{rules}
 use Rattle.file_blocks.proofs.ContentsLength.{sets_fit, contents_fit, contents_le}
-use Rattle.file_blocks.proofs.content_length.Goals as goal
+use Rattle.file_blocks.proofs.Counts.content_length.Goals as goal
 
 pub overflow_mul-result : goal.overflow_mul-result
 overflow_mul-result c = record { fits = sets_fit (search rules) (search rules) }
