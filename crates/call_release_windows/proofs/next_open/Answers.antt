@@ -1,13 +1,11 @@
 -- `next_open`: the grounds in their order, then what the search found.
 use Rattle.std.proofs.Common.{arith}
-use Rattle.std.proofs.lemmas.Result.{err_from_is_err_and}
+use Rattle.core_refusals.proofs.RefusalsPassed.{passed_on}
 use Rattle.call_release_windows.proofs.WindowsAnswered.{Sound, sound, refuses, opened, never_opens}
 use Rattle.call_release_windows.proofs.next_open.Goals as goal
 
 pub returns-in_err-accept_call : goal.returns-in_err-accept_call
-returns-in_err-accept_call c =
-    let p = err_from_is_err_and c.from_residual.result c.from_residual.ensures.1 in
-    rw (p.1, p.2) (refuses _ _ _ _ c.in_err-accept_call.ensures)
+returns-in_err-accept_call c = rw (passed_on _ c.from_residual.ensures.1) (refuses _ _ _ _ c.in_err-accept_call.ensures)
 
 pub minutes_to_open-wait-requires : goal.minutes_to_open-wait-requires
 minutes_to_open-wait-requires c = let held = sound _ _ _ c.in_ok-accept_call.ensures in (held.no_later, held.in_range)

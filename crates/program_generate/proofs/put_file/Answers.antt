@@ -1,13 +1,11 @@
 -- `put_file`: write's file of what generate filled, or generate's refusal.
 use Rattle.std.proofs.Common.{◌∙◌, rules}
-use Rattle.std.proofs.lemmas.Result.{err_from_is_err_and}
+use Rattle.core_refusals.proofs.RefusalsPassed.{passed_on}
 use Rattle.program_generate.proofs.Files.{made_file, made_refused}
 use Rattle.program_generate.proofs.put_file.Goals as goal
 
 pub returns-in_err-generate : goal.returns-in_err-generate
-returns-in_err-generate c =
-    let p = err_from_is_err_and c.from_residual.result c.from_residual.ensures.1 in
-    rw (p.1, p.2) (made_refused _ _ _ _ _ c.generate.result c.generate.ensures (search rules) _ _ c.in_err-generate.was)
+returns-in_err-generate c = rw (passed_on _ c.from_residual.ensures.1) (made_refused _ _ _ _ _ c.generate.result c.generate.ensures (search rules) _ _ c.in_err-generate.was)
 
 pub returns : goal.returns
 returns c =
