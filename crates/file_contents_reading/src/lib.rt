@@ -58,6 +58,7 @@ pub fn non_zero_byte(bytes: &[u8], from: usize, to: usize) -> bool
 // ---- filling
 
 // The sets before the groups, the groups and the rows: of each part of the store its first sets come from the contents, and the others are empty.
+// kept: a Store is lent to be read; one lent to be written would be a second type, made anew at each call
 pub fn fill(form: Form, bytes: &[u8], n: usize, g: usize, store: &mut [u64])
     requires { TableInside bytes.now n g × (store_words ≤ length store.old) }
     ensures { store.new ≡ overwrite (layout (dialogue_in (form_of form) bytes.now n g)) store.old }

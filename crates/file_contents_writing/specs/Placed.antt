@@ -1,19 +1,13 @@
--- What the functions that write contents ask, and their parts of the contents.
+-- The parts of the contents of a file, as they are written.
 --
---   LongEnough store n g         a store long enough, with n and g in bounds
 --   word_bytes x count            the lowest so many bytes of a word, lowest first; words_bytes words v: all eight of word v
 --   place_of g k                  where set k of a file with g groups begins in the store: before the groups, among them, or among the rows
 --   placed_set store w g k        the w bytes of that set
-use Rattle.std.specs.Prelude.{ℕ, ◌+◌, ◌*◌, ◌-◌, ◌/◌, ◌%◌, ◌^◌, ◌≤◌, cond, List, ltb, length, get_or}
+use Rattle.std.specs.Prelude.{ℕ, ◌+◌, ◌*◌, ◌-◌, ◌/◌, ◌%◌, ◌^◌, cond, List, ltb, get_or}
 use Rattle.basics.specs.Bounds.{tabulate}
-use Rattle.model.specs.Sets.{WORDS, max_states}
-use Rattle.model.specs.Stores.{head_sets, max_groups, group_at, row_at, store_words, set_at}
+use Rattle.model.specs.Sets.{WORDS}
+use Rattle.model.specs.Stores.{head_sets, group_at, row_at, set_at}
 use Rattle.model.specs.Contents.{set_bytes}
-
-pub record LongEnough (store : List ℕ) (n g : ℕ) : Type 0 where
-  pub long : store_words ≤ length store
-  pub small : n ≤ max_states
-  pub few : g ≤ max_groups
 
 unfoldable pub word_bytes : ℕ → ℕ → List ℕ
 word_bytes x count = tabulate count (λ b. x / 2 ^ (8 * b) % 256)

@@ -16,31 +16,31 @@ ghost use Rattle.model.specs.Stores.{head_sets, max_groups, store_words, dialogu
 ghost use Rattle.model.specs.Blocks.{le16};
 ghost use Rattle.model.specs.Contents.{new_form, set_width, set_bytes, contents, content_length};
 ghost use Rattle.model.specs.Calls.{overwrite};
-ghost use Rattle.file_contents_writing.specs.Placed.{LongEnough, word_bytes, words_bytes, place_of, placed_set};
+ghost use Rattle.file_contents_writing.specs.Placed.{word_bytes, words_bytes, place_of, placed_set};
 
 use core_state_set::WORDS;
-use core_table::{GROUPS_AT, HEAD_SETS, ROWS_AT};
+use core_table::{GROUPS_AT, HEAD_SETS, ROWS_AT, Store};
 use file_blocks::{Form, HEADER, added, set_count, set_width};
 
-pub fn join_contents(store: &[u64], n: usize, g: usize, out: &mut [u8])
-    requires { LongEnough store.now n g × (content_length new_form n g ≤ length out.old) }
-    ensures { out.new ≡ overwrite (contents new_form (dialogue_of store.now n g)) out.old }
+pub fn join_contents(store: Store, n: usize, g: usize, out: &mut [u8])
+    requires { (n ≤ max_states) × (g ≤ max_groups) × (content_length new_form n g ≤ length out.old) }
+    ensures { out.new ≡ overwrite (contents new_form (dialogue_of store.entry.words.now n g)) out.old }
 {
     write_le16(n, out);
     write_le16(added(Form::New) + g, &mut out[2..]);
     join_sets(store, n, g, &mut out[HEADER..]);
 }
 
-fn join_sets(store: &[u64], n: usize, g: usize, out: &mut [u8])
-    requires { LongEnough store.now n g × (set_width n * (head_sets + g + n) ≤ length out.old) }
-    ensures { out.new ≡ overwrite (concat (head_sets + g + n) (placed_set store.now (set_width n) g)) out.old }
+fn join_sets(store: Store, n: usize, g: usize, out: &mut [u8])
+    requires { (n ≤ max_states) × (g ≤ max_groups) × (set_width n * (head_sets + g + n) ≤ length out.old) }
+    ensures { out.new ≡ overwrite (concat (head_sets + g + n) (placed_set store.entry.words.now (set_width n) g)) out.old }
 {
     let width = set_width(n);
     for k in 0..set_count(Form::New, n, g) {
         let a = place_of(g, k);
         let e = a + WORDS;
         let at = width * k;
-        put_set_bytes(&store[a..e], width, &mut out[at..]);
+        put_set_bytes(&store.words[a..e], width, &mut out[at..]);
     }
 }
 

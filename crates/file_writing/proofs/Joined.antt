@@ -17,23 +17,22 @@ use Rattle.basics.proofs.BoundLaws.{length-tabulate}
 use Rattle.model.proofs.ListsInParts.{concat_cong, length-overwrite}
 use Rattle.model.proofs.BlockLaws.{block_unique, block_of-is}
 use Rattle.model.proofs.ContentLaws.{length-contents}
-use Rattle.file_contents_writing.specs.Placed.{LongEnough}
 use Rattle.file_blocks.proofs.ContentsLength.{contents_le, get_or-joined}
 
 abbrev none : ℕ → List ℕ
 none m = replicate m 0
 
 -- over a variable, since the zeros would be written out
-module _ {store : List ℕ} {n g : ℕ} (held : LongEnough store n g) (m : ℕ) (most : content_length new_form max_states max_groups ≤ m) where
+module _ {n g : ℕ} (small : n ≤ max_states) (few : g ≤ max_groups) (m : ℕ) (most : content_length new_form max_states max_groups ≤ m) where
   pub contents-room : content_length new_form n g ≤ length (none m)
   contents-room =
-      let wide : set_width n ≤ 8 * WORDS = omega (arith, held.small) in
-      let many : head_sets + g + n ≤ head_sets + max_groups + max_states = omega (arith, held.small, held.few) in
+      let wide : set_width n ≤ 8 * WORDS = omega (arith, small) in
+      let many : head_sets + g + n ≤ head_sets + max_groups + max_states = omega (arith, small, few) in
       omega (arith, contents_le wide many, length-replicate {A = ℕ} m 0)
 
-  pub length-joined : {joined : List ℕ} → joined ≡ overwrite (contents new_form (dialogue_of store n g)) (none m) → length joined ≡ m
+  pub length-joined : (store : List ℕ) {joined : List ℕ} → joined ≡ overwrite (contents new_form (dialogue_of store n g)) (none m) → length joined ≡ m
   unfolding dialogue_of
-  length-joined e =
+  length-joined store e =
       let bytes = contents new_form (dialogue_of store n g) in
       ap (λ (xs : List ℕ). length xs) e
       ∙ length-overwrite bytes (none m) (omega (arith, length-contents new_form (dialogue_of store n g) (length-tabulate _ g), contents-room))

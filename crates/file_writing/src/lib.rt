@@ -15,10 +15,9 @@ ghost use Rattle.model.specs.Blocks.{block_bytes, content_bytes, max_site, block
 ghost use Rattle.model.specs.Contents.{new_form, contents, content_length};
 ghost use Rattle.model.specs.Calls.{overwrite};
 ghost use Rattle.file_writing.specs.WriteAnswers.{CalledWrite};
-ghost use Rattle.file_contents_writing.specs.Placed.{LongEnough};
 
 use core_refusals::Refusal;
-use core_table::{STORE_WORDS, accept};
+use core_table::{STORE_WORDS, Store, accept};
 use file_blocks::{
     BLOCK, CHECK_AT, CONTENT_AT, CONTENT_BYTES, Form, JOINED_ROOM, MAX_SITE, blocks_for,
     checksum_of, content_length, copy_content,
@@ -41,7 +40,7 @@ pub fn write(
     if MAX_SITE < site {
         return Err(Refusal::Site);
     }
-    accept(store, n, g)?;
+    let store = accept(store, n, g)?;
     if n == 0 {
         return Ok(0);
     }
@@ -56,9 +55,9 @@ pub fn write(
 }
 
 // The contents are joined first: so each set is taken apart once, by words, wherever the edges of blocks cut it.
-fn write_file(store: &[u64], n: usize, g: usize, site: usize, blocks: usize, out: &mut [u8])
-    requires { LongEnough store.now n g × (site ≤ max_site) × (blocks ≤ blocks_for (content_length new_form max_states max_groups)) × (block_bytes * blocks ≤ length out.old) }
-    ensures { out.new ≡ overwrite (concat blocks (block_of site (contents new_form (dialogue_of store.now n g)))) out.old }
+fn write_file(store: Store, n: usize, g: usize, site: usize, blocks: usize, out: &mut [u8])
+    requires { (n ≤ max_states) × (g ≤ max_groups) × (site ≤ max_site) × (blocks ≤ blocks_for (content_length new_form max_states max_groups)) × (block_bytes * blocks ≤ length out.old) }
+    ensures { out.new ≡ overwrite (concat blocks (block_of site (contents new_form (dialogue_of store.entry.words.now n g)))) out.old }
 {
     let mut bytes = [0u8; JOINED_ROOM];
     join_contents(store, n, g, &mut bytes);

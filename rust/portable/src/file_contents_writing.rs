@@ -11,24 +11,24 @@
 // What is written is said with the model's `overwrite`: at the front of what was lent, the rest of it untouched.
 
 use crate::core_state_set::WORDS;
-use crate::core_table::{GROUPS_AT, HEAD_SETS, ROWS_AT};
+use crate::core_table::{GROUPS_AT, HEAD_SETS, ROWS_AT, Store};
 use crate::file_blocks::{Form, HEADER, added, set_count, set_width};
 
-pub fn join_contents(store: &[u64], n: usize, g: usize, out: &mut [u8])
+pub fn join_contents(store: Store, n: usize, g: usize, out: &mut [u8])
 {
     write_le16(n, out);
     write_le16(added(Form::New) + g, &mut out[2..]);
     join_sets(store, n, g, &mut out[HEADER..]);
 }
 
-fn join_sets(store: &[u64], n: usize, g: usize, out: &mut [u8])
+fn join_sets(store: Store, n: usize, g: usize, out: &mut [u8])
 {
     let width = set_width(n);
     for k in 0..set_count(Form::New, n, g) {
         let a = place_of(g, k);
         let e = a + WORDS;
         let at = width * k;
-        put_set_bytes(&store[a..e], width, &mut out[at..]);
+        put_set_bytes(&store.words[a..e], width, &mut out[at..]);
     }
 }
 

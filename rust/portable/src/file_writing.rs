@@ -9,7 +9,7 @@
 // What is written is said with the model's `overwrite`: at the front of what was lent, the rest of it untouched.
 
 use crate::core_refusals::Refusal;
-use crate::core_table::{STORE_WORDS, accept};
+use crate::core_table::{STORE_WORDS, Store, accept};
 use crate::file_blocks::{
     BLOCK, CHECK_AT, CONTENT_AT, CONTENT_BYTES, Form, JOINED_ROOM, MAX_SITE, blocks_for,
     checksum_of, content_length, copy_content,
@@ -31,7 +31,7 @@ pub fn write(
     if MAX_SITE < site {
         return Err(Refusal::Site);
     }
-    accept(store, n, g)?;
+    let store = accept(store, n, g)?;
     if n == 0 {
         return Ok(0);
     }
@@ -46,7 +46,7 @@ pub fn write(
 }
 
 // The contents are joined first: so each set is taken apart once, by words, wherever the edges of blocks cut it.
-fn write_file(store: &[u64], n: usize, g: usize, site: usize, blocks: usize, out: &mut [u8])
+fn write_file(store: Store, n: usize, g: usize, site: usize, blocks: usize, out: &mut [u8])
 {
     let mut bytes = [0u8; JOINED_ROOM];
     join_contents(store, n, g, &mut bytes);

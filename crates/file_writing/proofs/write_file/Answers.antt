@@ -6,12 +6,14 @@ use Rattle.file_writing.proofs.Joined.{contents-room, length-joined, blocks-join
 use Rattle.file_writing.proofs.write_file.Goals as goal
 
 pub join_contents-requires : goal.join_contents-requires
-join_contents-requires c = (c.requires.0, contents-room c.requires.0 joined_room (omega arith))
+join_contents-requires c =
+    let pre = c.requires in
+    (pre.0, pre.1, contents-room pre.0 pre.1 joined_room (omega arith))
 
 pub write_blocks-requires : goal.write_blocks-requires
 write_blocks-requires c =
     let pre = c.requires in
-    (omega (arith, pre.2, length-joined pre.0 joined_room (omega arith) c.join_contents.ensures), pre.1, omega (arith, pre.2), search rules)
+    (omega (arith, pre.3, length-joined pre.0 pre.1 joined_room (omega arith) c.args.store.words.now c.join_contents.ensures), pre.2, omega (arith, pre.3), search rules)
 
 pub returns : goal.returns
 returns c = blocks-joined _ joined_room _ _ _ _ c.join_contents.ensures c.write_blocks.ensures
