@@ -1,10 +1,10 @@
 // The call `decide`: the rounds of a table that a store holds, and the path where they say unsafe.
 //
-//   accept_check      whether a check is accepted
+//   accept_check      the store, where a check is accepted
 //   Verdict, decide   the call
 #![tactic(auto)]
 
-ghost use Rattle.std.specs.Prelude.{◌≡◌};
+ghost use Rattle.std.specs.Prelude.{◌≡◌, IfOk};
 ghost use Rattle.basics.specs.Refusals.{refuse};
 ghost use Rattle.core_refusals.specs.Refusals.{number_of};
 ghost use Rattle.model.specs.Calls.{decide_grounds};
@@ -15,26 +15,26 @@ use core_refusals::Refusal;
 use core_rounds::{Ending, MAX_ALLOWANCE, run};
 use core_rows::{Steps, forbidden};
 use core_state_set::{MAX_STATES, StateSet};
-use core_table::{GROUPS_AT, INITIAL_AT, accept, set_at};
+use core_table::{GROUPS_AT, Store, accept};
 
-// Whether a check with this allowance is accepted where the path has so much room.
+// The store, where a check with this allowance is accepted and the path has so much room.
 fn accept_check(
     store: &[u64],
     n: usize,
     g: usize,
     allowance: usize,
     room: usize,
-) -> Result<(), Refusal>
-    ensures { number_of result ≡ refuse (decide_grounds store.now n g allowance room) }
+) -> Result<Store<'_>, Refusal>
+    ensures { (number_of result ≡ refuse (decide_grounds store.now n g allowance room)) × IfOk result (λ held. held.words.now ≡ store.now) }
 {
-    accept(store, n, g)?;
+    let store = accept(store, n, g)?;
     if MAX_ALLOWANCE < allowance {
         return Err(Refusal::Allowance);
     }
     if room < MAX_STATES {
         return Err(Refusal::PathShort);
     }
-    Ok(())
+    Ok(store)
 }
 
 // The verdicts, each with its count of refinements: safe with the invariant and the number of its states, unsafe with the steps of the path.
@@ -63,13 +63,13 @@ pub fn decide(
 ) -> Result<Verdict, Refusal>
     ensures { CalledDecide store.now n g allowance path.old result path.new }
 {
-    accept_check(store, n, g, allowance, path.len())?;
-    let initial = set_at(store, INITIAL_AT);
+    let store = accept_check(store, n, g, allowance, path.len())?;
+    let initial = store.initial();
     let forbidden = forbidden(store, n);
     let steps = Steps::of(store);
     let ending = run(
         steps,
-        &store[GROUPS_AT..],
+        &store.words[GROUPS_AT..],
         g,
         n,
         initial,

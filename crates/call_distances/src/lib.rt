@@ -123,7 +123,7 @@ pub fn all_distances(steps: Steps, n: usize, forbidden: StateSet) -> [u16; MAX_S
 pub fn distances(store: &[u64], n: usize, g: usize, out: &mut [u16]) -> Result<(), Refusal>
     ensures { CalledDistances store.now n g out.old result out.new }
 {
-    accept(store, n, g)?;
+    let store = accept(store, n, g)?;
     if out.len() < n {
         return Err(Refusal::DistancesShort);
     }

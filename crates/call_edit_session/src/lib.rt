@@ -4,11 +4,11 @@
 //   has_step                     whether a step exists
 //   set_step, clear_step         its bit set, or cleared, in the store
 //   from_initial                 what the initial states reach
-//   accept_edit                  refuses by the first of the grounds 10, 14, 15, 17 and 27 that holds
+//   accept_edit                  the store, or the first of the grounds 10, 14, 15, 17 and 27 that holds
 //   open, add_step, remove_step  the calls
 #![tactic(auto)]
 
-ghost use Rattle.std.specs.Prelude.{◌≡◌, ◌≤◌, ◌<◌, length};
+ghost use Rattle.std.specs.Prelude.{◌≡◌, ◌≤◌, ◌<◌, length, IfOk};
 ghost use Rattle.model.specs.Sets.{max_states};
 ghost use Rattle.basics.specs.Refusals.{refuse};
 ghost use Rattle.core_refusals.specs.Refusals.{number_of};
@@ -23,16 +23,17 @@ use core_reach::reached;
 use core_refusals::Refusal;
 use core_rows::Steps;
 use core_state_set::{StateSet, WORD_BITS, WORDS};
-use core_table::{INITIAL_AT, ROWS_AT, accept, set_at};
+use core_table::{ROWS_AT, Store, accept};
 
-fn has_step(store: &[u64], from: usize, to: usize) -> bool
-    requires { (from < max_states) × (store_words ≤ length store.now) }
-    ensures { result ≡ has_step store.now from to }
+fn has_step(store: Store, from: usize, to: usize) -> bool
+    requires { from < max_states }
+    ensures { result ≡ has_step store.entry.words.now from to }
 {
     Steps::of(store).row(from).contains(to)
 }
 
 // The bit of the step, in its one word.
+// kept: a Store is lent to be read; what is written, here and below, is a slice
 fn set_step(store: &mut [u64], from: usize, to: usize)
     requires { (from < max_states) × (to < max_states) × (store_words ≤ length store.old) }
     ensures { store.new ≡ edited store.old (add from to) }
@@ -48,28 +49,33 @@ fn clear_step(store: &mut [u64], from: usize, to: usize)
 }
 
 // What the initial states reach.
-fn from_initial(store: &[u64]) -> StateSet
-    requires { store_words ≤ length store.now }
-    ensures { IsLeast (reach_by (rows_of store.now) (set_at store.now 0)) result.words }
+fn from_initial(store: Store) -> StateSet
+    ensures { IsLeast (reach_by (rows_of store.entry.words.now) (set_at store.entry.words.now 0)) result.words }
 {
-    reached(Steps::of(store), set_at(store, INITIAL_AT))
+    reached(Steps::of(store), store.initial())
 }
 
-// Whether an edit is accepted.
-fn accept_edit(store: &[u64], n: usize, g: usize, from: usize, to: usize) -> Result<(), Refusal>
-    ensures { number_of result ≡ refuse (edit_grounds store.now n g from to) }
+// The store, where an edit is accepted.
+fn accept_edit(
+    store: &[u64],
+    n: usize,
+    g: usize,
+    from: usize,
+    to: usize,
+) -> Result<Store<'_>, Refusal>
+    ensures { (number_of result ≡ refuse (edit_grounds store.now n g from to)) × IfOk result (λ held. held.words.now ≡ store.now) }
 {
-    accept(store, n, g)?;
+    let store = accept(store, n, g)?;
     if n <= from || n <= to {
         return Err(Refusal::StepState);
     }
-    Ok(())
+    Ok(store)
 }
 
 pub fn open(store: &[u64], n: usize, g: usize) -> Result<StateSet, Refusal>
     ensures { CalledOpen store.now n g result }
 {
-    accept(store, n, g)?;
+    let store = accept(store, n, g)?;
     Ok(from_initial(store))
 }
 
@@ -84,15 +90,15 @@ pub fn add_step(
 ) -> Result<StateSet, Refusal>
     ensures { CalledEdit store.old n g reachable.words (add from to) result store.new }
 {
-    accept_edit(store, n, g, from, to)?;
-    if has_step(store, from, to) {
+    let held = accept_edit(store, n, g, from, to)?;
+    if has_step(held, from, to) {
         return Ok(reachable);
     }
     set_step(store, from, to);
     if !reachable.contains(from) {
         return Ok(reachable);
     }
-    let found = reached(Steps::of(store), StateSet::single(to));
+    let found = reached(Steps::of(Store { words: store }), StateSet::single(to));
     Ok(reachable.union(found))
 }
 
@@ -106,11 +112,11 @@ pub fn remove_step(
 ) -> Result<StateSet, Refusal>
     ensures { CalledEdit store.old n g reachable.words (remove from to) result store.new }
 {
-    accept_edit(store, n, g, from, to)?;
-    if !has_step(store, from, to) {
+    let held = accept_edit(store, n, g, from, to)?;
+    if !has_step(held, from, to) {
         return Ok(reachable);
     }
     clear_step(store, from, to);
-    let found = from_initial(store);
+    let found = from_initial(Store { words: store });
     Ok(found)
 }

@@ -16,7 +16,7 @@ use core_refusals::Refusal;
 use core_rounds::not_forbidden;
 use core_rows::{Steps, forbidden};
 use core_state_set::{MAX_STATES, StateSet, WORDS};
-use core_table::{GROUPS_AT, INITIAL_AT, accept, set_at};
+use core_table::{GROUPS_AT, accept, set_at};
 
 // How many states were expanded, and these at the front of an array.
 #[derive(Clone, Copy)]
@@ -48,16 +48,16 @@ fn first_cover_of(groups: &[u64], g: usize, n: usize, z: StateSet, s: usize) -> 
 pub fn first_order(store: &[u64], n: usize, g: usize) -> Result<FirstOrder, Refusal>
     ensures { CalledFirstOrder store.now n g result }
 {
-    accept(store, n, g)?;
+    let store = accept(store, n, g)?;
     let z = not_forbidden(n, forbidden(store, n));
     let none = [0; WORDS];
     let mut cover = [none; MAX_STATES];
     for (s, row) in cover.iter_mut().enumerate() {
         // kept: `*row = first_cover_of(..).words` stops at the borrow checker, as a call's field stored straight
-        let words = first_cover_of(&store[GROUPS_AT..], g, n, z, s).words;
+        let words = first_cover_of(&store.words[GROUPS_AT..], g, n, z, s).words;
         *row = words;
     }
-    let reached = forward(Steps::of(store), &cover, set_at(store, INITIAL_AT), z);
+    let reached = forward(Steps::of(store), &cover, store.initial(), z);
     // kept: tried `states: reached.order`; the borrow checker stops at an array field made part of a literal
     let states = reached.order;
     Ok(FirstOrder {

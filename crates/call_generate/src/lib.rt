@@ -109,6 +109,7 @@ fn put_numbers(seed: u32, count: usize, buffer: &mut [u32])
 
 // ---- the table
 
+// kept, here and below: a Store is lent to be read; one lent to be written would be a second type, made anew at each call
 fn fill(numbers: &[u32], n: usize, f: usize, store: &mut [u64])
     requires { (0 < n) × (n ≤ max_states) × (long_lag + n * f ≤ length numbers.now) × (store_words ≤ length store.old) }
     ensures { store.new ≡ overwrite (layout (load_from numbers.now n f)) store.old }

@@ -2,17 +2,17 @@
 //
 //   check_on, path_on              a release check, and the path, on given rows
 //   is_malformed, any_impossible     grounds 17 and 28 of the possible steps
-//   accept_possible                refuses by the first of the grounds 10, 14, 15, 17, 28 and 21 that holds
+//   accept_possible                the store, or the first of the grounds 10, 14, 15, 17, 28 and 21 that holds
 //   decide_modal                   the call
 //
 // The certain rows are those of the store; the possible ones are read where they are lent.
 #![tactic(auto)]
 
-ghost use Rattle.std.specs.Prelude.{◌≡◌, ◌≤◌, length, []};
+ghost use Rattle.std.specs.Prelude.{◌≡◌, ◌≤◌, length, [], IfOk};
 ghost use Rattle.model.specs.Sets.{max_states};
 ghost use Rattle.basics.specs.Refusals.{refuse};
 ghost use Rattle.core_refusals.specs.Refusals.{number_of};
-ghost use Rattle.model.specs.Stores.{store_words, max_groups, set_at};
+ghost use Rattle.model.specs.Stores.{max_groups, set_at};
 ghost use Rattle.core_rows.specs.Rows.{rows_in, table_on};
 ghost use Rattle.call_paths.specs.Search.{HoldsTable};
 ghost use Rattle.call_paths.specs.PathAnswers.{found_in, path_written, steps_in};
@@ -24,7 +24,7 @@ use core_refusals::Refusal;
 use core_rounds::{Ending, MAX_ALLOWANCE, run};
 use core_rows::{Steps, forbidden_by};
 use core_state_set::{MAX_STATES, StateSet, WORDS};
-use core_table::{GROUPS_AT, INITIAL_AT, accept, any_stored, any_stored_beyond, set_at};
+use core_table::{GROUPS_AT, Store, accept, any_stored, any_stored_beyond};
 
 // The words that the rows of possible steps take.
 pub const POSSIBLE_WORDS: usize = WORDS * MAX_STATES;
@@ -32,22 +32,16 @@ pub const POSSIBLE_WORDS: usize = WORDS * MAX_STATES;
 // ---- a check, and a path
 
 // A release check of the store's table with these forbidden states and rows: the invariant, where it says safe.
-fn check_on(
-    store: &[u64],
-    n: usize,
-    g: usize,
-    forbidden: StateSet,
-    steps: Steps,
-) -> Option<StateSet>
-    requires { (g ≤ max_groups) × (store_words ≤ length store.now) }
-    ensures { ChecksOut (table_with store.now n g forbidden.words (rows_in steps.entry.words.now n)) result }
+fn check_on(store: Store, n: usize, g: usize, forbidden: StateSet, steps: Steps) -> Option<StateSet>
+    requires { g ≤ max_groups }
+    ensures { ChecksOut (table_with store.entry.words.now n g forbidden.words (rows_in steps.entry.words.now n)) result }
 {
     let ending = run(
         steps,
-        &store[GROUPS_AT..],
+        &store.words[GROUPS_AT..],
         g,
         n,
-        set_at(store, INITIAL_AT),
+        store.initial(),
         forbidden,
         MAX_ALLOWANCE,
     );
@@ -62,13 +56,12 @@ fn check_on(
 }
 
 // The path on those rows at the front of the buffer, and its steps; groups play no part.
-fn path_on(store: &[u64], n: usize, forbidden: StateSet, steps: Steps, path: &mut [u16]) -> usize
-    requires { (store_words ≤ length store.now) × HoldsTable steps.words.now n (set_at store.now 0) forbidden.words
-        × (max_states ≤ length path.old) }
-    ensures { (result ≡ steps_in (found_in (table_on n (set_at store.now 0) forbidden.words [] steps.entry.words.now)))
-        × (path.new ≡ path_written (table_on n (set_at store.now 0) forbidden.words [] steps.entry.words.now) path.old) }
+fn path_on(store: Store, n: usize, forbidden: StateSet, steps: Steps, path: &mut [u16]) -> usize
+    requires { HoldsTable steps.words.now n (set_at store.words.now 0) forbidden.words × (max_states ≤ length path.old) }
+    ensures { (result ≡ steps_in (found_in (table_on n (set_at store.entry.words.now 0) forbidden.words [] steps.entry.words.now)))
+        × (path.new ≡ path_written (table_on n (set_at store.entry.words.now 0) forbidden.words [] steps.entry.words.now) path.old) }
 {
-    find_path(steps, n, set_at(store, INITIAL_AT), forbidden, path).unwrap_or(0)
+    find_path(steps, n, store.initial(), forbidden, path).unwrap_or(0)
 }
 
 // ---- refusals
@@ -82,9 +75,9 @@ fn is_malformed(possible: &[u64], n: usize) -> bool
 }
 
 // A certain step is not possible.
-fn any_impossible(store: &[u64], n: usize, possible: Steps) -> bool
-    requires { (n ≤ max_states) × (store_words ≤ length store.now) }
-    ensures { result ≡ certain_impossible store.now n possible.entry.words.now }
+fn any_impossible(store: Store, n: usize, possible: Steps) -> bool
+    requires { n ≤ max_states }
+    ensures { result ≡ certain_impossible store.entry.words.now n possible.entry.words.now }
 {
     let certain = Steps::of(store);
     for s in 0..n {
@@ -95,20 +88,20 @@ fn any_impossible(store: &[u64], n: usize, possible: Steps) -> bool
     false
 }
 
-// Whether a call is accepted where the path has so much room.
-fn accept_possible(
-    store: &[u64],
+// The store, where a call is accepted and the path has so much room.
+fn accept_possible<'a>(
+    store: &'a [u64],
     n: usize,
     g: usize,
     possible: &[u64],
     room: usize,
-) -> Result<(), Refusal>
-    ensures { number_of result ≡ refuse (modal_grounds store.now n g possible.now room) }
+) -> Result<Store<'a>, Refusal>
+    ensures { (number_of result ≡ refuse (modal_grounds store.now n g possible.now room)) × IfOk result (λ held. held.words.now ≡ store.now) }
 {
     if possible.len() < POSSIBLE_WORDS {
         return Err(Refusal::StoreShort);
     }
-    accept(store, n, g)?;
+    let store = accept(store, n, g)?;
     if is_malformed(possible, n) {
         return Err(Refusal::StrayBit);
     }
@@ -118,7 +111,7 @@ fn accept_possible(
     if room < MAX_STATES {
         return Err(Refusal::PathShort);
     }
-    Ok(())
+    Ok(store)
 }
 
 // ---- the call
@@ -150,7 +143,7 @@ pub fn decide_modal(
 ) -> Result<ModalVerdict, Refusal>
     ensures { CalledModal store.now n g possible.now path.old result path.new }
 {
-    accept_possible(store, n, g, possible, path.len())?;
+    let store = accept_possible(store, n, g, possible, path.len())?;
     let possible = Steps { words: possible };
     let certain = Steps::of(store);
     // a hang has no possible step: the same for every choice

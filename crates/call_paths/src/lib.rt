@@ -24,7 +24,7 @@ use core_reach::newly_reached;
 use core_refusals::Refusal;
 use core_rows::{Rows, Steps, forbidden, row_of};
 use core_state_set::{MAX_STATES, StateSet, WORDS};
-use core_table::{INITIAL_AT, accept, set_at};
+use core_table::accept;
 
 // The states of x that step to a state of y: those that are not in hold of all other states.
 pub fn stepping_into(steps: Steps, x: StateSet, y: StateSet) -> StateSet
@@ -138,14 +138,14 @@ pub fn shortest_path(
 ) -> Result<Option<usize>, Refusal>
     ensures { CalledShortest store.now n g path.old result path.new }
 {
-    accept(store, n, g)?;
+    let store = accept(store, n, g)?;
     if path.len() < MAX_STATES {
         return Err(Refusal::PathShort);
     }
     Ok(find_path(
         Steps::of(store),
         n,
-        set_at(store, INITIAL_AT),
+        store.initial(),
         forbidden(store, n),
         path,
     ))
@@ -164,10 +164,10 @@ fn is_within(found: Option<usize>, k: usize) -> bool
 pub fn within(store: &[u64], n: usize, g: usize, k: usize) -> Result<bool, Refusal>
     ensures { CalledWithin store.now n g k result }
 {
-    accept(store, n, g)?;
+    let store = accept(store, n, g)?;
     let found = first_layer(
         Steps::of(store),
-        set_at(store, INITIAL_AT),
+        store.initial(),
         forbidden(store, n),
         &mut [],
     );

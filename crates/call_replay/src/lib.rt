@@ -3,15 +3,15 @@
 //   entry_at, holds_at     one entry of a log; whether a set of the store holds a state
 //   Walked, follow         the log followed from the initial states on: how many entries, and the states that they hold
 //   Covered, coverage      whole percent and remainder of the states that can be reached
-//   accept_log             refuses by the first of the grounds 10, 14, 15, 17, 25 and 26 that holds
+//   accept_log             the store, or the first of the grounds 10, 14, 15, 17, 25 and 26 that holds
 //   Walk, replay           the call
 #![tactic(auto)]
 
-ghost use Rattle.std.specs.Prelude.{◌≡◌, ◌+◌, ◌*◌, ◌≤◌, ◌<◌, length};
+ghost use Rattle.std.specs.Prelude.{◌≡◌, ◌+◌, ◌*◌, ◌≤◌, ◌<◌, length, IfOk};
 ghost use Rattle.model.specs.Sets.{WORDS, max_states, member};
 ghost use Rattle.basics.specs.Refusals.{refuse};
 ghost use Rattle.core_refusals.specs.Refusals.{number_of};
-ghost use Rattle.model.specs.Stores.{store_words, set_at, table_of};
+ghost use Rattle.model.specs.Stores.{set_at, table_of};
 ghost use Rattle.call_replay.specs.Logs.{entry_bytes, entry, followed, seen, percent_of, remainder_of, replay_grounds};
 ghost use Rattle.call_replay.specs.ReplayAnswers.{CalledReplay};
 
@@ -19,7 +19,7 @@ use core_reach::reached;
 use core_refusals::Refusal;
 use core_rows::Steps;
 use core_state_set::{StateSet, WORD_BITS, WORDS};
-use core_table::{INITIAL_AT, ROWS_AT, accept, set_at};
+use core_table::{ROWS_AT, Store, accept};
 
 // The bytes of an entry, and the most that a log may have.
 pub const ENTRY_BYTES: usize = 2;
@@ -54,9 +54,8 @@ pub struct Walked {
 // One pass over the log, up to the first entry that breaks the walk. The set at `at` has the states that the next entry may hold. The
 // store is taken with all its rows: those of an accepted one are empty from n up. The bits are set in place, since a set that went in and
 // came back for each entry would be most of the work.
-fn follow(store: &[u64], log: &[u8]) -> Walked
-    requires { store_words ≤ length store.now }
-    ensures { (result.followed ≡ followed (table_of store.now max_states 0) log.now)
+fn follow(store: Store, log: &[u8]) -> Walked
+    ensures { (result.followed ≡ followed (table_of store.entry.words.now max_states 0) log.now)
         × (result.seen.words ≡ seen log.now result.followed) }
 {
     let mut at = 0;
@@ -64,7 +63,7 @@ fn follow(store: &[u64], log: &[u8]) -> Walked
     let entries = log.len() / ENTRY_BYTES;
     for i in 0..entries {
         let s = entry_at(log, i);
-        if !holds_at(store, at, s) {
+        if !holds_at(store.words, at, s) {
             return Walked {
                 followed: i,
                 seen: StateSet { words },
@@ -103,18 +102,18 @@ fn coverage(states: usize, reached: usize) -> Covered
     }
 }
 
-// Whether a log of so many bytes is accepted.
-fn accept_log(store: &[u64], n: usize, g: usize, bytes: usize) -> Result<(), Refusal>
-    ensures { number_of result ≡ refuse (replay_grounds store.now n g bytes) }
+// The store, where a log of so many bytes is accepted.
+fn accept_log(store: &[u64], n: usize, g: usize, bytes: usize) -> Result<Store<'_>, Refusal>
+    ensures { (number_of result ≡ refuse (replay_grounds store.now n g bytes)) × IfOk result (λ held. held.words.now ≡ store.now) }
 {
-    accept(store, n, g)?;
+    let store = accept(store, n, g)?;
     if bytes % ENTRY_BYTES != 0 {
         return Err(Refusal::LogOdd);
     }
     if MAX_LOG < bytes {
         return Err(Refusal::LogLong);
     }
-    Ok(())
+    Ok(store)
 }
 
 // What the call answers: the entries followed, the different states among them, and the coverage.
@@ -129,10 +128,10 @@ pub struct Walk {
 pub fn replay(store: &[u64], n: usize, g: usize, log: &[u8]) -> Result<Walk, Refusal>
     ensures { CalledReplay store.now n g log.now result }
 {
-    accept_log(store, n, g, log.len())?;
+    let store = accept_log(store, n, g, log.len())?;
     let walked = follow(store, log);
     let seen = walked.seen.count();
-    let reached = reached(Steps::of(store), set_at(store, INITIAL_AT)).count();
+    let reached = reached(Steps::of(store), store.initial()).count();
     let covered = coverage(seen, reached);
     Ok(Walk {
         followed: walked.followed,

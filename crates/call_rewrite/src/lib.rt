@@ -12,7 +12,7 @@ ghost use Rattle.call_rewrite.specs.RewriteAnswers.{rested_store, CalledRewrite}
 use core_refusals::Refusal;
 use core_rows::Steps;
 use core_state_set::StateSet;
-use core_table::{RESTING_AT, STORE_WORDS, put_set};
+use core_table::{RESTING_AT, STORE_WORDS, Store, put_set};
 use file_reading::read_old;
 use file_writing::write;
 
@@ -28,10 +28,12 @@ pub fn rewrite(input: &[u8], output: &mut [u8]) -> Result<usize, Refusal>
     write(&store, size.n, size.g, SITE, output)
 }
 
+// kept: a Store is lent to be read; what is written is a slice
 fn rest_dead_ends(store: &mut [u64], n: usize)
     requires { store_words ≤ length store.old }
     ensures { store.new ≡ rested_store store.old n }
 {
-    let dead = Steps::of(store).meet_hold(StateSet::first_states(n), StateSet::empty());
+    let steps = Steps::of(Store { words: store });
+    let dead = steps.meet_hold(StateSet::first_states(n), StateSet::empty());
     put_set(store, RESTING_AT, dead);
 }

@@ -12,17 +12,17 @@
 //   Rows, row_of, union_of       a row of words for each state, the set in one row, the union of the rows of a set's states
 //
 // What works on a table is lent its parts: the steps (of the store, or possible steps as they are lent), the groups
-// (`&store[GROUPS_AT..]`), and sets by value. Functions ask for a store that is long enough.
+// (`&store.words[GROUPS_AT..]`), and sets by value.
 #![tactic(auto)]
 
 ghost use Rattle.std.specs.Prelude.{◌≡◌, ℕ, ◌≤◌, ◌<◌, length, get_or, []};
 ghost use Rattle.model.specs.Sets.{WORDS, max_states, Set, subset, image};
 ghost use Rattle.model.specs.Tables.{hangs as hangs·model};
-ghost use Rattle.model.specs.Stores.{store_words, table_of};
+ghost use Rattle.model.specs.Stores.{table_of};
 ghost use Rattle.core_rows.specs.Rows.{rows_words, rows_of, row_in, rows_in, forbidden_by, successors_by, meet_hold};
 
 use core_state_set::{MAX_STATES, StateSet, WORD_BITS, WORDS};
-use core_table::{MARKED_AT, RESTING_AT, ROWS_AT, set_at};
+use core_table::{MARKED_AT, RESTING_AT, ROWS_AT, Store, set_at};
 
 // The places of a word's ones, rising: an iterator, which has the ones that are left.
 #[derive(Clone, Copy)]
@@ -80,12 +80,11 @@ pub struct Steps<'a> {
 
 impl<'a> Steps<'a> {
     // Those of the table that a store holds.
-    pub fn of(store: &'a [u64]) -> Self
-        requires { store_words ≤ length store.now }
-        ensures { result.words.now ≡ rows_of store.now }
+    pub fn of(store: Store<'a>) -> Self
+        ensures { result.words.now ≡ rows_of store.entry.words.now }
     {
         Steps {
-            words: &store[ROWS_AT..],
+            words: &store.words[ROWS_AT..],
         }
     }
 
@@ -155,18 +154,16 @@ impl Relation for Steps<'_> {
 }
 
 // The marked states, and those below n that hang by the rows: the one place that works out what is forbidden.
-pub fn forbidden_by(store: &[u64], n: usize, steps: Steps) -> StateSet
-    requires { store_words ≤ length store.now }
-    ensures { result.words ≡ forbidden_by store.now n steps.entry.words.now }
+pub fn forbidden_by(store: Store, n: usize, steps: Steps) -> StateSet
+    ensures { result.words ≡ forbidden_by store.entry.words.now n steps.entry.words.now }
 {
-    let hung = steps.hangs(n, set_at(store, RESTING_AT));
-    set_at(store, MARKED_AT).union(hung)
+    let hung = steps.hangs(n, set_at(store.words, RESTING_AT));
+    set_at(store.words, MARKED_AT).union(hung)
 }
 
 // The forbidden states of a table with n states; its groups play no part.
-pub fn forbidden(store: &[u64], n: usize) -> StateSet
-    requires { store_words ≤ length store.now }
-    ensures { result.words ≡ (table_of store.now n 0).forbidden }
+pub fn forbidden(store: Store, n: usize) -> StateSet
+    ensures { result.words ≡ (table_of store.entry.words.now n 0).forbidden }
 {
     forbidden_by(store, n, Steps::of(store))
 }

@@ -55,6 +55,7 @@ pub fn non_zero_byte(bytes: &[u8]) -> bool
 // ---- filling
 
 // The sets before the groups, the groups and the rows: of each part of the store its first sets come from the contents, and the others are empty.
+// kept: a Store is lent to be read; one lent to be written would be a second type, made anew at each call
 pub fn fill(form: Form, bytes: &[u8], counts: Counts, store: &mut [u64])
     requires { (joined_room ≤ length bytes.now) × (store_words ≤ length store.old) }
     ensures { store.new ≡ overwrite (layout (dialogue_in (form_of form) bytes.now counts.n counts.g)) store.old }

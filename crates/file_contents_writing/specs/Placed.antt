@@ -1,4 +1,4 @@
--- Of the functions that write contents, their parts of the contents.
+-- The parts of the contents of a file, as they are written.
 --
 --   word_bytes x count            the lowest so many bytes of a word, lowest first; words_bytes words v: all eight of word v
 --   place_of g k                  where set k of a file with g groups begins in the store: before the groups, among them, or among the rows

@@ -19,28 +19,28 @@ ghost use Rattle.model.specs.Calls.{overwrite};
 ghost use Rattle.file_contents_writing.specs.Placed.{word_bytes, words_bytes, place_of, placed_set};
 
 use core_state_set::WORDS;
-use core_table::{GROUPS_AT, HEAD_SETS, ROWS_AT};
+use core_table::{GROUPS_AT, HEAD_SETS, ROWS_AT, Store};
 use file_blocks::{Counts, Form, HEADER, added};
 
-pub fn join_contents(store: &[u64], counts: Counts, out: &mut [u8])
-    requires { (store_words ≤ length store.now) × (content_length new_form counts.n counts.g ≤ length out.old) }
-    ensures { out.new ≡ overwrite (contents new_form (dialogue_of store.now counts.n counts.g)) out.old }
+pub fn join_contents(store: Store, counts: Counts, out: &mut [u8])
+    requires { content_length new_form counts.n counts.g ≤ length out.old }
+    ensures { out.new ≡ overwrite (contents new_form (dialogue_of store.entry.words.now counts.n counts.g)) out.old }
 {
     write_le16(counts.n, out);
     write_le16(added(Form::New) + counts.g, &mut out[2..]);
     join_sets(store, counts, &mut out[HEADER..]);
 }
 
-fn join_sets(store: &[u64], counts: Counts, out: &mut [u8])
-    requires { (store_words ≤ length store.now) × (set_width counts.n * (head_sets + counts.g + counts.n) ≤ length out.old) }
-    ensures { out.new ≡ overwrite (concat (head_sets + counts.g + counts.n) (placed_set store.now (set_width counts.n) counts.g)) out.old }
+fn join_sets(store: Store, counts: Counts, out: &mut [u8])
+    requires { set_width counts.n * (head_sets + counts.g + counts.n) ≤ length out.old }
+    ensures { out.new ≡ overwrite (concat (head_sets + counts.g + counts.n) (placed_set store.entry.words.now (set_width counts.n) counts.g)) out.old }
 {
     let width = counts.set_width();
     for k in 0..counts.set_count(Form::New) {
         let a = place_of(counts, k);
         let e = a + WORDS;
         let at = width * k;
-        put_set_bytes(&store[a..e], width, &mut out[at..]);
+        put_set_bytes(&store.words[a..e], width, &mut out[at..]);
     }
 }
 

@@ -61,6 +61,7 @@ fn read_as(form: Form, input: &[u8], site: usize, store: &mut [u64]) -> Result<T
     read_file(form, input, site, store)
 }
 
+// kept, here and below: a Store is lent to be read; one lent to be written would be a second type, made anew at each call
 fn read_file(form: Form, input: &[u8], site: Site, store: &mut [u64]) -> Result<TableSize, Refusal>
     requires { (0 < length input.now) × (store_words ≤ length store.old) }
     ensures { ReadsFile (form_of form) input.now site.number store.old result store.new }

@@ -26,8 +26,8 @@ none m = replicate m 0
 module _ {n g : ℕ} (small : n ≤ max_states) (few : g ≤ max_groups) (m : ℕ) (most : content_length new_form max_states max_groups ≤ m) where
   pub contents-room : content_length new_form n g ≤ length (none m)
   contents-room =
-      let wide : set_width n ≤ 8 * WORDS = omega arith in
-      let many : head_sets + g + n ≤ head_sets + max_groups + max_states = omega arith in
+      let wide : set_width n ≤ 8 * WORDS = omega (arith, small) in
+      let many : head_sets + g + n ≤ head_sets + max_groups + max_states = omega (arith, small, few) in
       omega (arith, contents_le wide many, length-replicate {A = ℕ} m 0)
 
   pub length-joined : (store : List ℕ) {joined : List ℕ} → joined ≡ overwrite (contents new_form (dialogue_of store n g)) (none m) → length joined ≡ m

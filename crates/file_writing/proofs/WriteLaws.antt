@@ -1,7 +1,7 @@
 -- Laws that the functions of `write` cite.
 --
 --   block_front, block_written            a block up to its check, and with it
---   held                                 where no shared ground holds, the store is long enough and n and g are in bounds
+--   held                                 where no shared ground holds, n and g are in bounds
 --   refused-short, refused_site, refused-shared, draft-written, refused-room, written       the contract of `write` in each case
 use Rattle.std.specs.Prelude.{Ok, Err}
 use Prim.Native.Nat.{ℕ, ◌+◌, ◌*◌, ◌≤◌, ◌<◌}
@@ -13,7 +13,8 @@ use lib.ListN.{length, take, drop, length-drop}
 use lib.Seq.{length-take-le, get_or-take, get_or-drop}
 use Rattle.basics.specs.Bounds.{concat}
 use Rattle.basics.specs.Refusals.{refuse, answered}
-use Rattle.model.specs.Stores.{store_words, dialogue_of, shared_grounds}
+use Rattle.model.specs.Sets.{max_states}
+use Rattle.model.specs.Stores.{store_words, max_groups, dialogue_of, shared_grounds}
 use Rattle.model.specs.Blocks.{block_bytes, content_bytes, check_at, max_site, le16, blocks_for, check_of, block_of}
 use Rattle.model.specs.Contents.{new_form, contents, content_length}
 use Rattle.model.specs.Files.{block_file, file_of, file_length}
@@ -64,8 +65,8 @@ module _ (bytes : List ℕ) (k : ℕ) (inside : content_bytes * k + content_byte
 -- ---- the call
 
 -- no ground that the calls share holds
-pub held : (store : List ℕ) (n g k : ℕ) → k ≡ refuse (shared_grounds store n g) → k ≡ 0 → Store store n g
-held store n g k e z = (accepted_store store n g [] (sym e ∙ z)).0
+pub held : (store : List ℕ) (n g k : ℕ) → k ≡ refuse (shared_grounds store n g) → k ≡ 0 → (n ≤ max_states) × (g ≤ max_groups)
+held store n g k e z = let s = (accepted_store store n g [] (sym e ∙ z)).0 in (s.small, s.few)
 
 module _ (store : List ℕ) (n g site : ℕ) (out : List ℕ) where
   -- a ground holds, and r is its refusal

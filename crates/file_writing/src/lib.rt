@@ -17,7 +17,7 @@ ghost use Rattle.model.specs.Calls.{overwrite};
 ghost use Rattle.file_writing.specs.WriteAnswers.{CalledWrite};
 
 use core_refusals::Refusal;
-use core_table::{STORE_WORDS, accept};
+use core_table::{STORE_WORDS, Store, accept};
 use file_blocks::{
     BLOCK, CHECK_AT, CONTENT_AT, CONTENT_BYTES, Counts, Form, JOINED_ROOM, MAX_SITE, Site,
     blocks_for, checksum_of, copy_content,
@@ -41,7 +41,7 @@ pub fn write(
         return Err(Refusal::Site);
     }
     let site = Site { number: site };
-    accept(store, n, g)?;
+    let store = accept(store, n, g)?;
     if n == 0 {
         return Ok(0);
     }
@@ -57,9 +57,9 @@ pub fn write(
 }
 
 // The contents are joined first: so each set is taken apart once, by words, wherever the edges of blocks cut it.
-fn write_file(store: &[u64], counts: Counts, site: Site, blocks: usize, out: &mut [u8])
-    requires { (store_words ≤ length store.now) × (blocks ≤ blocks_for (content_length new_form max_states max_groups)) × (block_bytes * blocks ≤ length out.old) }
-    ensures { out.new ≡ overwrite (concat blocks (block_of site.number (contents new_form (dialogue_of store.now counts.n counts.g)))) out.old }
+fn write_file(store: Store, counts: Counts, site: Site, blocks: usize, out: &mut [u8])
+    requires { (blocks ≤ blocks_for (content_length new_form max_states max_groups)) × (block_bytes * blocks ≤ length out.old) }
+    ensures { out.new ≡ overwrite (concat blocks (block_of site.number (contents new_form (dialogue_of store.entry.words.now counts.n counts.g)))) out.old }
 {
     let mut bytes = [0u8; JOINED_ROOM];
     join_contents(store, counts, &mut bytes);

@@ -2,7 +2,7 @@
 
 // The call `decide`: the rounds of a table that a store holds, and the path where they say unsafe.
 //
-//   accept_check      whether a check is accepted
+//   accept_check      the store, where a check is accepted
 //   Verdict, decide   the call
 
 use crate::call_paths::find_path;
@@ -10,25 +10,25 @@ use crate::core_refusals::Refusal;
 use crate::core_rounds::{Ending, MAX_ALLOWANCE, run};
 use crate::core_rows::{Steps, forbidden};
 use crate::core_state_set::{MAX_STATES, StateSet};
-use crate::core_table::{GROUPS_AT, INITIAL_AT, accept, set_at};
+use crate::core_table::{GROUPS_AT, Store, accept};
 
-// Whether a check with this allowance is accepted where the path has so much room.
+// The store, where a check with this allowance is accepted and the path has so much room.
 fn accept_check(
     store: &[u64],
     n: usize,
     g: usize,
     allowance: usize,
     room: usize,
-) -> Result<(), Refusal>
+) -> Result<Store<'_>, Refusal>
 {
-    accept(store, n, g)?;
+    let store = accept(store, n, g)?;
     if MAX_ALLOWANCE < allowance {
         return Err(Refusal::Allowance);
     }
     if room < MAX_STATES {
         return Err(Refusal::PathShort);
     }
-    Ok(())
+    Ok(store)
 }
 
 // The verdicts, each with its count of refinements: safe with the invariant and the number of its states, unsafe with the steps of the path.
@@ -56,13 +56,13 @@ pub fn decide(
     path: &mut [u16],
 ) -> Result<Verdict, Refusal>
 {
-    accept_check(store, n, g, allowance, path.len())?;
-    let initial = set_at(store, INITIAL_AT);
+    let store = accept_check(store, n, g, allowance, path.len())?;
+    let initial = store.initial();
     let forbidden = forbidden(store, n);
     let steps = Steps::of(store);
     let ending = run(
         steps,
-        &store[GROUPS_AT..],
+        &store.words[GROUPS_AT..],
         g,
         n,
         initial,

@@ -105,7 +105,7 @@ pub fn all_distances(steps: Steps, n: usize, forbidden: StateSet) -> [u16; MAX_S
 // The distance of each state to the nearest forbidden one, UNREACHABLE where none can be reached; places past n stay.
 pub fn distances(store: &[u64], n: usize, g: usize, out: &mut [u16]) -> Result<(), Refusal>
 {
-    accept(store, n, g)?;
+    let store = accept(store, n, g)?;
     if out.len() < n {
         return Err(Refusal::DistancesShort);
     }

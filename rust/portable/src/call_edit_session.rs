@@ -6,21 +6,22 @@
 //   has_step                     whether a step exists
 //   set_step, clear_step         its bit set, or cleared, in the store
 //   from_initial                 what the initial states reach
-//   accept_edit                  refuses by the first of the grounds 10, 14, 15, 17 and 27 that holds
+//   accept_edit                  the store, or the first of the grounds 10, 14, 15, 17 and 27 that holds
 //   open, add_step, remove_step  the calls
 
 use crate::core_reach::reached;
 use crate::core_refusals::Refusal;
 use crate::core_rows::Steps;
 use crate::core_state_set::{StateSet, WORD_BITS, WORDS};
-use crate::core_table::{INITIAL_AT, ROWS_AT, accept, set_at};
+use crate::core_table::{ROWS_AT, Store, accept};
 
-fn has_step(store: &[u64], from: usize, to: usize) -> bool
+fn has_step(store: Store, from: usize, to: usize) -> bool
 {
     Steps::of(store).row(from).contains(to)
 }
 
 // The bit of the step, in its one word.
+// kept: a Store is lent to be read; what is written, here and below, is a slice
 fn set_step(store: &mut [u64], from: usize, to: usize)
 {
     store[ROWS_AT + WORDS * from + to / WORD_BITS] |= 1 << (to % WORD_BITS);
@@ -32,24 +33,30 @@ fn clear_step(store: &mut [u64], from: usize, to: usize)
 }
 
 // What the initial states reach.
-fn from_initial(store: &[u64]) -> StateSet
+fn from_initial(store: Store) -> StateSet
 {
-    reached(Steps::of(store), set_at(store, INITIAL_AT))
+    reached(Steps::of(store), store.initial())
 }
 
-// Whether an edit is accepted.
-fn accept_edit(store: &[u64], n: usize, g: usize, from: usize, to: usize) -> Result<(), Refusal>
+// The store, where an edit is accepted.
+fn accept_edit(
+    store: &[u64],
+    n: usize,
+    g: usize,
+    from: usize,
+    to: usize,
+) -> Result<Store<'_>, Refusal>
 {
-    accept(store, n, g)?;
+    let store = accept(store, n, g)?;
     if n <= from || n <= to {
         return Err(Refusal::StepState);
     }
-    Ok(())
+    Ok(store)
 }
 
 pub fn open(store: &[u64], n: usize, g: usize) -> Result<StateSet, Refusal>
 {
-    accept(store, n, g)?;
+    let store = accept(store, n, g)?;
     Ok(from_initial(store))
 }
 
@@ -63,15 +70,15 @@ pub fn add_step(
     to: usize,
 ) -> Result<StateSet, Refusal>
 {
-    accept_edit(store, n, g, from, to)?;
-    if has_step(store, from, to) {
+    let held = accept_edit(store, n, g, from, to)?;
+    if has_step(held, from, to) {
         return Ok(reachable);
     }
     set_step(store, from, to);
     if !reachable.contains(from) {
         return Ok(reachable);
     }
-    let found = reached(Steps::of(store), StateSet::single(to));
+    let found = reached(Steps::of(Store { words: store }), StateSet::single(to));
     Ok(reachable.union(found))
 }
 
@@ -84,11 +91,11 @@ pub fn remove_step(
     to: usize,
 ) -> Result<StateSet, Refusal>
 {
-    accept_edit(store, n, g, from, to)?;
-    if !has_step(store, from, to) {
+    let held = accept_edit(store, n, g, from, to)?;
+    if !has_step(held, from, to) {
         return Ok(reachable);
     }
     clear_step(store, from, to);
-    let found = from_initial(store);
+    let found = from_initial(Store { words: store });
     Ok(found)
 }

@@ -92,6 +92,7 @@ fn put_numbers(seed: u32, count: usize, buffer: &mut [u32])
 
 // ---- the table
 
+// kept, here and below: a Store is lent to be read; one lent to be written would be a second type, made anew at each call
 fn fill(numbers: &[u32], n: usize, f: usize, store: &mut [u64])
 {
     clear(store);

@@ -4,7 +4,7 @@
 //
 //   check_on, path_on              a release check, and the path, on given rows
 //   is_malformed, any_impossible     grounds 17 and 28 of the possible steps
-//   accept_possible                refuses by the first of the grounds 10, 14, 15, 17, 28 and 21 that holds
+//   accept_possible                the store, or the first of the grounds 10, 14, 15, 17, 28 and 21 that holds
 //   decide_modal                   the call
 //
 // The certain rows are those of the store; the possible ones are read where they are lent.
@@ -14,7 +14,7 @@ use crate::core_refusals::Refusal;
 use crate::core_rounds::{Ending, MAX_ALLOWANCE, run};
 use crate::core_rows::{Steps, forbidden_by};
 use crate::core_state_set::{MAX_STATES, StateSet, WORDS};
-use crate::core_table::{GROUPS_AT, INITIAL_AT, accept, any_stored, any_stored_beyond, set_at};
+use crate::core_table::{GROUPS_AT, Store, accept, any_stored, any_stored_beyond};
 
 // The words that the rows of possible steps take.
 pub const POSSIBLE_WORDS: usize = WORDS * MAX_STATES;
@@ -22,20 +22,14 @@ pub const POSSIBLE_WORDS: usize = WORDS * MAX_STATES;
 // ---- a check, and a path
 
 // A release check of the store's table with these forbidden states and rows: the invariant, where it says safe.
-fn check_on(
-    store: &[u64],
-    n: usize,
-    g: usize,
-    forbidden: StateSet,
-    steps: Steps,
-) -> Option<StateSet>
+fn check_on(store: Store, n: usize, g: usize, forbidden: StateSet, steps: Steps) -> Option<StateSet>
 {
     let ending = run(
         steps,
-        &store[GROUPS_AT..],
+        &store.words[GROUPS_AT..],
         g,
         n,
-        set_at(store, INITIAL_AT),
+        store.initial(),
         forbidden,
         MAX_ALLOWANCE,
     );
@@ -50,9 +44,9 @@ fn check_on(
 }
 
 // The path on those rows at the front of the buffer, and its steps; groups play no part.
-fn path_on(store: &[u64], n: usize, forbidden: StateSet, steps: Steps, path: &mut [u16]) -> usize
+fn path_on(store: Store, n: usize, forbidden: StateSet, steps: Steps, path: &mut [u16]) -> usize
 {
-    find_path(steps, n, set_at(store, INITIAL_AT), forbidden, path).unwrap_or(0)
+    find_path(steps, n, store.initial(), forbidden, path).unwrap_or(0)
 }
 
 // ---- refusals
@@ -64,7 +58,7 @@ fn is_malformed(possible: &[u64], n: usize) -> bool
 }
 
 // A certain step is not possible.
-fn any_impossible(store: &[u64], n: usize, possible: Steps) -> bool
+fn any_impossible(store: Store, n: usize, possible: Steps) -> bool
 {
     let certain = Steps::of(store);
     for s in 0..n {
@@ -75,19 +69,19 @@ fn any_impossible(store: &[u64], n: usize, possible: Steps) -> bool
     false
 }
 
-// Whether a call is accepted where the path has so much room.
-fn accept_possible(
-    store: &[u64],
+// The store, where a call is accepted and the path has so much room.
+fn accept_possible<'a>(
+    store: &'a [u64],
     n: usize,
     g: usize,
     possible: &[u64],
     room: usize,
-) -> Result<(), Refusal>
+) -> Result<Store<'a>, Refusal>
 {
     if possible.len() < POSSIBLE_WORDS {
         return Err(Refusal::StoreShort);
     }
-    accept(store, n, g)?;
+    let store = accept(store, n, g)?;
     if is_malformed(possible, n) {
         return Err(Refusal::StrayBit);
     }
@@ -97,7 +91,7 @@ fn accept_possible(
     if room < MAX_STATES {
         return Err(Refusal::PathShort);
     }
-    Ok(())
+    Ok(store)
 }
 
 // ---- the call
@@ -128,7 +122,7 @@ pub fn decide_modal(
     path: &mut [u16],
 ) -> Result<ModalVerdict, Refusal>
 {
-    accept_possible(store, n, g, possible, path.len())?;
+    let store = accept_possible(store, n, g, possible, path.len())?;
     let possible = Steps { words: possible };
     let certain = Steps::of(store);
     // a hang has no possible step: the same for every choice

@@ -17,7 +17,7 @@ use crate::core_reach::newly_reached;
 use crate::core_refusals::Refusal;
 use crate::core_rows::{Rows, Steps, forbidden, row_of};
 use crate::core_state_set::{MAX_STATES, StateSet, WORDS};
-use crate::core_table::{INITIAL_AT, accept, set_at};
+use crate::core_table::accept;
 
 // The states of x that step to a state of y: those that are not in hold of all other states.
 pub fn stepping_into(steps: Steps, x: StateSet, y: StateSet) -> StateSet
@@ -117,14 +117,14 @@ pub fn shortest_path(
     path: &mut [u16],
 ) -> Result<Option<usize>, Refusal>
 {
-    accept(store, n, g)?;
+    let store = accept(store, n, g)?;
     if path.len() < MAX_STATES {
         return Err(Refusal::PathShort);
     }
     Ok(find_path(
         Steps::of(store),
         n,
-        set_at(store, INITIAL_AT),
+        store.initial(),
         forbidden(store, n),
         path,
     ))
@@ -141,10 +141,10 @@ fn is_within(found: Option<usize>, k: usize) -> bool
 // Is there a path of at most k steps? The layers of the search are not kept.
 pub fn within(store: &[u64], n: usize, g: usize, k: usize) -> Result<bool, Refusal>
 {
-    accept(store, n, g)?;
+    let store = accept(store, n, g)?;
     let found = first_layer(
         Steps::of(store),
-        set_at(store, INITIAL_AT),
+        store.initial(),
         forbidden(store, n),
         &mut [],
     );

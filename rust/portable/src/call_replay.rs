@@ -5,14 +5,14 @@
 //   entry_at, holds_at     one entry of a log; whether a set of the store holds a state
 //   Walked, follow         the log followed from the initial states on: how many entries, and the states that they hold
 //   Covered, coverage      whole percent and remainder of the states that can be reached
-//   accept_log             refuses by the first of the grounds 10, 14, 15, 17, 25 and 26 that holds
+//   accept_log             the store, or the first of the grounds 10, 14, 15, 17, 25 and 26 that holds
 //   Walk, replay           the call
 
 use crate::core_reach::reached;
 use crate::core_refusals::Refusal;
 use crate::core_rows::Steps;
 use crate::core_state_set::{StateSet, WORD_BITS, WORDS};
-use crate::core_table::{INITIAL_AT, ROWS_AT, accept, set_at};
+use crate::core_table::{ROWS_AT, Store, accept};
 
 // The bytes of an entry, and the most that a log may have.
 pub const ENTRY_BYTES: usize = 2;
@@ -43,14 +43,14 @@ pub struct Walked {
 // One pass over the log, up to the first entry that breaks the walk. The set at `at` has the states that the next entry may hold. The
 // store is taken with all its rows: those of an accepted one are empty from n up. The bits are set in place, since a set that went in and
 // came back for each entry would be most of the work.
-fn follow(store: &[u64], log: &[u8]) -> Walked
+fn follow(store: Store, log: &[u8]) -> Walked
 {
     let mut at = 0;
     let mut words = [0; WORDS];
     let entries = log.len() / ENTRY_BYTES;
     for i in 0..entries {
         let s = entry_at(log, i);
-        if !holds_at(store, at, s) {
+        if !holds_at(store.words, at, s) {
             return Walked {
                 followed: i,
                 seen: StateSet { words },
@@ -87,17 +87,17 @@ fn coverage(states: usize, reached: usize) -> Covered
     }
 }
 
-// Whether a log of so many bytes is accepted.
-fn accept_log(store: &[u64], n: usize, g: usize, bytes: usize) -> Result<(), Refusal>
+// The store, where a log of so many bytes is accepted.
+fn accept_log(store: &[u64], n: usize, g: usize, bytes: usize) -> Result<Store<'_>, Refusal>
 {
-    accept(store, n, g)?;
+    let store = accept(store, n, g)?;
     if bytes % ENTRY_BYTES != 0 {
         return Err(Refusal::LogOdd);
     }
     if MAX_LOG < bytes {
         return Err(Refusal::LogLong);
     }
-    Ok(())
+    Ok(store)
 }
 
 // What the call answers: the entries followed, the different states among them, and the coverage.
@@ -111,10 +111,10 @@ pub struct Walk {
 
 pub fn replay(store: &[u64], n: usize, g: usize, log: &[u8]) -> Result<Walk, Refusal>
 {
-    accept_log(store, n, g, log.len())?;
+    let store = accept_log(store, n, g, log.len())?;
     let walked = follow(store, log);
     let seen = walked.seen.count();
-    let reached = reached(Steps::of(store), set_at(store, INITIAL_AT)).count();
+    let reached = reached(Steps::of(store), store.initial()).count();
     let covered = coverage(seen, reached);
     Ok(Walk {
         followed: walked.followed,

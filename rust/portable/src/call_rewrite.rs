@@ -9,7 +9,7 @@
 use crate::core_refusals::Refusal;
 use crate::core_rows::Steps;
 use crate::core_state_set::StateSet;
-use crate::core_table::{RESTING_AT, STORE_WORDS, put_set};
+use crate::core_table::{RESTING_AT, STORE_WORDS, Store, put_set};
 use crate::file_reading::read_old;
 use crate::file_writing::write;
 
@@ -24,8 +24,10 @@ pub fn rewrite(input: &[u8], output: &mut [u8]) -> Result<usize, Refusal>
     write(&store, size.n, size.g, SITE, output)
 }
 
+// kept: a Store is lent to be read; what is written is a slice
 fn rest_dead_ends(store: &mut [u64], n: usize)
 {
-    let dead = Steps::of(store).meet_hold(StateSet::first_states(n), StateSet::empty());
+    let steps = Steps::of(Store { words: store });
+    let dead = steps.meet_hold(StateSet::first_states(n), StateSet::empty());
     put_set(store, RESTING_AT, dead);
 }

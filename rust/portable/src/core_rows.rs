@@ -14,10 +14,10 @@
 //   Rows, row_of, union_of       a row of words for each state, the set in one row, the union of the rows of a set's states
 //
 // What works on a table is lent its parts: the steps (of the store, or possible steps as they are lent), the groups
-// (`&store[GROUPS_AT..]`), and sets by value. Functions ask for a store that is long enough.
+// (`&store.words[GROUPS_AT..]`), and sets by value.
 
 use crate::core_state_set::{MAX_STATES, StateSet, WORD_BITS, WORDS};
-use crate::core_table::{MARKED_AT, RESTING_AT, ROWS_AT, set_at};
+use crate::core_table::{MARKED_AT, RESTING_AT, ROWS_AT, Store, set_at};
 
 // The places of a word's ones, rising: an iterator, which has the ones that are left.
 #[derive(Clone, Copy)]
@@ -62,10 +62,10 @@ pub struct Steps<'a> {
 
 impl<'a> Steps<'a> {
     // Those of the table that a store holds.
-    pub fn of(store: &'a [u64]) -> Self
+    pub fn of(store: Store<'a>) -> Self
     {
         Steps {
-            words: &store[ROWS_AT..],
+            words: &store.words[ROWS_AT..],
         }
     }
 
@@ -124,14 +124,14 @@ impl Relation for Steps<'_> {
 }
 
 // The marked states, and those below n that hang by the rows: the one place that works out what is forbidden.
-pub fn forbidden_by(store: &[u64], n: usize, steps: Steps) -> StateSet
+pub fn forbidden_by(store: Store, n: usize, steps: Steps) -> StateSet
 {
-    let hung = steps.hangs(n, set_at(store, RESTING_AT));
-    set_at(store, MARKED_AT).union(hung)
+    let hung = steps.hangs(n, set_at(store.words, RESTING_AT));
+    set_at(store.words, MARKED_AT).union(hung)
 }
 
 // The forbidden states of a table with n states; its groups play no part.
-pub fn forbidden(store: &[u64], n: usize) -> StateSet
+pub fn forbidden(store: Store, n: usize) -> StateSet
 {
     forbidden_by(store, n, Steps::of(store))
 }

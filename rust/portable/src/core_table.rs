@@ -7,9 +7,11 @@
 //   any_stored_beyond            whether some of the store's sets have a state from n up
 //   any_stored                   whether some of them have a state
 //   non_zero_word                whether some of its words are not 0
-//   accept                       refuses by the first of the grounds 10, 14, 15 and 17 that holds
+//   Store                        the words of a table: a lent store that is long enough
+//     initial                      its initial states
+//   accept                       the store, or the first of the grounds 10, 14, 15 and 17 that holds
 //
-// Functions below the calls ask for a store that is long enough; `accept` asks for nothing.
+// What reads a table is lent a `Store`, which is long enough; `accept` asks for nothing.
 
 use crate::core_refusals::Refusal;
 use crate::core_state_set::{MAX_STATES, StateSet, WORDS};
@@ -31,6 +33,19 @@ pub const ROWS_AT: usize = (HEAD_SETS + MAX_GROUPS) * WORDS;
 
 pub const STORE_WORDS: usize = (HEAD_SETS + MAX_GROUPS + MAX_STATES) * WORDS;
 
+// The words of a table: a lent store that is long enough.
+#[derive(Clone, Copy)]
+pub struct Store<'a> {
+    pub words: &'a [u64],
+}
+
+impl Store<'_> {
+    pub fn initial(self) -> StateSet
+    {
+        set_at(self.words, INITIAL_AT)
+    }
+}
+
 // The set whose words begin at `at`.
 // kept: by place, as in put_set: `copy_from_slice` tests for an overlap, and takes 50 instructions for 36
 pub fn set_at(store: &[u64], at: usize) -> StateSet
@@ -43,6 +58,7 @@ pub fn set_at(store: &[u64], at: usize) -> StateSet
 }
 
 // The words of a table, those of unused groups and rows among them.
+// kept: a Store is lent to be read; what is written is a slice
 pub fn clear(store: &mut [u64])
 {
     store[..STORE_WORDS].fill(0);
@@ -100,27 +116,27 @@ pub fn non_zero_word(store: &[u64], from: usize, to: usize) -> bool
 }
 
 // A 1 bit for a state from n up, or a word of an unused group or row not 0.
-fn is_malformed(store: &[u64], n: usize, g: usize) -> bool
+fn is_malformed(store: Store, n: usize, g: usize) -> bool
 {
-    if is_beyond(set_at(store, INITIAL_AT), n) {
+    if is_beyond(store.initial(), n) {
         return true;
     }
-    if is_beyond(set_at(store, MARKED_AT), n) {
+    if is_beyond(set_at(store.words, MARKED_AT), n) {
         return true;
     }
-    if is_beyond(set_at(store, RESTING_AT), n) {
+    if is_beyond(set_at(store.words, RESTING_AT), n) {
         return true;
     }
-    if any_stored_beyond(store, GROUPS_AT, g, n) {
+    if any_stored_beyond(store.words, GROUPS_AT, g, n) {
         return true;
     }
-    if any_stored_beyond(store, ROWS_AT, n, n) {
+    if any_stored_beyond(store.words, ROWS_AT, n, n) {
         return true;
     }
-    if non_zero_word(store, GROUPS_AT + WORDS * g, ROWS_AT) {
+    if non_zero_word(store.words, GROUPS_AT + WORDS * g, ROWS_AT) {
         return true;
     }
-    non_zero_word(store, ROWS_AT + WORDS * n, STORE_WORDS)
+    non_zero_word(store.words, ROWS_AT + WORDS * n, STORE_WORDS)
 }
 
 // Groups but no state.
@@ -129,8 +145,8 @@ fn is_groups_alone(n: usize, g: usize) -> bool
     n == 0 && g != 0
 }
 
-// Whether a store with n states and g groups is accepted.
-pub fn accept(store: &[u64], n: usize, g: usize) -> Result<(), Refusal>
+// A store with n states and g groups, where it is accepted.
+pub fn accept(store: &[u64], n: usize, g: usize) -> Result<Store<'_>, Refusal>
 {
     if store.len() < STORE_WORDS {
         return Err(Refusal::StoreShort);
@@ -144,8 +160,9 @@ pub fn accept(store: &[u64], n: usize, g: usize) -> Result<(), Refusal>
     if MAX_GROUPS < g {
         return Err(Refusal::Groups);
     }
+    let store = Store { words: store };
     if is_malformed(store, n, g) {
         return Err(Refusal::StrayBit);
     }
-    Ok(())
+    Ok(store)
 }

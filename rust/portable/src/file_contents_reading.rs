@@ -42,6 +42,7 @@ pub fn non_zero_byte(bytes: &[u8]) -> bool
 // ---- filling
 
 // The sets before the groups, the groups and the rows: of each part of the store its first sets come from the contents, and the others are empty.
+// kept: a Store is lent to be read; one lent to be written would be a second type, made anew at each call
 pub fn fill(form: Form, bytes: &[u8], counts: Counts, store: &mut [u64])
 {
     let n = counts.n;

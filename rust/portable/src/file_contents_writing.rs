@@ -11,24 +11,24 @@
 // What is written is said with the model's `overwrite`: at the front of what was lent, the rest of it untouched.
 
 use crate::core_state_set::WORDS;
-use crate::core_table::{GROUPS_AT, HEAD_SETS, ROWS_AT};
+use crate::core_table::{GROUPS_AT, HEAD_SETS, ROWS_AT, Store};
 use crate::file_blocks::{Counts, Form, HEADER, added};
 
-pub fn join_contents(store: &[u64], counts: Counts, out: &mut [u8])
+pub fn join_contents(store: Store, counts: Counts, out: &mut [u8])
 {
     write_le16(counts.n, out);
     write_le16(added(Form::New) + counts.g, &mut out[2..]);
     join_sets(store, counts, &mut out[HEADER..]);
 }
 
-fn join_sets(store: &[u64], counts: Counts, out: &mut [u8])
+fn join_sets(store: Store, counts: Counts, out: &mut [u8])
 {
     let width = counts.set_width();
     for k in 0..counts.set_count(Form::New) {
         let a = place_of(counts, k);
         let e = a + WORDS;
         let at = width * k;
-        put_set_bytes(&store[a..e], width, &mut out[at..]);
+        put_set_bytes(&store.words[a..e], width, &mut out[at..]);
     }
 }
 

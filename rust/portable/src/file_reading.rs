@@ -50,6 +50,7 @@ fn read_as(form: Form, input: &[u8], site: usize, store: &mut [u64]) -> Result<T
     read_file(form, input, site, store)
 }
 
+// kept, here and below: a Store is lent to be read; one lent to be written would be a second type, made anew at each call
 fn read_file(form: Form, input: &[u8], site: Site, store: &mut [u64]) -> Result<TableSize, Refusal>
 {
     if input.len() % BLOCK != 0 {

@@ -9,7 +9,7 @@
 // What is written is said with the model's `overwrite`: at the front of what was lent, the rest of it untouched.
 
 use crate::core_refusals::Refusal;
-use crate::core_table::{STORE_WORDS, accept};
+use crate::core_table::{STORE_WORDS, Store, accept};
 use crate::file_blocks::{
     BLOCK, CHECK_AT, CONTENT_AT, CONTENT_BYTES, Counts, Form, JOINED_ROOM, MAX_SITE, Site,
     blocks_for, checksum_of, copy_content,
@@ -32,7 +32,7 @@ pub fn write(
         return Err(Refusal::Site);
     }
     let site = Site { number: site };
-    accept(store, n, g)?;
+    let store = accept(store, n, g)?;
     if n == 0 {
         return Ok(0);
     }
@@ -48,7 +48,7 @@ pub fn write(
 }
 
 // The contents are joined first: so each set is taken apart once, by words, wherever the edges of blocks cut it.
-fn write_file(store: &[u64], counts: Counts, site: Site, blocks: usize, out: &mut [u8])
+fn write_file(store: Store, counts: Counts, site: Site, blocks: usize, out: &mut [u8])
 {
     let mut bytes = [0u8; JOINED_ROOM];
     join_contents(store, counts, &mut bytes);

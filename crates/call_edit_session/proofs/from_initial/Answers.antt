@@ -3,4 +3,4 @@ use Rattle.call_edit_session.proofs.SessionAnswered.{from_initial-is}
 use Rattle.call_edit_session.proofs.from_initial.Goals as goal
 
 pub returns : goal.returns
-returns c = from_initial-is _ c.of.ensures c.set_at.ensures c.reached.ensures
+returns c = from_initial-is _ c.of.ensures c.initial.ensures c.reached.ensures

@@ -7,4 +7,4 @@ use Rattle.core_fixpoints.proofs.SetsListed.{Stored}
 use Rattle.call_first_order.proofs.first_order.Given as goal
 
 abbrev pub invariant-loop-s : goal.invariant-loop-s
-invariant-loop-s l = Stored max_states (cover_of l.n (l.z.words ∷ groups_in (groups_of l.store) l.g)) l.row-items l.s
+invariant-loop-s l = Stored max_states (cover_of l.n (l.z.words ∷ groups_in (groups_of l.store.words.now) l.g)) l.row-items l.s

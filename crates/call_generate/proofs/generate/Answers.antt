@@ -1,14 +1,12 @@
 -- `generate`: the store is filled where nothing is refused.
 use Rattle.std.proofs.Common.{sym, le_of_eq, arith}
-use Rattle.std.proofs.lemmas.Result.{err_from_is_err_and}
+use Rattle.core_refusals.proofs.RefusalsPassed.{passed_on}
 use Rattle.call_generate.proofs.Numbers.{front_long}
 use Rattle.call_generate.proofs.GenerateAnswered.{accepted-load, refused_load, filled_load}
 use Rattle.call_generate.proofs.generate.Goals as goal
 
 pub returns-in_err-accept_load : goal.returns-in_err-accept_load
-returns-in_err-accept_load c =
-    let p = err_from_is_err_and c.from_residual.result c.from_residual.ensures.1 in
-    rw (p.1, p.2) (refused_load _ _ _ _ _ c.in_err-accept_load.ensures)
+returns-in_err-accept_load c = rw (passed_on _ c.from_residual.ensures.1) (refused_load _ _ _ _ _ c.in_err-accept_load.ensures)
 
 pub overflow_mul-count : goal.overflow_mul-count
 overflow_mul-count c = omega (arith, (accepted-load _ _ _ c.in_ok-accept_load.ensures).most)

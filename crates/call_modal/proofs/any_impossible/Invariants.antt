@@ -6,4 +6,4 @@ use Rattle.call_modal.specs.Modal.{certain_impossible}
 use Rattle.call_modal.proofs.any_impossible.Given as goal
 
 abbrev pub invariant-loop-s : goal.invariant-loop-s
-invariant-loop-s l = (l.s ≤ l.n) × (certain_impossible l.store l.s l.possible.words.now ≡ false)
+invariant-loop-s l = (l.s ≤ l.n) × (certain_impossible l.store.words.now l.s l.possible.words.now ≡ false)

@@ -25,37 +25,37 @@ overflow_shl-words c = omega arith
 
 pub offset_bounds-words-s : goal.offset_bounds-words-s
 offset_bounds-words-s c =
-    let held : member (set_at c.args.store.now c.loop-i.at) c.entry_at-s.result ≡ true = sym c.holds_at.ensures ∙ c.if-not-holds_at.false in
+    let held : member (set_at c.args.store.words.now c.loop-i.at) c.entry_at-s.result ≡ true = sym c.holds_at.ensures ∙ c.if-not-holds_at.false in
     let state : c.entry_at-s.result < max_states = in_bound (record { is = held }) in
     record { fits = omega (arith, state) }
 
 pub bounds-words-s : goal.bounds-words-s
 bounds-words-s c =
-    let held : member (set_at c.args.store.now c.loop-i.at) c.entry_at-s.result ≡ true = sym c.holds_at.ensures ∙ c.if-not-holds_at.false in
+    let held : member (set_at c.args.store.words.now c.loop-i.at) c.entry_at-s.result ≡ true = sym c.holds_at.ensures ∙ c.if-not-holds_at.false in
     let state : c.entry_at-s.result < max_states = in_bound (record { is = held }) in
     omega (arith, state)
 
 pub bounds-words-s-in-loop-i : goal.bounds-words-s-in-loop-i
 bounds-words-s-in-loop-i c =
-    let held : member (set_at c.args.store.now c.loop-i.at) c.entry_at-s.result ≡ true = sym c.holds_at.ensures ∙ c.if-not-holds_at.false in
+    let held : member (set_at c.args.store.words.now c.loop-i.at) c.entry_at-s.result ≡ true = sym c.holds_at.ensures ∙ c.if-not-holds_at.false in
     let state : c.entry_at-s.result < max_states = in_bound (record { is = held }) in
     omega (arith, state)
 
 pub overflow_mul-at : goal.overflow_mul-at
 overflow_mul-at c =
-    let held : member (set_at c.args.store.now c.loop-i.at) c.entry_at-s.result ≡ true = sym c.holds_at.ensures ∙ c.if-not-holds_at.false in
+    let held : member (set_at c.args.store.words.now c.loop-i.at) c.entry_at-s.result ≡ true = sym c.holds_at.ensures ∙ c.if-not-holds_at.false in
     let state : c.entry_at-s.result < max_states = in_bound (record { is = held }) in
     record { fits = omega (arith, state) }
 
 pub overflow_add-at : goal.overflow_add-at
 overflow_add-at c =
-    let held : member (set_at c.args.store.now c.loop-i.at) c.entry_at-s.result ≡ true = sym c.holds_at.ensures ∙ c.if-not-holds_at.false in
+    let held : member (set_at c.args.store.words.now c.loop-i.at) c.entry_at-s.result ≡ true = sym c.holds_at.ensures ∙ c.if-not-holds_at.false in
     let state : c.entry_at-s.result < max_states = in_bound (record { is = held }) in
     record { fits = omega (arith, state) }
 
 pub loop-i-preserved : goal.loop-i-preserved
 loop-i-preserved c =
-    let held : member (set_at c.args.store.now c.loop-i.at) c.entry_at-s.result ≡ true = sym c.holds_at.ensures ∙ c.if-not-holds_at.false in
+    let held : member (set_at c.args.store.words.now c.loop-i.at) c.entry_at-s.result ≡ true = sym c.holds_at.ensures ∙ c.if-not-holds_at.false in
     let state : c.entry_at-s.result < max_states = in_bound (record { is = held }) in
     let here = c.loop-i.invariant.1 in (
       search rules,

@@ -5,4 +5,4 @@ use Rattle.call_replay.proofs.Following.{Following}
 use Rattle.call_replay.proofs.follow.Given as goal
 
 abbrev pub invariant-loop-i : goal.invariant-loop-i
-invariant-loop-i l = (l.i ≤ entry_count l.log) × Following l.store l.log l.i l.at l.words
+invariant-loop-i l = (l.i ≤ entry_count l.log) × Following l.store.words.now l.log l.i l.at l.words

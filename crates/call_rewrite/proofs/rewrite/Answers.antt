@@ -1,14 +1,12 @@
 -- `rewrite`: what write gives for the table that read_old put into the store, or read_old's refusal.
 use mathlib.Core.Path.{◌∙◌}
 use borrow.Author.Rules.{rules}
-use Rattle.std.proofs.lemmas.Result.{err_from_is_err_and}
+use Rattle.core_refusals.proofs.RefusalsPassed.{passed_on}
 use Rattle.call_rewrite.proofs.RewriteAnswered.{rewrite-refused, rewrite-written}
 use Rattle.call_rewrite.proofs.rewrite.Goals as goal
 
 pub returns-in_err-size : goal.returns-in_err-size
-returns-in_err-size c =
-    let p = err_from_is_err_and c.from_residual.result c.from_residual.ensures.1 in
-    rw (p.1, p.2) (rewrite-refused _ c.in_err-size.ensures.0 _)
+returns-in_err-size c = rw (passed_on _ c.from_residual.ensures.1) (rewrite-refused _ c.in_err-size.ensures.0 _)
 
 pub returns : goal.returns
 returns c =

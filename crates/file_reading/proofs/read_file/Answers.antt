@@ -3,8 +3,8 @@ use native.Mathlib.Omega.{arith}
 use mathlib.Core.Path.{refl}
 use mathlib.Core.List.{[], ◌∷◌}
 use borrow.Author.Rules.{rules}
-use Rattle.std.proofs.lemmas.Result.{err_from_is_err_and}
 use Rattle.core_refusals.proofs.RefusalNumbers.{number_some}
+use Rattle.core_refusals.proofs.RefusalsPassed.{passed_on}
 use Rattle.model.specs.Calls.{blocks_grounds, file_grounds}
 use Rattle.basics.proofs.RefusalLaws.{refuse-append}
 use Rattle.model.proofs.CallLaws.{blocks-numbered}
@@ -27,9 +27,8 @@ join_blocks-requires c = joined-room joined_room (omega arith) c.if-input-gt-MAX
 pub returns-in_err-join_blocks : goal.returns-in_err-join_blocks
 unfolding file_grounds
 returns-in_err-join_blocks c =
-    let p = err_from_is_err_and c.from_residual.result c.from_residual.ensures.1 in
     let join = c.in_err-join_blocks.ensures in
-    rw (p.1, p.2)
+    rw (passed_on _ c.from_residual.ensures.1)
     (reads_behind (_ ∷ []) _ (search (rules, whole_blocks), tt) (reads_refused _ (refuse-append (blocks_grounds _ _) _ join.first_ground (number_some _))))
 
 pub returns : goal.returns
