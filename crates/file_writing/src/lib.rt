@@ -10,7 +10,7 @@
 ghost use Rattle.std.specs.Prelude.{◌+◌, ◌*◌, ◌≤◌, ◌<◌, ◌≡◌, length};
 ghost use Rattle.model.specs.Sets.{max_states};
 ghost use Rattle.basics.specs.Bounds.{concat};
-ghost use Rattle.model.specs.Stores.{max_groups, store_words, dialogue_of};
+ghost use Rattle.model.specs.Stores.{max_groups, dialogue_of};
 ghost use Rattle.model.specs.Blocks.{block_bytes, content_bytes, blocks_for, block_of};
 ghost use Rattle.model.specs.Contents.{new_form, contents, content_length};
 ghost use Rattle.model.specs.Calls.{overwrite};
