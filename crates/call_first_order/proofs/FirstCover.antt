@@ -1,18 +1,14 @@
 -- The cover for the list of the first round, and the order of that round.
 --
---   Meeting, meeting-*       `first_cover_of`: the cover of a state for the groups added so far
+--   first_cover              with Z added, the cover of the groups is that of the first round
 --   accepted                 what a call that is answered knows of its store
 --   order_refused, order_listed      the answer of `first_order`
-use Prim.Native.Nat.{ℕ, ◌-◌, ◌*◌, ◌≤◌, ◌<◌}
-use native.Mathlib.Nat.{le_refl}
-use native.Mathlib.Omega.{arith}
+use Prim.Native.Nat.{ℕ, ◌-◌, ◌≤◌}
 use mathlib.Core.Path.{◌≡◌, refl, sym, ap, ap₂, ◌∙◌}
-use mathlib.Core.Bool.{cond}
-use mathlib.Core.List.{List, [], ◌∷◌, ◌++◌, append_assoc, append-nil}
+use mathlib.Core.List.{List, [], ◌∷◌}
 use lib.ListN.{length}
-use Rattle.basics.specs.Bounds.{tabulate}
-use Rattle.model.specs.Sets.{WORDS, max_states, Set, member, meet, first_states}
-use Rattle.model.specs.Tables.{cover_of, not_forbidden}
+use Rattle.model.specs.Sets.{max_states, Set}
+use Rattle.model.specs.Tables.{not_forbidden}
 use Rattle.model.specs.Rounds.{round_of, first_round}
 use Rattle.basics.specs.Refusals.{refuse, Answered, answered}
 use Rattle.model.specs.Stores.{set_at, table_of, shared_grounds}
@@ -28,51 +24,23 @@ use Rattle.core_refusals.specs.declared.Refusal.{Refusal}
 use Rattle.core_refusals.specs.Refusals.{number}
 use Rattle.core_refusals.proofs.RefusalNumbers.{answer_refused}
 use Rattle.model.proofs.StoresAccepted.{Store, accepted_store}
-use Rattle.call_first_order.specs.declared.FirstOrder.{FirstOrder}
+use Rattle.core_fixpoints.specs.declared.Expanded.{Expanded}
 use Rattle.call_first_order.specs.OrderAnswers.{OrderAnswer, order_answer, CalledFirstOrder}
-use Rattle.core_rounds.proofs.Adding.{groups_last}
+use Rattle.core_rounds.specs.Adding.{narrowed}
+use Rattle.core_rounds.proofs.Adding.{covers-add}
 
--- ---- the cover of a state
+-- ---- the cover
 
--- of the g groups the first j are still to be added to the list that `met` is the cover for
-pub record Meeting (groups : List ℕ) (g n s : ℕ) (met : Set) (j : ℕ) : Type 0 where
-  pub list : List Set
-  pub met_is : met ≡ cover_of n list s
-  pub whole : groups_in groups j ++ list ≡ groups_in groups g
-  pub left : j ≤ g
-
-module _ (groups : List ℕ) (g n s : ℕ) where
-  pub meeting_start : {all : Set} → all ≡ first_states n → Meeting groups g n s all g
-  unfolding cover_of
-  meeting_start e = record { list = []; met_is = e; whole = append-nil _; left = le_refl g }
-
-  module _ {met : Set} {j : ℕ} (so : Meeting groups g n s met j) where
-    pub meeting_turn : {met' X : Set} → 0 < j → X ≡ set_at groups (WORDS * (j - 1)) → met' ≡ cond (member X s) (meet met X) met
-        → Meeting groups g n s met' (j - 1)
-    unfolding cover_of
-    meeting_turn {X = X} some x e =
-        record {
-          list = X ∷ so.list;
-          met_is = e ∙ ap (λ (Y : Set). cond (member X s) (meet Y X) Y) so.met_is;
-          whole =
-              sym (append_assoc (groups_in groups (j - 1)) (X ∷ []) so.list)
-              ∙ ap (λ (P : List Set). P ++ so.list) (ap (λ (Y : Set). groups_in groups (j - 1) ++ (Y ∷ [])) x ∙ sym (groups_last groups j some))
-              ∙ so.whole;
-          left = omega (arith, so.left);
-        }
-
-    pub meeting_end : (Z : Set) {r : Set} → j ≤ 0 → r ≡ cond (member Z s) (meet met Z) met → r ≡ cover_of n (Z ∷ groups_in groups g) s
-    unfolding cover_of groups_in tabulate
-    meeting_end Z none e =
-        let z : j ≡ 0 = omega arith in
-        e ∙ ap (λ (Y : Set). cond (member Z s) (meet Y Z) Y) (so.met_is ∙ ap (λ (L : List Set). cover_of n L s) (rw z at so.whole))
+pub first_cover : (n g : ℕ) (groups : List ℕ) (Z : Set) {before cover : List Set} → before ≡ covers n (groups_in groups g) → cover ≡ narrowed before Z
+    → cover ≡ covers n (Z ∷ groups_in groups g)
+first_cover n g groups Z b c = c ∙ ap (λ (C : List Set). narrowed C Z) b ∙ covers-add n (groups_in groups g) Z
 
 -- ---- the answer
 
 module _ (store : List ℕ) (n g : ℕ) where
   pub order_refused : (r : Refusal) → number r ≡ refuse (shared_grounds store n g) → CalledFirstOrder store n g (Err r)
   unfolding order_answer
-  order_refused = answer_refused (λ (o : FirstOrder). record { count = o.count; states = o.states }) (shared_grounds store n g) _
+  order_refused = answer_refused (λ (o : Expanded). record { count = o.count; states = o.states }) (shared_grounds store n g) _
 
   pub accepted : 0 ≡ refuse (shared_grounds store n g) → Store store n g
   accepted e = (accepted_store store n g [] (sym e)).0

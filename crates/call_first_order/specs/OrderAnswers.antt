@@ -10,7 +10,7 @@ use Rattle.core_refusals.specs.declared.Refusal.{Refusal}
 use Rattle.core_refusals.specs.Refusals.{answer_of}
 use Rattle.model.specs.Stores.{table_of, shared_grounds}
 use Rattle.core_fixpoints.specs.Order.{forward_order, padded}
-use Rattle.call_first_order.specs.declared.FirstOrder.{FirstOrder}
+use Rattle.core_fixpoints.specs.declared.Expanded.{Expanded}
 
 pub record OrderAnswer : Type 0 where
   pub count : ℕ  -- of the states that are expanded
@@ -22,8 +22,8 @@ order_answer store n g =
     let xs = forward_order t (first_round t).list (first_round t).Z in
     answer (shared_grounds store n g) (record { count = length xs; states = padded xs })
 
-abbrev pub ordered_of : Result FirstOrder Refusal → Answered OrderAnswer
+abbrev pub ordered_of : Result Expanded Refusal → Answered OrderAnswer
 ordered_of = answer_of (λ o. record { count = o.count; states = o.states })
 
-abbrev pub CalledFirstOrder : List ℕ → ℕ → ℕ → Result FirstOrder Refusal → Type 0
+abbrev pub CalledFirstOrder : List ℕ → ℕ → ℕ → Result Expanded Refusal → Type 0
 CalledFirstOrder store n g r = ordered_of r ≡ order_answer store n g

@@ -12,7 +12,7 @@ use Rattle.core_fixpoints.specs.Steps.{covers, forward_by}
 use Rattle.core_fixpoints.specs.Order.{order_by, InOrder}
 use Rattle.call_first_order.specs.OrderAnswers.{OrderAnswer, order_answer, ordered_of, CalledFirstOrder}
 use Rattle.core_refusals.specs.declared.Refusal.{Refusal}
-use Rattle.call_first_order.specs.declared.FirstOrder.{FirstOrder}
+use Rattle.core_fixpoints.specs.declared.Expanded.{Expanded}
 
 pub record OrderPromises : Type 0 where
   -- the order in the contract of `forward`, of rows and the cover for a list
@@ -22,10 +22,10 @@ pub record OrderPromises : Type 0 where
   pub forward_R : (n : ℕ) (initial forbidden : Set) (groups : List Set) (rows : List ℕ) (L : List Set) (Z R : Set) → subset Z (first_states n) ≡ true
       → IsLeast (forward_by rows (covers n L) initial Z) R → R ≡ forwardSet (table_on n initial forbidden groups rows) L Z
   -- what first_order returns is the order of the first round
-  pub first_order : (store : List ℕ) (n g : ℕ) (r : Result FirstOrder Refusal) (a : OrderAnswer) → CalledFirstOrder store n g r → ordered_of r ≡ answered a
+  pub first_order : (store : List ℕ) (n g : ℕ) (r : Result Expanded Refusal) (a : OrderAnswer) → CalledFirstOrder store n g r → ordered_of r ≡ answered a
       → InOrder (table_of store n g) (first_round (table_of store n g)).list (first_round (table_of store n g)).Z (take a.count a.states)
   -- a refused call gives the number of the first ground that holds, and, as its type says, no state
-  pub refusal : (store : List ℕ) (n g : ℕ) (r : Result FirstOrder Refusal) (k : ℕ) → CalledFirstOrder store n g r → ordered_of r ≡ refused k
+  pub refusal : (store : List ℕ) (n g : ℕ) (r : Result Expanded Refusal) (k : ℕ) → CalledFirstOrder store n g r → ordered_of r ≡ refused k
       → k ≡ refuse (shared_grounds store n g)
   -- on two stores that are alike in their first words: none after them is read
   pub first-words : (store other : List ℕ) → store_words ≤ length store → store_words ≤ length other → take store_words store ≡ take store_words other

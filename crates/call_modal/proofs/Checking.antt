@@ -2,10 +2,10 @@
 --
 --   table_with_lem                 the store's table with other forbidden states and rows, by what `run` is lent
 --   checked                    `check_on`
---   holds_lent, path-found     `path_on`
+--   path-found     `path_on`
 use Rattle.std.specs.Prelude.{Option, Some, None}
 use Prim.Native.Nat.{ℕ}
-use mathlib.Core.Path.{◌≡◌, refl, sym, ap, ◌∙◌, subst}
+use mathlib.Core.Path.{◌≡◌, refl, ap, ◌∙◌}
 use mathlib.Core.Bool.{cond}
 use mathlib.Core.List.{List, []}
 use lib.Dec.{eqb}
@@ -16,7 +16,6 @@ use Rattle.model.specs.Stores.{set_at, dialogue_of, table_of}
 use Rattle.model.specs.Calls.{release, decision_of}
 use Rattle.core_rows.specs.Rows.{groups_of, rows_in, groups_in, table_on}
 use Rattle.core_rows.proofs.RowsLent.{groups_of_lem}
-use Rattle.call_paths.specs.Search.{HoldsTable}
 use Rattle.call_paths.specs.PathAnswers.{found_in, path_written, steps_in}
 use Rattle.core_rounds.specs.RunAnswers.{outcome_of}
 use Rattle.core_rounds.specs.declared.Ending.{Ending}
@@ -57,9 +56,6 @@ module _ (store rows : List ℕ) (n : ℕ) (F : Set) {I : Set} (i : I ≡ set_at
       checks_out (table_with store n g F (rows_in rows n)) x (e ∙ ap (λ (t : Table). run t release) (table_with_lem g))
 
   -- ---- the path
-
-  pub holds_lent : HoldsTable rows n (set_at store 0) F → HoldsTable rows n I F
-  holds_lent h = subst (λ (X : Set). HoldsTable rows n X F) (sym i) h
 
   pub path-found : (path : List ℕ) {found : Option ℕ} {d : ℕ} {after : List ℕ}
       → (found ≡ found_in (table_on n I F [] rows)) × (after ≡ path_written (table_on n I F [] rows) path) → d ≡ steps_in found

@@ -8,7 +8,9 @@ use native.Mathlib.Nat.{zero-add, add-zero}
 use native.Mathlib.Numerals.{add-one}
 use native.Mathlib.Omega.{arith}
 use mathlib.Core.Path.{◌≡◌, refl, sym, ap, ap₂, ◌∙◌, subst}
+use mathlib.Core.Logic.{∥∥₁_elim}
 use mathlib.Core.Bool.{true, false}
+use Rattle.std.proofs.Props.{props}
 use mathlib.Core.List.{List, [], ◌++◌}
 use lib.ListN.{length, get_or, set, drop, replicate, length-replicate}
 use lib.Seq.{sets, sets-eq}
@@ -24,9 +26,10 @@ use Rattle.core_state_set.specs.WordSets.{Takes}
 use Rattle.std.specs.Prelude.{Some}
 use Rattle.core_rows.specs.Rows.{successors_by}
 use Rattle.core_fixpoints.specs.Steps.{cover_by, forward_by, IsCover}
+use Rattle.core_state_set.proofs.SetsStates.{members-none}
 use Rattle.core_fixpoints.specs.Order.{pass_at, order_of, first_pass_by, later_pass_by, order_by, padded}
 use Rattle.core_fixpoints.proofs.Bridge.{cover_by-within, cover_by-closed, forward_by_proper, forward-least}
-use Rattle.core_fixpoints.proofs.SetsListed.{members-none, size_apart}
+use Rattle.core_fixpoints.proofs.SetsListed.{size_apart}
 use Rattle.model.proofs.ListsInParts.{sets-append}
 use Rattle.core_fixpoints.proofs.Passes.{step_empty, step_union, frontier_new, order_next, order_long, pass_steps, pass_before, pass_still, iterate_done, order_still}
 
@@ -36,9 +39,6 @@ use Rattle.core_fixpoints.proofs.Passes.{step_empty, step_union, frontier_new, o
 pub record Recording (goal : List ℕ) (total : ℕ) (left : Set) (order : List ℕ) (count : ℕ) : Type 0 where
   pub whole : sets order count (members left) ≡ goal
   pub number : count + size left ≡ total
-
-pub record_start : {X left : Set} (order : List ℕ) (count : ℕ) → left ≡ X → Recording (sets order count (members X)) (count + size X) left order count
-record_start order count e = record { whole = ap (λ (Y : Set). sets order count (members Y)) e; number = ap (λ (Y : Set). count + size Y) e }
 
 module _ {goal : List ℕ} {total : ℕ} {left : Set} {order : List ℕ} {count : ℕ} (so : Recording goal total left order count) where
   module _ {s : ℕ} {rest : Set} (taken : Takes left (Some s) rest) where
@@ -109,7 +109,7 @@ module _ (rows : List ℕ) (cover : List Set) (initial Z : Set) where
   unfolding forward_by cover_by successors_by
   forward-more = step_union max_states max_states _ _ initial Z
 
-module _ (rows : List ℕ) (cover : List Set) (is-cover : IsCover cover) (initial Z : Set) where
+module _ (rows : List ℕ) (cover : List Set) (is-cover : ∥ IsCover cover ∥₁) (initial Z : Set) where
   abbrev first : Set
   first = first_pass_by cover initial Z
 
@@ -170,7 +170,7 @@ module _ (rows : List ℕ) (cover : List Set) (is-cover : IsCover cover) (initia
     passing_turn {found = found} some f c o t j u =
         let pass = pass_at first joined so.k in
         let stepped : found ≡ successors_by rows pass.frontier = f ∙ ap (successors_by rows) so.frontier-is in
-        let frontier-next = j ∙ skip_known cover is-cover (meet Z found) _ r_closed
+        let frontier-next = j ∙ ∥∥₁_elim is-cover (search props) (λ k. skip_known cover k (meet Z found) _ r_closed)
         ∙ ap₂ (λ (X Y : Set). difference (cover_by cover (meet Z X)) Y) stepped so.r_is in
         record {
           k = suc so.k;
@@ -198,18 +198,21 @@ module _ (rows : List ℕ) (cover : List Set) (is-cover : IsCover cover) (initia
       r_before : r ≡ (pass_at first joined so.k).before
       r_before = so.r_is ∙ sym (steps so.k) ∙ pass_still first joined step (forward_by_proper rows cover initial Z) none more so.k done
 
-      before-within : (pass_at first joined so.k).before ⊆ first_states is-cover.n
+      before-within : (k : IsCover cover) → (pass_at first joined so.k).before ⊆ first_states k.n
       unfolding forward_by
-      before-within =
-          subst (λ (X : Set). X ⊆ first_states is-cover.n) (sym (pass_before first joined step (forward_by_proper rows cover initial Z) none more so.k))
-          (iterate_has (λ X. X ⊆ first_states is-cover.n) step empty (λ s h. absurd (empty_in h)) (λ X h. cover_by-within cover is-cover _) so.k)
+      before-within k =
+          subst (λ (X : Set). X ⊆ first_states k.n) (sym (pass_before first joined step (forward_by_proper rows cover initial Z) none more so.k))
+          (iterate_has (λ X. X ⊆ first_states k.n) step empty (λ s h. absurd (empty_in h)) (λ X h. cover_by-within cover k _) so.k)
+
+      least : IsCover cover → IsLeast step r
+      least k =
+          let few : so.k ≤ k.n = omega (arith, so.passes, so.count-is, size_bound (before-within k)) in
+          subst (IsLeast step)
+          (iterate_done first joined step (forward_by_proper rows cover initial Z) none more so.k done k.n few ∙ sym r_before)
+          (forward-least rows cover k initial Z)
 
       pub passing_least : IsLeast step r
-      passing_least =
-          let few : so.k ≤ is-cover.n = omega (arith, so.passes, so.count-is, size_bound before-within) in
-          subst (IsLeast step)
-          (iterate_done first joined step (forward_by_proper rows cover initial Z) none more so.k done is-cover.n few ∙ sym r_before)
-          (forward-least rows cover is-cover initial Z)
+      passing_least = ∥∥₁_elim is-cover (Prim.hlevel props) least
 
       whole : order_by rows cover initial Z ≡ order_of first joined so.k
       unfolding order_by

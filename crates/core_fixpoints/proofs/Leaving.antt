@@ -1,8 +1,7 @@
 -- The states that stay in a set that has become smaller: those that step to none of the states that left it.
 --
---   steps_word         `steps_by_word`: what is joined for a word
 --   by_word            what the states of a set step to, word by word, is what each of them steps to
---   kept_word          `held_word_within`: a word from which no step leads to a state that left
+--   kept_word          `Leading::held_word`: a word from which no step leads to a state that left
 --   leads_start, leads_again     what it asks for, at the first pass and at the next
 use Prim.Native.Nat.{ℕ, ◌+◌, ◌*◌, ◌/◌, ◌%◌, ◌<◌}
 use native.Mathlib.Omega.{arith}
@@ -13,11 +12,10 @@ use mathlib.Core.List.{List, []}
 use lib.ListN.{get_or}
 use mir.Syntax.{w64}
 use mir.Val.{Fits}
-use Rattle.model.specs.Sets.{WORDS, max_states, Set, bit, member, empty, union, difference, subset, meets, first_states}
+use Rattle.model.specs.Sets.{WORDS, max_states, Set, bit, member, union, difference, subset, meets, first_states}
 use Rattle.model.specs.Promises.{IsLeast}
 use Rattle.basics.proofs.BoundLaws.{and_true, and_intro, same_test, clash, get_or-tabulate}
-use Rattle.model.proofs.SetsMembers.{In, in_bound, in_or_out, in_union, in_difference, ◌⊆◌, in_subset, ⊆-of-eq, member_at, in_meets, in_image, union_comm, union-empty}
-use Rattle.model.proofs.SetsImages.{image_proper}
+use Rattle.model.proofs.SetsMembers.{In, in_bound, in_or_out, in_union, in_difference, ◌⊆◌, in_subset, ⊆-of-eq, member_at, in_meets, in_image}
 use Rattle.core_state_set.proofs.SetsWords.{word_is}
 use Rattle.core_state_set.proofs.SetsByWord.{in_word_set}
 use Rattle.core_rows.specs.Rows.{row_in, successors_by, meet_hold}
@@ -25,11 +23,6 @@ use Rattle.core_fixpoints.specs.Steps.{forward_by, steps_by_word, Leads, Prepare
 use Rattle.core_fixpoints.proofs.Bridge.{meet_hold_in, cover_by-within, forward-closed}
 
 -- ---- word by word
-
-pub steps_word : (rows : List ℕ) (X : Set) {found none : Set} → none ≡ empty → found ≡ union none (successors_by rows X) → found ≡ successors_by rows X
-unfolding successors_by
-steps_word rows X n e =
-    e ∙ ap (λ (Y : Set). union Y (successors_by rows X)) n ∙ union_comm empty _ ∙ union-empty _ (image_proper max_states (row_in rows) X)
 
 by_word : (rows : List ℕ) (X : Set) (s : ℕ) → In X s → row_in rows s ⊆ get_or (steps_by_word rows X) (s / 64) []
 unfolding steps_by_word successors_by

@@ -24,8 +24,9 @@ use Rattle.model.proofs.SetsMembers.{Proper, set_of_proper, In, in_or_out, empty
 use Rattle.model.proofs.SetsImages.{image-none, image-union}
 use Rattle.model.proofs.Fixpoints.{iterate-still}
 use Rattle.model.proofs.CoverLaws.{forward_step_proper}
+use Rattle.core_state_set.proofs.SetsStates.{members-none}
 use Rattle.core_fixpoints.specs.Order.{Pass, pass_at, order_of, first_pass, later_pass, forward_order, times, frontier_at, InOrder}
-use Rattle.core_fixpoints.proofs.SetsListed.{members-none, size_apart, times-append, times-members, filter-rising}
+use Rattle.core_fixpoints.proofs.SetsListed.{size_apart, times-append, times-members, filter-rising}
 
 -- ---- R's step
 

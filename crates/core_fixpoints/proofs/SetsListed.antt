@@ -1,7 +1,5 @@
 -- The states of a set as a list: its parts, its order, and what is written of it into an array.
 --
---   filter_or                     what one of two tests passes, where the numbers that pass the first come first
---   members-none, members-words, members_peel      the list of no states; of a word more; the least state, and the rest
 --   size_apart                    the size of a union of sets that have no state in common
 --   times-append, times-members   how often a number stands in two lists one after the other, and in the list of a set
 --   filter-rising                 the numbers that pass rise
@@ -9,58 +7,26 @@
 use Prim.Native.Nat.{ℕ, zero, suc, ◌+◌, ◌≤◌, ◌<◌, zero-le}
 use native.Mathlib.Nat.{not-suc-le-zero, zero-add, add-zero}
 use native.Mathlib.Omega.{arith}
-use mathlib.Core.Path.{◌≡◌, refl, sym, ap, ap₂, ◌∙◌, subst}
-use mathlib.Core.Logic.{inl, inr, ⊎_elim}
+use mathlib.Core.Path.{◌≡◌, refl, sym, ap, ap₂, ◌∙◌}
+use mathlib.Core.Logic.{⊎_elim}
 use mathlib.Core.Bool.{Bool, true, false, cond, ◌&&◌, ◌||◌}
-use mathlib.Core.List.{List, [], ◌∷◌, ◌++◌, append_assoc, append-nil}
+use mathlib.Core.List.{List, [], ◌∷◌, ◌++◌, append-nil}
 use borrow.Author.Tests.{eq-eqb, ne_eqb, eqb-true, eqb-false, lt-ltb, le-ltb, ltb-true}
 use lib.Dec.{eqb, ltb}
 use lib.ListN.{length, get_or, set, replicate, length-append, length-set, length-replicate, get_or-append}
 use lib.Seq.{get_or-append-add, ext_get_or, get_or-set_same, get_or-set_other}
 use Rattle.basics.specs.Bounds.{filter, tabulate}
-use Rattle.model.specs.Sets.{WORDS, max_states, Set, member, single, union, difference, members, size}
-use Rattle.basics.proofs.BoundLaws.{and_true, and_intro, is_false, decided, same_test, below_suc, lt_or_ge, or_intro, or_true, length-tabulate, get_or-tabulate}
-use Rattle.model.proofs.SetsMembers.{In, in_bound, in_single, single_in, in_union, union_in, in_difference, difference_in, in_or_out}
-use Rattle.core_state_set.specs.WordSets.{word_set, words_below}
-use Rattle.core_state_set.proofs.SetsByWord.{word_set_in, words_in, words_more}
+use Rattle.model.specs.Sets.{max_states, Set, member, union, members, size}
+use Rattle.basics.proofs.BoundLaws.{and_true, and_intro, is_false, decided, same_test, below_suc, lt_or_ge, length-tabulate, get_or-tabulate}
+use Rattle.model.proofs.SetsMembers.{In, in_bound}
+use Rattle.core_state_set.proofs.SetsStates.{union-member}
 use Rattle.core_fixpoints.specs.Order.{times}
-use Rattle.model.proofs.SetsCounted.{filter_none}
 
 -- ---- numbers that pass a test
 
-filter_one : (p : ℕ → Bool) (x n : ℕ) → x < n → p x ≡ true → ((k : ℕ) → p k ≡ true → k ≡ x) → filter n p ≡ x ∷ []
-unfolding filter
-filter_one p x zero h t only = absurd (not-suc-le-zero h)
-filter_one p x (suc n) h t only =
-    ⊎_elim
-    (λ (e : x ≡ n).
-    let none = filter_none p n (λ k l. is_false (p k) (λ q. let z : k ≡ x = only k q in omega arith)) in
-    let here : p n ≡ true = subst (λ (y : ℕ). p y ≡ true) e t in
-    rw (none, here) (ap (λ (y : ℕ). y ∷ []) (sym e)))
-    (λ (l : x < n).
-    let past : p n ≡ false = is_false (p n) (λ q. let z : n ≡ x = only n q in omega arith) in
-    rw (filter_one p x n l t only, past))
-    (below_suc h)
-
 module _ (p q r : ℕ → Bool) (either : (k : ℕ) → r k ≡ (p k || q k)) where
-  pub filter_or : ((k l : ℕ) → p k ≡ true → q l ≡ true → k < l) → (n : ℕ) → filter n r ≡ filter n p ++ filter n q
-  unfolding filter
-  filter_or first zero = refl
-  filter_or first (suc n) =
-      ⊎_elim
-      (λ (t : p n ≡ true).
-      let none = filter_none q n (λ k h. is_false (q k) (λ e. let l : n < k = first n k t e in omega arith)) in
-      let out : q n ≡ false = is_false (q n) (λ e. let l : n < n = first n n t e in omega arith) in
-      let here : r n ≡ true = either n ∙ ap (λ (b : Bool). b || q n) t in
-      rw (filter_or first n, none, out, t, here) (ap (λ (xs : List ℕ). xs ++ (n ∷ [])) (append-nil (filter n p)) ∙ sym (append-nil (filter n p ++ (n ∷ [])))))
-      (λ (f : p n ≡ false).
-      let here : r n ≡ q n = either n ∙ ap (λ (b : Bool). b || q n) f in
-      rw (filter_or first n, f, here)
-      (append_assoc (filter n p) (filter n q) (cond (q n) (n ∷ []) []) ∙ ap (λ (xs : List ℕ). xs ++ (filter n q ++ cond (q n) (n ∷ []) [])) (sym (append-nil (filter n p)))))
-      (decided (p n))
-
   -- no number passes both
-  pub filter_apart : ((k : ℕ) → p k ≡ true → q k ≡ true → ⊥) → (n : ℕ) → length (filter n r) ≡ length (filter n p) + length (filter n q)
+  filter_apart : ((k : ℕ) → p k ≡ true → q k ≡ true → ⊥) → (n : ℕ) → length (filter n r) ≡ length (filter n p) + length (filter n q)
   unfolding filter
   filter_apart apart zero = refl
   filter_apart apart (suc n) =
@@ -78,55 +44,6 @@ module _ (p q r : ℕ → Bool) (either : (k : ℕ) → r k ≡ (p k || q k)) wh
       (decided (p n))
 
 -- ---- the states of a set
-
-pub members-none : {X : Set} → ((s : ℕ) → In X s → ⊥) → members X ≡ []
-unfolding members
-members-none {X} none = filter_none (member X) max_states (λ k h. is_false (member X k) (λ e. none k (record { is = e })))
-
-union-member : (X Y : Set) (s : ℕ) → member (union X Y) s ≡ (member X s || member Y s)
-union-member X Y s =
-    same_test (member (union X Y) s) (member X s || member Y s)
-    (λ e. or_intro (member X s) (member Y s) (⊎_elim (λ h. inl h.is) (λ h. inr h.is) (union_in {X = X} {Y = Y} (record { is = e }))))
-    (λ e. (in_union {X = X} {Y = Y} (⊎_elim (λ h. inl (record { is = h })) (λ h. inr (record { is = h })) (or_true (member X s) (member Y s) e))).is)
-
-pub members-words : (w : ℕ) (X : Set) → w < WORDS → members (words_below (w + 1) X) ≡ members (words_below w X) ++ members (word_set w (get_or X w 0))
-unfolding members
-members-words w X h =
-    ap members (words_more w X h)
-    ∙ filter_or (member (words_below w X)) (member (word_set w (get_or X w 0))) (member (union (words_below w X) (word_set w (get_or X w 0))))
-    (union-member (words_below w X) (word_set w (get_or X w 0)))
-    (λ k l a b.
-    let x = words_in w X (record { is = a }) in
-    let y = word_set_in w (get_or X w 0) (record { is = b }) in
-    omega (arith, x.0, y.0))
-    max_states
-
--- a state and the rest
-split_member : (X : Set) (x : ℕ) → In X x → (s : ℕ) → member X s ≡ (member (single x) s || member (difference X (single x)) s)
-split_member X x h s =
-    same_test (member X s) (member (single x) s || member (difference X (single x)) s)
-    (λ e.
-    or_intro (member (single x) s) (member (difference X (single x)) s)
-    (⊎_elim (λ (i : In (single x) s). inl i.is) (λ o. inr (in_difference {X = X} {Y = single x} (record { is = e }) o).is) (in_or_out (single x) s)))
-    (λ e.
-    ⊎_elim (λ i. subst (λ (y : ℕ). member X y ≡ true) (sym (single_in {x = x} {s = s} (record { is = i }))) h.is)
-    (λ d. (difference_in {X = X} {Y = single x} {s = s} (record { is = d })).0.is)
-    (or_true (member (single x) s) (member (difference X (single x)) s) e))
-
-pub members_peel : (X : Set) (x : ℕ) → In X x → ((s : ℕ) → In X s → x ≤ s) → members X ≡ x ∷ members (difference X (single x))
-unfolding members
-members_peel X x h least =
-    filter_or (member (single x)) (member (difference X (single x))) (member X) (split_member X x h)
-    (λ k l a b.
-    let e : k ≡ x = single_in {x = x} {s = k} (record { is = a }) in
-    let d = difference_in {X = X} {Y = single x} {s = l} (record { is = b }) in
-    let other : l ≡ x → ⊥ = λ q. d.1 (subst (λ (y : ℕ). In (single x) y) (sym q) (in_single (in_bound h))) in
-    before k l e (least l d.0) other)
-    max_states
-    ∙ ap (λ (xs : List ℕ). xs ++ members (difference X (single x))) (filter_one (member (single x)) x max_states (in_bound h) (in_single (in_bound h)).is (λ k e. single_in {x = x} {s = k} (record { is = e })))
-  where
-    before : (k l : ℕ) → k ≡ x → x ≤ l → (l ≡ x → ⊥) → k < l
-    before k l e m o = omega arith
 
 pub size_apart : (X Y : Set) → ((s : ℕ) → In X s → In Y s → ⊥) → size (union X Y) ≡ size X + size Y
 unfolding size members

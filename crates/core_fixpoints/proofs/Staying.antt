@@ -65,7 +65,7 @@ module _ (rows : List ℕ) (cover : List Set) (R : Set) where
             solutions = λ Y e s h. ⊆-of-eq (sym k) s (in_meet_hold rows _ _ (so.solutions Y e s h) (λ u r. above Y e u ((meet_hold_in rows _ _ h).1 u r)));
           }
 
-      module _ (is-cover : IsCover cover) (closed : cover_by cover R ≡ R) (e : same S' S ≡ true) where
+      module _ (closed : cover_by cover R ≡ R) (e : same S' S ≡ true) where
         -- S has not changed, so the states that stay, which were looked at with it, step to no state outside
         end : Staying rows cover R still S
         end = subst (Staying rows cover R still) (same_eq (cover_proper _ c) (cover_proper _ so.cover-is) e) staying_turn
@@ -85,9 +85,9 @@ module _ (rows : List ℕ) (cover : List Set) (R : Set) where
               greatest = λ Y y. in_subset (above Y y);
             }
 
-        pub staying_next : still ≡ meet_hold rows S S
+        pub staying_next : IsCover cover → still ≡ meet_hold rows S S
         unfolding meet_hold
-        staying_next =
+        staying_next is-cover =
             same_set _ _ end.proper (set_of_proper _)
             (λ s h.
             let within : still ⊆ first_states is-cover.n = λ u i. cover_by-within cover is-cover R u (⊆-of-eq (sym closed) u (end.inside u i)) in

@@ -3,12 +3,12 @@
 --   not_forbidden-is              all states without the forbidden ones
 --   covers-none, covers-add      the cover for no set; after a set is added
 --   groups_last                  the last of some groups
---   Added                        the invariant of the loop that adds the groups: the cover is that of those that are no longer left
---   added_none, group_added, added-all    at its start, after the last group left, and at its end
+--   group_added, added-all        the loop that adds the groups: after the last group left, and at its end
+--   groups_cover                  with the groups added to no set, the cover is theirs
 use Prim.Native.Nat.{ℕ, suc, ◌-◌, ◌*◌, ◌≤◌, ◌<◌}
 use native.Mathlib.Omega.{arith}
-use mathlib.Core.Path.{◌≡◌, sym, ap, ◌∙◌, subst}
-use mathlib.Core.List.{List, [], ◌∷◌, ◌++◌, append_assoc, append-nil}
+use mathlib.Core.Path.{◌≡◌, refl, sym, ap, ◌∙◌, subst}
+use mathlib.Core.List.{List, [], ◌∷◌, ◌++◌}
 use lib.ListN.{replicate}
 use Rattle.basics.specs.Bounds.{tabulate}
 use Rattle.model.specs.Sets.{WORDS, max_states, Set, member, meet, difference, states, first_states}
@@ -20,7 +20,7 @@ use Rattle.model.proofs.CoverLaws.{in_not_forbidden, not_forbidden_in, not_forbi
 use Rattle.core_rows.specs.Rows.{groups_in}
 use Rattle.core_rows.proofs.RowsMapped.{map_at-tabulate}
 use Rattle.core_fixpoints.specs.Steps.{covers}
-use Rattle.core_rounds.specs.Adding.{narrowed}
+use Rattle.core_rounds.specs.Adding.{narrowed, narrowed_by}
 
 pub not_forbidden-is : (n : ℕ) (F : Set) → difference (first_states n) F ≡ not_forbidden n F
 unfolding difference not_forbidden states
@@ -35,7 +35,7 @@ pub covers-add : (n : ℕ) (L : List Set) (Z : Set) → narrowed (covers n L) Z 
 unfolding narrowed covers cover_of
 covers-add n L Z = map_at-tabulate (λ row. meet row Z) [] Z max_states (cover_of n L)
 
-pub covers-none : (n : ℕ) {all : Set} → all ≡ first_states n → replicate max_states all ≡ covers n []
+covers-none : (n : ℕ) {all : Set} → all ≡ first_states n → replicate max_states all ≡ covers n []
 unfolding covers cover_of
 covers-none n e = ap (replicate max_states) e ∙ tabulate_const max_states (first_states n)
 
@@ -45,27 +45,28 @@ pub groups_last : (groups : List ℕ) (j : ℕ) → 0 < j → groups_in groups j
 unfolding groups_in tabulate
 groups_last groups j some = let k : suc (j - 1) ≡ j = omega arith in ap (groups_in groups) (sym k)
 
--- `all` are to be added, and those `left` still are: the cover is that of the others
-pub record Added (n : ℕ) (all left cover : List Set) : Type 0 where
-  pub list : List Set
-  pub whole : left ++ list ≡ all
-  pub cover-is : cover ≡ covers n list
+narrowed-last : (L : List Set) (X : Set) (cover : List Set) → narrowed_by (L ++ (X ∷ [])) cover ≡ narrowed_by L (narrowed cover X)
+unfolding narrowed_by
+narrowed-last [] X cover = refl
+narrowed-last (Z ∷ L) X cover = ap (λ (C : List Set). narrowed C Z) (narrowed-last L X cover)
 
-pub added_none : {n : ℕ} {all cover : List Set} → cover ≡ covers n [] → Added n all all cover
-added_none {all = all} c = record { list = []; whole = append-nil all; cover-is = c }
-
-module _ {n : ℕ} (groups : List ℕ) {j : ℕ} {all before : List Set} (so : Added n all (groups_in groups j) before) where
-  pub group_added : {cover : List Set} → 0 < j → cover ≡ narrowed before (set_at groups (WORDS * (j - 1))) → Added n all (groups_in groups (j - 1)) cover
+-- with the groups that are left added, all are
+module _ (groups : List ℕ) {j : ℕ} {all : List Set} (before : List Set) (so : narrowed_by (groups_in groups j) before ≡ all) where
+  pub group_added : {cover : List Set} → 0 < j → cover ≡ narrowed before (set_at groups (WORDS * (j - 1))) → narrowed_by (groups_in groups (j - 1)) cover ≡ all
   group_added some e =
-      let X = set_at groups (WORDS * (j - 1)) in
-      record {
-        list = X ∷ so.list;
-        whole =
-            sym (append_assoc (groups_in groups (j - 1)) (X ∷ []) so.list) ∙ ap (λ (P : List Set). P ++ so.list) (sym (groups_last groups j some)) ∙ so.whole;
-        cover-is = e ∙ ap (λ (C : List Set). narrowed C X) so.cover-is ∙ covers-add n so.list X;
-      }
+      ap (narrowed_by (groups_in groups (j - 1))) e
+      ∙ sym (narrowed-last (groups_in groups (j - 1)) (set_at groups (WORDS * (j - 1))) before)
+      ∙ ap (λ (L : List Set). narrowed_by L before) (sym (groups_last groups j some))
+      ∙ so
 
-  pub added-all : j ≤ 0 → before ≡ covers n all
-  unfolding groups_in tabulate
-  added-all none =
-      let z : j ≡ 0 = omega arith in so.cover-is ∙ ap (covers n) (subst (λ (k : ℕ). groups_in groups k ++ so.list ≡ all) z so.whole)
+  pub added-all : j ≤ 0 → before ≡ all
+  unfolding narrowed_by groups_in tabulate
+  added-all none = let z : j ≡ 0 = omega arith in subst (λ (k : ℕ). narrowed_by (groups_in groups k) before ≡ all) z so
+
+covers-list : (n : ℕ) (L : List Set) → narrowed_by L (covers n []) ≡ covers n L
+unfolding narrowed_by
+covers-list n [] = refl
+covers-list n (Z ∷ L) = ap (λ (C : List Set). narrowed C Z) (covers-list n L) ∙ covers-add n L Z
+
+pub groups_cover : (n : ℕ) (L : List Set) {all : Set} {cover : List Set} → all ≡ first_states n → cover ≡ narrowed_by L (replicate max_states all) → cover ≡ covers n L
+groups_cover n L e c = c ∙ ap (narrowed_by L) (covers-none n e) ∙ covers-list n L

@@ -130,8 +130,8 @@ impl<'a> Steps<'a> {
         ensures { result.words ≡ meet_hold self.entry.words.now x.words y.words }
     {
         let mut words = [0; WORDS];
-        for w in 0..WORDS {
-            words[w] = self.held_word(x, w, y);
+        for (w, word) in words.iter_mut().enumerate() {
+            *word = self.held_word(x, w, y);
         }
         StateSet { words }
     }

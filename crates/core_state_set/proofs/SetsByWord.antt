@@ -4,25 +4,22 @@
 --   word_lowest, word_rest          the lowest bit of a word that is not 0 is a state of it; without it, `x & (x - 1)` is left
 --   word_least                      it is the least state
 --   word_less                       which is a smaller number
---   word_none                       the word 0 has no states
---   words_in                        membership in the states of the words before one
---   words-none, words_more, words-all   the words before the first, one more, all of them
---   words_apart                     a word has no state that those before it have
+--   word_member                     a state by its word and its place there
 --   smallest_word, smallest-none    the lowest bit of the first word that is not 0 is the least state; there is none where all are 0
 use Prim.Native.Nat.{ℕ, ◌+◌, ◌-◌, ◌*◌, ◌/◌, ◌%◌, ◌^◌, ◌≤◌, ◌<◌}
 use native.Mathlib.Omega.{arith}
 use mathlib.Core.Path.{◌≡◌, sym, ap, ◌∙◌, subst}
-use mathlib.Core.Logic.{inl, inr, ⊎_elim}
+use mathlib.Core.Logic.{⊎_elim}
 use mathlib.Core.Bool.{true, false, not}
-use borrow.Author.Tests.{eqb-true, eqb-false, eq-eqb, ne_eqb, ltb-true, lt-ltb}
-use lib.Dec.{eqb, ltb}
+use borrow.Author.Tests.{eqb-true, eqb-false, eq-eqb, ne_eqb}
+use lib.Dec.{eqb}
 use lib.Bits.{bit_and, and_le_r}
 use lib.Count.{count_trailing_zeros}
 use lib.ListN.{get_or}
-use Rattle.model.specs.Sets.{WORDS, max_states, Set, bit, member, empty, single, union, difference, smallest}
+use Rattle.model.specs.Sets.{WORDS, max_states, Set, bit, member, single, difference, smallest}
 use Rattle.basics.proofs.BoundLaws.{and_true, and_intro, not_true, is_false, clash, first_passes, first-before, first-is, first-none, lt_or_ge}
-use Rattle.model.proofs.SetsMembers.{Proper, set_of_proper, In, in_bound, in_set_of, set_of_in, empty_in, in_single, single_in, in_union, union_in, in_difference, difference_in, member_at, same_set}
-use Rattle.core_state_set.specs.WordSets.{word_set, words_below}
+use Rattle.model.proofs.SetsMembers.{Proper, set_of_proper, In, in_bound, in_set_of, set_of_in, in_single, single_in, in_difference, difference_in, member_at, same_set}
+use Rattle.core_state_set.specs.WordSets.{word_set}
 use Rattle.core_state_set.proofs.SetsBits.{bit_zero, trailing_first, first_bit, bit_lowest}
 
 -- ---- the states of a word
@@ -79,64 +76,11 @@ module _ (w x : ℕ) (word : w < WORDS) (fits : x < 2 ^ 64) (some : x ≡ 0 → 
 pub word_less : (x : ℕ) → (x ≡ 0 → ⊥) → bit_and x (x - 1) < x
 word_less x some = omega (arith, and_le_r x (x - 1))
 
-pub word_none : (w : ℕ) → word_set w 0 ≡ empty
-unfolding empty word_set
-word_none w =
-    same_set _ _ (set_of_proper _) (set_of_proper _) (λ s h. absurd (clash (word_set_in w 0 h).1 (bit_zero (s % 64)))) (λ s h. absurd (empty_in h))
-
--- ---- the words one after the other
-
-in_words : (w : ℕ) (X : Set) {s : ℕ} → s / 64 < w → In X s → In (words_below w X) s
-unfolding words_below
-in_words w X {s} l h = in_set_of _ (in_bound h) (and_intro (ltb (s / 64) w) (member X s) (lt-ltb (s / 64) w l) h.is)
-
-pub words_in : (w : ℕ) (X : Set) {s : ℕ} → In (words_below w X) s → (s / 64 < w) × In X s
-unfolding words_below
-words_in w X {s} h =
-    let both = and_true (ltb (s / 64) w) (member X s) (set_of_in _ h) in
-    (ltb-true (s / 64) w both.0, record { is = both.1 })
-
 -- a state by its word and its place there
 pub word_member : (X : Set) (w s : ℕ) → w < WORDS → s / 64 ≡ w → member X s ≡ bit (get_or X w 0) (s % 64)
 word_member X w s h e =
     let split : s ≡ 64 * w + s % 64 = omega arith in
     ap (member X) split ∙ member_at X w (s % 64) h (omega arith)
-
-pub words-none : (X : Set) → words_below 0 X ≡ empty
-unfolding words_below empty
-words-none X =
-    same_set _ _ (set_of_proper _) (set_of_proper _) (λ s h. absurd (no_word s (words_in 0 X h).0)) (λ s h. absurd (empty_in h))
-  where
-    no_word : (s : ℕ) → s / 64 < 0 → ⊥
-    no_word s l = omega arith
-
-pub words_more : (w : ℕ) (X : Set) → w < WORDS → words_below (w + 1) X ≡ union (words_below w X) (word_set w (get_or X w 0))
-unfolding words_below union
-words_more w X h =
-    same_set _ _ (set_of_proper _) (set_of_proper _)
-    (λ s m.
-    let at = words_in (w + 1) X m in
-    in_union
-    (⊎_elim (λ l. inl (in_words w X l at.1))
-    (λ g.
-    let here : s / 64 ≡ w = omega (arith, at.0) in
-    inr (in_word_set w (get_or X w 0) (in_bound m) here (sym (word_member X w s h here) ∙ at.1.is)))
-    (lt_or_ge (s / 64) w)))
-    (λ s m.
-    ⊎_elim
-    (λ l. let at = words_in w X l in in_words (w + 1) X (omega (arith, at.0)) at.1)
-    (λ r.
-    let at = word_set_in w (get_or X w 0) r in
-    in_words (w + 1) X (omega (arith, at.0)) (record { is = word_member X w s h at.0 ∙ at.1 }))
-    (union_in m))
-
-pub words_apart : (w : ℕ) (X : Set) (x : ℕ) {s : ℕ} → In (words_below w X) s → In (word_set w x) s → ⊥
-words_apart w X x {s} h k = omega (arith, (words_in w X h).0, (word_set_in w x k).0)
-
-pub words-all : (w : ℕ) (X : Set) → Proper X → WORDS ≤ w → words_below w X ≡ X
-unfolding words_below
-words-all w X p h =
-    same_set _ _ (set_of_proper _) p (λ s m. (words_in w X m).1) (λ s m. in_words w X (omega (arith, in_bound m)) m)
 
 -- ---- the least state
 

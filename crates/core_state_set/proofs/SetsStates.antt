@@ -2,6 +2,7 @@
 --
 --   filter_or                         what one of two tests passes, where the numbers that pass the first come first
 --   members-none, members_peel        the list of no states; the least state, and the rest
+--   union-member                      membership in a union, by the two tests
 --   one_word                          the set with one word is the states of that word
 --   left_start, left_skip             what is left at the start is the whole set; a word of which nothing is left
 --   left_none, left_take              nothing is left past the last word; the lowest one is the first state that is left
@@ -46,7 +47,7 @@ filter_one p x (suc n) h t only =
     (below_suc h)
 
 module _ (p q r : ℕ → Bool) (either : (k : ℕ) → r k ≡ (p k || q k)) where
-  pub filter_or : ((k l : ℕ) → p k ≡ true → q l ≡ true → k < l) → (n : ℕ) → filter n r ≡ filter n p ++ filter n q
+  filter_or : ((k l : ℕ) → p k ≡ true → q l ≡ true → k < l) → (n : ℕ) → filter n r ≡ filter n p ++ filter n q
   unfolding filter
   filter_or first zero = refl
   filter_or first (suc n) =
@@ -68,7 +69,7 @@ pub members-none : {X : Set} → ((s : ℕ) → In X s → ⊥) → members X �
 unfolding members
 members-none {X} none = filter_none (member X) max_states (λ k h. is_false (member X k) (λ e. none k (record { is = e })))
 
-union-member : (X Y : Set) (s : ℕ) → member (union X Y) s ≡ (member X s || member Y s)
+pub union-member : (X Y : Set) (s : ℕ) → member (union X Y) s ≡ (member X s || member Y s)
 union-member X Y s =
     same_test (member (union X Y) s) (member X s || member Y s)
     (λ e. or_intro (member X s) (member Y s) (⊎_elim (λ h. inl h.is) (λ h. inr h.is) (union_in {X = X} {Y = Y} (record { is = e }))))
@@ -86,7 +87,7 @@ split_member X x h s =
     (λ d. (difference_in {X = X} {Y = single x} {s = s} (record { is = d })).0.is)
     (or_true (member (single x) s) (member (difference X (single x)) s) e))
 
-pub members_peel : (X : Set) (x : ℕ) → In X x → ((s : ℕ) → In X s → x ≤ s) → members X ≡ x ∷ members (difference X (single x))
+members_peel : (X : Set) (x : ℕ) → In X x → ((s : ℕ) → In X s → x ≤ s) → members X ≡ x ∷ members (difference X (single x))
 unfolding members
 members_peel X x h least =
     filter_or (member (single x)) (member (difference X (single x))) (member X) (split_member X x h)

@@ -174,9 +174,6 @@ module _ (xs : List ℕ) (from : ℕ) where
   non_zero_turn i joined l e =
       rw (add-one, le-leb from i l) (ap (λ (b : Bool). b || not (eqb (get_or xs i 0) 0)) e ∙ sym (or_none joined (get_or xs i 0)))
 
-  pub non_zero_end : (i to joined : ℕ) → i ≤ to → to ≤ i → non_zero xs from i ≡ not (eqb joined 0) → non_zero xs from to ≡ not (eqb joined 0)
-  non_zero_end i to joined l h e = subst (λ (k : ℕ). non_zero xs from k ≡ not (eqb joined 0)) (le_antisymm l h) e
-
 -- the words of a stretch, joined
 module _ (xs : List ℕ) (from to : ℕ) (l : from ≤ to) (h : to ≤ length xs) where
   abbrev part : List ℕ

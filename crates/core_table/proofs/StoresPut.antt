@@ -3,7 +3,7 @@
 --   put_long, put_own, put_other     its length; what was put; any other word
 --   put_apart                        a set that stands elsewhere
 --   put_take, put_drop               its first words, and those behind them
---   put_again, put_next              other words put at the same place; one word more
+--   put_next                         one word more
 --   put_word                         one word of a set put through a function
 --   Putting                          a loop that puts the elements of a list: putting_none, -more, -all: before its first turn, a turn, when it is done
 use Prim.Native.Nat.{ℕ, ◌+◌, ◌-◌, ◌≤◌, ◌<◌}
@@ -86,13 +86,6 @@ module _ (at : ℕ) (xs old : List ℕ) (h : at + length xs ≤ length old) wher
       ∙ ap (λ zs. take at old ++ (xs ++ zs)) (drop-append-le (length xs) part rest (omega (arith, length-drop at old)))
       ∙ ap (λ zs. take at old ++ zs) (sym (append_assoc xs (drop (length xs) part) rest))
       ∙ sym (append_assoc (take at old) (xs ++ drop (length xs) part) rest)
-
-  pub put_again : (ys : List ℕ) → length ys ≡ length xs → overwrite_from at ys (overwrite_from at xs old) ≡ overwrite_from at ys old
-  unfolding overwrite_from overwrite
-  put_again ys e =
-      let rest = drop (length xs) (drop at old) in
-      ap₂ (λ zs ws. zs ++ (ys ++ drop (length ys) ws)) (take_at (take at old) (xs ++ rest) at front_long) (drop_at (take at old) (xs ++ rest) at front_long)
-      ∙ ap (λ zs. take at old ++ (ys ++ zs)) (drop_at xs rest (length ys) (sym e) ∙ ap (λ (m : ℕ). drop m (drop at old)) (sym e))
 
   pub put_next : (n x : ℕ) → length xs ≡ n → at + n < length old → set (overwrite_from at xs old) (at + n) x ≡ overwrite_from at (xs ++ (x ∷ [])) old
   unfolding overwrite_from

@@ -2,11 +2,12 @@
 
 // R and S of a round (the specification, "Rounds"): the two fixpoints, over the rows of a table and the cover in an array.
 //
-//   cover_of                            the cover of a set
-//   expand, expand_set, joining, forward
-//                                       R, pass by pass: each expands the states that joined by the one before
-//   steps_by_word, held_word_within, meet_hold_within
-//                                       the states that stay in a smaller set
+//   Cover                               the cover of each state, as rows that are lent
+//     of, joining                         the cover of a set; of what is found, without what is known
+//   expand, expand_set, forward         R, pass by pass: each expands the states that joined by the one before
+//   Order, Expanded                     the states that were expanded, in their order; with their number
+//   steps_by_word, Leading              what the states of each word step to; states whose steps all lead into a set
+//     held_word, held                     those that stay in a smaller set
 //   backward                            S, by the states that stay in it
 
 use crate::core_rows::{Ones, Rows, Steps, row_of, union_of};
@@ -14,16 +15,31 @@ use crate::core_state_set::{MAX_STATES, StateSet, WORD_BITS, WORDS};
 
 // ---- the cover
 
-// cover(x). A state in the cover of another has its own cover inside that one, so what the first cover has need not be looked at: without groups
-// that is all of x.
-fn cover_of(cover: &Rows, x: StateSet) -> StateSet
-{
-    let s = x.smallest();
-    if MAX_STATES <= s {
-        return StateSet::empty();
+// The cover of each state, for some list of sets: a row for each.
+#[derive(Clone, Copy)]
+pub struct Cover<'a> {
+    pub rows: &'a Rows,
+}
+
+impl Cover<'_> {
+    // cover(x). A state in the cover of another has its own cover inside that one, so what the first cover has need not be looked at: without groups
+    // that is all of x.
+    fn of(self, x: StateSet) -> StateSet
+    {
+        match x.states().next() {
+            None => StateSet::empty(),
+            Some(s) => {
+                let first = row_of(self.rows, s);
+                first.union(union_of(self.rows, x.difference(first)))
+            }
+        }
     }
-    let first = row_of(cover, s);
-    first.union(union_of(cover, x.difference(first)))
+
+    // cover(z meet found) without r. The states of r bring nothing else, as r has the cover of each of them.
+    fn joining(self, z: StateSet, found: StateSet, r: StateSet) -> StateSet
+    {
+        self.of(z.meet(found).difference(r)).difference(r)
+    }
 }
 
 // ---- R
@@ -32,26 +48,28 @@ fn cover_of(cover: &Rows, x: StateSet) -> StateSet
 pub type Order = [u16; MAX_STATES];
 
 // What was expanded so far: how many states, and the successors that they have.
+// kept: beside the order and not in one value with it: tried, and each state took an instruction more (decide, corridor of 512, by rustc: 15,133,480 for
+// 15,003,182), as the count was read and written in memory
 #[derive(Clone, Copy)]
-struct Expanded {
+struct Done {
     count: usize,
     found: StateSet,
 }
 
 // State s is expanded: it is recorded, and its successors are joined. In `forward` nothing else does either.
-fn expand(steps: Steps, s: usize, order: &mut Order, done: Expanded) -> Expanded
+fn expand(steps: Steps, s: usize, order: &mut Order, done: Done) -> Done
 {
     order[done.count] = s as u16;
-    Expanded {
+    Done {
         count: done.count + 1,
         found: done.found.union(steps.row(s)),
     }
 }
 
 // A pass: the states of x are expanded, rising, as numbers `count` and up; `found` has their successors.
-fn expand_set(steps: Steps, x: StateSet, order: &mut Order, count: usize) -> Expanded
+fn expand_set(steps: Steps, x: StateSet, order: &mut Order, count: usize) -> Done
 {
-    let mut so_far = Expanded {
+    let mut so_far = Done {
         count,
         found: StateSet::empty(),
     };
@@ -64,10 +82,11 @@ fn expand_set(steps: Steps, x: StateSet, order: &mut Order, count: usize) -> Exp
     so_far
 }
 
-// cover(z meet found) without r. The states of r bring nothing else, as r has the cover of each of them.
-fn joining(cover: &Rows, z: StateSet, found: StateSet, r: StateSet) -> StateSet
-{
-    cover_of(cover, z.meet(found).difference(r)).difference(r)
+// So many states that were expanded, in their order at the front; 0 past them.
+#[derive(Clone, Copy, Debug, PartialEq, Eq)]
+pub struct Expanded {
+    pub count: usize,
+    pub states: Order,
 }
 
 // R, initial union post(R), and the states of R in the order in which they were expanded.
@@ -75,30 +94,31 @@ fn joining(cover: &Rows, z: StateSet, found: StateSet, r: StateSet) -> StateSet
 pub struct Reached {
     pub r: StateSet,
     pub entered: StateSet,
-    pub order: Order,
-    pub count: usize,
+    pub expanded: Expanded,
 }
 
 // The least x with x = cover(z meet (initial union post(x))). Each pass expands only the states that joined by the one before.
-pub fn forward(steps: Steps, cover: &Rows, initial: StateSet, z: StateSet) -> Reached
+pub fn forward(steps: Steps, cover: Cover, initial: StateSet, z: StateSet) -> Reached
 {
     let mut order = [0; MAX_STATES];
     let mut count = 0;
     let mut entered = initial;
-    let mut frontier = cover_of(cover, z.meet(initial));
+    let mut frontier = cover.of(z.meet(initial));
     let mut r = frontier;
     while !frontier.is_empty() {
         let done = expand_set(steps, frontier, &mut order, count);
         count = done.count;
         entered = entered.union(done.found);
-        frontier = joining(cover, z, done.found, r);
+        frontier = cover.joining(z, done.found, r);
         r = r.union(frontier);
     }
     Reached {
         r,
         entered,
-        order,
-        count,
+        expanded: Expanded {
+            count,
+            states: order,
+        },
     }
 }
 
@@ -118,69 +138,66 @@ pub type WordSteps = [[u64; WORDS]; WORDS];
 pub fn steps_by_word(steps: Steps, x: StateSet) -> WordSteps
 {
     let mut by_word = [[0; WORDS]; WORDS];
-    for w in 0..WORDS {
-        // kept: the proof does not cover a field that is an array stored straight
-        let words = steps.successors(x.in_word(w)).words;
-        by_word[w] = words;
+    for (w, words) in by_word.iter_mut().enumerate() {
+        // kept: tried `*words = ...words`; the borrow checker stops at a call's field that is an array, stored straight
+        let found = steps.successors(x.in_word(w)).words;
+        *words = found;
     }
     by_word
 }
 
-// Word w of x meet hold(y), where every step from x leads into `before`. A state of x is out if it steps to one that `before` has more than y: where
-// no step from the word leads there, no row is looked at.
-fn held_word_within(
-    steps: Steps,
-    by_word: &WordSteps,
-    x: StateSet,
-    w: usize,
-    before: StateSet,
-    y: StateSet,
-) -> u64
-{
-    let found = StateSet { words: by_word[w] };
-    if found.meets(before.difference(y)) {
-        return steps.held_word(x, w, y);
-    }
-    x.words[w]
+// The states of x with the steps of a table, and what the states of each word step to: every step from x leads into `before`.
+#[derive(Clone, Copy)]
+pub struct Leading<'a> {
+    pub steps: Steps<'a>,
+    pub by_word: &'a WordSteps,
+    pub x: StateSet,
+    pub before: StateSet,
 }
 
-// x meet hold(y), where every step from x leads into `before`.
-fn meet_hold_within(
-    steps: Steps,
-    by_word: &WordSteps,
-    x: StateSet,
-    before: StateSet,
-    y: StateSet,
-) -> StateSet
-{
-    let mut words = [0; WORDS];
-    for w in 0..WORDS {
-        words[w] = held_word_within(steps, by_word, x, w, before, y);
+impl Leading<'_> {
+    // Word w of x meet hold(y). A state of x is out if it steps to one that `before` has more than y: where no step from the word leads there, no row is
+    // looked at.
+    fn held_word(self, w: usize, y: StateSet) -> u64
+    {
+        let found = StateSet {
+            words: self.by_word[w],
+        };
+        if found.meets(self.before.difference(y)) {
+            return self.steps.held_word(self.x, w, y);
+        }
+        self.x.words[w]
     }
-    StateSet { words }
+
+    // x meet hold(y), which leads into y.
+    fn held(self, y: StateSet) -> Self
+    {
+        let mut words = [0; WORDS];
+        for (w, word) in words.iter_mut().enumerate() {
+            *word = self.held_word(w, y);
+        }
+        Leading {
+            steps: self.steps,
+            by_word: self.by_word,
+            x: StateSet { words },
+            before: y,
+        }
+    }
 }
 
-// The greatest x with x = cover(r meet hold(x)), where r is its own cover, and every step from it leads into `entered`. A state of r that steps
-// out of x once stays out, so only those that stay are looked at again, and none where x has not changed.
-pub fn backward(
-    steps: Steps,
-    by_word: &WordSteps,
-    cover: &Rows,
-    r: StateSet,
-    entered: StateSet,
-) -> Remaining
+// The greatest x with x = cover(r meet hold(x)), where r, which leads into what its states enter, is its own cover. A state of r that steps out of x
+// once stays out, so only those that stay are looked at again, and none where x has not changed.
+pub fn backward(r: Leading, cover: Cover) -> Remaining
 {
-    let mut before = entered;
-    let mut s = r;
     let mut staying = r;
+    let mut s = r.x;
     loop {
-        let kept = meet_hold_within(steps, by_word, staying, before, s);
-        let smaller = cover_of(cover, kept);
+        let kept = staying.held(s);
+        let smaller = cover.of(kept.x);
         if smaller.equals(s) {
-            return Remaining { s, next: kept };
+            return Remaining { s, next: kept.x };
         }
         staying = kept;
-        before = s;
         s = smaller;
     }
 }

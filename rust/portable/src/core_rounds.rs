@@ -4,10 +4,11 @@
 //
 //   not_forbidden                       Z of the first round
 //   narrow                              the cover, a row for each state, once a set is added to the list
+//   add_groups                          the cover once the groups of a table are
 //   conclude                            what a round comes to
 //   run                                 the rounds
 
-use crate::core_fixpoints::{WordSteps, backward, forward, steps_by_word};
+use crate::core_fixpoints::{Cover, Leading, WordSteps, backward, forward, steps_by_word};
 use crate::core_rows::{Ones, Rows, Steps, row_of};
 use crate::core_state_set::{MAX_STATES, StateSet, WORD_BITS, WORDS};
 use crate::core_table::set_at;
@@ -16,7 +17,7 @@ use crate::core_table::set_at;
 pub const MAX_ALLOWANCE: usize = MAX_STATES;
 
 // How the rounds end, with the count of refinements, and R where that is safe.
-#[derive(Clone, Copy)]
+#[derive(Clone, Copy, Debug, PartialEq, Eq)]
 pub enum Ending {
     Safe { count: usize, invariant: StateSet },
     Unsafe { count: usize },
@@ -31,20 +32,30 @@ pub fn not_forbidden(n: usize, forbidden: StateSet) -> StateSet
 
 // The cover once z is added to the list: that of each state of z is met with it.
 // kept: word by word, as join_rows of core_rows, and for the same bar
-fn narrow(cover: &mut Rows, z: StateSet)
+pub fn narrow(cover: &mut Rows, z: StateSet)
 {
     for w in 0..WORDS {
         for i in Ones(z.words[w]) {
             let s = WORD_BITS * w + i;
-            // kept: `cover[s] = row_of(cover, s).meet(z).words` stops at the borrow checker, a call's field stored
+            // kept: tried `cover[s] = row_of(cover, s).meet(z).words`; the borrow checker stops at a call's field that is an array, stored straight
             let words = row_of(cover, s).meet(z).words;
             cover[s] = words;
         }
     }
 }
 
+// The cover once g groups are added to the list, from the last to the first.
+// kept: g beside the words of the groups, here and in `run`: without it both contracts would say `groups_in groups (length groups / WORDS)`
+pub fn add_groups(cover: &mut Rows, groups: &[u64], g: usize)
+{
+    for j in (0..g).rev() {
+        narrow(cover, set_at(groups, WORDS * j));
+    }
+}
+
 // What a round comes to: safe with R (step 2), unsafe (step 4), or neither, with the next Z.
-#[derive(Clone, Copy)]
+// kept: `ControlFlow<Option<StateSet>, StateSet>` has its shape, and none of the three names, which are plainer
+#[derive(Clone, Copy, Debug, PartialEq, Eq)]
 pub enum Conclusion {
     Safe(StateSet),
     Unsafe,
@@ -55,7 +66,7 @@ pub enum Conclusion {
 fn conclude(
     steps: Steps,
     by_word: &WordSteps,
-    cover: &Rows,
+    cover: Cover,
     initial: StateSet,
     z: StateSet,
 ) -> Conclusion
@@ -66,7 +77,13 @@ fn conclude(
     if entered.is_subset(z) {
         return Conclusion::Safe(r);
     }
-    let held = backward(steps, by_word, cover, r, entered);
+    let leading = Leading {
+        steps,
+        by_word,
+        x: r,
+        before: entered,
+    };
+    let held = backward(leading, cover);
     if !initial.is_subset(held.s) {
         return Conclusion::Unsafe;
     }
@@ -74,7 +91,7 @@ fn conclude(
 }
 
 // The rounds, from 0 on, till one of them says safe or unsafe or the allowance is used. The cover is that of the
-// list, to which the groups are added first, from the last to the first, and then, as each round begins, its Z.
+// list, which has the groups first, and to which then, as each round begins, its Z is added.
 pub fn run(
     steps: Steps,
     groups: &[u64],
@@ -87,16 +104,14 @@ pub fn run(
 {
     let all = StateSet::first_states(n);
     let by_word = steps_by_word(steps, all);
-    // kept: tried `[all.words; MAX_STATES]`; the borrow checker stops at an element that is a field
+    // kept: tried `[all.words; MAX_STATES]`; the borrow checker stops at a field that is an array, made an element
     let row = all.words;
     let mut cover = [row; MAX_STATES];
-    for j in (0..g).rev() {
-        narrow(&mut cover, set_at(groups, WORDS * j));
-    }
+    add_groups(&mut cover, groups, g);
     let mut z = not_forbidden(n, forbidden);
     for count in 0..=allowance {
         narrow(&mut cover, z);
-        match conclude(steps, &by_word, &cover, initial, z) {
+        match conclude(steps, &by_word, Cover { rows: &cover }, initial, z) {
             Conclusion::Safe(invariant) => return Ending::Safe { count, invariant },
             Conclusion::Unsafe => return Ending::Unsafe { count },
             Conclusion::Open(next) => z = next,

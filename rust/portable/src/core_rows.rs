@@ -103,8 +103,8 @@ impl<'a> Steps<'a> {
     pub fn meet_hold(self, x: StateSet, y: StateSet) -> StateSet
     {
         let mut words = [0; WORDS];
-        for w in 0..WORDS {
-            words[w] = self.held_word(x, w, y);
+        for (w, word) in words.iter_mut().enumerate() {
+            *word = self.held_word(x, w, y);
         }
         StateSet { words }
     }

@@ -138,6 +138,7 @@ impl StateSet {
     }
 
     // The least state, or the number of states that a set can hold where there is none.
+    // kept: a number and no Option, as the model's `smallest` is total: the path (`walk`) is said by it, of sets that may have no state
     pub fn smallest(self) -> usize
     {
         for (w, word) in self.words.iter().enumerate() {

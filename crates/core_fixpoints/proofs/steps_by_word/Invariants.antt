@@ -7,4 +7,4 @@ use Rattle.core_fixpoints.proofs.SetsListed.{Stored}
 use Rattle.core_fixpoints.proofs.steps_by_word.Given as goal
 
 abbrev pub invariant-loop-w : goal.invariant-loop-w
-invariant-loop-w l = Stored WORDS (λ v. successors_by l.steps.words.now (word_set v (get_or l.x.words v 0))) l.by_word l.w
+invariant-loop-w l = Stored WORDS (λ v. successors_by l.steps.words.now (word_set v (get_or l.x.words v 0))) l.words-items l.w

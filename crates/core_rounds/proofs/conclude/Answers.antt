@@ -22,12 +22,11 @@ returns-then-is_subset c =
       conclusion = conclude_safe _ _ _ entered c.if-is_subset.true;
     }
 
+pub invariant_of-leading : goal.invariant_of-leading
+invariant_of-leading c = record { leads = leads_start _ _ _ _ _ c.requires c.forward-reached.ensures.0 c.forward-reached.ensures.3 }
+
 pub backward-held-requires : goal.backward-held-requires
-backward-held-requires c = (
-  c.requires.is-cover,
-  forward-closed _ _ c.requires.is-cover _ _ c.forward-reached.ensures.0,
-  leads_start _ _ _ _ _ c.requires c.forward-reached.ensures.0 c.forward-reached.ensures.3,
-)
+backward-held-requires c = forward-closed _ _ c.requires.is-cover _ _ c.forward-reached.ensures.0
 
 pub returns-then-not-is_subset : goal.returns-then-not-is_subset
 returns-then-not-is_subset c =

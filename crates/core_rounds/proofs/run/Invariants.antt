@@ -1,12 +1,7 @@
--- `run`: what its two loops keep.
+-- `run`: the cover is that of the list to which the round will add its Z.
 use Rattle.core_rows.specs.Rows.{groups_in, table_on}
-use Rattle.core_rounds.proofs.Adding.{Added}
 use Rattle.core_rounds.proofs.Running.{Running}
 use Rattle.core_rounds.proofs.run.Given as goal
-
--- the first j groups are still to be added
-abbrev pub invariant-loop-j : goal.invariant-loop-j
-invariant-loop-j l = Added l.n (groups_in l.groups l.g) (groups_in l.groups l.j) l.cover
 
 abbrev pub invariant-loop-count : goal.invariant-loop-count
 invariant-loop-count l =

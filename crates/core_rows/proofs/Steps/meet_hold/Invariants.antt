@@ -4,4 +4,4 @@ use Rattle.core_rows.specs.Rows.{meet_hold}
 use Rattle.core_rows.proofs.Steps.meet_hold.Given as goal
 
 abbrev pub invariant-loop-w : goal.invariant-loop-w
-invariant-loop-w l = Filling (meet_hold l.self.words.now l.x.words l.y.words) l.initial.words l.w l.words
+invariant-loop-w l = Filling (meet_hold l.self.words.now l.x.words l.y.words) l.initial.word-items l.w l.word-items

@@ -1,7 +1,0 @@
--- `meet_hold_within`: the words passed are those of the states that are in hold.
-use Rattle.core_state_set.proofs.SetsWords.{Filling}
-use Rattle.core_rows.specs.Rows.{meet_hold}
-use Rattle.core_fixpoints.proofs.meet_hold_within.Given as goal
-
-abbrev pub invariant-loop-w : goal.invariant-loop-w
-invariant-loop-w l = Filling (meet_hold l.steps.words.now l.x.words l.y.words) l.initial.words l.w l.words
