@@ -23,11 +23,6 @@ pub fn first_order(store: &[u64], n: usize, g: usize) -> Result<Expanded, Refusa
     let mut cover = [all; MAX_STATES];
     add_groups(&mut cover, &store.words[GROUPS_AT..], g);
     narrow(&mut cover, z);
-    let reached = forward(
-        Steps::of(store),
-        Cover { rows: &cover },
-        store.initial(),
-        z,
-    );
+    let reached = forward(Steps::of(store), Cover { rows: &cover }, store.initial(), z);
     Ok(reached.expanded)
 }

@@ -89,6 +89,7 @@ fn narrow_back(steps: Steps, layers: &mut Rows, d: usize)
 }
 
 // The smallest state of x in layer i, or MAX_STATES.
+// kept: a number for none: a path goes on, so none is never seen, and `walk_by` of the contract goes by numbers
 fn smallest_in_layer(layers: &Rows, i: usize, x: StateSet) -> usize
     requires { i < max_states }
     ensures { result ≡ smallest_in layers.now i x.words }
@@ -110,6 +111,7 @@ fn write_path(steps: Steps, layers: &Rows, s: usize, d: usize, path: &mut [u16],
 }
 
 // The path that the specification names, at the front of the buffer; the answer is its steps, if there is one.
+// kept: what HoldsTable is of apart, as in all_distances of call_distances
 pub fn find_path(
     steps: Steps,
     n: usize,

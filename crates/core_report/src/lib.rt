@@ -24,6 +24,7 @@ const SPACED: usize = 6;
 // The specs' text_room is the same number.
 pub const ROOM: usize = 1024 + SPACED * MAX_STATES;
 
+// kept: n, g and count with their bounds, here and in the next two: a type would be made for one text, and taken apart in it
 pub fn write_safe(n: usize, g: usize, count: usize, invariant: StateSet, out: &mut [u8]) -> usize
     requires { (n ≤ max_states) × (g ≤ max_groups) × (count ≤ release) × (text_room ≤ length out.old) }
     ensures { Front (safe_text n g count invariant.words) out.old result out.new }

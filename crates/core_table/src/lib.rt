@@ -57,7 +57,8 @@ impl Store<'_> {
 }
 
 // The set whose words begin at `at`.
-// kept: by place, as in put_set: `copy_from_slice` tests for an overlap, and takes 50 instructions for 36
+// kept: by place, as in put_set: tried `copy_from_slice`, which tests for an overlap: 50 instructions for 36. In a corridor of 512 decide reads 147,392
+// sets of its rows, which would be over its bar of 1.5
 pub fn set_at(store: &[u64], at: usize) -> StateSet
     requires { at + WORDS ≤ length store.now }
     ensures { result.words ≡ set_at store.now at }
@@ -130,6 +131,7 @@ pub fn any_stored(store: &[u64], at: usize, count: usize) -> bool
 }
 
 // Some word from `from` on and before `to` is not 0. They are joined and tested once, which the compiler does several at a time.
+// kept: beside non_zero_byte of file_contents_reading, for what stands there
 pub fn non_zero_word(store: &[u64], from: usize, to: usize) -> bool
     requires { (from ≤ to) × (to ≤ length store.now) }
     ensures { result ≡ non_zero store.now from to }
@@ -174,6 +176,7 @@ fn is_groups_alone(n: usize, g: usize) -> bool
 }
 
 // A store with n states and g groups, where it is accepted.
+// kept: n and g as numbers, here and in the calls: each takes every n and g, and says which it refuses
 pub fn accept(store: &[u64], n: usize, g: usize) -> Result<Store<'_>, Refusal>
     ensures { (number_of result ≡ refuse (shared_grounds store.now n g)) × IfOk result (λ held. held.words.now ≡ store.now) }
 {

@@ -1,4 +1,5 @@
 // The calls for C (include/shuntberry.h). Each only calls the call of the same name and lays its answer out as C reads it (`shuntberry_fields`).
+// kept: n and g beside each store, and add_step and remove_step as two functions: C has them so.
 #![tactic(auto)]
 
 ghost use Rattle.std.specs.Prelude.{◌≡◌, length};

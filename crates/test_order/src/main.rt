@@ -6,7 +6,8 @@
 ghost use Rattle.std.specs.Prelude.{◌/◌, ◌<◌};
 ghost use Rattle.model.specs.Stores.{max_groups};
 
-use call_first_order::{FirstOrder, first_order};
+use call_first_order::first_order;
+use core_fixpoints::Expanded;
 use core_state_set::MAX_STATES;
 use core_table::{MAX_GROUPS, STORE_WORDS};
 use std::io;
@@ -16,7 +17,7 @@ use test_support::{
 };
 
 // The states that are expanded; and whether a place behind them is not 0.
-fn print_order(stdout: Stdout, found: FirstOrder) -> io::Result<()> {
+fn print_order(stdout: Stdout, found: Expanded) -> io::Result<()> {
     print!(stdout; "expands {}:", found.count)?;
     match found.states.get(..found.count) {
         Some(states) => numbers(stdout, states)?,

@@ -32,7 +32,7 @@ fn accept_check(
 }
 
 // The verdicts, each with its count of refinements: safe with the invariant and the number of its states, unsafe with the steps of the path.
-#[derive(Clone, Copy)]
+#[derive(Clone, Copy, Debug, PartialEq, Eq)]
 pub enum Verdict {
     Safe {
         count: usize,
@@ -77,6 +77,7 @@ pub fn decide(
         },
         Ending::Unsafe { count } => Verdict::Unsafe {
             count,
+            // kept: unsafe has a path, so the 0 for none is never seen; `steps_in` of the contract has it
             steps: find_path(steps, n, initial, forbidden, path).unwrap_or(0),
         },
         Ending::Undecided { count } => Verdict::Undecided { count },

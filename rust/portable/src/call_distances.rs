@@ -18,6 +18,7 @@ use crate::core_state_set::{MAX_STATES, StateSet, WORD_BITS, WORDS};
 use crate::core_table::accept;
 
 // The distance of a state from which no forbidden state can be reached.
+// kept: a number for none, as C reads it in its buffer (include/shuntberry.h)
 pub const UNREACHABLE: u16 = 65535;
 
 // The layers of distances that are found with a look at the row of each state that is left, before the rows may be transposed: in most tables the
@@ -28,6 +29,7 @@ const LAYERS_BY_ROWS: usize = 3;
 const THIN: usize = 32;
 
 // s joins the predecessors of each of its successors.
+// kept: a bit set in its word, here and in three other crates: by `StateSet::with` a whole set would be copied
 fn join_predecessor(before: &mut Rows, s: usize, successors: StateSet)
 {
     for u in successors.states() {

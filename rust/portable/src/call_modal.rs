@@ -44,6 +44,7 @@ fn check_on(store: Store, n: usize, g: usize, forbidden: StateSet, steps: Steps)
 }
 
 // The path on those rows at the front of the buffer, and its steps; groups play no part.
+// kept: 0 for none, as in decide; and what HoldsTable is of apart, as in all_distances of call_distances
 fn path_on(store: Store, n: usize, forbidden: StateSet, steps: Steps, path: &mut [u16]) -> usize
 {
     find_path(steps, n, store.initial(), forbidden, path).unwrap_or(0)
@@ -97,7 +98,7 @@ fn accept_possible<'a>(
 // ---- the call
 
 // Safe with the invariant and the number of its states, unsafe with the steps of the path, depends with all of these.
-#[derive(Clone, Copy)]
+#[derive(Clone, Copy, Debug, PartialEq, Eq)]
 pub enum ModalVerdict {
     Safe {
         invariant: StateSet,

@@ -20,6 +20,7 @@ pub const ENTRY_BYTES: usize = 2;
 pub const MAX_LOG: usize = 32768;
 
 // Entry i of a log: a 16-bit number, low byte first.
+// kept: le16_at of file_blocks again, in two lines: this crate stands on no crate of files
 fn entry_at(log: &[u8], i: usize) -> usize
 {
     let at = ENTRY_BYTES * i;

@@ -18,6 +18,7 @@ const SPACED: usize = 6;
 // The specs' text_room is the same number.
 pub const ROOM: usize = 1024 + SPACED * MAX_STATES;
 
+// kept: n, g and count with their bounds, here and in the next two: a type would be made for one text, and taken apart in it
 pub fn write_safe(n: usize, g: usize, count: usize, invariant: StateSet, out: &mut [u8]) -> usize
 {
     let mut report = Report { out, at: 0 };

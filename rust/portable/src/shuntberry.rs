@@ -1,6 +1,7 @@
 // Made by scripts/portable from crates/shuntberry/src/lib.rt, which is proved. Change that one.
 
 // The calls for C (include/shuntberry.h). Each only calls the call of the same name and lays its answer out as C reads it (`shuntberry_fields`).
+// kept: n and g beside each store, and add_step and remove_step as two functions: C has them so.
 
 use crate::call_check::check;
 use crate::call_decide::decide;

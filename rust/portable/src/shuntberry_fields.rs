@@ -17,6 +17,7 @@ use crate::core_state_set::{StateSet, WORDS};
 use crate::file_reading::TableSize;
 
 // What stands where a refused call has no answer (specs/Fields).
+// kept: numbers for none, and structs that are alike but for their fields: C reads them (include/shuntberry.h)
 const NO_VERDICT: u32 = 255;
 
 const NO_ANSWER: u32 = 255;
@@ -54,7 +55,7 @@ fn refused_decision(refusal: Refusal) -> DecisionFields
     }
 }
 
-// kept: functions, and no From: most ask that the answer's numbers fit in 32 bits, and From asks nothing.
+// kept: functions, and no From, in one way for all: most ask that the answer's numbers fit in 32 bits, and From asks nothing.
 pub fn lay_out_decision(answer: Result<Verdict, Refusal>) -> DecisionFields
 {
     let none = StateSet::empty();
