@@ -105,9 +105,9 @@ module _ (form : Form) {second : ℕ} where
   second_high e h = or_right (ltb second (added form)) _ (lt-ltb (added form + max_groups) second (omega arith))
 
 -- grounds 14 and 15 do not hold
-pub header_passes : (form : Form) {n second least : ℕ} → (n ≡ 0 → ⊥) → n ≤ max_states → least ≡ added form → least ≤ second → second - least ≤ max_groups
+pub header_passes : (form : Form) (n : ℕ) {second least : ℕ} → (n ≡ 0 → ⊥) → n ≤ max_states → least ≡ added form → least ≤ second → second - least ≤ max_groups
     → ((eqb n 0 || ltb max_states n) ≡ false) × (bad_second form second ≡ false)
-header_passes form some small e l few = (or_none _ _ (ne_eqb _ 0 some) (le-ltb max_states _ small), second_pass form _ _ (second_is e l) few)
+header_passes form n some small e l few = (or_none _ _ (ne_eqb n 0 some) (le-ltb max_states n small), second_pass form _ _ (second_is e l) few)
 
 -- ground 16 does not hold, or does
 module _ (form : Form) (n g : ℕ) {needed size : ℕ} (e : size ≡ content_length form n g) (f : needed ≡ blocks_for size) where

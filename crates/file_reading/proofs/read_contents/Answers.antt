@@ -26,14 +26,14 @@ returns-then-g-gt-MAX_GROUPS c = reads_first 1 _ (search (rules, ne_eqb, le-ltb,
 pub returns-then-blocks-blocks_for : goal.returns-then-blocks-blocks_for
 unfolding bytes_grounds
 returns-then-blocks-blocks_for c =
-    let h = header_passes _ c.if-n-eq0.false c.if-n-gt-MAX_STATES.false c.added-least.ensures.0 c.if-second-least.false c.if-g-gt-MAX_GROUPS.false in
+    let h = header_passes _ c.args.n (search rules) (search rules) c.added-least.ensures.0 c.if-second-least.false c.if-g-gt-MAX_GROUPS.false in
     reads_contents _ _ _ _ _ c.added-least.ensures.0
     (reads_first 2 _ (h.0, (h.1, miscounted _ _ _ c.content_length-size.ensures.0 c.blocks_for.ensures c.if-blocks-blocks_for.true)) refl)
 
 pub returns-then-any_content_beyond : goal.returns-then-any_content_beyond
 unfolding bytes_grounds
 returns-then-any_content_beyond c =
-    let h = header_passes _ c.if-n-eq0.false c.if-n-gt-MAX_STATES.false c.added-least.ensures.0 c.if-second-least.false c.if-g-gt-MAX_GROUPS.false in
+    let h = header_passes _ c.args.n (search rules) (search rules) c.added-least.ensures.0 c.if-second-least.false c.if-g-gt-MAX_GROUPS.false in
     let count = count_passes _ _ _ c.content_length-size.ensures.0 c.blocks_for.ensures c.if-blocks-blocks_for.false in
     reads_contents _ _ _ _ _ c.added-least.ensures.0
     (reads_first 3 _ (h.0, (h.1, (count, sym c.any_content_beyond.ensures ∙ c.if-any_content_beyond.true))) refl)
@@ -41,7 +41,7 @@ returns-then-any_content_beyond c =
 pub returns-then-non_zero_byte : goal.returns-then-non_zero_byte
 unfolding bytes_grounds
 returns-then-non_zero_byte c =
-    let h = header_passes _ c.if-n-eq0.false c.if-n-gt-MAX_STATES.false c.added-least.ensures.0 c.if-second-least.false c.if-g-gt-MAX_GROUPS.false in
+    let h = header_passes _ c.args.n (search rules) (search rules) c.added-least.ensures.0 c.if-second-least.false c.if-g-gt-MAX_GROUPS.false in
     let count = count_passes _ _ _ c.content_length-size.ensures.0 c.blocks_for.ensures c.if-blocks-blocks_for.false in
     let filler = filler_said _ _ _ _ c.content_length-size.ensures.0 (search rules) (search rules) c.non_zero_byte.ensures in
     reads_contents _ _ _ _ _ c.added-least.ensures.0
@@ -50,7 +50,7 @@ returns-then-non_zero_byte c =
 pub returns : goal.returns
 unfolding bytes_grounds
 returns c =
-    let h = header_passes _ c.if-n-eq0.false c.if-n-gt-MAX_STATES.false c.added-least.ensures.0 c.if-second-least.false c.if-g-gt-MAX_GROUPS.false in
+    let h = header_passes _ c.args.n (search rules) (search rules) c.added-least.ensures.0 c.if-second-least.false c.if-g-gt-MAX_GROUPS.false in
     let count = count_passes _ _ _ c.content_length-size.ensures.0 c.blocks_for.ensures c.if-blocks-blocks_for.false in
     let filler = filler_said _ _ _ _ c.content_length-size.ensures.0 (search rules) (search rules) c.non_zero_byte.ensures in
     reads_contents _ _ _ _ _ c.added-least.ensures.0
