@@ -25,6 +25,7 @@ use core_rows::Steps;
 use core_state_set::{StateSet, WORD_BITS, WORDS};
 use core_table::{ROWS_AT, Store, accept};
 
+// kept: from and to as two numbers, here and below, as C has them: accept_edit takes all, and refuses those from n up
 fn has_step(store: Store, from: usize, to: usize) -> bool
     requires { from < max_states }
     ensures { result ≡ has_step store.entry.words.now from to }
@@ -33,7 +34,7 @@ fn has_step(store: Store, from: usize, to: usize) -> bool
 }
 
 // The bit of the step, in its one word.
-// kept: a Store is lent to be read; what is written, here and below, is a slice. And two functions, as `|=` and `&= !` are two operators: one function
+// kept: here and below, a Store is lent to be read; one lent to be written would be a second type, made anew at each call. And two functions, as `|=` and `&= !` are two operators: one function
 // with a closure of the word would take its contract, and as many lines
 fn set_step(store: &mut [u64], from: usize, to: usize)
     requires { (from < max_states) × (to < max_states) × (store_words ≤ length store.old) }

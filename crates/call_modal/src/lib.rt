@@ -32,6 +32,7 @@ pub const POSSIBLE_WORDS: usize = WORDS * MAX_STATES;
 // ---- a check, and a path
 
 // A release check of the store's table with these forbidden states and rows: the invariant, where it says safe.
+// kept: g with its bound, as `run` asks it
 fn check_on(store: Store, n: usize, g: usize, forbidden: StateSet, steps: Steps) -> Option<StateSet>
     requires { g ≤ max_groups }
     ensures { ChecksOut (table_with store.entry.words.now n g forbidden.words (rows_in steps.entry.words.now n)) result }
@@ -68,6 +69,7 @@ fn path_on(store: Store, n: usize, forbidden: StateSet, steps: Steps, path: &mut
 // ---- refusals
 
 // A 1 bit for a state from n up, or a word of an unused row not 0.
+// kept: n with its bound, here, below and in call_distances: the calls take every n, and a type of it would be taken apart here
 fn is_malformed(possible: &[u64], n: usize) -> bool
     requires { (n ≤ max_states) × (possible_words ≤ length possible.now) }
     ensures { result ≡ malformed_rows possible.now n }
@@ -81,6 +83,7 @@ fn any_impossible(store: Store, n: usize, possible: Steps) -> bool
     ensures { result ≡ certain_impossible store.entry.words.now n possible.entry.words.now }
 {
     let certain = Steps::of(store);
+    // kept: by a loop over two rows: the closure of `any` would have a contract of its own, and is no plainer
     for s in 0..n {
         if !certain.row(s).is_subset(possible.row(s)) {
             return true;

@@ -81,6 +81,7 @@ fn narrow_back(steps: Steps, layers: &mut Rows, d: usize)
     requires { d < max_states }
     ensures { layers.new ≡ narrowed_back steps.entry.words.now d layers.old }
 {
+    // kept: row i is written while row i + 1 is read, which an iterator does not lend
     for i in (0..d).rev() {
         let next = row_of(layers, i + 1);
         let words = stepping_into(steps, row_of(layers, i), next).words;

@@ -22,6 +22,7 @@ use core_state_set::WORDS;
 use core_table::{GROUPS_AT, HEAD_SETS, ROWS_AT, Store};
 use file_blocks::{Counts, Form, HEADER, added};
 
+// kept: store, counts and out apart, here and below: a type of them would be made in one call and taken apart here
 pub fn join_contents(store: Store, counts: Counts, out: &mut [u8])
     requires { content_length new_form counts.n counts.g ≤ length out.old }
     ensures { out.new ≡ overwrite (contents new_form (dialogue_of store.entry.words.now counts.n counts.g)) out.old }

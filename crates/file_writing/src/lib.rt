@@ -69,6 +69,7 @@ fn write_file(store: Store, counts: Counts, site: Site, blocks: usize, out: &mut
 // ---- blocks
 
 // The number of a block has two bytes.
+// kept: blocks by number: bytes and out are both cut by it
 fn write_blocks(bytes: &[u8], site: Site, blocks: usize, out: &mut [u8])
     requires { (content_bytes * blocks ≤ length bytes.now) × (blocks ≤ 65536) × (block_bytes * blocks ≤ length out.old) }
     ensures { out.new ≡ overwrite (concat blocks (block_of site.number bytes.now)) out.old }

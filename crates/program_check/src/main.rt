@@ -31,6 +31,7 @@ fn main(rt: HostRuntime) -> io::Result<()> {
 }
 
 // A read that failed prints no verdict.
+// kept: beside put_answer of the other program: the body is put_for, and the clause each program's own
 fn put_answer(read: Input, room: &[u8], out: &mut [u8; CHECK_TEXT]) -> Option<usize>
     requires { Within read (length room.now) }
     ensures { ForText (λ input end. Front (check_text input 0) out.old end out.new) (text_of read (length room.now)) room.now result }

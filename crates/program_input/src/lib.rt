@@ -43,6 +43,7 @@ pub fn text_of(input: Input, room: usize) -> Option<usize>
 }
 
 // A failed input puts nothing: it must not pass for an empty file, which is a draft, nor for a part of a file.
+// kept: Within with the room, here and in both programs: a type of both would be made in each main
 pub fn put_for<T, F: FnOnce(&[u8], &mut T) -> usize>(
     read: Input,
     room: &[u8],

@@ -36,6 +36,7 @@ fn main(rt: HostRuntime) -> io::Result<()> {
 }
 
 // A read that failed writes nothing.
+// kept: beside put_answer of the other program: the body is put_for, and the clause each program's own
 fn put_answer(read: Input, room: &[u8], out: &mut [u8; MAX_FILE]) -> Option<usize>
     requires { Within read (length room.now) }
     ensures { ForText (λ input end. Front (rewrite_text input) out.old end out.new) (text_of read (length room.now)) room.now result }

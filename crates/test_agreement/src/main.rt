@@ -53,6 +53,7 @@ fn is_forbidden(stdout: Stdout, store: &[u64], s: usize) -> io::Result<bool> {
 }
 
 // The states found so far in the order in which they were found, each with its steps from an initial state.
+// kept: an array with its end: no heap
 #[derive(Drop)]
 struct Queue {
     visits: [(usize, usize); MAX_STATES],

@@ -51,6 +51,7 @@ fn print_answer(
 }
 
 // One call, with a path buffer of so many sevens. (No array has 2^63 bytes.)
+// kept: beside the same of the other tests: one for all would take the call and its printing as a closure, and is no plainer
 fn try_one<const PLACES: usize>(
     stdout: Stdout,
     name: &str,

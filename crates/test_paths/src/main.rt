@@ -45,6 +45,7 @@ fn print_answer(
 }
 
 // With a path buffer of so many places. (No array has 2^63 bytes.)
+// kept: beside the same of the other tests: one for all would take the call and its printing as a closure, and is no plainer
 fn report<const PLACES: usize>(stdout: Stdout, name: &str, table: Table) -> io::Result<()>
     requires { PLACES * 2 < 2 ^ 63 }
 {
@@ -241,6 +242,7 @@ fn print_within(stdout: Stdout, table: Table, k: usize) -> io::Result<()> {
 }
 
 // With a distance buffer of so many places.
+// kept: beside the same of the other tests: one for all would take the call and its printing as a closure, and is no plainer
 fn measure<const PLACES: usize>(stdout: Stdout, name: &str, table: Table) -> io::Result<()>
     requires { PLACES * 2 < 2 ^ 63 }
 {
@@ -257,6 +259,7 @@ fn measure<const PLACES: usize>(stdout: Stdout, name: &str, table: Table) -> io:
     println!(stdout)
 }
 
+// kept: beside report_table: one of both would take its last line as a closure, and is no plainer
 fn measure_table(
     stdout: Stdout,
     name: &str,

@@ -55,6 +55,7 @@ impl<'a> Table<'a> {
 }
 
 // Bit i of the word `at` set.
+// kept: stdout and the store apart, here and in the tests: a value of both would hold the store by &mut, and be made anew around each call
 fn put_bit(stdout: Stdout, store: &mut [u64], at: usize, i: usize) -> io::Result<()> {
     if at < store.len() {
         store[at] |= 1 << (i % WORD_BITS);
@@ -87,22 +88,28 @@ pub fn resting(stdout: Stdout, store: &mut [u64], s: usize) -> io::Result<()> {
     add(stdout, store, RESTING_AT, s)
 }
 
-pub fn group(stdout: Stdout, store: &mut [u64], j: usize, s: usize) -> io::Result<()> {
-    if j < MAX_GROUPS {
-        add(stdout, store, GROUPS_AT + WORDS * j, s)?;
+// A state put into set k of those that begin at `from`, of which there are `most`.
+fn add_in(
+    stdout: Stdout,
+    store: &mut [u64],
+    from: usize,
+    most: usize,
+    k: usize,
+    s: usize,
+) -> io::Result<()> {
+    if k < most {
+        add(stdout, store, from + WORDS * k, s)
     } else {
-        left_out(stdout)?;
+        left_out(stdout)
     }
-    Ok(())
+}
+
+pub fn group(stdout: Stdout, store: &mut [u64], j: usize, s: usize) -> io::Result<()> {
+    add_in(stdout, store, GROUPS_AT, MAX_GROUPS, j, s)
 }
 
 pub fn step(stdout: Stdout, store: &mut [u64], a: usize, b: usize) -> io::Result<()> {
-    if a < MAX_STATES {
-        add(stdout, store, ROWS_AT + WORDS * a, b)?;
-    } else {
-        left_out(stdout)?;
-    }
-    Ok(())
+    add_in(stdout, store, ROWS_AT, MAX_STATES, a, b)
 }
 
 // The state that a digit names.
