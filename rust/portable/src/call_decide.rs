@@ -77,7 +77,7 @@ pub fn decide(
         },
         Ending::Unsafe { count } => Verdict::Unsafe {
             count,
-            // kept: unsafe has a path, so the 0 for none is never seen; `steps_in` of the contract has it
+            // kept: unsafe has a path, so the 0 for none is never seen; an Option would be asked for by each who reads the steps
             steps: find_path(steps, n, initial, forbidden, path).unwrap_or(0),
         },
         Ending::Undecided { count } => Verdict::Undecided { count },

@@ -29,7 +29,7 @@ const LAYERS_BY_ROWS: usize = 3;
 const THIN: usize = 32;
 
 // s joins the predecessors of each of its successors.
-// kept: a bit set in its word, here and in three other crates: by `StateSet::with` a whole set would be copied
+// kept: one line, here and in three other crates: a function of the words would take with_bit as its contract, which is longer
 fn join_predecessor(before: &mut Rows, s: usize, successors: StateSet)
 {
     for u in successors.states() {
@@ -63,7 +63,7 @@ fn sweep_transposed(steps: Steps, n: usize, forbidden: StateSet) -> [u16; MAX_ST
     let mut found = forbidden;
     let mut layer = forbidden;
     let mut d: u16 = 0;
-    // kept: as a `for` with an end inside, like that of all_distances, the call takes 359,316 instructions for 346,539 in a corridor of 512
+    // kept: a `for`, as in all_distances, would have its end inside and cast d: no plainer (and 359,316 instructions for 346,539)
     while !layer.is_empty() {
         mark(&mut distances, layer, d);
         layer = union_of(&before, layer).difference(found);

@@ -15,13 +15,14 @@ use crate::core_rows::Steps;
 use crate::core_state_set::{StateSet, WORD_BITS, WORDS};
 use crate::core_table::{ROWS_AT, Store, accept};
 
+// kept: from and to as two numbers, here and below, as C has them: accept_edit takes all, and refuses those from n up
 fn has_step(store: Store, from: usize, to: usize) -> bool
 {
     Steps::of(store).row(from).contains(to)
 }
 
 // The bit of the step, in its one word.
-// kept: a Store is lent to be read; what is written, here and below, is a slice. And two functions, as `|=` and `&= !` are two operators: one function
+// kept: here and below, a Store is lent to be read; one lent to be written would be a second type, made anew at each call. And two functions, as `|=` and `&= !` are two operators: one function
 // with a closure of the word would take its contract, and as many lines
 fn set_step(store: &mut [u64], from: usize, to: usize)
 {

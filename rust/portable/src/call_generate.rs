@@ -83,7 +83,7 @@ fn put_numbers(seed: u32, count: usize, buffer: &mut [u32])
 {
     put_start(seed, buffer);
     let mut made = LONG_LAG;
-    // kept: no `step_by`, which looks at each number between: 63,336 instructions for 53,080 in all of this, at 8,192 numbers (Rust's own 73,615)
+    // kept: no `step_by`, which looks at each number between: 63,336 instructions for 53,080 in all of this, at 8,192 numbers (by Rust's own `step_by` 73,615); no plainer
     while made < count {
         put_sums(made, buffer);
         made += SHORT_LAG;
@@ -92,7 +92,8 @@ fn put_numbers(seed: u32, count: usize, buffer: &mut [u32])
 
 // ---- the table
 
-// kept, here and below: a Store is lent to be read; one lent to be written would be a second type, made anew at each call
+// kept: here and below, a Store is lent to be read; one lent to be written would be a second type, made anew at each call. And n with its bounds, which
+// Divisor has: its n is a u64, to be turned back for the loop
 fn fill(numbers: &[u32], n: usize, f: usize, store: &mut [u64])
 {
     clear(store);

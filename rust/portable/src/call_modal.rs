@@ -22,6 +22,7 @@ pub const POSSIBLE_WORDS: usize = WORDS * MAX_STATES;
 // ---- a check, and a path
 
 // A release check of the store's table with these forbidden states and rows: the invariant, where it says safe.
+// kept: g with its bound, as `run` asks it
 fn check_on(store: Store, n: usize, g: usize, forbidden: StateSet, steps: Steps) -> Option<StateSet>
 {
     let ending = run(
@@ -53,6 +54,7 @@ fn path_on(store: Store, n: usize, forbidden: StateSet, steps: Steps, path: &mut
 // ---- refusals
 
 // A 1 bit for a state from n up, or a word of an unused row not 0.
+// kept: n with its bound, here, below and in call_distances: the calls take every n, and a type of it would be taken apart here
 fn is_malformed(possible: &[u64], n: usize) -> bool
 {
     any_stored_beyond(possible, 0, n, n) || any_stored(possible, WORDS * n, MAX_STATES - n)
@@ -62,6 +64,7 @@ fn is_malformed(possible: &[u64], n: usize) -> bool
 fn any_impossible(store: Store, n: usize, possible: Steps) -> bool
 {
     let certain = Steps::of(store);
+    // kept: by a loop over two rows: the closure of `any` would have a contract of its own, and is no plainer
     for s in 0..n {
         if !certain.row(s).is_subset(possible.row(s)) {
             return true;

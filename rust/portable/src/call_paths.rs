@@ -68,6 +68,7 @@ fn first_layer(
 // Back from layer d: of each layer are kept the states that step to a state kept of the next.
 fn narrow_back(steps: Steps, layers: &mut Rows, d: usize)
 {
+    // kept: row i is written while row i + 1 is read, which an iterator does not lend
     for i in (0..d).rev() {
         let next = row_of(layers, i + 1);
         let words = stepping_into(steps, row_of(layers, i), next).words;

@@ -24,7 +24,7 @@ pub fn rewrite(input: &[u8], output: &mut [u8]) -> Result<usize, Refusal>
     write(&store, size.n, size.g, SITE, output)
 }
 
-// kept: a Store is lent to be read; what is written is a slice
+// kept: a Store is lent to be read; one lent to be written would be a second type, made anew at each call
 fn rest_dead_ends(store: &mut [u64], n: usize)
 {
     let steps = Steps::of(Store { words: store });

@@ -48,8 +48,7 @@ impl Cover<'_> {
 pub type Order = [u16; MAX_STATES];
 
 // What was expanded so far: how many states, and the successors that they have.
-// kept: beside the order and not in one value with it: tried, and each state took an instruction more (decide, corridor of 512, by rustc: 15,133,480 for
-// 15,003,182), as the count was read and written in memory
+// kept: beside the order: one value of both would hold it by &mut, and is no plainer (tried: an instruction more for each state)
 #[derive(Clone, Copy)]
 struct Done {
     count: usize,
@@ -83,6 +82,7 @@ fn expand_set(steps: Steps, x: StateSet, order: &mut Order, count: usize) -> Don
 }
 
 // So many states that were expanded, in their order at the front; 0 past them.
+// kept: an array with its count: no heap, and 0 past them by contract
 #[derive(Clone, Copy, Debug, PartialEq, Eq)]
 pub struct Expanded {
     pub count: usize,

@@ -18,7 +18,7 @@ const SPACED: usize = 6;
 // The specs' text_room is the same number.
 pub const ROOM: usize = 1024 + SPACED * MAX_STATES;
 
-// kept: n, g and count with their bounds, here and in the next two: a type would be made for one text, and taken apart in it
+// kept: n, g and count with their bounds, and the room of out, here and below: a type would be made for one text, and taken apart in it
 pub fn write_safe(n: usize, g: usize, count: usize, invariant: StateSet, out: &mut [u8]) -> usize
 {
     let mut report = Report { out, at: 0 };
@@ -47,13 +47,13 @@ pub fn write_undecided(n: usize, g: usize, count: usize, out: &mut [u8]) -> usiz
 pub fn write_refused(refusal: u8, out: &mut [u8]) -> usize
 {
     let mut report = Report { out, at: 0 };
-    report.put_number(b"refused ", refusal as usize);
+    report.put_number(b"refused ", usize::from(refusal));
     report.put(b"\n");
     report.at
 }
 
 // A text so far: it stands in the buffer up to `at`.
-// kept: each piece asks for the room that it takes, so no ghost field can say it for all of them
+// kept: out with at, as there is no heap; and each piece asks for the room that it takes, so no ghost field can say it for all of them
 struct Report<'a> {
     out: &'a mut [u8],
     at: usize,
@@ -63,6 +63,7 @@ impl<'a> Report<'a> {
     // ---- lines
 
     // Lines 1 and 2; the word is the verdict's.
+    // kept: numbers below number_limit and no u16: they are usize where they come from, and each call would cut them
     fn put_head(&mut self, n: usize, g: usize, word: &[u8], count: usize)
     {
         self.put_states_line(n, g);
@@ -122,7 +123,7 @@ impl<'a> Report<'a> {
     fn put_path(&mut self, path: &[u16])
     {
         for s in path {
-            self.put_spaced(*s as usize);
+            self.put_spaced(usize::from(*s));
         }
     }
 
@@ -139,7 +140,7 @@ impl<'a> Report<'a> {
     }
 
     // The digits of n: the last one after those of n / 10.
-    // kept: by hand: unsafe with a path of 4 states took 350 instructions so, and 1,677 by `write!`
+    // kept: by hand: each piece says its text and its room, and `write!` is no plainer (1,677 instructions for 350, unsafe with a path of 4 states)
     fn put_decimal(&mut self, n: usize)
     {
         if n < 10 {

@@ -45,7 +45,8 @@ pub fn narrow(cover: &mut Rows, z: StateSet)
 }
 
 // The cover once g groups are added to the list, from the last to the first.
-// kept: g beside the words of the groups, here and in `run`: without it both contracts would say `groups_in groups (length groups / WORDS)`
+// kept: g beside the words of the groups, here and in `run`, with its bound, and a group by place: without g both contracts would say
+// `groups_in groups (length groups / WORDS)`
 pub fn add_groups(cover: &mut Rows, groups: &[u64], g: usize)
 {
     for j in (0..g).rev() {

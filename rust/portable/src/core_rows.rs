@@ -37,6 +37,7 @@ impl Iterator for Ones {
 }
 
 // Rows that have a set for each state.
+// kept: a state with its bound, here and where a row is taken: a type of it would be made anew at each turn of a loop
 trait Relation: Copy {
     fn row_at(self, s: usize) -> StateSet;
 }
@@ -55,6 +56,7 @@ fn join_rows<R: Relation>(rows: R, x: StateSet) -> StateSet
 }
 
 // The steps of a table, or possible steps: a row of words for each state.
+// kept: sets one behind the other in a slice, here and in a Store, as C lends them
 #[derive(Clone, Copy)]
 pub struct Steps<'a> {
     pub words: &'a [u64],

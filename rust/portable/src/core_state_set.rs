@@ -105,7 +105,7 @@ impl StateSet {
         self.difference(StateSet::single(s))
     }
 
-    // kept: `==` with a contract in the model's words, by which its callers go
+    // kept: a public function with a clause of its own (`same`), by which its callers go
     pub fn equals(self, other: StateSet) -> bool
     {
         self == other

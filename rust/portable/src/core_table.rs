@@ -47,8 +47,8 @@ impl Store<'_> {
 }
 
 // The set whose words begin at `at`.
-// kept: by place, as in put_set: tried `copy_from_slice`, which tests for an overlap: 50 instructions for 36. In a corridor of 512 decide reads 147,392
-// sets of its rows, which would be over its bar of 1.5
+// kept: by place, as in put_set: tried `copy_from_slice`, which tests for an overlap: 50 instructions for 36. So decide, which reads 147,392 sets in a
+// corridor of 512, would be over its bar of 1.5
 pub fn set_at(store: &[u64], at: usize) -> StateSet
 {
     let mut words = [0; WORDS];
@@ -59,7 +59,7 @@ pub fn set_at(store: &[u64], at: usize) -> StateSet
 }
 
 // The words of a table, those of unused groups and rows among them.
-// kept: a Store is lent to be read; what is written is a slice
+// kept: a Store is lent to be read; one lent to be written would be a second type, made anew at each call
 pub fn clear(store: &mut [u64])
 {
     store[..STORE_WORDS].fill(0);
@@ -83,6 +83,7 @@ fn is_beyond(x: StateSet, n: usize) -> bool
 }
 
 // The `count` sets that begin at `at`, joined: tested once, which the compiler does several words at a time.
+// kept: at and count with the words, here and in the next two, and by place: their contracts are the model's of a store, by place
 fn joined(store: &[u64], at: usize, count: usize) -> StateSet
 {
     let mut out = StateSet::empty();
@@ -108,7 +109,7 @@ pub fn any_stored(store: &[u64], at: usize, count: usize) -> bool
 }
 
 // Some word from `from` on and before `to` is not 0. They are joined and tested once, which the compiler does several at a time.
-// kept: beside non_zero_byte of file_contents_reading, for what stands there
+// kept: beside non_zero_byte of file_contents_reading, for what stands there; and by from and to, as its contract in docs/DECISIONS.md, 28, has it
 pub fn non_zero_word(store: &[u64], from: usize, to: usize) -> bool
 {
     store[from..to]

@@ -52,7 +52,7 @@ const MODULUS: u32 = 65521;
 pub const MAX_SITE: usize = MODULUS as usize - 1;
 
 // The number of a site.
-// kept: no TryFrom, by which read takes an instruction more.
+// kept: no TryFrom: both callers test the number among their other grounds, in order, and its error would be made to be dropped
 #[derive(Clone, Copy)]
 pub struct Site {
     pub number: usize,
@@ -129,6 +129,7 @@ fn whole_chunks(block: &[u8]) -> u32
 {
     let mut sums = [0u16; LANES];
     let mut turns = [0u16; LANES];
+    // kept: by place, as the weights of the contract go; `chunks_exact(LANES).rev()` is no plainer
     for k in (0..CHUNKS).rev() {
         add_lanes(&sums, &mut turns);
         add_bytes(block, LANES * k, &mut sums);

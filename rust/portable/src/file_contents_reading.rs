@@ -14,8 +14,10 @@ use crate::file_blocks::{Counts, Form, HEADER, head_sets};
 // ---- grounds of the contents
 
 // A set of the table has a state from n up.
+// kept: bytes with their room, and counts beside them, here and below: an array would refuse longer ones, which the clause takes
 pub fn any_content_beyond(form: Form, bytes: &[u8], counts: Counts) -> bool
 {
+    // kept: by a loop: the closure of `any` would have a contract of its own, and is no plainer
     for k in 0..counts.set_count(form) {
         if is_set_beyond(bytes, counts, k) {
             return true;
@@ -56,6 +58,7 @@ pub fn fill(form: Form, bytes: &[u8], counts: Counts, store: &mut [u64])
 
 // A part of the store that has room for `room` sets: the first `count` are those of the contents from set `first` on, and the others are empty. Each of
 // the first is put into its own words: the part of the store from there on is lent, from ROWS_AT + WORDS * s on for the row of state s, to be filled from the set's bytes.
+// kept: room beside the part, as the clause asks for no exact length
 fn fill_sets(
     part: &mut [u64],
     bytes: &[u8],

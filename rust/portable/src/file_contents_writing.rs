@@ -14,6 +14,7 @@ use crate::core_state_set::WORDS;
 use crate::core_table::{GROUPS_AT, HEAD_SETS, ROWS_AT, Store};
 use crate::file_blocks::{Counts, Form, HEADER, added};
 
+// kept: store, counts and out apart, here and below: a type of them would be made in one call and taken apart here
 pub fn join_contents(store: Store, counts: Counts, out: &mut [u8])
 {
     write_le16(counts.n, out);

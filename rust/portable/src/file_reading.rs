@@ -17,6 +17,7 @@ use crate::file_blocks::{
 use crate::file_contents_reading::{any_content_beyond, fill, non_zero_byte};
 
 // The states and groups of a table, how many.
+// kept: beside Counts of file_blocks, whose bounds it lacks: theorems (RoundTripCalls, Accepting) speak of every such answer
 #[derive(Clone, Copy, Debug, PartialEq, Eq)]
 pub struct TableSize {
     pub n: usize,
@@ -50,7 +51,7 @@ fn read_as(form: Form, input: &[u8], site: usize, store: &mut [u64]) -> Result<T
     read_file(form, input, site, store)
 }
 
-// kept, here and below: a Store is lent to be read; one lent to be written would be a second type, made anew at each call
+// kept: here and below, a Store is lent to be read; one lent to be written would be a second type, made anew at each call
 fn read_file(form: Form, input: &[u8], site: Site, store: &mut [u64]) -> Result<TableSize, Refusal>
 {
     if input.len() % BLOCK != 0 {
@@ -67,6 +68,7 @@ fn read_file(form: Form, input: &[u8], site: Site, store: &mut [u64]) -> Result<
 }
 
 // The contents of so many blocks, joined, which say n and a second number. Nothing is put into the store before the last ground has been looked at.
+// kept: blocks beside bytes: a set is read by whole words past the last block, so bytes is all of the room
 fn read_contents(
     form: Form,
     bytes: &[u8],

@@ -58,6 +58,7 @@ fn write_file(store: Store, counts: Counts, site: Site, blocks: usize, out: &mut
 // ---- blocks
 
 // The number of a block has two bytes.
+// kept: blocks by number: bytes and out are both cut by it
 fn write_blocks(bytes: &[u8], site: Site, blocks: usize, out: &mut [u8])
 {
     for k in 0..blocks {
