@@ -40,6 +40,9 @@ pub record Recording (goal : List ℕ) (total : ℕ) (left : Set) (order : List 
   pub whole : sets order count (members left) ≡ goal
   pub number : count + size left ≡ total
 
+pub record_start : {X left : Set} (order : List ℕ) (count : ℕ) → left ≡ X → Recording (sets order count (members X)) (count + size X) left order count
+record_start order count e = record { whole = ap (λ (Y : Set). sets order count (members Y)) e; number = ap (λ (Y : Set). count + size Y) e }
+
 module _ {goal : List ℕ} {total : ℕ} {left : Set} {order : List ℕ} {count : ℕ} (so : Recording goal total left order count) where
   module _ {s : ℕ} {rest : Set} (taken : Takes left (Some s) rest) where
     fewer : size left ≡ suc (size rest)

@@ -182,9 +182,9 @@ pub struct Leading<'a> {
 impl Leading<'_> {
     // Word w of x meet hold(y). A state of x is out if it steps to one that `before` has more than y: where no step from the word leads there, no row is
     // looked at.
-    fn held_word(self, w: usize, y: StateSet) -> u64
+    fn held_word(&self, w: usize, y: StateSet) -> u64
         requires { w < WORDS }
-        ensures { result ≡ get_or (meet_hold self.entry.steps.words.now self.entry.x.words y.words) w 0 }
+        ensures { result ≡ get_or (meet_hold self.now.steps.words.now self.now.x.words y.words) w 0 }
     {
         let found = StateSet {
             words: self.by_word[w],
@@ -196,9 +196,9 @@ impl Leading<'_> {
     }
 
     // x meet hold(y), which leads into y.
-    fn held(self, y: StateSet) -> Self
-        ensures { (result.x.words ≡ meet_hold self.entry.steps.words.now self.entry.x.words y.words)
-            × (result.steps.words.now ≡ self.entry.steps.words.now) }
+    fn held(&self, y: StateSet) -> Self
+        ensures { (result.x.words ≡ meet_hold self.now.steps.words.now self.now.x.words y.words)
+            × (result.steps.words.now ≡ self.now.steps.words.now) }
     {
         let mut words = [0; WORDS];
         for (w, word) in words.iter_mut().enumerate() {

@@ -158,7 +158,7 @@ pub struct Leading<'a> {
 impl Leading<'_> {
     // Word w of x meet hold(y). A state of x is out if it steps to one that `before` has more than y: where no step from the word leads there, no row is
     // looked at.
-    fn held_word(self, w: usize, y: StateSet) -> u64
+    fn held_word(&self, w: usize, y: StateSet) -> u64
     {
         let found = StateSet {
             words: self.by_word[w],
@@ -170,7 +170,7 @@ impl Leading<'_> {
     }
 
     // x meet hold(y), which leads into y.
-    fn held(self, y: StateSet) -> Self
+    fn held(&self, y: StateSet) -> Self
     {
         let mut words = [0; WORDS];
         for (w, word) in words.iter_mut().enumerate() {

@@ -14,16 +14,16 @@ pub overflow_mul-at : goal.overflow_mul-at
 overflow_mul-at c = record { fits = sets_fit (search rules) (search rules) }
 
 pub slice_bounds-put_set_bytes-count-in-loop-k : goal.slice_bounds-put_set_bytes-count-in-loop-k
-slice_bounds-put_set_bytes-count-in-loop-k c = omega (arith, set_room _ _ c.loop-k.k c.set_width-width.ensures c.requires.2 (search rules), c.loop-k.invariant.1.long)
+slice_bounds-put_set_bytes-count-in-loop-k c = omega (arith, set_room _ _ c.loop-k.k c.set_width-width.ensures c.requires (search rules), c.loop-k.invariant.1.long)
 
 pub slice_bounds-put_set_bytes-start-in-loop-k : goal.slice_bounds-put_set_bytes-start-in-loop-k
-slice_bounds-put_set_bytes-start-in-loop-k c = omega (arith, set_room _ _ c.loop-k.k c.set_width-width.ensures c.requires.2 (search rules), c.loop-k.invariant.1.long)
+slice_bounds-put_set_bytes-start-in-loop-k c = omega (arith, set_room _ _ c.loop-k.k c.set_width-width.ensures c.requires (search rules), c.loop-k.invariant.1.long)
 
 pub put_set_bytes-requires : goal.put_set_bytes-requires
 put_set_bytes-requires c = (
   simp (length-take, length-drop) (omega arith),
   search rules,
-  simp (length-take, length-drop) (omega (arith, set_room _ _ c.loop-k.k c.set_width-width.ensures c.requires.2 (search rules), c.loop-k.invariant.1.long)),
+  simp (length-take, length-drop) (omega (arith, set_room _ _ c.loop-k.k c.set_width-width.ensures c.requires (search rules), c.loop-k.invariant.1.long)),
 )
 
 pub loop-k-preserved : goal.loop-k-preserved

@@ -16,4 +16,4 @@ pub returns : goal.returns
 returns c = (filling_all _ _ _ _ c.loop-w.invariant (search rules), refl)
 
 pub invariant_of-result : goal.invariant_of-result
-invariant_of-result c = record { leads = leads_again _ _ _ _ _ c.args.self.leads (filling_all _ _ _ _ c.loop-w.invariant (search rules)) }
+invariant_of-result c = record { leads = leads_again _ _ _ _ _ c.args.self.now.leads (filling_all _ _ _ _ c.loop-w.invariant (search rules)) }

@@ -9,5 +9,5 @@ use Rattle.core_fixpoints.proofs.Leading.held_word.Goals as goal
 
 pub returns : goal.returns
 returns c =
-    let fits : Fits w64 (get_or c.args.self.x.words c.args.w 0) = search rules in
-    kept_word _ _ _ _ _ _ c.args.self.leads c.difference.ensures (search rules) fits (sym c.meets.ensures ∙ c.if-meets.false)
+    let fits : Fits w64 (get_or c.args.self.now.x.words c.args.w 0) = search rules in
+    kept_word _ _ _ _ _ _ c.args.self.now.leads c.difference.ensures (search rules) fits (sym c.meets.ensures ∙ c.if-meets.false)
