@@ -34,8 +34,8 @@ fn has_step(store: Store, from: usize, to: usize) -> bool
 }
 
 // The bit of the step, in its one word.
-// kept: here and below, a Store is lent to be read; one lent to be written would be a second type, made anew at each call. And two functions, as `|=` and `&= !` are two operators: one function
-// with a closure of the word would take its contract, and as many lines
+// kept: here and below, a Store is lent to be read; one lent to be written would be a second type, made anew at each call. And two functions, as
+// `|=` and `&= !` are two operators: one function with a closure of the word would take its contract, and as many lines
 fn set_step(store: &mut [u64], from: usize, to: usize)
     requires { (from < max_states) × (to < max_states) × (store_words ≤ length store.old) }
     ensures { store.new ≡ edited store.old (add from to) }

@@ -100,7 +100,8 @@ fn put_numbers(seed: u32, count: usize, buffer: &mut [u32])
 {
     put_start(seed, buffer);
     let mut made = LONG_LAG;
-    // kept: no `step_by`, which looks at each number between: 63,336 instructions for 53,080 in all of this, at 8,192 numbers (by Rust's own `step_by` 73,615); no plainer
+    // kept: no `step_by`, which is no plainer, and looks at each number between: 63,336 instructions for 53,080 in all of this, at 8,192 numbers (by
+    // Rust's own 73,615)
     while made < count {
         put_sums(made, buffer);
         made += SHORT_LAG;

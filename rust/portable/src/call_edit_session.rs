@@ -22,8 +22,8 @@ fn has_step(store: Store, from: usize, to: usize) -> bool
 }
 
 // The bit of the step, in its one word.
-// kept: here and below, a Store is lent to be read; one lent to be written would be a second type, made anew at each call. And two functions, as `|=` and `&= !` are two operators: one function
-// with a closure of the word would take its contract, and as many lines
+// kept: here and below, a Store is lent to be read; one lent to be written would be a second type, made anew at each call. And two functions, as
+// `|=` and `&= !` are two operators: one function with a closure of the word would take its contract, and as many lines
 fn set_step(store: &mut [u64], from: usize, to: usize)
 {
     store[ROWS_AT + WORDS * from + to / WORD_BITS] |= 1 << (to % WORD_BITS);
