@@ -5,11 +5,12 @@ import { agrees, anew, end, holds, onPage, same, shown } from "./support.mjs";
 
 const [DENSE, SPARSE] = process.argv.slice(2); // files
 const expected = JSON.parse(readFileSync(0, "utf8"));
-/** What an edit may take of the processor, and an edit and a start by the clock, in milliseconds, on a machine that
- * does other work too: so long that nothing but a slow page takes it. The bars are 100, 100 and 500: look at what is
- * printed. CI was seen at 102 of the processor, of which the calls are less than 1. */
-const EDIT = 400;
+/** What an edit may take of the processor, in milliseconds, on a machine like that where the bar was set. */
+const EDIT = 100;
+/** What an edit and a start may take by the clock, on a machine that does other work too. The bars are 100 and
+ * 500: look at what is printed. */
 const SLOW = 1500;
+const ROUNDS = 3;
 const TIMES = 7;
 
 async function open(browser, file) {
@@ -38,13 +39,32 @@ function timed(to, count) {
 
 const choose = (s) => document.querySelector(`#list tr[data-state="${s}"] .number`).click();
 
-/** The same, and what each edit took of the processor. */
+/** A fixed piece of work beside what it took there, 36 ms of the processor; 1 on a quicker machine. Other work
+ * makes it longer, as it does the page's, so the least of some counts. */
+function pace() {
+  let least = Infinity;
+  for (let round = 0; round < 5; round++) {
+    const from = process.cpuUsage();
+    for (let k = 0, x = 1; k < 3e7; k++) x = (Math.imul(x, 1103515245) + 12345) >>> 0;
+    least = Math.min(least, process.cpuUsage(from).user / 1000);
+  }
+  return Math.max(1, least / 36);
+}
+
+/** The same, and what each edit took of the processor: the least of some rounds, since other work only adds. */
 async function measured(browser, from, to, what) {
   await browser.run(choose, from);
-  const before = await browser.worked();
-  const median = await browser.run(timed, to, TIMES);
-  const each = (await browser.worked() - before) / (2 * TIMES);
-  holds(each > 0 && each < EDIT, `${what}: an edit takes ${each} ms of the processor`);
+  const medians = [];
+  const works = [];
+  for (let round = 0; round < ROUNDS; round++) {
+    const before = await browser.worked();
+    medians.push(await browser.run(timed, to, TIMES));
+    works.push((await browser.worked() - before) / (2 * TIMES));
+  }
+  const median = Math.min(...medians);
+  const each = Math.min(...works);
+  const most = EDIT * pace();
+  holds(each > 0 && each < most, `${what}: an edit takes ${each} ms of the processor, and may take ${most}`);
   holds(median < SLOW, `${what}: an edit takes ${median} ms`);
   return `${median.toFixed(0)} ms, ${each.toFixed(0)} of them at work`;
 }
