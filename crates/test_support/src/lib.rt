@@ -88,28 +88,23 @@ pub fn resting(stdout: Stdout, store: &mut [u64], s: usize) -> io::Result<()> {
     add(stdout, store, RESTING_AT, s)
 }
 
-// A state put into set k of those that begin at `from`, of which there are `most`.
-fn add_in(
-    stdout: Stdout,
-    store: &mut [u64],
-    from: usize,
-    most: usize,
-    k: usize,
-    s: usize,
-) -> io::Result<()> {
-    if k < most {
-        add(stdout, store, from + WORDS * k, s)
-    } else {
-        left_out(stdout)
-    }
-}
-
 pub fn group(stdout: Stdout, store: &mut [u64], j: usize, s: usize) -> io::Result<()> {
-    add_in(stdout, store, GROUPS_AT, MAX_GROUPS, j, s)
+    if j < MAX_GROUPS {
+        add(stdout, store, GROUPS_AT + WORDS * j, s)?;
+    } else {
+        left_out(stdout)?;
+    }
+    Ok(())
 }
 
+// kept: beside group: one function of both (tried) asks for bounds of where they begin and of how many there are
 pub fn step(stdout: Stdout, store: &mut [u64], a: usize, b: usize) -> io::Result<()> {
-    add_in(stdout, store, ROWS_AT, MAX_STATES, a, b)
+    if a < MAX_STATES {
+        add(stdout, store, ROWS_AT + WORDS * a, b)?;
+    } else {
+        left_out(stdout)?;
+    }
+    Ok(())
 }
 
 // The state that a digit names.

@@ -7,4 +7,4 @@ use Rattle.core_report.proofs.write_refused.Goals as goal
 
 pub returns : goal.returns
 unfolding ascii refused_text
-returns c = put_front refl (search rules) (put_then c.put_number.ensures c.put.ensures) (search rules)
+returns c = put_front refl (search rules) (put_then (rw c.from.ensures at c.put_number.ensures) c.put.ensures) (search rules)

@@ -15,7 +15,7 @@ loop-s-init c = put_none _
 pub loop-s-preserved : goal.loop-s-preserved
 loop-s-preserved c =
     let more : c.loop-s.s-index < length c.args.path.now = omega arith in
-    rw (take_more, spaced-append) (put_most (omega arith) (put_then c.loop-s.invariant c.put_spaced.ensures))
+    rw (take_more, spaced-append) (put_most (omega arith) (put_then c.loop-s.invariant (rw c.from.ensures at c.put_spaced.ensures)))
 
 pub returns : goal.returns
 returns c =
