@@ -4,7 +4,7 @@
 --   Outside s i                       word i is not of row s
 --   row_after-long, edited-long        an edit keeps lengths
 --   initial-same, row_here, row-there      the initial set and the rows of the store after an edit
---   edited_store                      it holds a table as the one before does; edited-longer, edited-rows: it, and its rows, are long enough
+--   edited_store                      it holds a table as the one before does; edited-longer: it is long enough
 --   step_added                        the table with a step added is the table of the edited store
 use Prim.Native.Nat.{ℕ, ◌+◌, ◌-◌, ◌*◌, ◌/◌, ◌%◌, ◌^◌, ◌≤◌, ◌<◌}
 use native.Mathlib.Omega.{arith}
@@ -23,8 +23,6 @@ use Rattle.basics.proofs.BoundLaws.{decided, lt_or_ge}
 use Rattle.model.proofs.SetsMembers.{Proper, set_of_proper, In, in_first_states, in_single, single_in, in_union, union_in, difference_in, ⊆-of-eq}
 use Rattle.model.proofs.StoresTables.{set_at_proper, beyond_below, below_beyond, malformed_clean, clean_malformed, row_is}
 use Rattle.model.proofs.StoresAccepted.{Store}
-use Rattle.core_rows.specs.Rows.{rows_words, rows_of}
-use Rattle.core_rows.proofs.RowsLent.{rows_long}
 use Rattle.core_table.proofs.StoresPut.{put_long, put_own, put_other, put_apart, put_word}
 use Rattle.core_state_set.proofs.SetsWords.{with_bit_lem, without-bit}
 use Rattle.call_edit_session.specs.Edits.{Edit, add, remove, source, target, row_after, edited}
@@ -140,9 +138,6 @@ module _ (store : List ℕ) (n g : ℕ) (e : Edit) (held : Store store n g) (ha 
 
   pub edited-longer : {after : List ℕ} → after ≡ edited store e → store_words ≤ length after
   edited-longer q = omega (arith, edited_store.long, ap length q)
-
-  pub edited-rows : {after : List ℕ} → after ≡ edited store e → rows_words ≤ length (rows_of after)
-  edited-rows {after} q = rows_long after (edited-longer q)
 
   pub initial-same : (table_of (edited store e) n g).initial ≡ (table_of store n g).initial
   unfolding table_of

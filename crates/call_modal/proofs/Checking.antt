@@ -2,12 +2,11 @@
 --
 --   table_with_lem                 the store's table with other forbidden states and rows, by what `run` is lent
 --   checked                    `check_on`
---   path-found     `path_on`
 use Rattle.std.specs.Prelude.{Option, Some, None}
 use Prim.Native.Nat.{ℕ}
 use mathlib.Core.Path.{◌≡◌, refl, ap, ◌∙◌}
 use mathlib.Core.Bool.{cond}
-use mathlib.Core.List.{List, []}
+use mathlib.Core.List.{List}
 use lib.Dec.{eqb}
 use Rattle.model.specs.Sets.{Set}
 use Rattle.model.specs.Tables.{Table}
@@ -16,7 +15,6 @@ use Rattle.model.specs.Stores.{set_at, dialogue_of, table_of}
 use Rattle.model.specs.Calls.{release, decision_of}
 use Rattle.core_rows.specs.Rows.{groups_of, rows_in, groups_in, table_on}
 use Rattle.core_rows.proofs.RowsLent.{groups_of_lem}
-use Rattle.call_paths.specs.PathAnswers.{found_in, path_written, steps_in}
 use Rattle.core_rounds.specs.RunAnswers.{outcome_of}
 use Rattle.core_rounds.specs.declared.Ending.{Ending}
 use Rattle.core_rounds.specs.declared.Ending.TheVariants.{Safe, Unsafe, Undecided}
@@ -55,12 +53,3 @@ module _ (store rows : List ℕ) (n : ℕ) (F : Set) {I : Set} (i : I ≡ set_at
   checked g x e =
       checks_out (table_with store n g F (rows_in rows n)) x (e ∙ ap (λ (t : Table). run t release) (table_with_lem g))
 
-  -- ---- the path
-
-  pub path-found : (path : List ℕ) {found : Option ℕ} {d : ℕ} {after : List ℕ}
-      → (found ≡ found_in (table_on n I F [] rows)) × (after ≡ path_written (table_on n I F [] rows) path) → d ≡ steps_in found
-      → (d ≡ steps_in (found_in (table_on n (set_at store 0) F [] rows))) × (after ≡ path_written (table_on n (set_at store 0) F [] rows) path)
-  path-found path both d = (
-    d ∙ ap steps_in (both.0 ∙ ap (λ (X : Set). found_in (table_on n X F [] rows)) i),
-    both.1 ∙ ap (λ (X : Set). path_written (table_on n X F [] rows) path) i,
-  )

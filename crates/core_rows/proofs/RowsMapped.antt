@@ -3,19 +3,18 @@
 --   length-map_at, get_or-map_at             it by its length and its elements
 --   map_at-tabulate                       of a list f 0, f 1, ..
 --   map_at-none, map_at_peel               no state, no change; a state's element changed first, then those at the rest
---   map_at_parts                          one set after the other, where they have no state in common
 --   mapping_turn, mapping_end             the loop over the states: a turn of it, and what it leaves
 use Prim.Native.Nat.{ℕ, ◌<◌}
 use mathlib.Core.Path.{◌≡◌, sym, ap, ap₂, ◌∙◌, subst}
-use mathlib.Core.Logic.{inl, inr, ⊎_elim}
+use mathlib.Core.Logic.{⊎_elim}
 use mathlib.Core.Bool.{Bool, false, cond}
 use mathlib.Core.List.{List}
 use lib.ListN.{length, get_or, set, length-set}
 use lib.Seq.{ext_get_or, get_or-set_same, get_or-set_other}
 use Rattle.basics.specs.Bounds.{tabulate}
-use Rattle.model.specs.Sets.{Set, member, single, union, difference, empty}
+use Rattle.model.specs.Sets.{Set, member, single, difference, empty}
 use Rattle.basics.proofs.BoundLaws.{is_false, same_test, length-tabulate, get_or-tabulate, tabulate_cong}
-use Rattle.model.proofs.SetsMembers.{In, in_bound, in_or_out, empty_in, in_single, single_in, in_union, union_in, in_difference, difference_in}
+use Rattle.model.proofs.SetsMembers.{In, in_bound, in_or_out, empty_in, in_single, single_in, in_difference, difference_in}
 use Rattle.std.specs.Prelude.{Some}
 use Rattle.core_state_set.specs.WordSets.{Takes}
 use Rattle.core_rows.specs.Rows.{map_at}
@@ -67,30 +66,6 @@ module _ {A : Type 0} (f : A → A) (z : A) where
           (λ m. (difference_in (record { is = m })).0.is)
           (λ m. (in_difference (record { is = m }) o).is))
           (get_or-set_other xs x i _ z (λ e. o (subst (λ (k : ℕ). In (single x) k) (sym e) (in_single (in_bound h)))))
-
-  map_at_parts : (X Y : Set) → ((s : ℕ) → In X s → In Y s → ⊥) → (xs : List A) → map_at Y f z (map_at X f z xs) ≡ map_at (union X Y) f z xs
-  map_at_parts X Y apart xs =
-      ext_get_or z _ _ (long ∙ sym (length-map_at (union X Y) xs))
-      (λ i h.
-      let l : i < length xs = subst (λ (m : ℕ). i < m) long h in
-      get_or-map_at Y _ i (subst (λ (m : ℕ). i < m) (sym (length-map_at X xs)) l)
-      ∙ ap (λ (x : A). cond (member Y i) (f x) x) (get_or-map_at X xs i l)
-      ∙ twice i (get_or xs i z)
-      ∙ sym (get_or-map_at (union X Y) xs i l))
-    where
-      long : length (map_at Y f z (map_at X f z xs)) ≡ length xs
-      long = length-map_at Y (map_at X f z xs) ∙ length-map_at X xs
-
-      twice : (i : ℕ) (x : A) → cond (member Y i) (f (cond (member X i) (f x) x)) (cond (member X i) (f x) x) ≡ cond (member (union X Y) i) (f x) x
-      twice i x =
-          ⊎_elim
-          (λ (h : In X i). let out : member Y i ≡ false = is_false _ (λ m. apart i h (record { is = m })) in rw (h.is, out, (in_union {X = X} {Y = Y} (inl h)).is))
-          (λ (o : In X i → ⊥).
-          let out : member X i ≡ false = is_false _ (λ m. o (record { is = m })) in
-          let same : member (union X Y) i ≡ member Y i =
-          same_test _ _ (λ m. ⊎_elim (λ h. absurd (o h)) (λ h. h.is) (union_in {X = X} {Y = Y} (record { is = m }))) (λ m. (in_union {X = X} {Y = Y} (inr (record { is = m }))).is) in
-          rw (out, same))
-          (in_or_out X i)
 
 -- ---- a loop over the states of a set: what is changed so far, with the changes at the states that are left, is the goal
 

@@ -13,7 +13,7 @@
 --   contents_wide                             the contents of a block of it
 --   length-contents_of, get_or-contents_of(-at)   the contents of an input, by block and by place; contents_of-bounded
 use Prim.Native.Nat.{ℕ, zero, suc, ◌+◌, ◌*◌, ◌-◌, ◌/◌, ◌%◌, ◌<◌}
-use native.Mathlib.Nat.{add-zero, zero-add, div-add-mod}
+use native.Mathlib.Nat.{add-zero, zero-add}
 use native.Mathlib.Omega.{arith}
 use mathlib.Core.Path.{◌≡◌, refl, sym, ap, ap₂, ◌∙◌, subst}
 use mathlib.Core.Logic.{⊎_elim}
@@ -193,12 +193,6 @@ module _ (input : List ℕ) where
       get_or-concat _ content_bytes (length input / block_bytes) k i 0 contents_wide h l
       ∙ get_or-take content_bytes (drop content_at (part input k)) i 0 l
       ∙ get_or-drop content_at (part input k) i 0
-
-  pub get_or-contents_of_at : (i : ℕ) → i < content_bytes * (length input / block_bytes) → get_or (contents_of input) i 0 ≡ get_or input (block_bytes * (i / content_bytes) + (content_at + i % content_bytes)) 0
-  get_or-contents_of_at i h =
-      ap (λ (j : ℕ). get_or (contents_of input) j 0) (sym (div-add-mod i content_bytes))
-      ∙ get_or-contents_of (i / content_bytes) (i % content_bytes) (omega arith) (omega arith)
-      ∙ get_or-part (i / content_bytes) (content_at + i % content_bytes) (omega arith)
 
   pub contents_of-bounded : Bounded 256 input → Bounded 256 (contents_of input)
   unfolding contents_of

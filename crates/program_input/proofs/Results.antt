@@ -1,9 +1,8 @@
 -- The state of reading after one read.
 --
 --   ended, more, full, over           what a read that did not fail gives, by the number of bytes
---   one_read                          a read, with the room that was measured
 --   more-fits, stopped_within         the state lies within the room
-use Rattle.std.proofs.Common.{◌≡◌, ℕ, zero, suc, ◌+◌, ◌-◌, ◌≤◌, ◌<◌, Bool, true, false, cond, eqb, ltb, List, length, take, Continue, Break, sym, ap, ◌∙◌, subst, refl, arith, lt-ltb, le-ltb, eq-eqb, ne_eqb}
+use Rattle.std.proofs.Common.{◌≡◌, ℕ, zero, suc, ◌+◌, ◌-◌, ◌≤◌, ◌<◌, Bool, true, false, cond, eqb, ltb, List, length, Continue, Break, sym, ◌∙◌, subst, refl, arith, lt-ltb, le-ltb, eq-eqb, ne_eqb}
 use Rattle.std.specs.Prelude.{ℤ, pos, negsuc}
 use borrow.Author.Tests.{ltb-true}
 use Rattle.std.specs.declared.ops.ControlFlow.{ControlFlow}
@@ -35,12 +34,6 @@ module _ (there room : ℕ) where
     over zero e h ne = absurd (e refl)
     over (suc n) e h ne =
         rw (le-ltb (there + suc n) room (omega arith), ne_eqb (there + suc n) room (λ (q : there + suc n ≡ room). ne (omega arith)))
-
--- ---- one read
-
-pub one_read : (there size : ℕ) (z : ℤ) (before after : List ℕ) {r : ControlFlow Input ℕ} → r ≡ after_read there size z → size ≡ length before
-    → take there after ≡ take there before → length after ≡ length before → OneRead there before r after
-one_read there size z before after e s kept long = record { got = z; state = e ∙ ap (λ (n : ℕ). after_read there n z) s; kept = kept; long = long }
 
 -- ---- the state lies within the room
 
