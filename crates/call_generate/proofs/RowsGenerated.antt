@@ -1,6 +1,6 @@
 -- Laws of the successors of a state: numbers modulo n, as a set in a row.
 --
---   remainder-state              a number modulo n is a state
+--   remainder-state              what a divisor leaves is a state
 --   remainders_wide              a set of WORDS words
 --   Reducing xs n i old row      the first i numbers of xs, each modulo n, stand in a row that was old: a loop that puts them there
 --   reducing_none, -more, -all   before its first turn; a turn; when it is done
@@ -21,9 +21,10 @@ use Rattle.core_table.specs.Writing.{overwrite_from}
 use Rattle.core_table.proofs.StoresPut.{put_own, put_drop}
 use Rattle.core_table.proofs.ListsOverwritten.{lent, lent_back}
 use Rattle.call_generate.specs.Load.{long_lag, remainders, successors}
+use Rattle.call_generate.specs.declared.Divisor.{Divisor}
 
-pub remainder-state : (x : ℕ) {n t : ℕ} → t ≡ x % n → 0 < n → n ≤ max_states → t < max_states
-remainder-state x e h l = omega (arith, e, mod-lt x h)
+pub remainder-state : (d : Divisor) (x : ℕ) {r t : ℕ} → t ≡ r → r ≡ x % d.n → t < max_states
+remainder-state d x e r = omega (arith, e, r, mod-lt x d.some, d.small)
 
 pub remainders_wide : (xs : List ℕ) (n : ℕ) → length (remainders xs n) ≡ WORDS
 unfolding remainders

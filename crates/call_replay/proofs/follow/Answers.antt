@@ -1,13 +1,8 @@
 -- `follow`: each entry before entry i is followed, and `at` is where the set begins that entry i may be in.
-use Prim.Native.Nat.{◌<◌}
 use native.Mathlib.Omega.{arith}
-use mathlib.Core.Path.{◌≡◌, sym, ◌∙◌}
-use mathlib.Core.Bool.{true}
+use mathlib.Core.Path.{sym, ◌∙◌}
 use borrow.Author.Rules.{rules}
-use Rattle.model.specs.Sets.{max_states, member}
-use Rattle.model.specs.Stores.{set_at}
-use Rattle.model.proofs.SetsMembers.{in_bound}
-use Rattle.call_replay.proofs.Following.{following_start, following_bit, following_turn, following_stop, following_end}
+use Rattle.call_replay.proofs.Following.{held_state, following_start, following_turn, following_stop, following_end}
 use Rattle.call_replay.proofs.follow.Goals as goal
 
 pub loop-i-init : goal.loop-i-init
@@ -24,43 +19,23 @@ pub overflow_shl-words : goal.overflow_shl-words
 overflow_shl-words c = omega arith
 
 pub offset_bounds-words-s : goal.offset_bounds-words-s
-offset_bounds-words-s c =
-    let held : member (set_at c.args.store.words.now c.loop-i.at) c.entry_at-s.result ≡ true = sym c.holds_at.ensures ∙ c.if-not-holds_at.false in
-    let state : c.entry_at-s.result < max_states = in_bound (record { is = held }) in
-    record { fits = omega (arith, state) }
+offset_bounds-words-s c = record { fits = omega (arith, held_state _ c.holds_at.ensures c.if-not-holds_at.false) }
 
 pub bounds-words-s : goal.bounds-words-s
-bounds-words-s c =
-    let held : member (set_at c.args.store.words.now c.loop-i.at) c.entry_at-s.result ≡ true = sym c.holds_at.ensures ∙ c.if-not-holds_at.false in
-    let state : c.entry_at-s.result < max_states = in_bound (record { is = held }) in
-    omega (arith, state)
+bounds-words-s c = omega (arith, held_state _ c.holds_at.ensures c.if-not-holds_at.false)
 
 pub bounds-words-s-in-loop-i : goal.bounds-words-s-in-loop-i
-bounds-words-s-in-loop-i c =
-    let held : member (set_at c.args.store.words.now c.loop-i.at) c.entry_at-s.result ≡ true = sym c.holds_at.ensures ∙ c.if-not-holds_at.false in
-    let state : c.entry_at-s.result < max_states = in_bound (record { is = held }) in
-    omega (arith, state)
+bounds-words-s-in-loop-i c = omega (arith, held_state _ c.holds_at.ensures c.if-not-holds_at.false)
 
 pub overflow_mul-at : goal.overflow_mul-at
-overflow_mul-at c =
-    let held : member (set_at c.args.store.words.now c.loop-i.at) c.entry_at-s.result ≡ true = sym c.holds_at.ensures ∙ c.if-not-holds_at.false in
-    let state : c.entry_at-s.result < max_states = in_bound (record { is = held }) in
-    record { fits = omega (arith, state) }
+overflow_mul-at c = record { fits = omega (arith, held_state _ c.holds_at.ensures c.if-not-holds_at.false) }
 
 pub overflow_add-at : goal.overflow_add-at
-overflow_add-at c =
-    let held : member (set_at c.args.store.words.now c.loop-i.at) c.entry_at-s.result ≡ true = sym c.holds_at.ensures ∙ c.if-not-holds_at.false in
-    let state : c.entry_at-s.result < max_states = in_bound (record { is = held }) in
-    record { fits = omega (arith, state) }
+overflow_add-at c = record { fits = omega (arith, held_state _ c.holds_at.ensures c.if-not-holds_at.false) }
 
 pub loop-i-preserved : goal.loop-i-preserved
 loop-i-preserved c =
-    let held : member (set_at c.args.store.words.now c.loop-i.at) c.entry_at-s.result ≡ true = sym c.holds_at.ensures ∙ c.if-not-holds_at.false in
-    let state : c.entry_at-s.result < max_states = in_bound (record { is = held }) in
-    let here = c.loop-i.invariant.1 in (
-      search rules,
-      following_turn _ _ here c.entry_at-s.ensures held (following_bit _ _ here state),
-    )
+    (search rules, following_turn _ _ c.loop-i.invariant.1 c.entry_at-s.ensures (sym c.holds_at.ensures ∙ c.if-not-holds_at.false))
 
 pub returns : goal.returns
 returns c = following_end _ _ c.loop-i.invariant.1 (search rules) (search rules)
