@@ -33,18 +33,22 @@ module _ (rows : List ℕ) (cover : List Set) (R : Set) where
   staying_start p closed =
       record { proper = p; inside = λ s h. h; cover-is = sym closed; holds = λ s h. (meet_hold_in rows _ _ h).0; solutions = λ Y e s h. (meet_hold_in rows _ _ h).0 }
 
-  module _ {staying S : Set} (so : Staying rows cover R staying S) where
+  -- in the loop the rows are those at the start
+  module _ {now : List ℕ} {staying S : Set} (so : Staying rows cover R staying S × (now ≡ rows)) where
     -- every solution lies inside S
     above : (Y : Set) → Y ≡ backward_by rows cover R Y → Y ⊆ S
     unfolding backward_by
-    above Y e s h = ⊆-of-eq (sym so.cover-is) s (cover_by_mono cover _ _ (so.solutions Y e) s (⊆-of-eq e s h))
+    above Y e s h = ⊆-of-eq (sym so.0.cover-is) s (cover_by_mono cover _ _ (so.0.solutions Y e) s (⊆-of-eq e s h))
 
-    module _ {still S' : Set} (k : still ≡ meet_hold rows staying S) (c : S' ≡ cover_by cover still) where
+    module _ {still S' : Set} (k : still ≡ meet_hold now staying S) (c : S' ≡ cover_by cover still) where
+      still-is : still ≡ meet_hold rows staying S
+      still-is = k ∙ ap (λ (held : List ℕ). meet_hold held staying S) so.1
+
       still_inside : still ⊆ staying
-      still_inside s h = (meet_hold_in rows _ _ (⊆-of-eq k s h)).0
+      still_inside s h = (meet_hold_in rows _ _ (⊆-of-eq still-is s h)).0
 
       smaller : S' ⊆ S
-      smaller s h = ⊆-of-eq (sym so.cover-is) s (cover_by_mono cover _ _ still_inside s (⊆-of-eq c s h))
+      smaller s h = ⊆-of-eq (sym so.0.cover-is) s (cover_by_mono cover _ _ still_inside s (⊆-of-eq c s h))
 
       pub staying_less : same S' S ≡ false → size S' < size S
       unfolding same
@@ -55,23 +59,23 @@ module _ (rows : List ℕ) (cover : List Set) (R : Set) where
       unfolding meet_hold
       staying_turn =
           record {
-            proper = subst Proper (sym k) (set_of_proper _);
-            inside = λ s h. so.inside s (still_inside s h);
+            proper = subst Proper (sym still-is) (set_of_proper _);
+            inside = λ s h. so.0.inside s (still_inside s h);
             cover-is = c;
             holds = λ s h.
                 let m = meet_hold_in rows _ _ h in
                 let wide : row_in rows s ⊆ S = λ u r. smaller u (m.1 u r) in
-                ⊆-of-eq (sym k) s (in_meet_hold rows _ _ (so.holds s (in_meet_hold rows _ _ m.0 wide)) wide);
-            solutions = λ Y e s h. ⊆-of-eq (sym k) s (in_meet_hold rows _ _ (so.solutions Y e s h) (λ u r. above Y e u ((meet_hold_in rows _ _ h).1 u r)));
+                ⊆-of-eq (sym still-is) s (in_meet_hold rows _ _ (so.0.holds s (in_meet_hold rows _ _ m.0 wide)) wide);
+            solutions = λ Y e s h. ⊆-of-eq (sym still-is) s (in_meet_hold rows _ _ (so.0.solutions Y e s h) (λ u r. above Y e u ((meet_hold_in rows _ _ h).1 u r)));
           }
 
       module _ (closed : cover_by cover R ≡ R) (e : same S' S ≡ true) where
         -- S has not changed, so the states that stay, which were looked at with it, step to no state outside
         end : Staying rows cover R still S
-        end = subst (Staying rows cover R still) (same_eq (cover_proper _ c) (cover_proper _ so.cover-is) e) staying_turn
+        end = subst (Staying rows cover R still) (same_eq (cover_proper _ c) (cover_proper _ so.0.cover-is) e) staying_turn
 
         steps : (s : ℕ) → In still s → row_in rows s ⊆ S
-        steps s h = (meet_hold_in rows _ _ (⊆-of-eq k s h)).1
+        steps s h = (meet_hold_in rows _ _ (⊆-of-eq still-is s h)).1
 
         kept : meet_hold rows R S ≡ still
         unfolding meet_hold

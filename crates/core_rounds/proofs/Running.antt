@@ -73,21 +73,33 @@ run_start t rows h c e =
 
 -- ---- what the tests of a round come to
 
--- in `conclude`: x is step 2's test, y that of step 4, and X holds the next Z
-module _ (R next : Set) {safe x : Bool} where
-  pub conclude_safe : (inside : Bool) → x ≡ safe → x ≡ true → ConcludesSafe (record { words = R }) ≡ concludes safe inside R next
-  unfolding concludes
-  conclude_safe inside e t = ap (λ (b : Bool). concludes b inside R next) (sym t ∙ e)
+-- in `conclude`: x is step 2's test, of what `forward` entered, and y that of step 4
+module _ {rows : List ℕ} {cover : List Set} {initial Z R entered : Set} {x : Bool} (least : IsLeast (forward_by rows cover initial Z) R)
+    (enters : entered ≡ union initial (successors_by rows R)) (test : x ≡ subset entered Z) where
+  by_tests : {S : Set} {r : Conclusion} {b d : Bool} → IsGreatest (backward_by rows cover R) S → x ≡ b → subset initial S ≡ d
+      → r ≡ concludes b d R (meet_hold rows S S) → Concludes rows cover initial Z r
+  by_tests {S} greatest t inside e =
+      record {
+        R = R;
+        S = S;
+        R_least = least;
+        S_greatest = greatest;
+        conclusion = e
+            ∙ ap₂ (λ (b d : Bool). concludes b d R (meet_hold rows S S)) (sym t ∙ test ∙ ap (λ (X : Set). subset X Z) enters) (sym inside);
+      }
 
-  pub conclude_unsafe : {inside y : Bool} → x ≡ safe → x ≡ false → y ≡ inside → y ≡ false → ConcludesUnsafe ≡ concludes safe inside R next
+  pub conclude_safe : IsCover cover → x ≡ true → Concludes rows cover initial Z (ConcludesSafe (record { words = R }))
   unfolding concludes
-  conclude_unsafe e f g t = ap₂ (λ (b d : Bool). concludes b d R next) (sym f ∙ e) (sym t ∙ g)
+  conclude_safe is-cover t = by_tests (backward-greatest rows cover is-cover R) t refl refl
 
-  pub conclude_open : {inside y : Bool} {X : StateSet} → x ≡ safe → x ≡ false → y ≡ inside → y ≡ true → X.words ≡ next
-      → Open X ≡ concludes safe inside R next
-  unfolding concludes
-  conclude_open e f g t n =
-      ap (λ (W : Set). Open (record { words = W })) n ∙ ap₂ (λ (b d : Bool). concludes b d R next) (sym f ∙ e) (sym t ∙ g)
+  module _ {S : Set} {y : Bool} (greatest : IsGreatest (backward_by rows cover R) S) (f : x ≡ false) (inside : y ≡ subset initial S) where
+    pub conclude_unsafe : y ≡ false → Concludes rows cover initial Z ConcludesUnsafe
+    unfolding concludes
+    conclude_unsafe t = by_tests greatest f (sym inside ∙ t) refl
+
+    pub conclude_open : {X : StateSet} → y ≡ true → X.words ≡ meet_hold rows S S → Concludes rows cover initial Z (Open X)
+    unfolding concludes
+    conclude_open t n = by_tests greatest f (sym inside ∙ t) (ap (λ (W : Set). Open (record { words = W })) n)
 
 -- in `run`
 set_of : Conclusion → Set

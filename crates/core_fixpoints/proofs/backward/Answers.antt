@@ -1,12 +1,9 @@
 -- `backward`: s is the cover of the states that stay, which step to none outside the set before it.
-use Prim.Native.Nat.{ℕ}
-use mathlib.Core.Path.{refl, sym, ap, ◌∙◌}
-use mathlib.Core.List.{List}
+use mathlib.Core.Path.{refl, sym, ◌∙◌}
 use mathlib.Core.Logic.{∥∥₁_elim}
 use borrow.Author.Rules.{rules}
 use Rattle.std.proofs.Props.{props}
 use Rattle.core_state_set.proofs.SetsWords.{proper}
-use Rattle.core_rows.specs.Rows.{meet_hold}
 use Rattle.core_fixpoints.proofs.Staying.{staying_start, staying_less, staying_turn, staying_greatest, staying_next}
 use Rattle.core_fixpoints.proofs.backward.Goals as goal
 
@@ -15,21 +12,16 @@ loop-smaller-init c = (staying_start _ _ _ (proper (search rules) (λ w. search 
 
 pub returns-then-equals : goal.returns-then-equals
 returns-then-equals c =
-    let so = c.loop-smaller.invariant in
-    let kept = c.held-kept.ensures.0 ∙ ap (λ (rows : List ℕ). meet_hold rows c.loop-smaller.staying.x.words c.loop-smaller.s.words) so.1 in
     let e = sym c.equals.ensures ∙ c.if-equals.true in (
-      staying_greatest _ _ _ so.0 kept c.of-smaller.ensures c.requires e,
-      ∥∥₁_elim c.args.cover.is_cover (search props) (λ k. staying_next _ _ _ so.0 kept c.of-smaller.ensures c.requires e k),
+      staying_greatest _ _ _ c.loop-smaller.invariant c.held-kept.ensures.0 c.of-smaller.ensures c.requires e,
+      ∥∥₁_elim c.args.cover.is_cover (search props)
+          (λ k. staying_next _ _ _ c.loop-smaller.invariant c.held-kept.ensures.0 c.of-smaller.ensures c.requires e k),
     )
 
 pub loop-smaller-smaller : goal.loop-smaller-smaller
 loop-smaller-smaller c =
-    let so = c.loop-smaller.invariant in
-    let kept = c.held-kept.ensures.0 ∙ ap (λ (rows : List ℕ). meet_hold rows c.loop-smaller.staying.x.words c.loop-smaller.s.words) so.1 in
-    staying_less _ _ _ so.0 kept c.of-smaller.ensures (sym c.equals.ensures ∙ c.if-equals.false)
+    staying_less _ _ _ c.loop-smaller.invariant c.held-kept.ensures.0 c.of-smaller.ensures (sym c.equals.ensures ∙ c.if-equals.false)
 
 pub loop-smaller-preserved : goal.loop-smaller-preserved
 loop-smaller-preserved c =
-    let so = c.loop-smaller.invariant in
-    let kept = c.held-kept.ensures.0 ∙ ap (λ (rows : List ℕ). meet_hold rows c.loop-smaller.staying.x.words c.loop-smaller.s.words) so.1 in
-    (staying_turn _ _ _ so.0 kept c.of-smaller.ensures, c.held-kept.ensures.1 ∙ so.1)
+    (staying_turn _ _ _ c.loop-smaller.invariant c.held-kept.ensures.0 c.of-smaller.ensures, c.held-kept.ensures.1 ∙ c.loop-smaller.invariant.1)

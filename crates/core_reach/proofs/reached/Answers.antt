@@ -16,18 +16,6 @@ pub loop-layer-init : goal.loop-layer-init
 unfolding reach_by successors_by
 loop-layer-init c = (0, layered_start _ _ (proper (search rules) (λ w. search rules)))
 
-pub is_empty-requires : goal.is_empty-requires
-unfolding reach_by successors_by
-is_empty-requires c = search rules
-
-pub newly_reached-layer-requires : goal.newly_reached-layer-requires
-unfolding reach_by successors_by
-newly_reached-layer-requires c = search rules
-
-pub union-found-requires : goal.union-found-requires
-unfolding reach_by successors_by
-union-found-requires c = search rules
-
 pub loop-layer-smaller : goal.loop-layer-smaller
 unfolding reach_by successors_by
 loop-layer-smaller c =
