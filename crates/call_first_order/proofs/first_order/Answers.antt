@@ -10,9 +10,6 @@ use Rattle.call_first_order.proofs.first_order.Goals as goal
 pub returns-in_err-store : goal.returns-in_err-store
 returns-in_err-store c = rw (passed_on _ c.from_residual.ensures.1) (order_refused _ _ _ _ c.in_err-store.ensures.0)
 
-pub slice_bounds-add_groups-count : goal.slice_bounds-add_groups-count
-slice_bounds-add_groups-count c = omega (arith, (accepted _ _ _ c.in_ok-accept.ensures).long)
-
 pub add_groups-requires : goal.add_groups-requires
 add_groups-requires c =
     let ok = c.in_ok-store.ensures in
