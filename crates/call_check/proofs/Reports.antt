@@ -56,8 +56,8 @@ length_is : (v : FileVerdict) {l m : ℕ} → l ≡ m → ◌≡◌ {A = Answere
 length_is v e = ap (λ (k : ℕ). answered (record { text_length = k; verdict = v })) e
 
 -- decide's answer, by the case that it gave
-pub told : {r v : Result Verdict Refusal} {x : Answered Decision} → r ≡ v → decided_of r ≡ x → decided_of v ≡ x
-told e f = sym (ap decided_of e) ∙ f
+pub told : {r : Result Verdict Refusal} {v w : Verdict} {x : Answered Decision} → r ≡ Ok v → v ≡ w → decided_of r ≡ x → decided_of (Ok w) ≡ x
+told e f d = sym (ap decided_of (e ∙ ap Ok f)) ∙ d
 
 module _ (store : List ℕ) (n g : ℕ) where
   pub report_range : {a : Decision} → answered a ≡ decide_answer store n g release max_states

@@ -1,6 +1,5 @@
 -- The call `decide`: its refusals, and its answer from how the rounds ended.
 --
---   refuse-shared, behind_shared               a ground that the calls share decides, or those that decide adds do
 --   accepted                                   what a check that is answered knows of its arguments
 --   ended_is                                   what the rounds of a store's parts say of its table
 --   refused-answer, safe-answer, unsafe-answer, undecided-answer     the contract of the call in each case
@@ -16,9 +15,9 @@ use Rattle.model.specs.Tables.{Table}
 use Rattle.model.specs.Rounds.{Outcome, safe, unsafe, undecided, run}
 use Rattle.model.specs.Paths.{shortest, has_path, smallest_path}
 use Rattle.basics.specs.Refusals.{refuse, Answered, answered, unless_refused}
-use Rattle.model.specs.Stores.{set_at, table_of, shared_grounds}
+use Rattle.model.specs.Stores.{set_at, table_of}
 use Rattle.model.specs.Calls.{overwrite, Decision as Answer, decide_limits, decide_grounds, decision_of, decide_answer, decide_buffer}
-use Rattle.basics.proofs.RefusalLaws.{refuse-append, refuse-past, refuse_clear, answer-none}
+use Rattle.basics.proofs.RefusalLaws.{refuse_clear, answer-none}
 use Rattle.model.proofs.StoresAccepted.{Store, accepted_store, well_formed}
 use Rattle.model.proofs.RoundLaws.{unsafe-path}
 use Rattle.model.proofs.PathLaws.{has_path_lem}
@@ -26,7 +25,7 @@ use Rattle.std.specs.Prelude.{Option, Result, Ok, Err}
 use Rattle.std.specs.Option.{unwrap_or}
 use Rattle.core_refusals.specs.declared.Refusal.{Refusal}
 use Rattle.core_refusals.specs.Refusals.{number}
-use Rattle.core_refusals.proofs.RefusalNumbers.{number_some, answer_refused}
+use Rattle.core_refusals.proofs.RefusalNumbers.{answer_refused}
 use Rattle.core_state_set.specs.declared.StateSet.{StateSet}
 use Rattle.core_rows.specs.Rows.{rows_of, groups_of, groups_in, table_on}
 use Rattle.call_paths.specs.PathAnswers.{found_in, path_written}
@@ -38,15 +37,6 @@ use Rattle.call_decide.specs.DecideAnswers.{answer_in, CalledDecide}
 -- ---- refusals
 
 module _ (store : List ℕ) (n g allowance room : ℕ) where
-  pub refuse-shared : (r : Refusal) → number r ≡ refuse (shared_grounds store n g) → number r ≡ refuse (decide_grounds store n g allowance room)
-  unfolding decide_grounds
-  refuse-shared r e = refuse-append (shared_grounds store n g) (decide_limits allowance room) e (number_some r)
-
-  pub behind_shared : {k : ℕ} → 0 ≡ refuse (shared_grounds store n g) → k ≡ refuse (decide_limits allowance room)
-      → k ≡ refuse (decide_grounds store n g allowance room)
-  unfolding decide_grounds
-  behind_shared e = refuse-past (shared_grounds store n g) (decide_limits allowance room) refl e refl
-
   pub accepted : 0 ≡ refuse (decide_grounds store n g allowance room) → Store store n g × (max_states ≤ room)
   unfolding decide_grounds
   accepted e =

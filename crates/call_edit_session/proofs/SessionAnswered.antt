@@ -1,7 +1,6 @@
 -- The calls: their refusals, and their answers.
 --
 --   both_states, no_states_lem                   both numbers are states of the table, by the test
---   refuse-shared, behind_shared             a ground that the calls share decides, or that of the states does
 --   refuse-states                            where no ground holds that the calls share, that of the states decides
 --   accepted_open                            no ground of opening holds, so the store holds a table
 --   accepted                                 no ground holds, so the store holds a table, and both numbers are states of it
@@ -27,7 +26,7 @@ use Rattle.model.specs.Stores.{store_words, set_at, table_of, shared_grounds}
 use Rattle.model.specs.Promises.{IsLeast}
 use Rattle.basics.proofs.BoundLaws.{or_false}
 use Rattle.model.proofs.SetsMembers.{in_first_states, single_in, in_subset, In}
-use Rattle.basics.proofs.RefusalLaws.{refuse-append, refuse-past, refuse_clear, answer-refused, answer-none}
+use Rattle.basics.proofs.RefusalLaws.{refuse-past, refuse_clear, answer-refused, answer-none}
 use Rattle.model.proofs.StoresAccepted.{Store, accepted_store, well_formed}
 use Rattle.core_refusals.specs.declared.Refusal.{Refusal}
 use Rattle.core_refusals.specs.Refusals.{number}
@@ -49,18 +48,9 @@ both_states {n} {a} {b} h k = rw (lt-leb n a h, lt-leb n b k)
 pub no_states_lem : {n a b : ℕ} → no_states n a b ≡ false → (a < n) × (b < n)
 no_states_lem {n} {a} {b} q = let neither = or_false (leb n a) (leb n b) q in (leb-false n a neither.0, leb-false n b neither.1)
 
-pub refuse-shared : (store : List ℕ) (n g a b : ℕ) (r : Refusal) → number r ≡ refuse (shared_grounds store n g) → number r ≡ refuse (edit_grounds store n g a b)
-unfolding edit_grounds
-refuse-shared store n g a b r e = refuse-append (shared_grounds store n g) (state_ground n a b ∷ []) e (number_some r)
-
-pub behind_shared : (store : List ℕ) (n g a b : ℕ) {k : ℕ} → 0 ≡ refuse (shared_grounds store n g) → k ≡ refuse (state_ground n a b ∷ [])
-    → k ≡ refuse (edit_grounds store n g a b)
-unfolding edit_grounds
-behind_shared store n g a b z = refuse-past (shared_grounds store n g) (state_ground n a b ∷ []) refl z refl
-
 pub refuse-states : (store : List ℕ) (n g a b : ℕ) → refuse (shared_grounds store n g) ≡ 0 → refuse (edit_grounds store n g a b) ≡ cond (no_states n a b) 27 0
-unfolding refuse
-refuse-states store n g a b e = sym (behind_shared store n g a b (sym e) refl)
+unfolding edit_grounds refuse
+refuse-states store n g a b e = sym (refuse-past (shared_grounds store n g) (state_ground n a b ∷ []) refl (sym e) refl refl)
 
 pub accepted_open : (store : List ℕ) (n g : ℕ) → 0 ≡ refuse (shared_grounds store n g) → Store store n g
 accepted_open store n g z = (accepted_store store n g [] (sym z)).0

@@ -1,6 +1,5 @@
 -- The call `replay`: its refusals, and its answer.
 --
---   refuse-shared, behind_shared           a ground that the calls share decides, or those that replay adds do
 --   accepted                               no ground holds, so the store holds a table, and the log is not too long
 --   Walks, walks                           what an answer tells: no ground holds, and the answer is the walk
 --   refused-answer, walk-answer            what the call answers where one holds, and where none does
@@ -13,15 +12,15 @@ use borrow.Author.Tests.{ltb-false}
 use lib.ListN.{length}
 use Rattle.basics.specs.Refusals.{refuse, answered}
 use Rattle.model.specs.Sets.{max_states, Set, size}
-use Rattle.model.specs.Stores.{set_at, table_of, shared_grounds}
+use Rattle.model.specs.Stores.{set_at, table_of}
 use Rattle.model.specs.Promises.{IsLeast}
 use Rattle.model.proofs.SetsMembers.{in_subset}
-use Rattle.basics.proofs.RefusalLaws.{refuse-append, refuse-past, clear_refuse, refuse_clear, answered_clear, answered_value}
+use Rattle.basics.proofs.RefusalLaws.{clear_refuse, refuse_clear, answered_clear, answered_value}
 use Rattle.model.proofs.StoresAccepted.{Store, accepted_store, well_formed}
 use Rattle.model.proofs.StoresTables.{row_is}
 use Rattle.core_refusals.specs.declared.Refusal.{Refusal}
 use Rattle.core_refusals.specs.Refusals.{number}
-use Rattle.core_refusals.proofs.RefusalNumbers.{number_some, answer_refused, answer_given}
+use Rattle.core_refusals.proofs.RefusalNumbers.{answer_refused, answer_given}
 use Rattle.core_rows.specs.Rows.{rows_of}
 use Rattle.core_reach.specs.Reached.{reach_by}
 use Rattle.core_reach.proofs.ReachWalks.{reaching}
@@ -32,16 +31,6 @@ use Rattle.call_replay.proofs.LogEntries.{followed_cong}
 use Rattle.call_replay.proofs.Following.{all_rows}
 
 -- ---- refusals
-
-pub refuse-shared : (store : List ℕ) (n g bytes : ℕ) (r : Refusal) → number r ≡ refuse (shared_grounds store n g)
-    → number r ≡ refuse (replay_grounds store n g bytes)
-unfolding replay_grounds
-refuse-shared store n g bytes r e = refuse-append (shared_grounds store n g) (log_grounds bytes) e (number_some r)
-
-pub behind_shared : (store : List ℕ) (n g bytes : ℕ) {k : ℕ} → 0 ≡ refuse (shared_grounds store n g) → k ≡ refuse (log_grounds bytes)
-    → k ≡ refuse (replay_grounds store n g bytes)
-unfolding replay_grounds
-behind_shared store n g bytes z = refuse-past (shared_grounds store n g) (log_grounds bytes) refl z refl
 
 pub accepted : (store : List ℕ) (n g bytes : ℕ) → 0 ≡ refuse (replay_grounds store n g bytes) → Store store n g × (bytes ≤ max_log)
 unfolding replay_grounds

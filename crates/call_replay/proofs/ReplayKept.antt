@@ -18,7 +18,7 @@ use lib.ListN.{length}
 use Rattle.basics.specs.Bounds.{tabulate}
 use Rattle.basics.specs.Refusals.{answered}
 use Rattle.basics.proofs.BoundLaws.{lt_or_ge}
-use Rattle.basics.proofs.RefusalLaws.{refuse-first, answer-refused, refused-is}
+use Rattle.basics.proofs.RefusalLaws.{refuse-first, refuse-past, answer-refused, refused-is}
 use Rattle.model.specs.Sets.{member}
 use Rattle.model.specs.Tables.{Table}
 use Rattle.model.specs.Stores.{table_of}
@@ -29,7 +29,7 @@ use Rattle.call_decide.proofs.DecideDemandsKept.{demands}
 use Rattle.call_replay.specs.Logs.{entry_bytes, max_log, entry, reachable_count, log_grounds, replay_grounds, Replay, walk_through, replay_answer}
 use Rattle.call_replay.specs.ReplayPromises.{entries, WalkIs, ReplayPromises}
 use Rattle.call_replay.proofs.LogEntries.{Closed, followed-closed}
-use Rattle.call_replay.proofs.ReplayAnswered.{behind_shared, Walks, walks}
+use Rattle.call_replay.proofs.ReplayAnswered.{Walks, walks}
 use Rattle.call_replay.proofs.LogWalks.{walk_is}
 
 invariant-closed : {t : Table} {X : List ℕ} → IsInvariant t X → Closed t X
@@ -82,9 +82,9 @@ promises =
       empty_log = λ store n g r w c e. nothing-followed store n g w (sym c ∙ e);
       refusal = λ store n g log r k c e. refused-is (replay_grounds store n g (length log)) _ (sym c ∙ e);
       odd = λ store n g log r c e h.
-          c ∙ answer-refused (replay_grounds store n g (length log)) _ (behind_shared store n g (length log) (sym e) (refuse-first 0 _ (ap not (ne_eqb (length log % entry_bytes) 0 h)))) (λ z. omega arith);
+          c ∙ answer-refused (replay_grounds store n g (length log)) _ (refuse-past _ _ refl (sym e) refl (refuse-first 0 _ (ap not (ne_eqb (length log % entry_bytes) 0 h)))) (λ z. omega arith);
       long = λ store n g log r c e h l.
-          c ∙ answer-refused (replay_grounds store n g (length log)) _ (behind_shared store n g (length log) (sym e) (refuse-first 1 _ (ap not (eq-eqb (length log % entry_bytes) 0 h), lt-ltb max_log (length log) l))) (λ z. omega arith);
+          c ∙ answer-refused (replay_grounds store n g (length log)) _ (refuse-past _ _ refl (sym e) refl (refuse-first 1 _ (ap not (eq-eqb (length log % entry_bytes) 0 h), lt-ltb max_log (length log) l))) (λ z. omega arith);
       first-words = λ store other long long' same n g log.
           same_call store other long long' same (λ t. walk_through t log) n g (log_grounds (length log)) refl;
     }
