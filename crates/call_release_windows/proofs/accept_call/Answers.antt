@@ -14,10 +14,6 @@ pub returns-then-windows-closed : goal.returns-then-windows-closed
 unfolding grounds
 returns-then-windows-closed c = refuse-first 1 _ (search (rules, le-ltb))
 
-pub any_outside-requires : goal.any_outside-requires
-unfolding grounds
-any_outside-requires c = search rules
-
 pub returns-then-any_outside : goal.returns-then-any_outside
 unfolding grounds
 returns-then-any_outside c = refuse-first 2 _ (search (rules, le-ltb, sym, ◌∙◌))

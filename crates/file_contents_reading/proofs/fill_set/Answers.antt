@@ -12,10 +12,6 @@ pub loop-v-init : goal.loop-v-init
 unfolding meet
 loop-v-init c = (search rules, over_none _ _)
 
-pub word_in-requires : goal.word_in-requires
-unfolding meet
-word_in-requires c = search rules
-
 pub loop-v-preserved : goal.loop-v-preserved
 unfolding meet
 loop-v-preserved c = (search rules, over_next _ _ _ _ (search rules) (cut_word (set_in_proper _ _ _) (search (rules, proper)) (search rules) c.word_in.ensures) c.loop-v.invariant.1)

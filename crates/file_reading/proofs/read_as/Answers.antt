@@ -16,10 +16,6 @@ pub returns-then-site-gt-MAX_SITE : goal.returns-then-site-gt-MAX_SITE
 unfolding read_grounds_as
 returns-then-site-gt-MAX_SITE c = reads_call _ _ _ _ {r = Err Site} (reads_first 1 _ (search (rules, lt-ltb, le-ltb)) refl)
 
-pub clear-requires : goal.clear-requires
-unfolding read_grounds_as
-clear-requires c = search rules
-
 pub returns-then-input-eq0 : goal.returns-then-input-eq0
 unfolding read_grounds_as
 returns-then-input-eq0 c = draft-read _ _ _ _ (search rules) (search rules) (search rules) c.clear.ensures

@@ -28,8 +28,5 @@ invariant_of-counts-clause-few c = (held c.args.store.now _ _ _ c.in_ok-store.en
 pub returns-then-output-size : goal.returns-then-output-size
 returns-then-output-size c = refused-room _ _ _ _ _ c.if-store-lt-STORE_WORDS.false c.if-site-gt-MAX_SITE.false _ c.in_ok-store.ensures.0 refl c.if-n-eq0.false c.blocks_for-blocks.result (cc) (search rules)
 
-pub write_file-requires : goal.write_file-requires
-write_file-requires c = (search rules, search rules)
-
 pub returns : goal.returns
 returns c = written _ _ _ _ _ c.if-store-lt-STORE_WORDS.false c.if-site-gt-MAX_SITE.false _ c.in_ok-store.ensures.0 refl c.if-n-eq0.false _ (cc) _ (search rules) (rw c.in_ok-store.ensures.1 at c.write_file.ensures)
