@@ -32,6 +32,7 @@ pub enum Refusal {
     Time = 31,
 }
 
+// kept: beside the other: Rust has no one From for every number
 impl From<Refusal> for u8 {
     ghost from_gives = { λ r k. k ≡ number r };
 
@@ -40,6 +41,7 @@ impl From<Refusal> for u8 {
     }
 }
 
+// kept: beside the other: Rust has no one From for every number
 impl From<Refusal> for u32 {
     ghost from_gives = { λ r k. k ≡ number r };
 

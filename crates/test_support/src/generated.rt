@@ -14,6 +14,8 @@
 //     in group j        if d(p + 4 + j) is even
 //     resting           if d(9) % 4 is 1, where d(p + 8) is even; if it is 2 or 3, where the state has no successors; if it is 0, never
 //
+// kept: t, a state and a place apart in each function: all is drawn anew from these numbers, and a type of them would hold nothing else
+//
 // The largest table has as many states and groups as a store holds, and each word of its store is drawn: word i is 2^32 draw(0, 2 i) +
 // draw(0, 2 i + 1).
 ghost use Rattle.std.specs.Prelude.{◌+◌, ◌*◌, ◌≤◌, ◌<◌};

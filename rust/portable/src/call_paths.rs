@@ -95,7 +95,7 @@ fn write_path(steps: Steps, layers: &Rows, s: usize, d: usize, path: &mut [u16],
 }
 
 // The path that the specification names, at the front of the buffer; the answer is its steps, if there is one.
-// kept: what HoldsTable is of apart, as in all_distances of call_distances
+// kept: what HoldsTable is of apart, as in all_distances of call_distances; and the buffer apart from its steps, as C lends it
 pub fn find_path(
     steps: Steps,
     n: usize,

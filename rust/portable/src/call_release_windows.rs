@@ -88,6 +88,7 @@ fn wait_for(window: u64, minute: usize, most: usize) -> usize
         return 0;
     }
     let wait = WEEK - since_start;
+    // kept: by its two cases, which are those of the contract's `first`: `min` is no plainer
     if wait < most { wait } else { most }
 }
 

@@ -30,12 +30,14 @@ pub enum Refusal {
     Time = 31,
 }
 
+// kept: beside the other: Rust has no one From for every number
 impl From<Refusal> for u8 {
     fn from(refusal: Refusal) -> u8 {
         refusal as u8
     }
 }
 
+// kept: beside the other: Rust has no one From for every number
 impl From<Refusal> for u32 {
     fn from(refusal: Refusal) -> u32 {
         refusal as u32

@@ -93,6 +93,7 @@ fn conclude(
 
 // The rounds, from 0 on, till one of them says safe or unsafe or the allowance is used. The cover is that of the
 // list, which has the groups first, and to which then, as each round begins, its Z is added.
+// kept: what a table is made of apart, as in all_distances of call_distances
 pub fn run(
     steps: Steps,
     groups: &[u64],

@@ -47,6 +47,7 @@ impl Store<'_> {
 }
 
 // The set whose words begin at `at`.
+// kept: a slice with a place in it, here, in put_set and in call_replay, as the model's `set_at` has it
 // kept: by place, as in put_set: tried `copy_from_slice`, which tests for an overlap: 50 instructions for 36. So decide, which reads 147,392 sets in a
 // corridor of 512, would be over its bar of 1.5
 pub fn set_at(store: &[u64], at: usize) -> StateSet
