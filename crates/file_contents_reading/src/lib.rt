@@ -47,7 +47,8 @@ fn is_set_beyond(bytes: &[u8], counts: Counts, k: usize) -> bool
 }
 
 // Some byte is not 0. They are joined and tested once, as the words of a store are.
-// kept: non_zero_word of core_table again. Tried one over `T: Into<u64>`: it joins bytes as words, 966 instructions for 153 of 400 bytes.
+// kept: non_zero_word of core_table again: one of both would need a trait whose law says what `|` does, and is no plainer. (Tried over `Into<u64>`: bytes
+// are joined as words then, 966 instructions for the 153 of 400 bytes.)
 pub fn non_zero_byte(bytes: &[u8]) -> bool
     ensures { result ≡ non_zero bytes.now 0 (length bytes.now) }
 {
