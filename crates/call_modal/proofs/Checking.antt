@@ -52,4 +52,3 @@ module _ (store rows : List ℕ) (n : ℕ) (F : Set) {I : Set} (i : I ≡ set_at
       → ChecksOut (table_with store n g F (rows_in rows n)) (kept_in x)
   checked g x e =
       checks_out (table_with store n g F (rows_in rows n)) x (e ∙ ap (λ (t : Table). run t release) (table_with_lem g))
-
