@@ -21,7 +21,7 @@ ghost use Rattle.call_distances.specs.Distances.{CalledDistances};
 
 use call_paths::stepping_into;
 use core_refusals::Refusal;
-use core_rows::{Rows, Steps, forbidden, union_of};
+use core_rows::{Ones, Rows, Steps, forbidden, union_of};
 use core_state_set::{MAX_STATES, StateSet, WORD_BITS, WORDS};
 use core_table::accept;
 
@@ -37,13 +37,16 @@ const LAYERS_BY_ROWS: usize = 3;
 const THIN: usize = 32;
 
 // s joins the predecessors of each of its successors.
+// kept: word by word, here and in `mark`: tried `for u in successors.states()`, and distances took 1.38 times as long on many thin layers
 // kept: one line, here and in three other crates: a function of the words would take with_bit as its contract, which is longer
 fn join_predecessor(before: &mut Rows, s: usize, successors: StateSet)
     requires { s < max_states }
     ensures { before.new ≡ map_at successors.words (with_bit s) [] before.old }
 {
-    for u in successors.states() {
-        before[u][s / WORD_BITS] |= 1 << (s % WORD_BITS);
+    for w in 0..WORDS {
+        for i in Ones(successors.words[w]) {
+            before[WORD_BITS * w + i][s / WORD_BITS] |= 1 << (s % WORD_BITS);
+        }
     }
 }
 
@@ -61,8 +64,10 @@ fn join_predecessors(before: &mut Rows, steps: Steps, n: usize)
 fn mark(distances: &mut [u16; MAX_STATES], layer: StateSet, d: u16)
     ensures { distances.new ≡ map_at layer.words (λ _. d) 0 distances.old }
 {
-    for s in layer.states() {
-        distances[s] = d;
+    for w in 0..WORDS {
+        for i in Ones(layer.words[w]) {
+            distances[WORD_BITS * w + i] = d;
+        }
     }
 }
 

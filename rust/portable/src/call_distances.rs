@@ -13,7 +13,7 @@
 
 use crate::call_paths::stepping_into;
 use crate::core_refusals::Refusal;
-use crate::core_rows::{Rows, Steps, forbidden, union_of};
+use crate::core_rows::{Ones, Rows, Steps, forbidden, union_of};
 use crate::core_state_set::{MAX_STATES, StateSet, WORD_BITS, WORDS};
 use crate::core_table::accept;
 
@@ -29,11 +29,14 @@ const LAYERS_BY_ROWS: usize = 3;
 const THIN: usize = 32;
 
 // s joins the predecessors of each of its successors.
+// kept: word by word, here and in `mark`: tried `for u in successors.states()`, and distances took 1.38 times as long on many thin layers
 // kept: one line, here and in three other crates: a function of the words would take with_bit as its contract, which is longer
 fn join_predecessor(before: &mut Rows, s: usize, successors: StateSet)
 {
-    for u in successors.states() {
-        before[u][s / WORD_BITS] |= 1 << (s % WORD_BITS);
+    for w in 0..WORDS {
+        for i in Ones(successors.words[w]) {
+            before[WORD_BITS * w + i][s / WORD_BITS] |= 1 << (s % WORD_BITS);
+        }
     }
 }
 
@@ -48,8 +51,10 @@ fn join_predecessors(before: &mut Rows, steps: Steps, n: usize)
 // d is the distance of each state of the layer.
 fn mark(distances: &mut [u16; MAX_STATES], layer: StateSet, d: u16)
 {
-    for s in layer.states() {
-        distances[s] = d;
+    for w in 0..WORDS {
+        for i in Ones(layer.words[w]) {
+            distances[WORD_BITS * w + i] = d;
+        }
     }
 }
 

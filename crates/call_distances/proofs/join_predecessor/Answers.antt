@@ -1,21 +1,38 @@
 -- `join_predecessor`: with s joined to the rows of the states that are left, it is joined to all.
-use native.Mathlib.Omega.{arith}
-use mathlib.Core.Path.{refl}
-use Rattle.model.proofs.SetsMembers.{in_bound}
+use mathlib.Core.Path.{refl, sym, ap, ◌∙◌}
+use mathlib.Core.List.{[]}
+use borrow.Author.Rules.{rules}
+use Rattle.model.specs.Sets.{Set}
+use Rattle.model.proofs.SetsMembers.{Proper}
+use Rattle.core_state_set.proofs.SetsWords.{proper}
+use Rattle.core_state_set.proofs.SetsStates.{left_start}
+use Rattle.core_rows.specs.Rows.{map_at}
+use Rattle.core_rows.proofs.SetsJoined.{one_taken, one_less, past_words, next_word}
 use Rattle.core_rows.proofs.RowsMapped.{mapping_turn, mapping_end}
+use Rattle.call_distances.specs.Transposing.{with_bit}
 use Rattle.call_distances.proofs.join_predecessor.Goals as goal
 
-pub offset_bounds-before-u : goal.offset_bounds-before-u
-offset_bounds-before-u c = record { fits = omega (arith, in_bound (record { is = c.in-Some.ensures.steps.0 })) }
+pub loop-w-init : goal.loop-w-init
+loop-w-init c =
+    ap (λ (Y : Set). map_at Y (with_bit c.args.s) [] c.args.before.now) (left_start _ (proper (search rules) (λ w. search rules)))
 
-pub bounds-before-u : goal.bounds-before-u
-bounds-before-u c = in_bound (record { is = c.in-Some.ensures.steps.0 })
+pub loop-i-init : goal.loop-i-init
+loop-i-init c =
+    let set : Proper c.args.successors.words = proper (search rules) (λ w. search rules) in
+    rw c.into_iter-i-iterator.ensures.into_iter_gives (set.fits _ c.loop-w-test.true, c.loop-w.invariant)
 
-pub bounds-before-u-in-Some : goal.bounds-before-u-in-Some
-bounds-before-u-in-Some c = in_bound (record { is = c.in-Some.ensures.steps.0 })
+pub loop-i-preserved : goal.loop-i-preserved
+loop-i-preserved c =
+    let fits = c.loop-i.invariant.0 in (
+      one_less fits c.in-Some.ensures.steps,
+      mapping_turn _ _ _ _ (one_taken fits c.in-Some.ensures.steps c.loop-w.w c.args.successors.words (search rules)) refl c.loop-i.invariant.1,
+    )
 
-pub loop-u-preserved : goal.loop-u-preserved
-loop-u-preserved c = mapping_turn _ _ _ _ c.in-Some.ensures.steps refl c.loop-u.invariant
+pub loop-w-preserved : goal.loop-w-preserved
+loop-w-preserved c =
+    ap (λ (Y : Set). map_at Y (with_bit c.args.s) [] c.loop-i.before)
+    (sym (next_word c.loop-w.w c.args.successors.words (proper (search rules) (λ w. search rules)) c.in-None.ensures.steps.0))
+    ∙ c.loop-i.invariant.1
 
 pub returns : goal.returns
-returns c = mapping_end _ _ _ c.in-None.ensures.steps.0 c.loop-u.invariant
+returns c = mapping_end _ _ _ (past_words _ _ (proper (search rules) (λ w. search rules)) (search rules)) c.loop-w.invariant
