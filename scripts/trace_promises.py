@@ -26,9 +26,9 @@ FALLS = re.compile(r"^# falls on: (\S+): (.*\S)\s*$", re.M)
 DECLARES = re.compile(r"^(?:(?:unfoldable|abbrev|pub)\s+)*(?:(?:record|data)\s+([^\s(){}]+)|([^\s(){}]+)\s+:(?:\s|$))")
 USED = re.compile(r"^ *ghost use Rattle\.(\w+)\.specs\.(\w+)\.\{([^}]*)\}", re.M)
 NAME = re.compile(r"[^\s(){}\[\],;.]+(?:\.[^\s(){}\[\],;]*)?")  # a projection stands tight behind what it is of: `d.row`
-# A function with a body; what a trait asks for ends with its head.
+# A function with a body, and its head, with its contract; what a trait asks for ends with its head.
 ITEM = re.compile(
-    r"^(?P<indent> *)(?:pub )?(?:extern \"C\" )?fn (?P<name>\w+)(?:(?!;$).)*?(?:\n(?P=indent)\{| \{)\n.*?^(?P=indent)\}$", re.M | re.S
+    r"^(?P<indent> *)(?P<head>(?:pub )?(?:extern \"C\" )?fn (?P<name>\w+)(?:(?!;$).)*?)(?:\n(?P=indent)\{| \{)\n(?P<body>.*?)^(?P=indent)\}$", re.M | re.S
 )
 SAID_TEST = re.compile(r"`((?:tests|rust/outside/tests)/[^`]*)`")
 POINTS_BACK = re.compile(r"(?:accepted|all of these|and|get|its?|nor|such|that|the same|these|where)\b")
@@ -210,36 +210,50 @@ def owner_of(opened):
     return "".join("Ref" if word == "&" else word[0].upper() + word[1:] for word in words)
 
 
-def function_at(lines, at):
-    """The function, and the type that it is of, that line `at` of a source is in: of a contract the one below it is meant by none."""
-    name = owner = None
+def opened_at(lines, at):
+    """The function that line `at` of a source is in, and what opens the impl or trait that has it: of a contract the one below it is meant by none."""
+    name = None
     for k in range(at, -1, -1):
         found = FUNCTION.match(lines[k])
         if name is None and found:
             name = found.group(1)
         opened = OWNER.match(lines[k])
         if opened and name and not any(line == "}" for line in lines[k:at]):
-            owner = owner_of(opened)
-            break
-    return {tuple(part for part in (owner, name) if part)} if name else set()
+            return name, opened
+    return name, None
+
+
+def function_at(lines, at):
+    """The function, and the type that it is of, that line `at` of a source is in."""
+    name, opened = opened_at(lines, at)
+    return {(owner_of(opened), name) if opened else (name,)} if name else set()
+
+
+def replacements(crate, text):
+    """The texts that an edit replaces, each with its file, and the new one: a line for each, as `rt` reads it."""
+    file = old = None
+    for line in text.splitlines():
+        if line.startswith("file: "):
+            file = TOP / "crates" / crate / line[6:]
+        elif line.startswith("old: "):
+            old = line[5:]
+        elif line.startswith("new:") and file and file.is_file():
+            yield file, old, line[4:].removeprefix(" ")
 
 
 def changed_keys(crate, text):
     """The names that an edit changes: those around each text that it replaces."""
-    keys, file = set(), None
-    for line in text.splitlines():
-        if line.startswith("file: "):
-            file = TOP / "crates" / crate / line[6:]
-        elif line.startswith("old: ") and file.is_file():
-            whole = file.read_text()
-            at = whole.find(line[5:])
-            if at < 0:
-                continue
-            lines = whole.splitlines()
-            if file.suffix == ".rt":
-                keys |= {(crate, *key) for key in function_at(lines, line_of(whole, at) - 1)}
-            elif file.parent.name == "specs":
-                keys |= {(crate, file.stem, *key) for key in declared_at(lines, line_of(whole, at) - 1)}
+    keys = set()
+    for file, old, _ in replacements(crate, text):
+        whole = file.read_text()
+        at = whole.find(old)
+        if at < 0:
+            continue
+        lines = whole.splitlines()
+        if file.suffix == ".rt":
+            keys |= {(crate, *key) for key in function_at(lines, line_of(whole, at) - 1)}
+        elif file.parent.name == "specs":
+            keys |= {(crate, file.stem, *key) for key in declared_at(lines, line_of(whole, at) - 1)}
     return keys
 
 
@@ -250,12 +264,26 @@ NUMBERS = {
 
 
 class Function(NamedTuple):
+    """What its contract ensures cites, its code, and the type that it is of, or ""."""
+
     ensures: set
     body: str
+    type: str
 
 
+def items(text):
+    """The functions of a source by their names, methods with their type's: what is matched of each, and the type."""
+    lines = text.splitlines()
+    for found in ITEM.finditer(text):
+        line = line_of(text, found.start("name")) - 1
+        _, opened = opened_at(lines, line)
+        for key in function_at(lines, line):
+            yield key, found, opened["type"] if opened else ""
+
+
+@functools.cache
 def functions(crate):
-    """The functions of a crate by their names, methods with their type's: what their contracts ensure cites, and their code."""
+    """The functions of a crate by their names."""
     made = {}
     for path in sorted((TOP / "crates" / crate / "src").glob("*.rt")):
         text = path.read_text()
@@ -264,14 +292,11 @@ def functions(crate):
             for name in filter(None, (name.strip() for name in names.split(","))):
                 original, _, here = name.partition(" as ")
                 known[here.strip() or original] = (other, file, original)
-        lines = text.splitlines()
-        for found in ITEM.finditer(text):
-            contract, _, body = found.group().partition("\n" + found.group("indent") + "{\n")
-            words = {word.partition(".")[0] for word in NAME.findall(contract.partition("ensures")[2])}
+        for key, found, owner in items(text):
+            words = {word.partition(".")[0] for word in NAME.findall(found["head"].partition("ensures")[2])}
             cited = {known[name] for name in words if name in known} - NUMBERS
             own = {name for name in cited if name[0] == crate}  # what others define is then what it speaks about
-            for key in function_at(lines, line_of(text, found.start("name")) - 1):
-                made[key] = Function(own or cited, body)
+            made[key] = Function(own or cited, found["body"], owner)
     return made
 
 
@@ -280,13 +305,9 @@ def functions_of(crate):
     made = {}
     for path in sorted((TOP / "crates" / crate / "src").glob("*.rt")):
         text = path.read_text()
-        lines = text.splitlines()
         module = [] if path.stem in ("lib", "main") else [path.stem]
-        for found in ITEM.finditer(text):
-            line = line_of(text, found.start("name"))
-            for key in function_at(lines, line - 1):
-                head = found.group().partition("\n" + found.group("indent") + "{\n")[0]
-                made[(*module, *key)] = (str(path.relative_to(TOP)), line, "ensures" in head)
+        for key, found, _ in items(text):
+            made[(*module, *key)] = (str(path.relative_to(TOP)), line_of(text, found.start("name")), "ensures" in found["head"])
     return made
 
 
@@ -308,21 +329,61 @@ def theorems(crate):
 
 
 def callers(key, made):
-    """The functions of a crate that call one of it."""
-    call = re.compile(rf"\b{re.escape(key[-1])}\(")
+    """The functions of a crate that call one of it: by its name alone, a method behind a point or its type."""
+    owner = made[key].type if key in made else ""
+    before = rf"(?:\.|\b(?:{re.escape(owner)}|Self)::)" if owner else r"(?<![\w.:])"
+    call = re.compile(rf"{before}{re.escape(key[-1])}\(")
     return {other for other, function in made.items() if other != key and call.search(function.body)}
 
 
-def fallen_keys(crate, file, fact, named):
+def is_of_laws(file):
+    parts = Path(file).parts
+    return parts[0] == "proofs" and len(parts) == 2  # the proof of a function is a folder
+
+
+def by_phrase(path, phrase, replaced):
+    """The functions in whose contract a phrase stands, as an edit makes it."""
+    text = path.read_text()
+    for old, new in replaced:
+        text = text.replace(old, new, 1)
+    return {key for key, found, _ in items(text) if " ".join(phrase.split()) in " ".join(found["head"].split())}
+
+
+def by_body(path, replaced):
+    """The function whose body an edit changes; none where it changes more of the source than that and comments."""
+    text = path.read_text()
+    known, bodies = list(items(text)), set()
+    for at in filter(lambda at: at >= 0, (text.find(old) for old, _ in replaced)):
+        inside = [(key, at >= found.start("body")) for key, found, _ in known if found.start() <= at < found.end()]
+        bodies |= {key for key, in_body in inside if in_body}
+        if not inside and not text.startswith("//", text.rfind("\n", 0, at) + 1) or not all(in_body for _, in_body in inside):
+            return set()
+    return bodies
+
+
+def fallen_functions(crate, file, fact, text):
+    """The function that an edit falls on: that of the proof; where the toolchain's own proof fails, at a source, by what `# falls on:` has of it, a goal or
+    words of the contract. Where that is of no function, or of several, none."""
+    path = TOP / "crates" / crate / file
+    replaced = [(old, new) for changed, old, new in replacements(crate, text) if changed == path]
+    if file.startswith("proofs/"):
+        found = {tuple(part.lstrip("+") for part in Path(file).parts[1:-1])} & functions(crate).keys()
+    elif file.startswith("src/"):
+        found = by_phrase(path, fact, replaced) if " " in fact else by_body(path, replaced)
+    else:
+        found = set()
+    return found if len(found) == 1 else set()
+
+
+def fallen_keys(crate, file, fact, text, named):
     """The names that it falls on: a law, and the theorem of the law's file, if that has one alone; or a function with what its contract ensures; where no
     sentence has one of these, the functions of the crate that call it, up to the first that one has."""
-    parts = Path(file).parts
-    if parts[0] != "proofs" or len(parts) == 2:  # a file of laws; the proof of a function is a folder
+    if is_of_laws(file):
         law = {(crate, Path(file).stem, fact.split()[0])}
-        proved = [name for path, name, _, _ in theorems(crate) if path.name == parts[-1]]
-        return law | {(crate, Path(file).stem, name) for name in proved if len(proved) == 1} if parts[0] == "proofs" else set()
+        proved = [name for path, name, _, _ in theorems(crate) if path.name == Path(file).name]
+        return law | {(crate, Path(file).stem, name) for name in proved if len(proved) == 1}
     made = functions(crate)
-    seen, layer = set(), {tuple(part.lstrip("+") for part in parts[1:-1])}
+    seen, layer = set(), fallen_functions(crate, file, fact, text)
     while layer:
         keys = {(crate, *key) for key in layer} | {cited for key in layer if key in made for cited in made[key].ensures}
         if keys & named:
@@ -341,13 +402,21 @@ def edits(said):
         falls = FALLS.search(text)
         mistake = " ".join(line[2:] for line in text.splitlines() if line.startswith("# ") and not line.startswith("# falls on:"))
         file, fact = falls.groups()
-        found.append(Edit(crate, path.stem, mistake, file, fact, changed_keys(crate, text) | fallen_keys(crate, file, fact, named)))
+        found.append(Edit(crate, path.stem, mistake, file, fact, changed_keys(crate, text) | fallen_keys(crate, file, fact, text, named)))
     return found
 
 
 def edits_of(sentence, every):
     keys = set().union(*(name.keys for name in sentence.names)) if sentence.names else set()
     return [edit for edit in every if edit.keys & keys]
+
+
+def lost_edits(every):
+    """Those of which it is not known at which function they fail."""
+    for edit in every:
+        path = TOP / "crates" / edit.crate / "must-fail" / f"{edit.label}.edit"
+        if not is_of_laws(edit.file) and not fallen_functions(edit.crate, edit.file, edit.fact, path.read_text()):
+            yield f"{path.relative_to(TOP)}: this is of no function, or of several: {edit.file}: {edit.fact}: write words of the contract that fails"
 
 
 # ---- the tags of tests
