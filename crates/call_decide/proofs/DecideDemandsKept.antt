@@ -1,5 +1,8 @@
 -- The demands of the call: the model's promises, by the contract of decide.
-use mathlib.Core.Path.{sym, ◌∙◌, subst, subst₂}
+use mathlib.Core.Path.{sym, ap, ◌∙◌, subst, subst₂}
+use Rattle.basics.specs.Refusals.{unless_refused}
+use Rattle.model.specs.Sets.{empty}
+use Rattle.model.specs.Calls.{Decision}
 use Rattle.model.specs.Stores.{table_of}
 use Rattle.model.specs.Promises.{Carries, Demand2, Demand3, SameAnswer}
 use Rattle.model.proofs.PromisesKept.{promises, untouched}
@@ -11,7 +14,7 @@ demands =
       refusal = λ store n g allowance before r after k c e.
           let given = sym c.0 ∙ e in
           let left = untouched.decide store n g allowance before k given in
-          (left.0, c.1 ∙ left.1);
+          (left.0, ap (unless_refused empty (λ (a : Decision). a.invariant)) e, c.1 ∙ left.1);
       answer = λ store n g allowance before r after a c e. promises.answer store n g allowance before a (sym c.0 ∙ e);
       stops = λ store n g allowance before r after a c e. promises.stops store n g allowance before a (sym c.0 ∙ e);
       carries = λ store n g allowance before r after a c e.

@@ -6,19 +6,20 @@
 -- A call and what it gave is `CalledDecide`, the contract of decide.
 use Rattle.std.specs.Prelude.{ℕ, ◌≤◌, ◌≡◌, List, Result, length, take}
 use Rattle.basics.specs.Refusals.{refuse, refused, answered}
+use Rattle.model.specs.Sets.{empty}
 use Rattle.model.specs.Stores.{store_words, table_of}
 use Rattle.model.specs.Rounds.{run}
 use Rattle.model.specs.Calls.{Decision as Answer, release, decide_grounds, decision_of}
 use Rattle.model.specs.Promises.{StopsFirst, Carries, Demand2, Demand3, SameAnswer}
 use Rattle.core_refusals.specs.declared.Refusal.{Refusal}
 use Rattle.call_decide.specs.declared.Verdict.{Verdict}
-use Rattle.call_decide.specs.DecideAnswers.{decided_of, CalledDecide}
+use Rattle.call_decide.specs.DecideAnswers.{decided_of, invariant_given, CalledDecide}
 
 pub record DecideDemands : Type 0 where
-  -- a refused call: the number is that of the first ground that holds, and the buffer is as it was
+  -- a refused call: the number is that of the first ground that holds, the set beside it is empty, and the buffer is as it was
   pub refusal : (store : List ℕ) (n g allowance : ℕ) (before : List ℕ) (r : Result Verdict Refusal) (after : List ℕ) (k : ℕ)
       → CalledDecide store n g allowance before r after → decided_of r ≡ refused k
-      → (k ≡ refuse (decide_grounds store n g allowance (length before))) × (after ≡ before)
+      → (k ≡ refuse (decide_grounds store n g allowance (length before))) × (invariant_given r ≡ empty) × (after ≡ before)
   -- verdict, count, invariant and d are those of the rounds
   pub answer : (store : List ℕ) (n g allowance : ℕ) (before : List ℕ) (r : Result Verdict Refusal) (after : List ℕ) (a : Answer)
       → CalledDecide store n g allowance before r after → decided_of r ≡ answered a

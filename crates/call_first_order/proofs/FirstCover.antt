@@ -3,7 +3,7 @@
 --   first_cover              with Z added, the cover of the groups is that of the first round
 --   accepted                 what a call that is answered knows of its store
 --   order_refused, order_listed      the answer of `first_order`
-use Prim.Native.Nat.{ℕ, ◌-◌, ◌≤◌}
+use Prim.Native.Nat.{ℕ, ◌≤◌}
 use mathlib.Core.Path.{◌≡◌, refl, sym, ap, ap₂, ◌∙◌}
 use mathlib.Core.List.{List, [], ◌∷◌}
 use lib.ListN.{length}

@@ -4,6 +4,7 @@ use mathlib.Core.Path.{◌≡◌, refl, sym, ap, ◌∙◌, subst}
 use mathlib.Core.List.{List, []}
 use lib.ListN.{length, take, drop, replicate}
 use lib.Seq.{take_at}
+use Rattle.basics.specs.Refusals.{unless_refused}
 use Rattle.model.specs.Sets.{max_states}
 use Rattle.model.specs.Tables.{Table}
 use Rattle.model.specs.Rounds.{first_round}
@@ -46,6 +47,7 @@ promises =
           let is = answered_value (shared_grounds store n g) (listed t) (sym c ∙ e) in
           subst (InOrder t (first_round t).list (first_round t).Z)
           (sym (ap (λ (a : OrderAnswer). take a.count a.states) is ∙ padded_front (first_order_of t))) (in_order t (first_round t).list (first_round t).Z);
-      refusal = λ store n g r k c e. refused-is (shared_grounds store n g) (listed (table_of store n g)) (sym c ∙ e);
+      refusal = λ store n g r k c e.
+          (refused-is (shared_grounds store n g) (listed (table_of store n g)) (sym c ∙ e), ap (unless_refused (padded []) (λ (a : OrderAnswer). a.states)) e);
       first-words = λ store other long long' e n g. same_call store other long long' e listed n g [] refl;
     }

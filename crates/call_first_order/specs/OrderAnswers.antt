@@ -2,10 +2,11 @@
 --
 --   OrderAnswer, order_answer    the call's answer in numbers; the grounds are those that every call shares, in their order
 --   ordered_of                   what the answer says
+--   states_given                 the places that come with it: all 0 where the call is refused
 --   CalledFirstOrder            a call and what it gave: the contract of first_order
-use Rattle.std.specs.Prelude.{ℕ, ◌≡◌, List, Result, length}
+use Rattle.std.specs.Prelude.{ℕ, ◌≡◌, List, [], Result, length}
 use Rattle.model.specs.Rounds.{first_round}
-use Rattle.basics.specs.Refusals.{Answered, answer}
+use Rattle.basics.specs.Refusals.{Answered, answer, unless_refused}
 use Rattle.core_refusals.specs.declared.Refusal.{Refusal}
 use Rattle.core_refusals.specs.Refusals.{answer_of}
 use Rattle.model.specs.Stores.{table_of, shared_grounds}
@@ -24,6 +25,9 @@ order_answer store n g =
 
 abbrev pub ordered_of : Result Expanded Refusal → Answered OrderAnswer
 ordered_of = answer_of (λ o. record { count = o.count; states = o.states })
+
+abbrev pub states_given : Result Expanded Refusal → List ℕ
+states_given r = unless_refused (padded []) (λ a. a.states) (ordered_of r)
 
 abbrev pub CalledFirstOrder : List ℕ → ℕ → ℕ → Result Expanded Refusal → Type 0
 CalledFirstOrder store n g r = ordered_of r ≡ order_answer store n g

@@ -1,7 +1,7 @@
 -- What is promised of the order in which the states of R are expanded: of what `forward` returns, and of the call first_order.
 --
 --   OrderPromises     all of it; `InOrder` says what an order is
-use Rattle.std.specs.Prelude.{ℕ, ◌≤◌, ◌≡◌, true, List, Result, length, take}
+use Rattle.std.specs.Prelude.{ℕ, ◌≤◌, ◌≡◌, true, List, [], Result, length, take}
 use Rattle.basics.specs.Refusals.{refuse, refused, answered}
 use Rattle.model.specs.Sets.{max_states, Set, subset, first_states}
 use Rattle.model.specs.Rounds.{forward as forwardSet, first_round}
@@ -9,8 +9,8 @@ use Rattle.model.specs.Promises.{IsLeast}
 use Rattle.model.specs.Stores.{store_words, table_of, shared_grounds}
 use Rattle.core_rows.specs.Rows.{table_on}
 use Rattle.core_fixpoints.specs.Steps.{covers, forward_by}
-use Rattle.core_fixpoints.specs.Order.{order_by, InOrder}
-use Rattle.call_first_order.specs.OrderAnswers.{OrderAnswer, order_answer, ordered_of, CalledFirstOrder}
+use Rattle.core_fixpoints.specs.Order.{order_by, padded, InOrder}
+use Rattle.call_first_order.specs.OrderAnswers.{OrderAnswer, order_answer, ordered_of, states_given, CalledFirstOrder}
 use Rattle.core_refusals.specs.declared.Refusal.{Refusal}
 use Rattle.core_fixpoints.specs.declared.Expanded.{Expanded}
 
@@ -24,9 +24,9 @@ pub record OrderPromises : Type 0 where
   -- what first_order returns is the order of the first round
   pub first_order : (store : List ℕ) (n g : ℕ) (r : Result Expanded Refusal) (a : OrderAnswer) → CalledFirstOrder store n g r → ordered_of r ≡ answered a
       → InOrder (table_of store n g) (first_round (table_of store n g)).list (first_round (table_of store n g)).Z (take a.count a.states)
-  -- a refused call gives the number of the first ground that holds, and, as its type says, no state
+  -- a refused call gives the number of the first ground that holds, and no state
   pub refusal : (store : List ℕ) (n g : ℕ) (r : Result Expanded Refusal) (k : ℕ) → CalledFirstOrder store n g r → ordered_of r ≡ refused k
-      → k ≡ refuse (shared_grounds store n g)
+      → (k ≡ refuse (shared_grounds store n g)) × (states_given r ≡ padded [])
   -- on two stores that are alike in their first words: none after them is read
   pub first-words : (store other : List ℕ) → store_words ≤ length store → store_words ≤ length other → take store_words store ≡ take store_words other
       → (n g : ℕ) → order_answer store n g ≡ order_answer other n g

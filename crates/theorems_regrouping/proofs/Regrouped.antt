@@ -105,6 +105,7 @@ module _ (store other : List ℕ) (n g h : ℕ) (held : AcceptedStore store n g)
             let same = answers allowance (length before) in
             record {
               answer = c.0 ∙ same ∙ sym d.0;
+              set = ap (unless_refused empty (λ (a : Decision). a.invariant)) (c.0 ∙ same ∙ sym d.0);
               buffer = c.1 ∙ buffers allowance before ∙ sym d.1;
             };
         own_buffers = λ allowance p q r s after-r after-s a b c d e f.

@@ -4,7 +4,7 @@
 --   Alike t u              two tables alike but for their lists of groups
 --   SameCovers n L M       each of n states has the same cover for the lists L and M
 --   first_list t            list 0 of a table: its groups and Z0
---   SameResults            two calls of decide, by its contract, returned and left the same: answer, with the invariant, and path buffer
+--   SameResults            two calls of decide, by its contract, returned and left the same: answer, the set beside it, and path buffer
 --   SameDecisions          so do any two, at every allowance and in every path buffer, grounds 20 and 21 included; and where each has a path
 --                          buffer of its own and is answered, the answers are the same
 --   Rewriting L M          the list L put another way: in another order, with sets repeated, with a union or an overlap of two of its sets
@@ -20,7 +20,7 @@ use Rattle.model.specs.Calls.{Decision as Answer, decide_answer, decide_buffer}
 use Rattle.model.specs.Promises.{SameAnswer}
 use Rattle.core_refusals.specs.declared.Refusal.{Refusal}
 use Rattle.call_decide.specs.declared.Verdict.{Verdict}
-use Rattle.call_decide.specs.DecideAnswers.{decided_of, CalledDecide}
+use Rattle.call_decide.specs.DecideAnswers.{decided_of, invariant_given, CalledDecide}
 
 pub record Alike (t u : Table) : Type 0 where
   pub n : t.n ≡ u.n
@@ -36,6 +36,7 @@ first_list t = not_forbidden t.n t.forbidden ∷ t.groups
 
 pub record SameResults (r s : Result Verdict Refusal) (after-r after-s : List ℕ) : Type 0 where
   pub answer : decided_of r ≡ decided_of s
+  pub set : invariant_given r ≡ invariant_given s
   pub buffer : after-r ≡ after-s
 
 pub record SameDecisions (store other : List ℕ) (n g h : ℕ) : Type 0 where
