@@ -20,6 +20,7 @@ CLAUSE = re.compile(r"(?:requires|ensures)(?: [a-z]\w*)? \{[ \n]")
 GHOST = re.compile(r" *(?:pub )?ghost (?:use [^;{]*(?:\{[^;}]*\})?;\n|(?P<name>[^\s:]+)(?:: | = ))")
 GHOSTLY = re.compile(r" *(?:pub )?ghost\b")
 DERIVED = ("Clone", "Copy", "Debug", "Default", "PartialEq", "Eq", "PartialOrd", "Ord")
+KEPT = {"derive": DERIVED, "repr": ("C",), "inline": ("always", "never")}  # the attributes that stay, and what each may name
 KEYWORDS = set("as break const continue else enum extern false fn for if impl in let loop match mut pub "
     "return self Self struct trait true type use where while ghost requires ensures".split())
 FOREIGN = set("async await box crate do dyn final macro mod move override priv ref static super try typeof "
@@ -214,10 +215,10 @@ class Reader:
         self.take("[")
         word = self.peek()
         drops = [self.peek(k) for k in range(4)] == ["derive", "(", "Drop", ")"]  # as every value of Rust does
-        if word in ("derive", "repr") and not inner and not drops:
+        if word in KEPT and not inner and not drops:
             self.at += 1
             self.take("(")
-            self.listing(")", lambda: self.take(*(DERIVED if word == "derive" else "C")))
+            self.listing(")", lambda: self.take(*KEPT[word]))
             self.take("]")
             return False
         if word == "unsafe" and not inner:

@@ -13,7 +13,9 @@ ghost use Rattle.core_reach.specs.Reached.{reach_by};
 use core_rows::Steps;
 use core_state_set::StateSet;
 
-// The successors of the states of the layer that are not among those found.
+// The successors of the states of the layer that are not among those found. It stays a function of its own, with the loop over the rows in it: apart
+// from it, or put into the searches, the sets are held word by word, and open, add step and remove step take half as many instructions again.
+#[inline(never)]
 pub fn newly_reached(steps: Steps, layer: StateSet, found: StateSet) -> StateSet
     ensures { result.words ≡ difference (successors_by steps.entry.words.now layer.words) found.words }
 {

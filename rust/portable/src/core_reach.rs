@@ -8,7 +8,9 @@
 use crate::core_rows::Steps;
 use crate::core_state_set::StateSet;
 
-// The successors of the states of the layer that are not among those found.
+// The successors of the states of the layer that are not among those found. It stays a function of its own, with the loop over the rows in it: apart
+// from it, or put into the searches, the sets are held word by word, and open, add step and remove step take half as many instructions again.
+#[inline(never)]
 pub fn newly_reached(steps: Steps, layer: StateSet, found: StateSet) -> StateSet
 {
     steps.successors(layer).difference(found)
