@@ -43,11 +43,12 @@ module _ (time : ℕ) (windows days : List ℕ) where
     longer g f =
         record { begun = omega (arith, so.begun, g); shut = λ j b h. ⊎_elim (so.shut j b) (λ l. f j l h) (lt_or_ge j m) }
 
-    pub over_day : some (eqb (m / day)) days ≡ true → NoneOpen time windows days (day * (m / day + 1))
-    over_day c =
-        longer (omega arith)
+    -- up to midnight, and no further
+    pub over_day : {later : ℕ} → some (eqb (m / day)) days ≡ true → m ≤ later → later ≤ day * (m / day + 1) → NoneOpen time windows days later
+    over_day c g midnight =
+        longer g
         (λ j l h.
-        let same : m / day ≡ j / day = omega (arith, h, l) in
+        let same : m / day ≡ j / day = omega (arith, midnight, h, l) in
         closed_shut windows days j (rw same at c))
 
     pub over_wait : {wait : ℕ} → wait ≡ first week (λ k. in_some windows (m + k)) → NoneOpen time windows days (m + wait)

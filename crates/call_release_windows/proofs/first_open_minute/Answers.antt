@@ -10,7 +10,8 @@ pub loop-minute-init : goal.loop-minute-init
 loop-minute-init c = record { begun = le_refl _; shut = λ j b h. absurd (omega (arith, b, h)) }
 
 pub loop-minute-preserved-then-is_closed : goal.loop-minute-preserved-then-is_closed
-loop-minute-preserved-then-is_closed c = over_day _ _ _ c.loop-minute.invariant (sym c.is_closed.ensures ∙ c.if-is_closed.true)
+loop-minute-preserved-then-is_closed c =
+    over_day _ _ _ c.loop-minute.invariant (sym c.is_closed.ensures ∙ c.if-is_closed.true) (omega arith) (omega arith)
 
 pub returns-then-wait-eq0 : goal.returns-then-wait-eq0
 returns-then-wait-eq0 c =
