@@ -1,38 +1,28 @@
 -- Laws of `Put`: texts put into a buffer one after the other are one text put there.
 --
---   put_none, put_copied    nothing put; a text copied
+--   put_none, put_byte      nothing put; one byte stored
 --   put_then                two texts, the second from where the first ends
 --   put_most                a longer bound on the text
 --   put_front               a text put at the front of a buffer that has room for it overwrites the front and nothing else
-use Prim.Native.Nat.{ℕ, ◌+◌, ◌-◌, ◌≤◌}
-use native.Mathlib.Nat.{le_refl, add-zero, zero-add}
+use Prim.Native.Nat.{ℕ, ◌+◌, ◌≤◌}
+use native.Mathlib.Nat.{add-zero, zero-add}
 use native.Mathlib.Omega.{arith}
-use mathlib.Core.Path.{◌≡◌, refl, sym, ap, ap₂, ◌∙◌}
-use mathlib.Core.List.{List, [], ◌++◌, append_assoc}
+use mathlib.Core.Path.{◌≡◌, refl, sym, ap, ◌∙◌}
+use mathlib.Core.List.{List, [], ◌∷◌, ◌++◌}
 use borrow.Rule.Slice.Mut.{set_vals}
-use borrow.Rule.Slice.PartMut.{put_mid, Post-is}
-use lib.ListN.{length, take, drop, length-append}
-use lib.Seq.{sets, sets-eq, length-sets, length-take-le}
+use lib.ListN.{length, drop, set, length-append, length-set}
+use lib.Seq.{sets-eq, length-take-le}
 use Rattle.model.specs.Calls.{overwrite}
 use Rattle.core_report.specs.declared.Report.{Report}
-use Rattle.core_report.specs.Put.{Front, Room, Put}
+use Rattle.core_report.specs.Put.{Front, Put}
 use Rattle.model.proofs.ListsInParts.{sets-append}
 
 pub put_none : (report : Report) → Put 0 [] report report
 put_none report = record { short = omega arith; ends = sym (add-zero report.at); long = refl; bytes = refl; same_buffer = refl }
 
--- a text copied over as much of the buffer from `at` on
-pub put_copied : (xs ys : List ℕ) (report : Report) → Room (length xs) report → ys ≡ xs
-    → Put (length xs) xs report
-    (record { out = set_vals (put_mid report.at (report.at + length xs - report.at) report.out.now ys) report.out; at = report.at + length xs })
-put_copied xs ys report h e =
-    let at = report.at in
-    let l = report.out.now in
-    let copied : put_mid at (at + length xs - at) l ys ≡ sets l at xs =
-    ap₂ (λ zs ws. take at l ++ (zs ++ ws)) e (Post-is at (at + length xs) l (omega arith))
-    ∙ sym (append_assoc (take at l) xs (drop (at + length xs) l))
-    ∙ sym (sets-eq xs l at h) in
-    record { short = le_refl (length xs); ends = refl; long = ap length copied ∙ length-sets l at xs; bytes = copied; same_buffer = refl }
+pub put_byte : (x : ℕ) (report : Report)
+    → Put 1 (x ∷ []) report (record { out = set_vals (set report.out.now report.at x) report.out; at = report.at + 1 })
+put_byte x report = record { short = omega arith; ends = refl; long = length-set report.out.now report.at x; bytes = refl; same_buffer = refl }
 
 pub put_then : {j k : ℕ} {xs ys : List ℕ} {a b c : Report} → Put j xs a b → Put k ys b c → Put (j + k) (xs ++ ys) a c
 put_then {j} {k} {xs} {ys} {a} {b} {c} p q =

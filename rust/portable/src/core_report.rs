@@ -157,10 +157,12 @@ impl<'a> Report<'a> {
         self.at += 1;
     }
 
+    // kept: byte by byte, and no `copy_from_slice`: with it the archive for C needs `memmove`, besides `memcpy` and `memset`
     fn put(&mut self, text: &[u8])
     {
-        let end = self.at + text.len();
-        self.out[self.at..end].copy_from_slice(text);
-        self.at = end;
+        for byte in text {
+            self.out[self.at] = *byte;
+            self.at += 1;
+        }
     }
 }

@@ -1,6 +1,7 @@
--- `Report::put` meets its contract: the text is copied.
-use Rattle.core_report.proofs.TextsPut.{put_copied}
+-- `Report::put` meets its contract. After i turns the first i bytes are put.
+use Rattle.core_report.proofs.TextsPut.{put_byte, put_then}
+use Rattle.core_report.proofs.Turns.{take_more}
 use Rattle.core_report.proofs.Report.put.Goals as goal
 
-pub returns : goal.returns
-returns c = put_copied _ _ _ c.requires c.copy_from_slice.ensures.after
+pub loop-byte-preserved : goal.loop-byte-preserved
+loop-byte-preserved c = rw (take_more _ _ c.loop-byte-test.true) (put_then c.loop-byte.invariant (put_byte _ _))
