@@ -16,7 +16,7 @@ use lib.Dec.{eqb}
 use lib.ListN.{length, get_or}
 use Rattle.model.specs.Sets.{max_states, Set, member}
 use Rattle.model.specs.Tables.{Table}
-use Rattle.basics.specs.Refusals.{refuse, Answered, refused, answered, unless_refused}
+use Rattle.basics.specs.Refusals.{refuse, Answered, refused, answered}
 use Rattle.model.specs.Stores.{table_of, shared_grounds}
 use Rattle.basics.proofs.BoundLaws.{and_true, is_false, clash, decided, same_test, by_cond}
 use Rattle.model.proofs.SetsMembers.{in_single, single_in, in_union, union_in, in_difference, difference_in}
@@ -25,6 +25,7 @@ use Rattle.model.proofs.StoresAccepted.{Store, store_accepted, well_formed}
 use Rattle.basics.proofs.RefusalLaws.{clear_refuse, answer-refused}
 use Rattle.core_reach.specs.Reached.{reachable}
 use Rattle.call_edit_session.specs.Edits.{Edit, add, remove, source, target, adds, has_step, changes_nothing, row_after, edited, opened, reachable_after, no_states, edit_answer, edit_buffer}
+use Rattle.call_edit_session.specs.SessionAnswers.{set_after}
 use Rattle.call_edit_session.proofs.RowsEdited.{Outside, edited-long, edited_out, edited_store, initial-same, table_here, table-there, step_added}
 use Rattle.call_edit_session.proofs.SessionReached.{unreached-same, reached_joins}
 use Rattle.call_edit_session.proofs.SessionAnswered.{both_states, no_states_lem, refuse-states, accepted, grounds, given, buffer-refused, buffer-answered}
@@ -163,11 +164,11 @@ after-is-opened store n g (add a b) held ha hb =
     (λ q. sym (unreached-same d ok ok' t.initial ok.initial (λ h. clash h.is q)) ∙ start)
 
 pub edit-keeps : (store : List ℕ) (n g : ℕ) (X : Set) (e : Edit) → Store store n g → X ≡ opened (table_of store n g)
-    → no_states n (source e) (target e) ≡ false → Kept n g store e (unless_refused X (λ Y. Y) (edit_answer store n g X e)) (edit_buffer store n g e)
+    → no_states n (source e) (target e) ≡ false → Kept n g store e (set_after X (edit_answer store n g X e)) (edit_buffer store n g e)
 unfolding has_step
 edit-keeps store n g X e held x q =
     let between = no_states_lem q in
-    of_edit store n g X e (λ a after. Kept n g store e (unless_refused X (λ Y. Y) a) after)
+    of_edit store n g X e (λ a after. Kept n g store e (set_after X a) after)
     (λ f. absurd (f (refuse-states store n g (source e) (target e) none ∙ ap (λ (b : Bool). cond b 27 0) q)))
     (λ z m.
     same store n g e held X x
@@ -180,7 +181,7 @@ edit-keeps store n g X e held x q =
     none = store_accepted store n g [] held ∙ clear_refuse [] tt
 
 pub edit-leaves : (store : List ℕ) (n g : ℕ) (X : Set) (e : Edit) → no_states n (source e) (target e) ≡ true
-    → (unless_refused X (λ Y. Y) (edit_answer store n g X e) ≡ X) × (edit_buffer store n g e ≡ store)
+    → (set_after X (edit_answer store n g X e) ≡ X) × (edit_buffer store n g e ≡ store)
 edit-leaves store n g X e q =
-    of_edit store n g X e (λ a after. (unless_refused X (λ Y. Y) a ≡ X) × (after ≡ store)) (λ f. (refl, refl)) (λ z m. (refl, refl))
+    of_edit store n g X e (λ a after. (set_after X a ≡ X) × (after ≡ store)) (λ f. (refl, refl)) (λ z m. (refl, refl))
     (λ z m. let states = accepted store n g (source e) (target e) (sym z) in absurd (clash q (both_states states.1 states.2)))

@@ -17,7 +17,7 @@ use borrow.Author.Tests.{leb-false, ltb-false}
 use lib.Dec.{leb}
 use lib.ListN.{get_or}
 use lib.Seq.{get_or-set_other}
-use Rattle.basics.specs.Refusals.{refuse, refused, answered, unless_refused}
+use Rattle.basics.specs.Refusals.{refuse, refused, answered}
 use Rattle.model.specs.Sets.{WORDS, Set, member, empty, subset, first_states}
 use Rattle.model.specs.Stores.{row_at, table_of, shared_grounds, AcceptedStore}
 use Rattle.model.specs.RoundTrip.{Bounded}
@@ -26,7 +26,7 @@ use Rattle.model.proofs.SetsMembers.{in_subset, in_union}
 use Rattle.basics.proofs.RefusalLaws.{clear_refuse, answer-refused, answered_not_refused, answered_clear, answered-is, answered_value, refused-is}
 use Rattle.model.proofs.StoresAccepted.{Store, accepted_store, store_accepted, well_formed}
 use Rattle.call_edit_session.specs.Edits.{Edit, add, remove, source, target, changes_nothing, edited, opened, reachable_after, open_answer, no_states, edit_answer}
-use Rattle.call_edit_session.specs.SessionAnswers.{Session, session_of, held_after, CalledOpen, CalledEdit}
+use Rattle.call_edit_session.specs.SessionAnswers.{Session, session_of, set_after, held_after, CalledOpen, CalledEdit}
 use Rattle.call_edit_session.specs.SessionPromises.{in_row, names, step_after, counted, Ran, SessionIs, SessionPromises}
 use Rattle.call_edit_session.proofs.RowsEdited.{Outside, set_step_word, clear_step_word, edited_store, step_added}
 use Rattle.call_edit_session.proofs.SessionReached.{reachable-within, target-same}
@@ -46,13 +46,13 @@ module _ (n g : ℕ) where
   call_keeps : (store : List ℕ) (X : Set) (e : Edit) (r : Session) (after : List ℕ) → CalledEdit store n g X e r after
       → Store store n g → X ≡ opened (table_of store n g) → no_states n (source e) (target e) ≡ false → Kept n g store e (held_after X r) after
   call_keeps store X e r after c held x q =
-      subst₂ (Kept n g store e) (sym (ap (unless_refused X (λ Y. Y)) c.0)) (sym c.1) (edit-keeps store n g X e held x q)
+      subst₂ (Kept n g store e) (sym (ap (set_after X) c.0)) (sym c.1) (edit-keeps store n g X e held x q)
 
   call_leaves : (store : List ℕ) (X : Set) (e : Edit) (r : Session) (after : List ℕ) → CalledEdit store n g X e r after
       → no_states n (source e) (target e) ≡ true → (held_after X r ≡ X) × (after ≡ store)
   call_leaves store X e r after c q =
       let left = edit-leaves store n g X e q in
-      (ap (unless_refused X (λ Y. Y)) c.0 ∙ left.0, c.1 ∙ left.1)
+      (ap (set_after X) c.0 ∙ left.0, c.1 ∙ left.1)
 
   run-keeps : (es : List Edit) (store : List ℕ) (X : Set) (after : List ℕ) (Y : Set) → Ran n g store X es after Y
       → Store store n g → X ≡ opened (table_of store n g) → SessionIs n g store (counted n es) after Y
@@ -101,7 +101,7 @@ module _ (store : List ℕ) (n g : ℕ) (r : Session) where
 
   open_no : (k : ℕ) → CalledOpen store n g r → session_of r ≡ refused k → (k ≡ refuse (shared_grounds store n g)) × (held_after empty r ≡ empty)
   unfolding open_answer
-  open_no k c e = (refused-is (shared_grounds store n g) _ (sym c ∙ e), ap (unless_refused empty (λ X. X)) e)
+  open_no k c e = (refused-is (shared_grounds store n g) _ (sym c ∙ e), ap (set_after empty) e)
 
 -- the word of a step is the only one that changes
 word_same : (store : List ℕ) (n g : ℕ) (e : Edit) → Bounded (2 ^ 64) store → Store store n g → source e < n → target e < n
@@ -120,7 +120,7 @@ module _ (store : List ℕ) (n g : ℕ) (X : Set) (e : Edit) (r : Session) (afte
   edit_no k c q =
       let gives = sym c.0 ∙ q in (
         refused-is (grounds store n g e) _ gives,
-        ap (unless_refused X (λ Y. Y)) q,
+        ap (set_after X) q,
         c.1
             ∙ of_edit store n g X e (λ a xs. a ≡ refused k → xs ≡ store) (λ f p. refl) (λ z m p. refl) (λ z m p. absurd (answered_not_refused p)) gives,
       )
@@ -135,7 +135,7 @@ module _ (store : List ℕ) (n g : ℕ) (X : Set) (e : Edit) (r : Session) (afte
       rw q (c.0 ∙ answer-refused (grounds store n g e) _ (sym (rw q at number)) (λ z. omega arith)))
       (λ (q : no_states n (source e) (target e) ≡ false).
       let gives = given store n g e _ (rw q at number) in
-      rw q (c.0 ∙ gives ∙ ap answered (sym (ap (unless_refused X (λ Y. Y)) (c.0 ∙ gives)))))
+      rw q (c.0 ∙ gives ∙ ap answered (sym (ap (set_after X) (c.0 ∙ gives)))))
       (decided (no_states n (source e) (target e)))
 
   word_kept : CalledEdit store n g X e r after → Bounded (2 ^ 64) store
@@ -152,8 +152,8 @@ set-kept : (store : List ℕ) (n g : ℕ) (X : Set) (a b : ℕ) (r : Session) (a
 unfolding reachable_after
 set-kept store n g X a b r after c =
     let all : subset X X ≡ true = in_subset (λ s h. h) in
-    ap (λ v. subset X (unless_refused X (λ Y. Y) v)) c.0
-    ∙ of_edit store n g X (add a b) (λ v xs. subset X (unless_refused X (λ Y. Y) v) ≡ true) (λ f. all) (λ z m. all)
+    ap (λ v. subset X (set_after X v)) c.0
+    ∙ of_edit store n g X (add a b) (λ v xs. subset X (set_after X v) ≡ true) (λ f. all) (λ z m. all)
     (λ z m. by_cond (λ (Y : Set). subset X Y ≡ true) (member X a) _ _ (λ q. in_subset (λ s h. in_union (inl h))) (λ q. all))
 
 set-within : (store : List ℕ) (n g : ℕ) (X : Set) (a b : ℕ) (r : Session) (after : List ℕ) (Y : Set) → CalledEdit store n g X (remove a b) r after

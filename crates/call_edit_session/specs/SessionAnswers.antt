@@ -1,7 +1,8 @@
 -- What the calls answer.
 --
 --   Session        what a call gives; session_of: the set
---   held_after     the set that the caller has after a call: where it is refused, the one that it had before
+--   set_after      the set that the caller has after a call: where it is refused, the one that it had before
+--   held_after     the same, of what the call gave
 --   CalledOpen     a call of `open` and what it gave: its contract
 --   CalledEdit     one of `add_step` or `remove_step`, with the store at exit
 use Rattle.std.specs.Prelude.{ℕ, ◌≡◌, List, Result}
@@ -19,8 +20,11 @@ abbrev pub session_of : Session → Answered Set
 session_of = answer_of (λ X. X.words)
 
 -- It has X before: it hands X in to an edit, and before an opening it has the empty set.
+abbrev pub set_after : Set → Answered Set → Set
+set_after X v = unless_refused X (λ Y. Y) v
+
 abbrev pub held_after : Set → Session → Set
-held_after X r = unless_refused X (λ Y. Y) (session_of r)
+held_after X r = set_after X (session_of r)
 
 abbrev pub CalledOpen : List ℕ → ℕ → ℕ → Session → Type 0
 CalledOpen store n g r = session_of r ≡ open_answer store n g

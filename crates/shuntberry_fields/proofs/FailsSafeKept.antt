@@ -1,34 +1,38 @@
 -- The proof of specs/FailsSafe.
 use Prim.Native.Nat.{ℕ, zero, suc, ◌+◌, ◌≤◌, ◌<◌}
+use native.Mathlib.Nat.{not-suc-le-zero}
 use native.Mathlib.Omega.{arith}
-use mathlib.Core.Path.{◌≡◌, refl, sym, ap, ◌∙◌}
+use mathlib.Core.Path.{◌≡◌, refl, sym, ap, ◌∙◌, subst}
 use mathlib.Core.Logic.{⊎_elim}
 use mathlib.Core.Bool.{Bool, true, false, cond, ◌||◌}
 use mathlib.Core.List.{List}
 use lib.Dec.{ltb}
 use lib.ListN.{length}
-use Rattle.basics.specs.Refusals.{Ground, Answered, refused, answered, answer}
+use Rattle.basics.specs.Refusals.{Ground, Answered, refused, answered, answer, unless_refused}
 use Rattle.basics.proofs.BoundLaws.{lt_or_ge}
 use Rattle.basics.proofs.RefusalLaws.{numbered, numbered-append, answer-none, answered_not_refused, refused-is}
-use Rattle.model.specs.Stores.{store_words, bad_states}
+use Rattle.model.specs.Sets.{Set, empty}
+use Rattle.model.specs.Stores.{store_words, bad_states, shared_grounds}
 use Rattle.model.specs.Blocks.{max_site}
 use Rattle.model.specs.Contents.{old_form}
 use Rattle.model.specs.Calls.{decide_grounds, decide_answer, shortest_grounds, shortest_answer, read_answer_as, read_grounds_as, write_grounds, write_answer}
 use Rattle.model.proofs.CallLaws.{read-numbered}
+use Rattle.model.proofs.PromisesKept.{untouched}
 use Rattle.model.proofs.RangesOfAnswers.{read_range}
 use Rattle.call_paths.specs.Within.{within_answer}
 use Rattle.call_distances.specs.Distances.{distances_grounds, distances_answer}
 use Rattle.call_first_order.specs.OrderAnswers.{order_answer}
 use Rattle.call_generate.specs.Load.{generate_grounds, generate_answer}
 use Rattle.call_replay.specs.Logs.{replay_grounds, replay_answer}
-use Rattle.call_edit_session.specs.Edits.{edit_grounds, open_answer, edit_answer}
-use Rattle.call_modal.specs.Modal.{possible_words, modal_grounds, modal_answer}
+use Rattle.call_edit_session.specs.Edits.{source, target, edit_grounds, open_answer, edit_answer}
+use Rattle.call_edit_session.proofs.SessionEdits.{of_edit}
+use Rattle.call_modal.specs.Modal.{possible_words, modal_grounds, modal_answer, modal_buffer}
 use Rattle.call_release_windows.specs.WindowAnswers.{Opening, minute, never, span, grounds, waiting, next_open_answer}
 use Rattle.call_release_windows.proofs.WindowsAnswered.{sound_answer, opens, shuts}
 use Rattle.call_check.specs.CheckAnswers.{check_answer}
 use Rattle.call_rewrite.specs.RewriteAnswers.{rewrite_grounds, rewrite_answer}
-use Rattle.shuntberry_fields.specs.Fields.{no_table, no_minute}
-use Rattle.shuntberry_fields.specs.FailsSafe.{HandedOn, Numbered, FailsSafe}
+use Rattle.shuntberry_fields.specs.Fields.{no_table, no_minute, decision_fields, session_fields, modal_fields}
+use Rattle.shuntberry_fields.specs.FailsSafe.{HandedOn, Numbered, RefusedSets, FailsSafe}
 
 -- ---- what is handed on
 
@@ -87,6 +91,43 @@ numbers =
       next_open = λ time windows days. some (grounds time windows days) _ refl;
     }
 
+-- ---- the set beside a refusal
+
+-- where `fields` says 0 of an answer, and of a refusal its number beside the set X, a number above 0 is that of a refusal, beside X
+beside : {A F P : Type 0} (fields : Answered A → F) (number : F → ℕ) (set : F → Set) {X : Set} {j : ℕ} {r : F}
+    → ((k : ℕ) → (number (fields (refused k)) ≡ k) × (set (fields (refused k)) ≡ X)) → ((a : A) → number (fields (answered a)) ≡ 0)
+    → (x : Answered A) → ((k : ℕ) → x ≡ refused k → (k ≡ j) × P) → r ≡ fields x → 0 < number r → (number r ≡ j) × (set r ≡ X) × P
+beside fields number set says none (refused k) follows e h =
+    let l = follows k refl in
+    (ap number e ∙ (says k).0 ∙ l.0, ap set e ∙ (says k).1, l.1)
+beside fields number set says none (answered a) follows e h = absurd (not-suc-le-zero (subst (λ (m : ℕ). 0 < m) (ap number e ∙ none a) h))
+
+sets : RefusedSets
+unfolding modal_answer modal_buffer open_answer edit_answer
+sets =
+    record {
+      decide = λ store n g allowance before r after c h.
+          beside decision_fields (λ f. f.refusal) (λ f. f.invariant) (λ k. (refl, refl)) (λ a. refl) (decide_answer store n g allowance (length before))
+          (λ k e. let left = untouched.decide store n g allowance before k e in (left.0, c.1 ∙ left.1))
+          c.0 h;
+      decide_modal = λ store n g possible before r after c h.
+          beside modal_fields (λ f. f.refusal) (λ f. f.invariant) (λ k. (refl, refl)) (λ a. refl) (modal_answer store n g possible (length before))
+          (λ k e. (refused-is (modal_grounds store n g possible (length before)) _ e, c.1 ∙ ap (unless_refused before _) e))
+          c.0 h;
+      opening = λ store n g r c h.
+          let all = beside (session_fields empty) (λ f. f.refusal) (λ f. f.reachable) (λ k. (refl, refl)) (λ a. refl) (open_answer store n g)
+          (λ k e. (refused-is (shared_grounds store n g) _ e, tt {0})) c h in
+          (all.0, all.1);
+      edit = λ store n g X e r after c h.
+          beside (session_fields X) (λ f. f.refusal) (λ f. f.reachable) (λ k. (refl, refl)) (λ a. refl) (edit_answer store n g X e)
+          (λ k q. (
+            refused-is (edit_grounds store n g (source e) (target e)) _ q,
+            c.1
+                ∙ of_edit store n g X e (λ a xs. a ≡ refused k → xs ≡ store) (λ f p. refl) (λ z m p. refl) (λ z m p. absurd (answered_not_refused p)) q,
+          ))
+          c.0 h;
+    }
+
 -- ---- the minute
 
 abbrev minute_in : Opening → ℕ
@@ -106,6 +147,7 @@ unfolding next_open_answer grounds answer
 fails_safe =
     record {
       numbered = numbers;
+      sets = sets;
       decide = λ k. omega arith;
       decide_modal = λ k. omega arith;
       check = λ k. (omega arith, refl);

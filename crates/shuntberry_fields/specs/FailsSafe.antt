@@ -5,26 +5,30 @@
 --   ten_or14 store     the ground of a store that is short, or of a table with too many states
 --   HandedOn n        the n of a refused read, handed on to every call that takes one, with any g
 --   Numbered          the number of every refusal of every call: 0 is none, so that `refusal` 0 says that a call was answered
+--   RefusedSets       of the exports that give a set, where `refusal` is not 0: its number, the set beside it, and the buffer at exit
 --   FailsSafe         all of it
 use Rattle.std.specs.Prelude.{ℕ, ◌<◌, ◌≡◌, cond, ◌||◌, List, ltb, length}
-use Rattle.basics.specs.Refusals.{refused, answered}
-use Rattle.model.specs.Sets.{Set}
-use Rattle.model.specs.Stores.{store_words}
+use Rattle.basics.specs.Refusals.{refuse, refused, answered}
+use Rattle.model.specs.Sets.{Set, empty}
+use Rattle.model.specs.Stores.{store_words, shared_grounds}
 use Rattle.model.specs.Blocks.{max_site}
 use Rattle.model.specs.Contents.{Form}
-use Rattle.model.specs.Calls.{decide_answer, shortest_answer, TableRead, read_answer_as, read_answer, write_answer}
+use Rattle.model.specs.Calls.{decide_grounds, decide_answer, decide_buffer, shortest_answer, TableRead, read_answer_as, read_answer, write_answer}
 use Rattle.call_paths.specs.Within.{within_answer}
 use Rattle.call_distances.specs.Distances.{distances_answer}
 use Rattle.call_first_order.specs.OrderAnswers.{order_answer}
 use Rattle.call_generate.specs.Load.{generate_answer}
 use Rattle.call_replay.specs.Logs.{replay_answer}
-use Rattle.call_edit_session.specs.Edits.{Edit, open_answer, edit_answer}
-use Rattle.call_modal.specs.Modal.{possible_words, modal_answer}
+use Rattle.call_edit_session.specs.Edits.{Edit, source, target, open_answer, edit_grounds, edit_answer, edit_buffer}
+use Rattle.call_modal.specs.Modal.{possible_words, modal_grounds, modal_answer, modal_buffer}
 use Rattle.call_release_windows.specs.WindowAnswers.{minute, never, next_open_answer}
 use Rattle.call_check.specs.CheckText.{refused_file}
 use Rattle.call_check.specs.CheckAnswers.{check_answer}
 use Rattle.call_rewrite.specs.RewriteAnswers.{rewrite_answer}
-use Rattle.shuntberry_fields.specs.Fields.{decision_fields, shortest_fields, within_fields, table_fields, modal_fields, minute_fields, checked_fields, check_fields}
+use Rattle.shuntberry_fields.specs.declared.DecisionFields.{DecisionFields}
+use Rattle.shuntberry_fields.specs.declared.SessionFields.{SessionFields}
+use Rattle.shuntberry_fields.specs.declared.ModalFields.{ModalFields}
+use Rattle.shuntberry_fields.specs.Fields.{decision_fields, shortest_fields, within_fields, table_fields, session_fields, modal_fields, minute_fields, checked_fields, check_fields}
 
 abbrev pub ten_or14 : List ℕ → ℕ
 ten_or14 store = cond (ltb (length store) store_words) 10 14
@@ -63,8 +67,26 @@ pub record Numbered : Type 0 where
   pub decide_modal : (store : List ℕ) (n g : ℕ) (possible : List ℕ) (room k : ℕ) → modal_answer store n g possible room ≡ refused k → 0 < k
   pub next_open : (time : ℕ) (windows days : List ℕ) (k : ℕ) → next_open_answer time windows days ≡ refused k → 0 < k
 
+-- What an export gave and left is said by its own contract.
+pub record RefusedSets : Type 0 where
+  -- the number is that of the first ground that holds, the set beside it is empty, and the buffer is as it was
+  pub decide : (store : List ℕ) (n g allowance : ℕ) (before : List ℕ) (r : DecisionFields) (after : List ℕ)
+      → (r ≡ decision_fields (decide_answer store n g allowance (length before))) × (after ≡ decide_buffer store n g allowance before) → 0 < r.refusal
+      → (r.refusal ≡ refuse (decide_grounds store n g allowance (length before))) × (r.invariant ≡ empty) × (after ≡ before)
+  pub decide_modal : (store : List ℕ) (n g : ℕ) (possible before : List ℕ) (r : ModalFields) (after : List ℕ)
+      → (r ≡ modal_fields (modal_answer store n g possible (length before))) × (after ≡ modal_buffer store n g possible before) → 0 < r.refusal
+      → (r.refusal ≡ refuse (modal_grounds store n g possible (length before))) × (r.invariant ≡ empty) × (after ≡ before)
+  -- an opening gives the empty set, an edit the set that it was handed, and the store is as it was
+  pub opening : (store : List ℕ) (n g : ℕ) (r : SessionFields) → r ≡ session_fields empty (open_answer store n g) → 0 < r.refusal
+      → (r.refusal ≡ refuse (shared_grounds store n g)) × (r.reachable ≡ empty)
+  -- add_step, and remove_step
+  pub edit : (store : List ℕ) (n g : ℕ) (X : Set) (e : Edit) (r : SessionFields) (after : List ℕ)
+      → (r ≡ session_fields X (edit_answer store n g X e)) × (after ≡ edit_buffer store n g e) → 0 < r.refusal
+      → (r.refusal ≡ refuse (edit_grounds store n g (source e) (target e))) × (r.reachable ≡ X) × (after ≡ store)
+
 pub record FailsSafe : Type 0 where
   pub numbered : Numbered
+  pub sets : RefusedSets
   -- none of the four verdicts: 0 safe, 1 unsafe, 2 undecided, 3 depends
   pub decide : (k : ℕ) → 3 < (decision_fields (refused k)).verdict
   pub decide_modal : (k : ℕ) → 3 < (modal_fields (refused k)).verdict
